@@ -1,0 +1,4 @@
+pub mod Json
+pub mod Steps
+pub mod FirstFault
+pub mod Said

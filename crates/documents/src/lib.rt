@@ -1,0 +1,6 @@
+//! One level of a JSON document at a time, for readers that name a document's first fault.
+#![tactic(auto)]
+
+mod shape;
+
+pub use shape::{elements, five, four, pair, triple};

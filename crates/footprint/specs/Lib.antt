@@ -1,0 +1,6 @@
+pub mod AbortCodes
+pub mod Tree
+pub mod Rights
+pub mod Declaration
+pub mod Stops
+pub mod Tables

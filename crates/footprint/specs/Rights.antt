@@ -1,0 +1,50 @@
+-- Rights, footprints, and what a footprint covers.
+use Rattle.std.specs.Prelude.{◌≡◌, Bool, true, false, List, ◌∷◌, Option, Some, None}
+use Rattle.std.specs.List.{list_any}
+use Rattle.std.specs.FinMap.{FinMap, get, insert}
+use Rattle.values.specs.declared.name.RowName.{RowName}
+use Rattle.values.specs.Shapes.{TableShape}
+use Rattle.values.specs.Database.{Database}
+use Rattle.proclang_types.specs.declared.right.Right.{Right}
+use Rattle.proclang_types.specs.declared.right.Right.TheVariants.{Read, Write}
+use Rattle.footprint.specs.declared.resource.Resource.{Resource}
+use Rattle.footprint.specs.Tree.{resource_cmp, ancestors_of, row_resource}
+
+-- the second right is at least the first: none < Read < Write
+abbrev pub is_at_least : Right → Option Right → Bool
+is_at_least wanted None = false
+is_at_least Read (Some right) = true
+is_at_least Write (Some Read) = false
+is_at_least Write (Some Write) = true
+
+-- the greater of a right that may be there and another
+abbrev pub greater : Option Right → Right → Right
+greater None right = right
+greater (Some Write) right = Write
+greater (Some Read) right = right
+
+-- two rights clash if one of them is Write
+abbrev pub clash : Right → Right → Bool
+clash Read Read = false
+clash Read Write = true
+clash Write right = true
+
+-- a footprint maps resources to rights
+abbrev pub FootprintOf : Type 0
+FootprintOf = FinMap resource_cmp Right
+
+-- the footprint covers a right on a resource if the resource or an ancestor of it has at least that right
+abbrev pub covers : FootprintOf → Resource → Right → Bool
+covers footprint resource right = list_any (λ r. is_at_least right (get footprint r)) (resource ∷ ancestors_of resource)
+
+-- the footprint with one more right on a resource: the greater one counts
+abbrev pub with_right : FootprintOf → Resource → Right → FootprintOf
+with_right footprint resource right = insert footprint resource (greater (get footprint resource) right)
+
+-- the footprint covers a right on a row name of these tables
+abbrev pub covers_row : List TableShape → FootprintOf → RowName → Right → Bool
+covers_row tables footprint name right = covers footprint (row_resource tables name) right
+
+-- two databases have the same row, or none, at each row name that the footprint covers with Read
+abbrev pub AgreeOn : List TableShape → FootprintOf → Database → Database → Type 0
+AgreeOn tables footprint a b = (name : RowName) → covers_row tables footprint name Read ≡ true → get b name ≡ get a name

@@ -1,0 +1,7 @@
+-- Entries of declared footprints whose tables are a catalogue's.
+use Rattle.std.specs.Prelude.{◌<◌, List, length}
+use Rattle.values.specs.Shapes.{TableShape}
+use Rattle.proclang_types.specs.Syntax.{EntrySyntax, row_entry}
+
+abbrev pub HasTable : List TableShape → EntrySyntax → Type 0
+HasTable tables (row_entry right table key) = table < length tables

@@ -1,0 +1,153 @@
+//! Declared footprints.
+
+ghost use Rattle.std.specs.Prelude.{◌≡◌, ◌+ℤ◌, ◌-ℤ◌, IfOk, map, slice_get};
+ghost use Rattle.std.specs.List.{AllByRecursion};
+ghost use Rattle.proclang_types.specs.Views.{int_view, entry_view};
+ghost use Rattle.proclang_types.specs.Procedures.{proc_syntax};
+ghost use Rattle.footprint.specs.Declaration.{value_of, int_of_value, in_range, grant_of, declared_footprint};
+ghost use Rattle.footprint.specs.Tables.{HasTable};
+ghost use Rattle.footprint.specs.Stops.{Gives};
+
+use crate::abort_code::AbortCode;
+use crate::footprint::Footprint;
+use crate::resource::Resource;
+use proclang_types::{FootprintEntry, IntExpr, Proc, Right};
+use std::alloc::Global;
+use values::{Catalogue, Key, NoMemory, RowName, Value};
+
+/// Why a declaration ended early.
+enum Stop {
+    Memory,
+    Abort(AbortCode),
+}
+
+impl From<NoMemory> for Stop {
+    ghost use Rattle.footprint.specs.declared.declare.Stop.TheVariants.{Memory};
+
+    ghost from_gives = { λ _ stop. stop ≡ Memory };
+
+    fn from(_: NoMemory) -> Stop {
+        Stop::Memory
+    }
+}
+
+impl From<AbortCode> for Stop {
+    ghost use Rattle.footprint.specs.declared.declare.Stop.TheVariants.{Abort};
+
+    ghost from_gives = { λ code stop. stop ≡ Abort code };
+
+    fn from(code: AbortCode) -> Stop {
+        Stop::Abort(code)
+    }
+}
+
+/// The number of a variable; 0 stands for one that is not there or is a text.
+fn int_at(arguments: &[Value], place: usize) -> i64
+    ensures { result ≡ int_of_value (slice_get arguments.now place) }
+{
+    match arguments.get(place) {
+        Some(Value::Int(number)) => *number,
+        Some(Value::Text(_)) => 0,
+        None => 0,
+    }
+}
+
+fn add(left: i64, right: i64) -> Result<i64, AbortCode>
+    ensures { result ≡ in_range (left +ℤ right) }
+{
+    match left.checked_add(right) {
+        Some(number) => Ok(number),
+        None => Err(AbortCode::Overflow),
+    }
+}
+
+fn subtract(left: i64, right: i64) -> Result<i64, AbortCode>
+    ensures { result ≡ in_range (left -ℤ right) }
+{
+    match left.checked_sub(right) {
+        Some(number) => Ok(number),
+        None => Err(AbortCode::Overflow),
+    }
+}
+
+/// The value of an expression over the parameters, or the abort of its first fault.
+fn int_value(arguments: &[Value], expression: &IntExpr) -> Result<i64, AbortCode>
+    ensures { result ≡ value_of arguments.now (int_view expression.now) }
+{
+    match expression {
+        IntExpr::Number(number) => Ok(*number),
+        IntExpr::Variable(place) => Ok(int_at(arguments, *place)),
+        IntExpr::Add(left, right) => {
+            let left = int_value(arguments, left)?;
+            let right = int_value(arguments, right)?;
+            add(left, right)
+        }
+        IntExpr::Subtract(left, right) => {
+            let left = int_value(arguments, left)?;
+            let right = int_value(arguments, right)?;
+            subtract(left, right)
+        }
+    }
+}
+
+/// The resource that an entry adds and the right on it, or the abort of its first fault.
+fn grant_of(
+    catalogue: &Catalogue,
+    arguments: &[Value],
+    entry: &FootprintEntry,
+) -> Result<(Resource, Right), AbortCode>
+    requires { HasTable catalogue.now (entry_view entry.now) }
+    ensures { result ≡ grant_of catalogue.now arguments.now (entry_view entry.now) }
+{
+    match entry {
+        FootprintEntry::Row { right, table, key } => {
+            let number = int_value(arguments, key)?;
+            match Key::new(number) {
+                Some(key) => Ok((Resource::row(catalogue, RowName::new(*table, key)), *right)),
+                None => Err(AbortCode::BadKey),
+            }
+        }
+    }
+}
+
+/// The footprint of the entries, in order.
+fn with_entries(
+    alloc: Global,
+    catalogue: &Catalogue,
+    arguments: &[Value],
+    entries: &Vec<FootprintEntry>,
+) -> Result<Footprint, Stop>
+    requires { AllByRecursion (HasTable catalogue.now) (map entry_view entries.now.items) }
+    ensures { Gives result (declared_footprint catalogue.now arguments.now (map entry_view entries.now.items)) }
+{
+    let mut footprint = Footprint::new(alloc);
+    let mut count = 0u32;
+    for entry in entries {
+        let (resource, right) = grant_of(catalogue, arguments, entry)?;
+        if count >= 65_536 {
+            return Err(Stop::Abort(AbortCode::TooLong));
+        }
+        footprint.add(resource, right)?;
+        count += 1;
+    }
+    Ok(footprint)
+}
+
+/// The footprint that a procedure declares for these arguments, or the abort of the first fault: entries are evaluated in
+/// order, a result outside the signed 64-bit range is an overflow, a negative key a bad key, and more than 65,536
+/// resources, repeats included, are too long.
+pub fn declared(
+    alloc: Global,
+    catalogue: &Catalogue,
+    proc: &Proc,
+    arguments: &[Value],
+) -> Result<Result<Footprint, AbortCode>, NoMemory>
+    requires { proc.now.tables ≡ catalogue.now }
+    ensures { IfOk result (λ declared. declared ≡ declared_footprint catalogue.now arguments.now (proc_syntax proc.now).footprint) }
+{
+    match with_entries(alloc, catalogue, arguments, proc.footprint()) {
+        Ok(footprint) => Ok(Ok(footprint)),
+        Err(Stop::Abort(code)) => Ok(Err(code)),
+        Err(Stop::Memory) => Err(NoMemory),
+    }
+}

@@ -1,0 +1,13 @@
+//! Resources and their tree, rights, and footprints: what a transaction may read and write.
+#![tactic(auto)]
+
+mod abort_code;
+mod declare;
+mod footprint;
+mod resource;
+
+pub use abort_code::AbortCode;
+pub use declare::declared;
+pub use footprint::Footprint;
+pub use proclang_types::Right;
+pub use resource::{InPart, InTable, Resource};

@@ -1,0 +1,5 @@
+pub mod Runs
+pub mod Meaning
+pub mod Entries
+pub mod Frame
+pub mod Serial

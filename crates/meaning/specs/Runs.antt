@@ -1,0 +1,130 @@
+-- Runs: what a step of a procedure does to the state, and how a run ends.
+use Rattle.std.specs.Prelude.{ℕ, ℤ, pos, negsuc, ◌+◌, nat_lt, Bool, true, false, not, List, [], ◌∷◌, ◌++◌, length, take, Option, Some, None, Result, Ok, Err, ◌==◌, if◌then◌else◌, slice_set}
+use Rattle.std.specs.FinMap.{get, insert}
+use Rattle.values.specs.declared.name.RowName.{RowName}
+use Rattle.values.specs.declared.value.Value.{Value}
+use Rattle.values.specs.Shapes.{TableShape}
+use Rattle.values.specs.Database.{Database, RowOf}
+use Rattle.proclang_types.specs.declared.right.Right.{Right}
+use Rattle.footprint.specs.declared.abort_code.AbortCode.{AbortCode}
+use Rattle.footprint.specs.declared.abort_code.AbortCode.TheVariants.{NoRow, Overflow, BadKey, TooLong, Budget}
+use Rattle.footprint.specs.declared.resource.Resource.{Resource}
+use Rattle.footprint.specs.Tree.{row_resource}
+use Rattle.footprint.specs.Rights.{FootprintOf, covers}
+use Rattle.footprint.specs.Declaration.{is_int}
+use Rattle.meaning.specs.declared.outcome.Ending.{Ending}
+use Rattle.meaning.specs.declared.outcome.Ending.TheVariants.{Abort}
+
+-- where a run is: the rows with its own changes, its variables in the order of their declarations, the steps taken and the
+-- values replied
+pub record State : Type 0 where
+  pub rows : Database
+  pub variables : List Value
+  pub steps : ℕ
+  pub reply : List Value
+
+-- a part of a run: a value or how the run ends, and in both cases the state that is left
+abbrev pub Ran : Type 0 → Type 0
+Ran A = State → Result A Ending × State
+
+abbrev pub after : {A B : Type 0} → Result A Ending × State → (A → Ran B) → Result B Ending × State
+after (Ok x, st) next = next x st
+after (Err e, st) next = (Err e, st)
+
+-- one part and then the next, unless the first ended the run
+unfoldable pub and_then : {A B : Type 0} → Ran A → (A → Ran B) → Ran B
+and_then first next st = after (first st) next
+
+infixl 10 ◌>>=◌
+abbrev pub ◌>>=◌ : {A B : Type 0} → Ran A → (A → Ran B) → Ran B
+first >>= next = and_then first next
+
+abbrev pub ok : {A : Type 0} → A → Ran A
+ok x st = (Ok x, st)
+
+abbrev pub ended : {A : Type 0} → Ending → Ran A
+ended e st = (Err e, st)
+
+abbrev pub abort : {A : Type 0} → AbortCode → Ran A
+abort code = ended (Abort code)
+
+abbrev pub look : {A : Type 0} → (State → A) → Ran A
+look f st = (Ok (f st), st)
+
+abbrev pub alter : (State → State) → Ran (Unit {0})
+alter f st = (Ok tt, f st)
+
+-- x where the test holds, and else an abort
+abbrev pub provided : {A : Type 0} → Bool → AbortCode → A → Ran A
+provided true code x = ok x
+provided false code x = abort code
+
+-- ---- accesses
+
+-- the tables, and what happens at an access: a run goes on where its footprint covers the access, and else ends
+pub record Gate : Type 0 where
+  pub tables : List TableShape
+  pub access : Resource → Right → Ran (Unit {0})
+
+abbrev pub passing : Bool → Ending → Ran (Unit {0})
+passing true uncovered = ok tt
+passing false uncovered = ended uncovered
+
+-- each access is tested against the footprint
+abbrev pub covered : List TableShape → FootprintOf → Ending → Gate
+covered tables footprint uncovered = record { tables = tables; access = λ resource right. passing (covers footprint resource right) uncovered }
+
+-- ---- what steps are made of
+
+-- one step of 10,000
+abbrev pub step : Ran (Unit {0})
+step = do
+  taken ← look (λ st. st.steps)
+  more ← provided (nat_lt taken 10000) Budget (taken + 1)
+  alter (λ st. record st { steps = more })
+
+-- an exact result, where it is in the signed 64-bit range
+abbrev pub in_range : ℤ → Ran ℤ
+in_range z = provided (is_int z) Overflow z
+
+abbrev pub key_of : ℤ → Ran ℕ
+key_of (pos n) = ok n
+key_of (negsuc n) = abort BadKey
+
+-- the name of a row, once the key was tested and then the right to the row
+abbrev pub accessed : Gate → Right → ℕ → ℤ → Ran RowName
+accessed gate right table z = do
+  key ← key_of z
+  u ← gate.access (row_resource gate.tables (record { table = table; key = key })) right
+  ok (record { table = table; key = key })
+
+abbrev pub row_now : RowName → Ran (Option RowOf)
+row_now name = look (λ st. get st.rows name)
+
+abbrev pub present : Option RowOf → Ran RowOf
+present None = abort NoRow
+present (Some row) = ok row
+
+abbrev pub set_row : RowName → RowOf → Ran (Unit {0})
+set_row name row = alter (λ st. record st { rows = insert st.rows name row })
+
+-- a variable is declared behind the others, or changed
+abbrev pub with_variable : List Value → ℕ → Value → List Value
+with_variable variables place value = if place == length variables then variables ++ value ∷ [] else slice_set variables place value
+
+abbrev pub set_variable : ℕ → Value → Ran (Unit {0})
+set_variable place value = alter (λ st. record st { variables = with_variable st.variables place value })
+
+-- the variables that a block declares end with it
+abbrev pub scoped : Ran (Unit {0}) → Ran (Unit {0})
+scoped block = do
+  seen ← look (λ st. length st.variables)
+  u ← block
+  alter (λ st. record st { variables = take seen st.variables })
+
+-- more values of the reply, of which there may be 64
+abbrev pub replying : List Value → Ran (Unit {0})
+replying values = do
+  before ← look (λ st. st.reply)
+  all ← provided (not (nat_lt 64 (length before + length values))) TooLong (before ++ values)
+  alter (λ st. record st { reply = all })

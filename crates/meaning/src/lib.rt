@@ -1,0 +1,9 @@
+//! What an entry means: its outcome on a database, and the database that it leaves. The definitions stand in `specs/`;
+//! here are the types that they speak of, and the laws that follow from them, each as the contract of a function.
+#![tactic(auto)]
+
+mod laws;
+mod outcome;
+
+pub use laws::stays_in_footprint;
+pub use outcome::{Ending, Outcome};

@@ -1,0 +1,4 @@
+pub mod Syntax
+pub mod Views
+pub mod Typing
+pub mod Procedures

@@ -1,0 +1,59 @@
+-- Typed syntax without where it lies in memory. Variables, tables and columns are places.
+use Rattle.std.specs.Prelude.{ℕ, ℤ, List, [], ◌∷◌}
+use Rattle.values.specs.declared.value.ColType.{ColType}
+use Rattle.proclang_types.specs.declared.right.Right.{Right}
+
+pub data IntSyntax : Type 0 where
+  number : ℤ → IntSyntax
+  variable : ℕ → IntSyntax
+  add subtract : IntSyntax → IntSyntax → IntSyntax
+
+pub data TextSyntax : Type 0 where
+  literal : List ℕ → TextSyntax
+  text_variable : ℕ → TextSyntax
+
+pub data BoolSyntax : Type 0 where
+  less : IntSyntax → IntSyntax → BoolSyntax
+
+pub data ValueSyntax : Type 0 where
+  int_value : IntSyntax → ValueSyntax
+  text_value : TextSyntax → ValueSyntax
+
+pub data ExprSyntax : Type 0 where
+  int : IntSyntax → ExprSyntax
+  text : TextSyntax → ExprSyntax
+  bool : BoolSyntax → ExprSyntax
+
+mutual
+  pub data StmtSyntax : Type 0 where
+    -- a variable gets a column of the row with a key: variable, table, key, column
+    get : ℕ → ℕ → IntSyntax → ℕ → StmtSyntax
+    -- a column of the row with a key gets a value: table, key, column, value
+    put : ℕ → IntSyntax → ℕ → ValueSyntax → StmtSyntax
+    choose : BoolSyntax → BlockSyntax → BlockSyntax → StmtSyntax
+    abort : ℕ → StmtSyntax
+    reply : List ValueSyntax → StmtSyntax
+
+  pub data BlockSyntax : Type 0 where
+    no_statements : BlockSyntax
+    followed : StmtSyntax → BlockSyntax → BlockSyntax
+
+abbrev pub block_of : List StmtSyntax → BlockSyntax
+block_of [] = no_statements
+block_of (s ∷ ss) = followed s (block_of ss)
+
+-- an entry of a declared footprint
+pub data EntrySyntax : Type 0 where
+  -- right, table, key
+  row_entry : Right → ℕ → IntSyntax → EntrySyntax
+
+pub record ParamShape : Type 0 where
+  pub name : List ℕ
+  pub kind : ColType
+
+-- a procedure over the tables of a catalogue
+pub record ProcSyntax : Type 0 where
+  pub name : List ℕ
+  pub params : List ParamShape
+  pub footprint : List EntrySyntax
+  pub body : List StmtSyntax

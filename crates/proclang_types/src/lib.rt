@@ -1,0 +1,13 @@
+//! The procedure language's typed syntax: an operand cannot have a wrong type, a variable is its place in the scope, and
+//! a table and a column are their places in the catalogue.
+#![tactic(auto)]
+
+mod expression;
+mod procedure;
+mod right;
+mod statement;
+
+pub use expression::{BoolExpr, Expr, IntExpr, TextExpr, ValueExpr};
+pub use procedure::{Param, Proc};
+pub use right::Right;
+pub use statement::{FootprintEntry, Stmt};

@@ -1,0 +1,33 @@
+use Rattle.std.proofs.Common.{◌≡◌, Ok, ◌∙◌, sym}
+use Rattle.std.specs.Arc.{arc_value}
+use Rattle.serde_json.specs.View.{view}
+use Rattle.values.specs.Shapes.{tables_shape}
+use Rattle.values.specs.Reading.{catalogue_at}
+use Rattle.values.specs.Broken.{broken_rules}
+use Rattle.values.proofs.FirstFault.{catalogue_first, fault_first, fault_none}
+use Rattle.values.proofs.Catalogues.{catalogue_found, catalogue_read}
+use Rattle.values.proofs.catalogue.Catalogue.read.Goals as goal
+
+pub returns-in-Err-clause-only : goal.returns-in-Err-clause-only
+returns-in-Err-clause-only c = λ ts is says known. sym (catalogue_read (view c.args.document.now) ts says is) ∙ c.in-Err.ensures known
+
+pub returns-in-Err-clause-first : goal.returns-in-Err-clause-first
+returns-in-Err-clause-first c = fault_first c.in-Err.fault (catalogue_at (view c.args.document.now)) (broken_rules (view c.args.document.now)) c.in-Err.ensures (catalogue_first (view c.args.document.now))
+
+pub returns-in-Err-clause-none : goal.returns-in-Err-clause-none
+returns-in-Err-clause-none c = fault_none c.in-Err.fault (catalogue_at (view c.args.document.now)) (broken_rules (view c.args.document.now)) c.in-Err.ensures (catalogue_first (view c.args.document.now))
+
+pub invariant_of-result : goal.invariant_of-result
+invariant_of-result c =
+    let read : catalogue_at (view c.args.document.now) ≡ Ok (tables_shape (arc_value c.in-Ok-new.tables).entries) = rw c.in-Ok-new.ensures.ok c.in-Ok.ensures in
+    (catalogue_found (view c.args.document.now) _ read).1
+
+pub returns-in-Ok-new-clause-found : goal.returns-in-Ok-new-clause-found
+returns-in-Ok-new-clause-found c =
+    let read : catalogue_at (view c.args.document.now) ≡ Ok (tables_shape (arc_value c.in-Ok-new.tables).entries) = rw c.in-Ok-new.ensures.ok c.in-Ok.ensures in
+    catalogue_found (view c.args.document.now) _ read
+
+pub returns-in-Ok-new-clause-only : goal.returns-in-Ok-new-clause-only
+returns-in-Ok-new-clause-only c = λ ts is says.
+    let read : catalogue_at (view c.args.document.now) ≡ Ok (tables_shape (arc_value c.in-Ok-new.tables).entries) = rw c.in-Ok-new.ensures.ok c.in-Ok.ensures in
+    sym (catalogue_read (view c.args.document.now) ts says is) ∙ read

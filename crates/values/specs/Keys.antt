@@ -1,0 +1,22 @@
+-- Keys, and the partition of a table that a key falls in.
+use Rattle.std.specs.Prelude.{ℕ, ℤ, pos, negsuc, ◌%◌, List, Option, Some, None, option_map, slice_get}
+use Rattle.std.specs.Str.{bytes_eq}
+use Rattle.std.specs.Prelude.{position}
+use Rattle.values.specs.Shapes.{ColumnShape, TableShape}
+
+-- a number that is not negative is a key
+abbrev pub key_of : ℤ → Option ℕ
+key_of (pos n) = Some n
+key_of (negsuc n) = None
+
+-- key k of a table of P partitions falls in partition k mod P
+abbrev pub partition_of : List TableShape → ℕ → ℕ → Option ℕ
+partition_of tables table key = option_map (λ t. key % t.partitions) (slice_get tables table)
+
+-- the place of the table with a name
+abbrev pub table_named : List TableShape → List ℕ → Option ℕ
+table_named tables name = position (λ t. bytes_eq name t.name) tables
+
+-- the place of the column with a name
+abbrev pub column_named : List ColumnShape → List ℕ → Option ℕ
+column_named columns name = position (λ c. bytes_eq name c.name) columns

@@ -1,0 +1,190 @@
+//! The catalogue: tables in declared order, each with its partitions and columns.
+
+ghost use Rattle.std.specs.Prelude.{◌≡◌, ◌⊎◌, ◌<◌, [], false, IfErr, IsOkUnless, ℕ, length, option_map, IfOk, Ok, List, slice_get, Some, IfSome};
+ghost use Rattle.values.specs.Shapes.{tables_shape, columns_shape, table_shape, TableShape};
+ghost use Rattle.values.specs.Keys.{table_named, column_named, partition_of};
+ghost use Rattle.values.specs.Tables.{IsTableAt};
+
+use crate::fault::CatalogueFault;
+use crate::key::Key;
+use crate::name::TableNo;
+use crate::reading::read_document;
+use crate::table::Table;
+use crate::value::ColType;
+use indexmap::IndexMap;
+use serde_json::Value;
+use std::alloc::{AllocError, Global};
+use std::marker::Model;
+use std::sync::Arc;
+
+/// A catalogue: its tables in declared order. It is a handle, and its clones share one catalogue.
+#[derive(Drop)]
+pub struct Catalogue {
+    tables: Arc<IndexMap<String, Table>>,
+}
+
+impl Model for Catalogue {
+    ghost use Rattle.std.specs.Prelude.{List};
+    ghost use Rattle.std.specs.Arc.{arc_value};
+    ghost use Rattle.values.specs.Shapes.{TableShape, tables_shape};
+    ghost use Rattle.values.specs.Rules.{IsCatalogue};
+
+    ghost Value = { List TableShape };
+
+    ghost view = { λ c. tables_shape (arc_value c.tables).entries };
+
+    ghost invariant = { λ c. IsCatalogue (tables_shape (arc_value c.tables).entries) };
+}
+
+impl Clone for Catalogue {
+    ghost is_clone = { λ catalogue copy. copy ≡ catalogue };
+
+    fn clone(&self) -> Result<Catalogue, AllocError> {
+        let tables = self.tables.clone()?;
+        Ok(Catalogue { tables })
+    }
+}
+
+impl Catalogue {
+    ghost use Rattle.serde_json.specs.View.{view};
+    ghost use Rattle.documents.specs.Reading.{Gives};
+    ghost use Rattle.documents.specs.FirstFault.{first};
+    ghost use Rattle.values.specs.Reading.{catalogue_at, is_memory};
+    ghost use Rattle.values.specs.Rules.{IsCatalogue, SaysCatalogue};
+    ghost use Rattle.values.specs.Broken.{broken_rules};
+    ghost use Rattle.values.specs.declared.fault.CatalogueFault.TheVariants.{Memory};
+
+    /// The catalogue that a document says, or the first rule that the document breaks.
+    pub fn read(alloc: Global, document: &Value) -> Result<Catalogue, CatalogueFault>
+        // What is read is a catalogue, and the document says it.
+        ensures found { IfOk result (λ c. SaysCatalogue (view document.now) c × IsCatalogue c) }
+        // A catalogue that the document says is what is read, unless memory runs out.
+        ensures only { (c : List TableShape) → IsCatalogue c → SaysCatalogue (view document.now) c → Gives is_memory (λ x. x) result (Ok c) }
+        // The fault is the first rule that the document breaks.
+        ensures first { IfErr result (λ e. (e ≡ Memory) ⊎ (first (broken_rules (view document.now)) ≡ Some e)) }
+        // A document that breaks no rule is read, unless memory runs out.
+        ensures none { broken_rules (view document.now) ≡ [] → IsOkUnless result Memory }
+        ensures exact { Gives is_memory (λ x. x) result (catalogue_at (view document.now)) }
+    {
+        let tables = match read_document(alloc, document) {
+            Ok(tables) => tables,
+            Err(fault) => return Err(fault),
+        };
+        match Arc::new(alloc, tables) {
+            Ok(tables) => Ok(Catalogue { tables }),
+            Err(_) => Err(CatalogueFault::Memory),
+        }
+    }
+
+    /// How many tables there are, 1 to 64.
+    pub fn len(&self) -> usize
+        ensures { result ≡ length self.now }
+    {
+        self.tables.len()
+    }
+
+    /// The table with a name, `None` exactly where no table has it.
+    pub fn table(&self, name: &str) -> Option<TableNo>
+        ensures { result ≡ table_named self.now name.now }
+    {
+        match place_of_table(&self.tables, name) {
+            Some(place) => Some(TableNo::new(place)),
+            None => None,
+        }
+    }
+
+    /// The place of a table's column with a name, `None` exactly where the table has no such column.
+    pub fn column(&self, table: TableNo, name: &str) -> Option<usize>
+        requires { table < length self.now }
+        ensures { Some result ≡ option_map (λ t. column_named t.columns name.now) (slice_get self.now table) }
+    {
+        place_of_column(table_at(&self.tables, table), name)
+    }
+
+    /// A table's name.
+    pub fn table_name(&self, table: TableNo) -> &str
+        requires { table < length self.now }
+        ensures { Some result.now ≡ option_map (λ t. t.name) (slice_get self.now table) }
+    {
+        table_name_at(&self.tables, table)
+    }
+
+    /// How many columns a table has, 1 to 16.
+    pub fn columns_len(&self, table: TableNo) -> usize
+        requires { table < length self.now }
+        ensures { Some result ≡ option_map (λ t. length t.columns) (slice_get self.now table) }
+    {
+        columns_len(table_at(&self.tables, table))
+    }
+
+    /// The type of a table's column.
+    pub fn column_type(&self, table: TableNo, column: usize) -> Option<ColType>
+        requires { table < length self.now }
+        ensures { Some result ≡ option_map (λ t. option_map (λ c. c.kind) (slice_get t.columns column)) (slice_get self.now table) }
+    {
+        type_of_column(table_at(&self.tables, table), column)
+    }
+
+    /// The partition of a table that has a key: key k of a table of P partitions is in partition k mod P.
+    pub fn part_of(&self, table: TableNo, key: Key) -> u32
+        requires { table < length self.now }
+        ensures { Some result ≡ partition_of self.now table key }
+    {
+        let partitions = partitions_of(&self.tables, table);
+        (key.number() % u64::from(partitions)) as u32
+    }
+}
+
+fn place_of_table(tables: &IndexMap<String, Table>, name: &str) -> Option<usize>
+    ensures { result ≡ table_named (tables_shape tables.now.entries) name.now }
+{
+    tables.get_index_of(name)
+}
+
+fn table_at(tables: &IndexMap<String, Table>, table: TableNo) -> &Table
+    requires { table < length (tables_shape tables.now.entries) }
+    ensures { IsTableAt (tables_shape tables.now.entries) table result.now }
+{
+    match tables.get_index(table.place()) {
+        Some((_, found)) => found,
+        None => unreachable!(),
+    }
+}
+
+fn table_name_at(tables: &IndexMap<String, Table>, table: TableNo) -> &str
+    requires { table < length (tables_shape tables.now.entries) }
+    ensures { Some result.now ≡ option_map (λ t. t.name) (slice_get (tables_shape tables.now.entries) table) }
+{
+    match tables.get_index(table.place()) {
+        Some((name, _)) => name.as_str(),
+        None => unreachable!(),
+    }
+}
+
+fn place_of_column(table: &Table, name: &str) -> Option<usize>
+    ensures { result ≡ column_named (columns_shape table.now.columns.entries) name.now }
+{
+    table.columns.get_index_of(name)
+}
+
+fn columns_len(table: &Table) -> usize
+    ensures { result ≡ length (columns_shape table.now.columns.entries) }
+{
+    table.columns.len()
+}
+
+fn type_of_column(table: &Table, column: usize) -> Option<ColType>
+    ensures { result ≡ option_map (λ c. c.kind) (slice_get (columns_shape table.now.columns.entries) column) }
+{
+    match table.columns.get_index(column) {
+        Some((_, kind)) => Some(*kind),
+        None => None,
+    }
+}
+
+fn partitions_of(tables: &IndexMap<String, Table>, table: TableNo) -> u32
+    requires { table < length (tables_shape tables.now.entries) }
+    ensures { option_map (λ t. t.partitions) (slice_get (tables_shape tables.now.entries) table) ≡ Some result }
+{
+    table_at(tables, table).partitions
+}
