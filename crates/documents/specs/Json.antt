@@ -1,7 +1,8 @@
 -- One level of a JSON document: the elements of an array, a whole number.
-use Rattle.std.specs.Prelude.{ℤ, List, [], ◌∷◌, Option, Some, None, option_map, option_and_then}
+use Rattle.std.specs.Prelude.{ℕ, pos, negsuc, Bool, false, ◌&&◌, ◌==◌, if◌then◌else◌, ℤ, List, [], ◌∷◌, Option, Some, None, option_map, option_and_then}
 use Rattle.serde_json.specs.Data.{Data, Items, no_items, item}
-use Rattle.serde_json.specs.Find.{as_array, as_number, as_i64}
+use Rattle.std.specs.Str.{bytes_eq}
+use Rattle.serde_json.specs.Find.{as_str, as_array, as_number, as_i64}
 
 abbrev pub list_of : Items → List Data
 list_of no_items = []
@@ -31,3 +32,24 @@ four ds = None
 abbrev pub five : List Data → Option (Data × Data × Data × Data × Data)
 five (a ∷ b ∷ c ∷ d ∷ e ∷ []) = Some (a, b, c, d, e)
 five ds = None
+
+-- a text, a whole number, and a list
+unfoldable pub text_number_list : Data → Option (List ℕ × ℤ × List Data)
+text_number_list d =
+    option_and_then (λ (p : Data × Data × Data).
+    option_and_then (λ (text : List ℕ).
+    option_and_then (λ (number : ℤ).
+    option_map (λ (list : List Data). (text, number, list)) (elements p.2))
+    (integer p.1))
+    (as_str p.0))
+    (option_and_then three (elements d))
+
+abbrev pub is_one : ℤ → Bool
+is_one (pos n) = n == 1
+is_one (negsuc n) = false
+
+-- the list behind a head word and the version 1
+unfoldable pub versioned_list : List ℕ → Data → Option (List Data)
+versioned_list word d =
+    option_and_then (λ (f : List ℕ × ℤ × List Data). if bytes_eq f.0 word && is_one f.1 then Some f.2 else None)
+    (text_number_list d)

@@ -2,5 +2,7 @@
 #![tactic(auto)]
 
 mod shape;
+#[cfg(test)]
+mod tests;
 
-pub use shape::{elements, five, four, pair, triple};
+pub use shape::{elements, five, four, pair, text_number_list, triple, versioned_list};

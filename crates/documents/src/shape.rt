@@ -2,7 +2,7 @@
 
 ghost use Rattle.std.specs.Prelude.{◌≡◌, option_map, option_and_then, map};
 ghost use Rattle.serde_json.specs.View.{view};
-ghost use Rattle.documents.specs.Json.{elements, two, three, four, five};
+ghost use Rattle.documents.specs.Json.{elements, two, three, four, five, text_number_list, versioned_list};
 
 use serde_json::Value;
 
@@ -58,5 +58,30 @@ pub fn five(value: &Value) -> Option<(&Value, &Value, &Value, &Value, &Value)>
     match elements(value)? {
         [first, second, third, fourth, fifth] => Some((first, second, third, fourth, fifth)),
         _ => None,
+    }
+}
+
+/// The elements of an array of a text, a whole number in the signed 64-bit range, and an array.
+#[tactic(auto, unfolding(crate::specs::Json::text_number_list))]
+pub fn text_number_list(value: &Value) -> Option<(&str, i64, &[Value])>
+    ensures { option_map (λ p. (p.0.now, p.1, map view p.2.now)) result ≡ text_number_list (view value.now) }
+{
+    let (text, number, list) = triple(value)?;
+    let text = text.as_str()?;
+    let number = number.as_i64()?;
+    let list = elements(list)?;
+    Some((text, number, list))
+}
+
+/// The list of a document `[word, 1, [..]]`, `None` of a document that does not have this form.
+#[tactic(auto, unfolding(crate::specs::Json::versioned_list))]
+pub fn versioned_list<'a>(word: &str, value: &'a Value) -> Option<&'a [Value]>
+    ensures { option_map (λ s. map view s.now) result ≡ versioned_list word.now (view value.now) }
+{
+    let (head, version, list) = text_number_list(value)?;
+    if head == word && version == 1 {
+        Some(list)
+    } else {
+        None
     }
 }

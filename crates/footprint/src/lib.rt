@@ -5,6 +5,8 @@ mod abort_code;
 mod declare;
 mod footprint;
 mod resource;
+#[cfg(test)]
+mod tests;
 
 pub use abort_code::AbortCode;
 pub use declare::declared;

@@ -3,3 +3,4 @@ pub mod Meaning
 pub mod Entries
 pub mod Frame
 pub mod Serial
+pub mod Outcomes

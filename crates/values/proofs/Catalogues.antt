@@ -12,7 +12,8 @@ use Rattle.documents.specs.Reading.{formed}
 use Rattle.documents.proofs.Steps.{bind_ok, rule_ok, formed_ok}
 use Rattle.values.specs.Reading.{is_used, is_column, is_table, column_form, table_form, catalogue_form, column_at, columns_at, partitions_at, Body, body_at, table_at, tables_at, catalogue_at}
 use Rattle.values.specs.Rules.{AreNamed, IsTable, IsCatalogue, Says, SaysColumn, SaysTable, SaysCatalogue}
-use Rattle.values.proofs.Forms.{column_said, column_again, table_said, table_again, versioned_said, versioned_again}
+use Rattle.documents.proofs.Said.{text_number_list_said, text_number_list_again, versioned_said, versioned_again}
+use Rattle.values.proofs.Forms.{column_said, column_again}
 use Rattle.values.proofs.Named.{Found, each_found, each_again, says_len}
 
 abbrev column_name : ColumnShape → List ℕ
@@ -113,7 +114,7 @@ table_found before d t e =
     let fresh = rule_ok (not (is_table form.0.0 before)) DuplicateName _ t named.1 in
     let body = bind_ok (body_at form.0.1 form.0.2) _ t fresh.1 in
     let b = body_found form.0.1 form.0.2 body.0 body.1 in
-    let said = table_said d form.0.0 form.0.1 form.0.2 (formed_ok Shape (table_form d) form.0 form.1) in
+    let said = text_number_list_said d form.0.0 form.0.1 form.0.2 (formed_ok Shape (table_form d) form.0 form.1) in
     let made : TableShape = record { name = form.0.0; partitions = body.0.partitions; columns = body.0.columns } in
     let is : made ≡ t = cc in
     subst (λ (x : TableShape). SaysTable d x × IsNamedTable x × (is_used table_name (table_name x) before ≡ false)) is
@@ -122,7 +123,7 @@ table_found before d t e =
 table_read : (before : List TableShape) (d : Data) (t : TableShape) → SaysTable d t → IsNamedTable t → is_used table_name (table_name t) before ≡ false → table_at before d ≡ Ok t
 unfolding table_at
 table_read before d t says fits fresh =
-    let form : table_form d ≡ Some (t.name, pos t.partitions, says.1) = ap table_form says.2 ∙ table_again t.name says.0 (pos t.partitions) says.1 says.3 in
+    let form : table_form d ≡ Some (t.name, pos t.partitions, says.1) = ap table_form says.2 ∙ text_number_list_again t.name says.0 (pos t.partitions) says.1 says.3 in
     let body : body_at (pos t.partitions) says.1 ≡ Ok (record { partitions = t.partitions; columns = t.columns }) = body_read t says.1 says.4 fits.1 in
     rw (form, fits.0, fresh, body) refl
 

@@ -30,3 +30,8 @@ place_of_table name es = position_named (λ k. bytes_eq name (string_bytes k)) (
 
 pub place_of_column : (name : List ℕ) (es : List (String Global × ColType)) → position (λ k. bytes_eq name (string_bytes k)) (map (λ e. e.0) es) ≡ column_named (columns_shape es) name
 place_of_column name es = position_named (λ k. bytes_eq name (string_bytes k)) (λ e. e.0) es ∙ sym (position_named (λ c. bytes_eq name c.name) column_shape es)
+
+-- the types of a table's columns
+pub column_kinds : (es : List (String Global × ColType)) → map (λ c. c.kind) (columns_shape es) ≡ map (λ e. e.1) es
+column_kinds [] = refl
+column_kinds (e ∷ es) = ap (λ (ks : List ColType). e.1 ∷ ks) (column_kinds es)

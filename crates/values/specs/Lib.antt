@@ -7,3 +7,4 @@ pub mod Broken
 pub mod Rows
 pub mod Database
 pub mod Tables
+pub mod Said

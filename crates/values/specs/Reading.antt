@@ -4,7 +4,7 @@ use Rattle.std.specs.Str.{bytes_eq}
 use Rattle.std.specs.List.{list_any}
 use Rattle.serde_json.specs.Data.{Data}
 use Rattle.serde_json.specs.Find.{as_str}
-use Rattle.documents.specs.Json.{elements, integer, two, three}
+use Rattle.documents.specs.Json.{elements, two, text_number_list, versioned_list}
 use Rattle.documents.specs.Reading.{◌>>=◌, formed, rule, each_at}
 use Rattle.values.specs.declared.fault.CatalogueFault.{CatalogueFault}
 use Rattle.values.specs.declared.fault.CatalogueFault.TheVariants.{Shape, DuplicateName, BadName, NoColumn, Limit, Memory}
@@ -34,33 +34,12 @@ column_form d =
     (option_and_then two (elements d))
 
 -- a name, a number of partitions, and columns
-unfoldable pub table_form : Data → Option (List ℕ × ℤ × List Data)
-table_form d =
-    option_and_then (λ (p : Data × Data × Data).
-    option_and_then (λ (name : List ℕ).
-    option_and_then (λ (partitions : ℤ).
-    option_map (λ (columns : List Data). (name, partitions, columns)) (elements p.2))
-    (integer p.1))
-    (as_str p.0))
-    (option_and_then three (elements d))
-
-abbrev pub is_one : ℤ → Bool
-is_one (pos n) = n == 1
-is_one (negsuc n) = false
-
--- the list behind a head word and the version 1
-unfoldable pub versioned_form : List ℕ → Data → Option (List Data)
-versioned_form word d =
-    option_and_then (λ (p : Data × Data × Data).
-    option_and_then (λ (head : List ℕ).
-    option_and_then (λ (version : ℤ). if bytes_eq head word && is_one version then elements p.2 else None)
-    (integer p.1))
-    (as_str p.0))
-    (option_and_then three (elements d))
+abbrev pub table_form : Data → Option (List ℕ × ℤ × List Data)
+table_form = text_number_list
 
 -- the tables of a catalogue
 abbrev pub catalogue_form : Data → Option (List Data)
-catalogue_form = versioned_form (codes "catalogue")
+catalogue_form = versioned_list (codes "catalogue")
 
 -- ---- the first fault
 

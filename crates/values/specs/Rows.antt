@@ -1,5 +1,5 @@
 -- Rows, and the types of their values.
-use Rattle.std.specs.Prelude.{◌≡◌, List, map}
+use Rattle.std.specs.Prelude.{◌≡◌, Bool, true, false, ◌&&◌, List, [], ◌∷◌, map}
 use Rattle.values.specs.declared.value.ColType.{ColType}
 use Rattle.values.specs.declared.value.ColType.TheVariants as types
 use Rattle.values.specs.declared.value.Value.{Value}
@@ -14,3 +14,16 @@ type_of (values.Text s) = types.Text
 -- one value for each column, of the column's type
 abbrev pub HasColumns : List ColumnShape → List Value → Type 0
 HasColumns columns row = map type_of row ≡ map (λ c. c.kind) columns
+
+abbrev pub is_kind : ColType → ColType → Bool
+is_kind types.Int types.Int = true
+is_kind types.Int types.Text = false
+is_kind types.Text types.Int = false
+is_kind types.Text types.Text = true
+
+-- whether there is one value for each type, and it is of that type
+abbrev pub kinds_match : List ColType → List Value → Bool
+kinds_match [] [] = true
+kinds_match [] (v ∷ vs) = false
+kinds_match (k ∷ ks) [] = false
+kinds_match (k ∷ ks) (v ∷ vs) = is_kind k (type_of v) && kinds_match ks vs

@@ -1,16 +1,18 @@
 //! The catalogue: tables in declared order, each with its partitions and columns.
 
-ghost use Rattle.std.specs.Prelude.{◌≡◌, ◌⊎◌, ◌<◌, [], false, IfErr, IsOkUnless, ℕ, length, option_map, IfOk, Ok, List, slice_get, Some, IfSome};
+ghost use Rattle.std.specs.Prelude.{◌≡◌, ◌⊎◌, ◌<◌, [], false, IfErr, IsOkUnless, ℕ, length, option_map, IfOk, Ok, List, slice_get, Some, IfSome, map};
 ghost use Rattle.values.specs.Shapes.{tables_shape, columns_shape, table_shape, TableShape};
 ghost use Rattle.values.specs.Keys.{table_named, column_named, partition_of};
 ghost use Rattle.values.specs.Tables.{IsTableAt};
+ghost use Rattle.values.specs.Rows.{kinds_match};
 
 use crate::fault::CatalogueFault;
 use crate::key::Key;
+use crate::kinds::is_kind;
 use crate::name::TableNo;
 use crate::reading::read_document;
 use crate::table::Table;
-use crate::value::ColType;
+use crate::value::{self, ColType};
 use indexmap::IndexMap;
 use serde_json::Value;
 use std::alloc::{AllocError, Global};
@@ -125,6 +127,14 @@ impl Catalogue {
         type_of_column(table_at(&self.tables, table), column)
     }
 
+    /// Whether there is one value for each of the table's columns, of the column's type.
+    pub fn takes(&self, table: TableNo, values: &[value::Value]) -> bool
+        requires { table < length self.now }
+        ensures { Some result ≡ option_map (λ t. kinds_match (map (λ c. c.kind) t.columns) values.now) (slice_get self.now table) }
+    {
+        columns_take(&table_at(&self.tables, table).columns, values)
+    }
+
     /// The partition of a table that has a key: key k of a table of P partitions is in partition k mod P.
     pub fn part_of(&self, table: TableNo, key: Key) -> u32
         requires { table < length self.now }
@@ -180,6 +190,21 @@ fn type_of_column(table: &Table, column: usize) -> Option<ColType>
         Some((_, kind)) => Some(*kind),
         None => None,
     }
+}
+
+/// Whether there is one value for each column, of the column's type.
+#[tactic(auto, using(crate::proofs::Tables::column_kinds))]
+fn columns_take(columns: &IndexMap<String, ColType>, values: &[value::Value]) -> bool
+    ensures { result ≡ kinds_match (map (λ c. c.kind) (columns_shape columns.now.entries)) values.now }
+{
+    let mut rest = values;
+    for kind in columns.values() {
+        match rest {
+            [value, others @ ..] if is_kind(*kind, value.kind()) => rest = others,
+            _ => return false,
+        }
+    }
+    rest.is_empty()
 }
 
 fn partitions_of(tables: &IndexMap<String, Table>, table: TableNo) -> u32

@@ -2,10 +2,10 @@
 
 ghost use Rattle.std.specs.Prelude.{◌≡◌, codes, option_map, map};
 ghost use Rattle.serde_json.specs.View.{view};
-ghost use Rattle.values.specs.Reading.{type_of_word, column_form, table_form, versioned_form, catalogue_form};
+ghost use Rattle.values.specs.Reading.{type_of_word, column_form, table_form, catalogue_form};
 
 use crate::value::ColType;
-use documents::{elements, pair, triple};
+use documents::{pair, text_number_list, versioned_list};
 use serde_json::Value;
 
 fn type_of_word(word: &str) -> Option<ColType>
@@ -17,9 +17,10 @@ fn type_of_word(word: &str) -> Option<ColType>
     }
 }
 
-/// A name and a type.
+/// The form `[NAME, TYPE]` of a column or a parameter: a name and its type, `None` where a document has another form.
+/// Whether the name obeys the rule of names is not looked at.
 #[tactic(auto, unfolding(crate::specs::Reading::column_form))]
-pub(crate) fn column_form(value: &Value) -> Option<(&str, ColType)>
+pub fn column_form(value: &Value) -> Option<(&str, ColType)>
     ensures { option_map (λ p. (p.0.now, p.1)) result ≡ column_form (view value.now) }
 {
     let (name, word) = pair(value)?;
@@ -29,35 +30,15 @@ pub(crate) fn column_form(value: &Value) -> Option<(&str, ColType)>
 }
 
 /// A name, a number of partitions, and columns.
-#[tactic(auto, unfolding(crate::specs::Reading::table_form))]
 pub(crate) fn table_form(value: &Value) -> Option<(&str, i64, &[Value])>
     ensures { option_map (λ p. (p.0.now, p.1, map view p.2.now)) result ≡ table_form (view value.now) }
 {
-    let (name, partitions, columns) = triple(value)?;
-    let name = name.as_str()?;
-    let partitions = partitions.as_i64()?;
-    let columns = elements(columns)?;
-    Some((name, partitions, columns))
-}
-
-/// The list of a document `[word, 1, [..]]`, `None` of a document that does not have this form.
-#[tactic(auto, unfolding(crate::specs::Reading::versioned_form))]
-pub fn versioned_form<'a>(word: &str, value: &'a Value) -> Option<&'a [Value]>
-    ensures { option_map (λ s. map view s.now) result ≡ versioned_form word.now (view value.now) }
-{
-    let (head, version, list) = triple(value)?;
-    let head = head.as_str()?;
-    let version = version.as_i64()?;
-    if head == word && version == 1 {
-        elements(list)
-    } else {
-        None
-    }
+    text_number_list(value)
 }
 
 /// The tables of a catalogue.
 pub(crate) fn catalogue_form(value: &Value) -> Option<&[Value]>
     ensures { option_map (λ s. map view s.now) result ≡ catalogue_form (view value.now) }
 {
-    versioned_form("catalogue", value)
+    versioned_list("catalogue", value)
 }

@@ -1,0 +1,4 @@
+pub mod Batches
+pub mod Calls
+pub mod Lines
+pub mod Moves

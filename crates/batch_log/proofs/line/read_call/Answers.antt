@@ -1,0 +1,22 @@
+use Rattle.std.proofs.Common.{◌≡◌, map, Some, rules, sym}
+use Rattle.serde_json.specs.View.{view}
+use Rattle.values.specs.Said.{values_said}
+use Rattle.proclang.specs.declared.request.RequestFault.TheVariants.{Args}
+use Rattle.batch_log.proofs.Calls.{call_made, call_refused, call_unknown, call_unsaid}
+use Rattle.batch_log.proofs.line.read_call.Goals as goal
+
+pub returns-then-not-has-clause-exact : goal.returns-then-not-has-clause-exact
+returns-then-not-has-clause-exact c = λ _. call_unknown _ _ _ (search rules)
+
+pub returns-in-Ok-None-clause-exact : goal.returns-in-Ok-None-clause-exact
+returns-in-Ok-None-clause-exact c = λ _. call_unsaid _ _ _ (search rules) (sym (rw c.in-Ok-None.field-0-is at c.in-Ok-None.ensures))
+
+pub returns-in-Ok-clause-exact : goal.returns-in-Ok-clause-exact
+returns-in-Ok-clause-exact c =
+    let said : values_said (map view c.args.documents.now) ≡ Some c.in-Ok-Some.values.items = sym (rw c.in-Ok-Some.field-0-is at c.in-Ok-Some.ensures) in
+    call_made c.args.procs.now.procs c.args.name.now (map view c.args.documents.now) c.in-Ok-Some.values.items c.in-Ok.request c.new.result Args said c.in-Ok.ensures.ok.0 c.in-Ok.ensures.ok.1 c.in-Ok.is c.new.ensures.args.1
+
+pub returns-in-Err-Args-clause-exact : goal.returns-in-Err-Args-clause-exact
+returns-in-Err-Args-clause-exact c = λ _.
+    let said : values_said (map view c.args.documents.now) ≡ Some c.in-Ok-Some.values.items = sym (rw c.in-Ok-Some.field-0-is at c.in-Ok-Some.ensures) in
+    call_refused _ _ _ _ said (c.new.ensures.args.0 (search rules))

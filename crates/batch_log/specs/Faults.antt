@@ -1,0 +1,51 @@
+-- Faults by their kind.
+use Rattle.std.specs.Prelude.{◌≡◌, ℕ, Option, Some, None, Result, Ok, Err, Bool, true, false, ◌||◌, if◌then◌else◌}
+use Rattle.devices.specs.Lines.{next_number}
+use Rattle.devices.specs.LineReader.{Position}
+use Rattle.devices.specs.declared.line_reader.LineFault.{LineFault}
+use Rattle.devices.specs.declared.line_reader.LineFault.TheVariants as devices
+use Rattle.batch_log.specs.declared.fault.FaultKind.{FaultKind}
+use Rattle.batch_log.specs.declared.fault.FaultKind.TheVariants.{NotJson, Shape, UnknownProc, Args, BatchTooLong, Io, Memory}
+use Rattle.batch_log.specs.declared.fault.LogFault.{LogFault}
+
+abbrev pub is_memory : FaultKind → Bool
+is_memory NotJson = false
+is_memory Shape = false
+is_memory UnknownProc = false
+is_memory Args = false
+is_memory BatchTooLong = false
+is_memory Io = false
+is_memory Memory = true
+
+abbrev pub is_io : FaultKind → Bool
+is_io NotJson = false
+is_io Shape = false
+is_io UnknownProc = false
+is_io Args = false
+is_io BatchTooLong = false
+is_io Io = true
+is_io Memory = false
+
+-- a fault that a line of the log has, and neither a device nor memory
+abbrev pub IsOfLine : FaultKind → Type 0
+IsOfLine kind = (is_io kind || is_memory kind) ≡ false
+
+-- what the fault of a reader of lines is for a reader of a log
+abbrev pub device_fault : LineFault → LogFault
+device_fault (devices.Io line) = record { kind = Io; line = line }
+device_fault (devices.Memory line) = record { kind = Memory; line = line }
+
+-- The line of a fault, by where the reader stands: that of the newlines taken, plus 1, for a read that failed, and else
+-- the line last begun, or 0.
+abbrev pub place_of : FaultKind → Position → ℕ
+place_of kind p = if is_io kind then next_number p.newlines else p.begun
+
+-- the fault that a call ended with
+abbrev pub fault_in : {T : Type 0} → Result T LogFault → Option LogFault
+fault_in (Ok x) = None
+fault_in (Err e) = Some e
+
+-- whether a call ended with a failed read
+abbrev pub ends_in_io : {T : Type 0} → Result T LogFault → Bool
+ends_in_io (Ok x) = false
+ends_in_io (Err e) = is_io e.kind

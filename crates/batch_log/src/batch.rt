@@ -1,0 +1,107 @@
+//! The calls of a batch, from the lines of a log.
+
+ghost use Rattle.std.specs.Prelude.{◌≡◌, ◌+◌, ◌≤◌, ◌||◌, length, None, Ok, Err, [], ◌∷◌, IfOk, IfErr, OnOk, IfSome, IsNone};
+ghost use Rattle.std.specs.List.{AllByRecursion};
+ghost use Rattle.devices.specs.Devices.{Passes};
+ghost use Rattle.devices.specs.LineReader.{fault_of, line_begun, newlines_taken, position_of, source_name, source_of, unread};
+ghost use Rattle.batch_log.specs.Faults.{ends_in_io, IsOfLine, place_of};
+ghost use Rattle.batch_log.specs.Log.{calls_in, is_room, lines_said, log_said, IsEnd, IsFault, IsNextBatch};
+ghost use Rattle.batch_log.specs.Moves.{Moves};
+
+use crate::fault::{FaultKind, LogFault, device_fault};
+use crate::line::read_line;
+use devices::{LineReader, Source};
+use proclang::{Procs, Request};
+use std::alloc::Global;
+
+/// A fault of the line last begun.
+fn fault_of_line<S: Source>(lines: &LineReader<'_, S>, kind: FaultKind) -> LogFault
+    ensures { result ≡ record { kind = kind; line = line_begun lines.now } }
+{
+    LogFault {
+        kind,
+        line: lines.last_line(),
+    }
+}
+
+/// The call that the next line says, or `None` at the end.
+fn next_call<S: Source>(
+    alloc: Global,
+    procs: &Procs,
+    lines: &mut LineReader<'_, S>,
+) -> Result<Option<Request>, LogFault>
+    ensures same { source_name lines.new ≡ source_name lines.old }
+    ensures call { IfOk result (λ o. IfSome o (λ c. Passes
+        (λ xs ys. lines_said procs.now.procs (newlines_taken lines.old) xs ≡ (line_begun lines.new, Ok c) ∷ lines_said procs.now.procs (newlines_taken lines.new) ys)
+        (unread S.left lines.old) (unread S.left lines.new))) }
+    ensures tables { IfOk result (λ o. IfSome o (λ c. c.proc.tables ≡ procs.now.tables)) }
+    ensures end { IfOk result (λ o. IsNone o → Passes (λ xs ys. (xs ≡ []) × (ys ≡ [])) (unread S.left lines.old) (unread S.left lines.new)) }
+    ensures fault { IfErr result (λ e. IsOfLine e.kind → Passes
+        (λ xs ys. lines_said procs.now.procs (newlines_taken lines.old) xs ≡ (e.line, Err e.kind) ∷ lines_said procs.now.procs (newlines_taken lines.new) ys)
+        (unread S.left lines.old) (unread S.left lines.new)) }
+    ensures moves { Moves (unread S.left lines.old) (unread S.left lines.new) (position_of lines.old) (position_of lines.new) }
+    ensures stays { OnOk result (fault_of lines.new ≡ None) }
+    ensures place { fault_of lines.old ≡ None → IfErr result (λ e. e.line ≡ place_of e.kind (position_of lines.new)) }
+    ensures fails { fault_of lines.old ≡ None → S.failed (source_of lines.new) ≡ (S.failed (source_of lines.old) || ends_in_io result) }
+{
+    let line = match lines.next_line(alloc) {
+        Ok(Some(line)) => line,
+        Ok(None) => return Ok(None),
+        Err(fault) => return Err(device_fault(fault)),
+    };
+    match read_line(alloc, procs, &line) {
+        Ok(request) => Ok(Some(request)),
+        Err(kind) => Err(fault_of_line(lines, kind)),
+    }
+}
+
+/// Whether a call may follow so many of its batch and of the log.
+fn is_room(calls: usize, total: u64) -> bool
+    ensures { result ≡ is_room calls total }
+{
+    calls < 4096 && total < 1 << 48
+}
+
+/// The calls of the next batch, or `None` at the end. `total` counts the calls of the log.
+pub(crate) fn read_batch<S: Source>(
+    alloc: Global,
+    procs: &Procs,
+    lines: &mut LineReader<'_, S>,
+    total: &mut u64,
+) -> Result<Option<Vec<Request>>, LogFault>
+    ensures same { source_name lines.new ≡ source_name lines.old }
+    ensures batch { IfOk result (λ o. IfSome o (λ calls. Passes
+        (λ xs ys. IsNextBatch (log_said procs.now.procs (newlines_taken lines.old) total.old xs) calls.items
+        (log_said procs.now.procs (newlines_taken lines.new) total.new ys))
+        (unread S.left lines.old) (unread S.left lines.new))) }
+    ensures end { IfOk result (λ o. IsNone o → Passes
+        (λ xs ys. IsEnd (log_said procs.now.procs (newlines_taken lines.old) total.old xs) × (ys ≡ []))
+        (unread S.left lines.old) (unread S.left lines.new)) }
+    ensures fault { IfErr result (λ e. IsOfLine e.kind → Passes
+        (λ xs ys. IsFault (log_said procs.now.procs (newlines_taken lines.old) total.old xs) e)
+        (unread S.left lines.old) (unread S.left lines.new)) }
+    ensures tables { IfOk result (λ o. IfSome o (λ calls. AllByRecursion (λ c. c.proc.tables ≡ procs.now.tables) calls.items)) }
+    ensures few { IfOk result (λ o. IfSome o (λ calls. length calls.items ≤ 4096)) }
+    ensures counted { IfOk result (λ o. total.new ≡ total.old + calls_in o) }
+    ensures moves { Moves (unread S.left lines.old) (unread S.left lines.new) (position_of lines.old) (position_of lines.new) }
+    ensures stays { OnOk result (fault_of lines.new ≡ None) }
+    ensures place { fault_of lines.old ≡ None → IfErr result (λ e. e.line ≡ place_of e.kind (position_of lines.new)) }
+    ensures fails { fault_of lines.old ≡ None → S.failed (source_of lines.new) ≡ (S.failed (source_of lines.old) || ends_in_io result) }
+{
+    let mut calls = Vec::new(alloc);
+    'lines: loop {
+        let call = match next_call(alloc, procs, lines) {
+            Ok(Some(call)) => call,
+            Ok(None) if calls.is_empty() => return Ok(None),
+            Ok(None) => return Ok(Some(calls)),
+            Err(fault) => return Err(fault),
+        };
+        if !is_room(calls.len(), *total) {
+            return Err(fault_of_line(lines, FaultKind::BatchTooLong));
+        }
+        if calls.push(call).is_err() {
+            return Err(fault_of_line(lines, FaultKind::Memory));
+        }
+        *total += 1;
+    }
+}

@@ -1,0 +1,15 @@
+//! The text form of a log: what its lines say, and the reader of its batches.
+#![tactic(auto)]
+
+mod batch;
+mod fault;
+mod form;
+mod line;
+mod reader;
+
+pub use devices::{DeviceFailed, ReadSource, Sink, Source, WriteSink, write_all};
+pub use fault::{FaultKind, LogFault};
+pub use reader::LogReader;
+
+#[cfg(test)]
+mod tests;

@@ -1,0 +1,70 @@
+//! What a line says.
+
+ghost use Rattle.std.specs.Prelude.{◌≡◌, map, IfErr, IfOk, false, Some};
+ghost use Rattle.serde_json.specs.View.{view};
+ghost use Rattle.documents.specs.Reading.{Gives};
+ghost use Rattle.batch_log.specs.Faults.{is_io, is_memory};
+ghost use Rattle.batch_log.specs.Log.{call_said, document_said, line_said};
+
+use crate::fault::FaultKind;
+use crate::form::{LineForm, line_form};
+use proclang::{Procs, Request, RequestFault};
+use serde_json::Value;
+use std::alloc::Global;
+use std::str;
+use values::read_values;
+
+/// The call of the procedure of that name with the values that the documents say.
+fn read_call(
+    alloc: Global,
+    procs: &Procs,
+    name: &str,
+    documents: &[Value],
+) -> Result<Request, FaultKind>
+    ensures exact { Gives is_memory (λ r. r) result (call_said procs.now.procs name.now (map view documents.now)) }
+    ensures tables { IfOk result (λ r. r.proc.tables ≡ procs.now.tables) }
+    ensures no_device { IfErr result (λ kind. is_io kind ≡ false) }
+{
+    if !procs.has(name) {
+        return Err(FaultKind::UnknownProc);
+    }
+    let values = match read_values(alloc, documents) {
+        Ok(Some(values)) => values,
+        Ok(None) => return Err(FaultKind::Args),
+        Err(_) => return Err(FaultKind::Memory),
+    };
+    match Request::new(procs, name, values) {
+        Ok(request) => Ok(request),
+        Err(RequestFault::UnknownProc) => Err(FaultKind::UnknownProc),
+        Err(RequestFault::Args) => Err(FaultKind::Args),
+        Err(RequestFault::NoMemory) => Err(FaultKind::Memory),
+    }
+}
+
+fn read_document(alloc: Global, procs: &Procs, document: &Value) -> Result<Request, FaultKind>
+    ensures exact { Gives is_memory (λ r. r) result (document_said procs.now.procs (Some (view document.now))) }
+    ensures tables { IfOk result (λ r. r.proc.tables ≡ procs.now.tables) }
+    ensures no_device { IfErr result (λ kind. is_io kind ≡ false) }
+{
+    match line_form(document) {
+        Some(LineForm::Call(name, documents)) => read_call(alloc, procs, name, documents),
+        None => Err(FaultKind::Shape),
+    }
+}
+
+/// The call that a line says, or the first rule that it breaks.
+#[tactic(auto, using(crate::proofs::Calls::said_of_text, crate::proofs::Calls::said_of_bytes))]
+pub(crate) fn read_line(alloc: Global, procs: &Procs, line: &[u8]) -> Result<Request, FaultKind>
+    ensures exact { Gives is_memory (λ r. r) result (line_said procs.now.procs line.now) }
+    ensures tables { IfOk result (λ r. r.proc.tables ≡ procs.now.tables) }
+    ensures no_device { IfErr result (λ kind. is_io kind ≡ false) }
+{
+    let Ok(text) = str::from_utf8(line) else {
+        return Err(FaultKind::NotJson);
+    };
+    match Value::from_str(alloc, text) {
+        Ok(document) => read_document(alloc, procs, &document),
+        Err(e) if e.is_memory() => Err(FaultKind::Memory),
+        Err(_) => Err(FaultKind::NotJson),
+    }
+}

@@ -1,0 +1,95 @@
+//! The reader of a log's batches.
+
+ghost use Rattle.std.specs.Prelude.{◌≡◌, ◌+◌, ◌≤◌, ◌||◌, length, None, Err, IfOk, IfErr, IfSome, IsNone};
+ghost use Rattle.std.specs.List.{AllByRecursion};
+ghost use Rattle.devices.specs.Devices.{Passes};
+ghost use Rattle.devices.specs.LineReader as line_reader;
+ghost use Rattle.batch_log.specs.Faults.{ends_in_io, fault_in, IsOfLine, place_of};
+ghost use Rattle.batch_log.specs.Log.{calls_in, IsEnd, IsFault, IsNextBatch, log_said};
+ghost use Rattle.batch_log.specs.Moves.{Moves};
+
+use crate::batch::read_batch;
+use crate::fault::LogFault;
+use devices::{LineReader, Source};
+use proclang::{Procs, Request};
+use std::alloc::Global;
+
+/// Reads the batches of a log from a source, with the number of each line.
+#[derive(Drop)]
+pub struct LogReader<'a, S> {
+    lines: LineReader<'a, S>,
+    // How many calls were read.
+    total: u64,
+    fault: Option<LogFault>,
+    ghost lines_read: { fault ≡ None → line_reader.fault_of lines ≡ None },
+}
+
+impl<'a, S: Source> LogReader<'a, S> {
+    ghost use Rattle.std.specs.Prelude.{[]};
+    ghost use Rattle.batch_log.specs.Reader.{calls_read, fault_of, line_begun, newlines_taken, position_of, source_name, source_of, unread};
+
+    /// A reader that has read nothing.
+    pub fn new(source: &'a mut S) -> LogReader<'a, S>
+        ensures same { source_name result ≡ source.entry.ghost_name }
+        ensures source { source_of result ≡ source.old }
+        ensures unread { unread S.left result ≡ S.left source.old }
+        ensures position { position_of result ≡ record { newlines = 0; begun = 0 } }
+        ensures calls { calls_read result ≡ 0 }
+        ensures fault { fault_of result ≡ None }
+    {
+        LogReader {
+            lines: LineReader::new(source),
+            total: 0,
+            fault: None,
+        }
+    }
+
+    /// The number of the line last begun, or 0 where none is. A line begins when its first byte is
+    /// taken.
+    pub fn last_line(&self) -> u64
+        ensures { result ≡ line_begun self.now }
+    {
+        self.lines.last_line()
+    }
+
+    /// The calls of the next batch, or `None` at the end. The end of a log ends a batch of the
+    /// calls before it, unless there are none. After a fault each further call answers the same
+    /// fault.
+    pub fn next_batch(
+        &mut self,
+        alloc: Global,
+        procs: &Procs,
+    ) -> Result<Option<Vec<Request>>, LogFault>
+        ensures same { source_name self.new ≡ source_name self.old }
+        ensures batch { IfOk result (λ o. IfSome o (λ calls. Passes
+            (λ xs ys. IsNextBatch (log_said procs.now.procs (newlines_taken self.old) (calls_read self.old) xs) calls.items
+            (log_said procs.now.procs (newlines_taken self.new) (calls_read self.new) ys))
+            (unread S.left self.old) (unread S.left self.new))) }
+        ensures end { IfOk result (λ o. IsNone o → Passes
+            (λ xs ys. IsEnd (log_said procs.now.procs (newlines_taken self.old) (calls_read self.old) xs) × (ys ≡ []))
+            (unread S.left self.old) (unread S.left self.new)) }
+        // Each call is of these procedures, so it is over their tables.
+        ensures tables { IfOk result (λ o. IfSome o (λ calls. AllByRecursion (λ c. c.proc.tables ≡ procs.now.tables) calls.items)) }
+        ensures few { IfOk result (λ o. IfSome o (λ calls. length calls.items ≤ 4096)) }
+        ensures counted { IfOk result (λ o. calls_read self.new ≡ calls_read self.old + calls_in o) }
+
+        // A fault of a line is the log's first, and no batch is whole before it.
+        ensures fault { fault_of self.old ≡ None → IfErr result (λ e. IsOfLine e.kind → Passes
+            (λ xs ys. IsFault (log_said procs.now.procs (newlines_taken self.old) (calls_read self.old) xs) e)
+            (unread S.left self.old) (unread S.left self.new)) }
+        ensures moves { Moves (unread S.left self.old) (unread S.left self.new) (position_of self.old) (position_of self.new) }
+        ensures place { fault_of self.old ≡ None → IfErr result (λ e. e.line ≡ place_of e.kind (position_of self.new)) }
+        ensures stays { fault_of self.new ≡ fault_in result }
+        ensures again { IfSome (fault_of self.old) (λ e. (result ≡ Err e) × (source_of self.new ≡ source_of self.old)) }
+        ensures fails { fault_of self.old ≡ None → S.failed (source_of self.new) ≡ (S.failed (source_of self.old) || ends_in_io result) }
+    {
+        if let Some(fault) = self.fault {
+            return Err(fault);
+        }
+        let result = read_batch(alloc, procs, &mut self.lines, &mut self.total);
+        if let Err(fault) = &result {
+            self.fault = Some(*fault);
+        }
+        result
+    }
+}

@@ -1,0 +1,9 @@
+-- The entries of a batch.
+use Rattle.std.specs.Prelude.{List, map}
+use Rattle.meaning.specs.Entries.{EntryShape}
+use Rattle.sequencer.specs.declared.batch.Batch.{Batch}
+use Rattle.sequencer.specs.Batches.{items_of}
+use Rattle.sequencer.specs.Entries.{prepared}
+
+abbrev pub entries_of : Batch → List EntryShape
+entries_of batch = map (λ item. prepared item.request) (items_of batch)

@@ -1,0 +1,30 @@
+-- What a clause sees of an engine.
+use Rattle.std.specs.Prelude.{◌≡◌, ℕ, List, Bool, Option, is_some, Result, Ok, Err, ⊤}
+use Rattle.values.specs.Shapes.{TableShape}
+use Rattle.values.specs.Database.{Database}
+use Rattle.proclang.specs.ProcLists.{ProcsParts}
+use Rattle.command_line.specs.declared.settings.Settings.{Settings}
+use Rattle.calvin.specs.declared.engine.Engine.{Engine}
+use Rattle.calvin.specs.declared.engine.ExecFault.{ExecFault}
+use Rattle.calvin.specs.declared.engine.ExecFault.TheVariants.{Busy, LogFull, Spawn, NoMemory}
+
+abbrev pub tables_of : Engine → List TableShape
+tables_of engine = engine.store.tables
+
+abbrev pub procs_of : Engine → ProcsParts
+procs_of engine = engine.procs
+
+-- the database
+abbrev pub rows_of : Engine → Database
+rows_of engine = engine.store.rows
+
+-- the number of the next transaction
+abbrev pub next_of : Engine → ℕ
+next_of engine = engine.next
+
+-- whether a batch is unfinished
+abbrev pub is_busy : Engine → Bool
+is_busy engine = is_some engine.held
+
+abbrev pub settings_of : Engine → Settings
+settings_of engine = engine.settings

@@ -1,0 +1,4 @@
+pub mod Replies
+pub mod Batches
+pub mod Engines
+pub mod Executions

@@ -1,0 +1,32 @@
+//! The whole program, but for the world that it is given.
+
+use crate::commands::{command, say};
+use crate::files::Files;
+use crate::status::{COMMAND_LINE, MEMORY};
+use batch_log::{Sink, Source, write_all};
+use command_line::{LineFault, read_line};
+use std::alloc::Global;
+
+/// Reads a command line from the words behind the program's name, does what it asks for, and gives the exit status: those of
+/// `command`; 2 where the words are no command line that is served, with a text for the user on `err`; 3 where memory was
+/// refused meanwhile.
+pub fn program<F: Files, S: Source, K: Sink, E: Sink>(
+    alloc: Global,
+    words: &[String],
+    files: &F,
+    source: &mut S,
+    out: &mut K,
+    err: &mut E,
+) -> u8 {
+    match read_line(alloc, words) {
+        Ok(line) => command(alloc, &line, files, source, out, err),
+        Err(LineFault::Refused(text)) => {
+            let _ = write_all(err, text.as_bytes());
+            COMMAND_LINE
+        }
+        Err(LineFault::NoMemory) => {
+            say(alloc, err, &"fault 37 line 0");
+            MEMORY
+        }
+    }
+}

@@ -1,0 +1,29 @@
+//! Why a log was not run to its end.
+
+use batch_log::{FaultKind, LogFault};
+use std::fmt;
+
+/// What ended a run, and at which line of the log.
+#[derive(Clone, Copy, Debug, PartialEq, Eq)]
+pub enum RunFault {
+    /// A fault of a line, of a device or of memory, at its line.
+    Log(LogFault),
+    /// A thread was refused; the line is the last one read.
+    Spawn { line: u64 },
+}
+
+impl RunFault {
+    /// The fault of that kind at that line.
+    pub(crate) fn at(kind: FaultKind, line: u64) -> RunFault {
+        RunFault::Log(LogFault { kind, line })
+    }
+}
+
+impl fmt::Display for RunFault {
+    fn fmt<W: fmt::Write>(&self, f: &mut fmt::Formatter<W>) -> fmt::Result {
+        match self {
+            RunFault::Log(fault) => write!(f, "{fault}"),
+            RunFault::Spawn { line } => write!(f, "fault 38 line {line}"),
+        }
+    }
+}

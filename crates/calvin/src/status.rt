@@ -1,0 +1,40 @@
+//! The exit statuses of the program.
+
+use crate::run_fault::RunFault;
+use batch_log::FaultKind;
+use proclang::ProcFault;
+use setup::SetupFault;
+use values::CatalogueFault;
+
+/// The command was done.
+pub(crate) const DONE: u8 = 0;
+/// The setup or the log breaks a rule.
+const REFUSED_INPUT: u8 = 1;
+/// The words are no command line that is served.
+pub(crate) const COMMAND_LINE: u8 = 2;
+/// The system refused memory.
+pub(crate) const MEMORY: u8 = 3;
+/// A device failed, a thread was refused, or a file can't be read.
+pub(crate) const DEVICE: u8 = 4;
+
+/// The status of a setup that was not read.
+pub(crate) fn setup_status(fault: &SetupFault) -> u8 {
+    match fault {
+        SetupFault::Memory
+        | SetupFault::Catalogue(CatalogueFault::Memory)
+        | SetupFault::Procedure(ProcFault::Memory) => MEMORY,
+        _ => REFUSED_INPUT,
+    }
+}
+
+/// The status of a run that did not come to its end.
+pub(crate) fn run_status(fault: RunFault) -> u8 {
+    match fault {
+        RunFault::Log(fault) => match fault.kind {
+            FaultKind::Io => DEVICE,
+            FaultKind::Memory => MEMORY,
+            _ => REFUSED_INPUT,
+        },
+        RunFault::Spawn { .. } => DEVICE,
+    }
+}

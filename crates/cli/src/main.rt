@@ -1,0 +1,40 @@
+//! The program `calvin`: hands the library the words behind its name, the files of the machine, and the standard streams.
+#![tactic(auto)]
+
+use calvin::{FileFault, Files, ReadSource, WriteSink, program};
+use std::alloc::Global;
+use std::env;
+use std::fs;
+use std::io::{self, ErrorKind};
+use std::process::ExitCode;
+use std::rt;
+
+/// The files of the machine that the program runs on.
+#[derive(Drop)]
+struct Machine<'a, R> {
+    rt: &'a R,
+}
+
+impl<R: rt::Files + AllocGlobal> Files for Machine<'_, R> {
+    fn read(&self, _alloc: Global, path: &str) -> Result<Vec<u8>, FileFault> {
+        match fs::read(self.rt, path) {
+            Ok(bytes) => Ok(bytes),
+            Err(error) if error.kind() == ErrorKind::OutOfMemory => Err(FileFault::NoMemory),
+            Err(_) => Err(FileFault::Unreadable),
+        }
+    }
+}
+
+fn main(rt: HostRuntime) -> io::Result<ExitCode> {
+    let alloc = rt.alloc();
+    let words: Vec<String> = env::args(&rt)?.collect(alloc)?;
+    let status = program(
+        alloc,
+        words.get(1..).unwrap_or(&[]),
+        &Machine { rt: &rt },
+        &mut ReadSource::new(rt.stdin()),
+        &mut WriteSink::new(rt.stdout()),
+        &mut WriteSink::new(rt.stderr()),
+    );
+    Ok(ExitCode::from(status))
+}

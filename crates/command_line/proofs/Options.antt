@@ -1,0 +1,123 @@
+-- What the getters read of a command's arguments.
+use Rattle.std.proofs.Common.{◌≡◌, ℕ, ◌<◌, ◌^◌, List, Bool, true, false, codes, string_bytes, Option, None, Some, Result, Ok, Err, refl, sym, ◌∙◌, ap, ap₂, subst}
+use Rattle.std.specs.Option.{IfSome, IsNone, option_map}
+use Rattle.std.specs.Result.{IfOk, IsOk, result_ok}
+use Rattle.std.specs.Str.Parse.{digits_value, without_leading_plus, ExplainsUnsignedError, HasUnsignedDigitsIfOk, ParsesUnsigned}
+use Rattle.std.specs.declared.num.ParseIntError.{ParseIntError}
+use Rattle.clap.specs.Words.{ReadsOne, Row, Text, first_of, first_value, one_of, one_text, rows_of}
+use Rattle.clap.specs.declared.parser.matches.Found.{Found}
+use Rattle.clap.proofs.WalkLemmas.{first_value-rows, one_text-rows}
+use Rattle.command_line.specs.CommandLine.{AreSettings, IsCommand, IsFlag, IsNumber}
+use Rattle.command_line.specs.Ranges.{AreInRange}
+use Rattle.command_line.specs.declared.line.Command.{Command}
+use Rattle.command_line.specs.declared.line.Command.TheVariants.{Run}
+use Rattle.command_line.specs.declared.settings.Settings.{Settings}
+
+-- what reading a number from a text gives
+abbrev Gives : List ℕ → Result ℕ ParseIntError → Type 0
+Gives text r = ParsesUnsigned 64 10 text r × ExplainsUnsignedError 10 text r × HasUnsignedDigitsIfOk text r
+
+-- a number that was read stands in the rows
+number_at : (rows : List Row) (id : Text) (r : Option ℕ) (n : ℕ) (o : Option Text) → one_of id rows ≡ o →
+    (o ≡ None → r ≡ None) → ((t : List ℕ) → o ≡ Some t → ReadsOne Gives t r) → r ≡ Some n → IsNumber rows id n
+number_at rows id r n None at none value is =
+    let bad : None ≡ Some n = sym (none refl) ∙ is in absurd cc
+number_at rows id r n (Some t) at none value is =
+    let read : Gives t (Ok n) = rw is at (value t refl) in
+    record { text = t; given = at; numeral = read.0.0.0; value = read.0.1 }
+
+pub number_read : (f : Found) (id : Text) (r : Option ℕ) (n : ℕ) →
+    (one_text f id ≡ None → r ≡ None) → ((t : List ℕ) → one_text f id ≡ Some t → ReadsOne Gives t r) → r ≡ Some n → IsNumber (rows_of f) id n
+number_read f id r n none value is =
+    number_at (rows_of f) id r n (one_text f id) (sym (one_text-rows f id)) none value is
+
+-- settings that were made of numbers that stand in the rows
+pub settings_made : {E : Type 0} (rows : List Row) (r : Result Settings E) (o : Option Settings) (workers lanes coarsen arena : ℕ) → o ≡ result_ok r →
+    IfOk r (λ s. (s.workers ≡ workers) × (s.lanes ≡ lanes) × (s.coarsen ≡ coarsen) × (s.arena ≡ arena)) →
+    IsNumber rows (codes "workers") workers → IsNumber rows (codes "lanes") lanes → IsNumber rows (codes "coarsen") coarsen → IsNumber rows (codes "arena") arena →
+    IfSome o (AreSettings rows)
+settings_made rows (Ok s) o workers lanes coarsen arena e same a b c d =
+    let number : Text → ℕ → Type 0 = IsNumber rows in
+    let made : AreSettings rows s = record {
+      workers = subst (number (codes "workers")) (sym same.0) a;
+      lanes = subst (number (codes "lanes")) (sym same.1) b;
+      coarsen = subst (number (codes "coarsen")) (sym same.2) c;
+      arena = subst (number (codes "arena")) (sym same.3) d;
+    } in
+    rw e made
+settings_made rows (Err x) o workers lanes coarsen arena e same a b c d = rw e tt
+
+-- a flag that was read stands in the rows
+pub flag_read : (f : Found) (id : Text) (flag : Bool) → (one_text f id ≡ Some (codes "true") → flag ≡ true) → (one_text f id ≡ Some (codes "false") → flag ≡ false) →
+    IsFlag (rows_of f) id flag
+flag_read f id flag set unset = record {
+  set = λ h. set (one_text-rows f id ∙ h);
+  unset = λ h. unset (one_text-rows f id ∙ h);
+}
+
+-- a text that was read stands in the rows
+pub text_read : (f : Found) (id path text : Text) → Some text ≡ first_value f id → path ≡ text → first_of id (rows_of f) ≡ Some path
+text_read f id path text e same = sym (first_value-rows f id) ∙ sym e ∙ ap Some (sym same)
+
+-- a name and rows that were each read stand together
+pub name_with_rows : {B : Type 0} (both : B → Text × List Row) (o : Option B) (name : Text) (rows : List Row) →
+    option_map (λ (b : B). (both b).0) o ≡ Some name → option_map (λ (p : Text × List Row). p.1) (option_map both o) ≡ Some rows →
+    option_map both o ≡ Some (name, rows)
+name_with_rows both None name rows e f = cc
+name_with_rows both (Some b) name rows e f =
+    let named : (both b).0 ≡ name = cc in
+    let held : (both b).1 ≡ rows = cc in
+    let pair : Text → List Row → Text × List Row = λ word all. (word, all) in
+    ap Some (ap₂ pair named held)
+
+-- ---- where a getter reads nothing
+
+-- where no number was read, none stands in the rows
+pub no_number : (f : Found) (id : Text) (r : Option ℕ) (n : ℕ) → ((t : List ℕ) → one_text f id ≡ Some t → ReadsOne Gives t r) → r ≡ None →
+    n < 2 ^ 64 → IsNumber (rows_of f) id n → ⊥
+no_number f id r n value none fits is =
+    let unread : ReadsOne Gives is.text None = rw none at (value is.text (one_text-rows f id ∙ is.given)) in
+    unread.1.0 (is.numeral, subst (λ (m : ℕ). m < 2 ^ 64) is.value fits)
+
+-- an argument is one number
+same_number : (rows : List Row) (id : Text) (n m : ℕ) → IsNumber rows id n → IsNumber rows id m → n ≡ m
+same_number rows id n m p q =
+    let number : Text → ℕ = λ t. digits_value 10 (without_leading_plus t) in
+    let same : p.text ≡ q.text = cc (p.given, q.given) in
+    p.value ∙ ap number same ∙ sym q.value
+
+-- numbers that are settings are in range
+in_range : (rows : List Row) (s : Settings) (workers lanes coarsen arena : ℕ) →
+    IsNumber rows (codes "workers") workers → IsNumber rows (codes "lanes") lanes → IsNumber rows (codes "coarsen") coarsen → IsNumber rows (codes "arena") arena →
+    AreSettings rows s → AreInRange workers lanes coarsen arena
+in_range rows s workers lanes coarsen arena a b c d given =
+    let e : workers ≡ s.workers = same_number _ _ _ _ a given.workers in
+    let f : lanes ≡ s.lanes = same_number _ _ _ _ b given.lanes in
+    let g : coarsen ≡ s.coarsen = same_number _ _ _ _ c given.coarsen in
+    let h : arena ≡ s.arena = same_number _ _ _ _ d given.arena in
+    record {
+      some_workers = rw e s.some_workers;
+      few_workers = rw e s.few_workers;
+      some_lanes = rw f s.some_lanes;
+      few_lanes = rw f s.few_lanes;
+      few_entries = rw g s.few_entries;
+      some_requests = rw h s.some_requests;
+      few_requests = rw h s.few_requests;
+    }
+
+not_made : {E : Type 0} (r : Result Settings E) (o : Option Settings) → o ≡ result_ok r → IsNone o → IsOk r → ⊥
+not_made (Ok s) o e none ok = let bad : IsNone (Some s) = rw e at none in cc
+not_made (Err x) o e none ok = cc
+
+-- where no settings were made of the numbers, the rows give none
+pub no_settings : {E : Type 0} (rows : List Row) (r : Result Settings E) (o : Option Settings) (workers lanes coarsen arena : ℕ) → o ≡ result_ok r →
+    (AreInRange workers lanes coarsen arena → IsOk r) →
+    IsNumber rows (codes "workers") workers → IsNumber rows (codes "lanes") lanes → IsNumber rows (codes "coarsen") coarsen → IsNumber rows (codes "arena") arena →
+    IsNone o → (s : Settings) → AreSettings rows s → ⊥
+no_settings rows r o workers lanes coarsen arena e accepted a b c d none s given =
+    not_made r o e none (accepted (in_range rows s workers lanes coarsen arena a b c d given))
+
+-- where no text was read, the rows give no command
+pub no_command : (f : Found) (word : Text) (command : Command) → None ≡ first_value f (codes "setup") → IsCommand word (rows_of f) command → ⊥
+no_command f word (Run alone setup) none asks =
+    let bad : None ≡ Some (string_bytes setup) = none ∙ first_value-rows f (codes "setup") ∙ asks.setup in absurd cc

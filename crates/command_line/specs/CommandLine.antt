@@ -1,0 +1,58 @@
+-- What a command line asks for.
+use Rattle.std.specs.Prelude.{◌≡◌, ℕ, List, [], Bool, true, false, Option, Some, None, codes, string_bytes, ⊤}
+use Rattle.std.specs.Str.Parse.{IsNumeral, digits_value, without_leading_plus}
+use Rattle.clap.specs.Words.{Row, Text, fault_of, first_of, one_of, subcommand_of}
+use Rattle.command_line.specs.declared.line.Command.{Command}
+use Rattle.command_line.specs.declared.line.Command.TheVariants.{Run}
+use Rattle.command_line.specs.declared.line.Line.{Line}
+use Rattle.command_line.specs.declared.line.LineFault.{LineFault}
+use Rattle.command_line.specs.declared.line.LineFault.TheVariants.{NoMemory, Refused}
+use Rattle.command_line.specs.declared.settings.Settings.{Settings}
+use Rattle.command_line.specs.Words.{calvin_app}
+
+-- the argument is this number in decimal
+pub record IsNumber (rows : List Row) (id : Text) (n : ℕ) : Type 0 where
+  pub text : Text
+  pub given : one_of id rows ≡ Some text
+  pub numeral : IsNumeral 10 (without_leading_plus text)
+  pub value : n ≡ digits_value 10 (without_leading_plus text)
+
+-- the flag is set or not
+pub record IsFlag (rows : List Row) (id : Text) (flag : Bool) : Type 0 where
+  pub set : one_of id rows ≡ Some (codes "true") → flag ≡ true
+  pub unset : one_of id rows ≡ Some (codes "false") → flag ≡ false
+
+-- each option is a setting
+pub record AreSettings (rows : List Row) (settings : Settings) : Type 0 where
+  pub workers : IsNumber rows (codes "workers") settings.workers
+  pub lanes : IsNumber rows (codes "lanes") settings.lanes
+  pub coarsen : IsNumber rows (codes "coarsen") settings.coarsen
+  pub arena : IsNumber rows (codes "arena") settings.arena
+
+-- the command, by its name and its arguments
+pub record IsRun (word : Text) (rows : List Row) (flag : Bool) (path : Text) : Type 0 where
+  pub name : word ≡ codes "run"
+  pub alone : IsFlag rows (codes "alone") flag
+  pub setup : first_of (codes "setup") rows ≡ Some path
+
+abbrev pub IsCommand : Text → List Row → Command → Type 0
+IsCommand name rows (Run alone setup) = IsRun name rows alone (string_bytes setup)
+
+-- what the name and the arguments of a command ask for
+pub record Asks (name : Text) (rows : List Row) (line : Line) : Type 0 where
+  pub command : IsCommand name rows line.command
+  pub settings : AreSettings rows line.settings
+
+-- the words, as the parser cuts them into a command's name and its arguments, ask for the line
+abbrev pub AsksFor : Option (Text × List Row) → Line → Type 0
+AsksFor None line = ⊥
+AsksFor (Some p) line = Asks p.0 p.1 line
+
+-- the parser takes the words, and what it cuts them into asks for the line
+abbrev pub IsAskedFor : List Text → Line → Type 0
+IsAskedFor words line = (fault_of calvin_app words ≡ []) × AsksFor (subcommand_of calvin_app words) line
+
+-- the words were refused, and no memory
+abbrev pub IsRefused : LineFault → Type 0
+IsRefused (Refused text) = ⊤
+IsRefused NoMemory = ⊥

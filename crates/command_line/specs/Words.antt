@@ -1,0 +1,43 @@
+-- The command line as its parser sees it: which commands and arguments it has.
+use Rattle.std.specs.Prelude.{ℕ, ◌∷◌, [], Some, true, codes}
+use Rattle.clap.specs.Simple.{on_top}
+use Rattle.clap.specs.Words.{App, Rule, Text, new_app, new_rule, with_rule, with_subcommand}
+use Rattle.clap.specs.declared.builder.ArgAction.TheVariants.{Set, SetTrue}
+use Rattle.clap.specs.declared.builder.value_parser.ValueParser.TheVariants.{Unsigned}
+
+-- `--NAME N`, where N is a number in a range
+abbrev pub number_rule : Text → ℕ → ℕ → Text → Rule
+number_rule name least most default = record (new_rule name) {
+  long = Some name;
+  action = Some Set;
+  value_names = 1;
+  defaults = default ∷ [];
+  parser = Some (Unsigned least most);
+}
+
+-- `--NAME`
+abbrev pub flag_rule : Text → Rule
+flag_rule name = record (new_rule name) { long = Some name; action = Some SetTrue }
+
+-- a word that must be there
+abbrev pub word_rule : Text → Rule
+word_rule name = record (new_rule name) { action = Some Set; value_names = 1; required = true }
+
+-- `run [--alone] [--workers N] [--lanes N] [--coarsen N] [--arena N] SETUP`
+unfoldable pub run_app : App
+run_app =
+    with_rule (with_rule (with_rule (with_rule (with_rule (with_rule (new_app (codes "run"))
+    (word_rule (codes "setup")))
+    (flag_rule (codes "alone")))
+    (number_rule (codes "workers") 1 16 (codes "4")))
+    (number_rule (codes "lanes") 1 64 (codes "8")))
+    (number_rule (codes "coarsen") 0 65535 (codes "64")))
+    (number_rule (codes "arena") 1 1048576 (codes "65536"))
+
+-- the commands, of which one must be named; the words begin behind the program's name
+unfoldable pub calvin_app : App
+calvin_app = with_subcommand (on_top (λ s. record s {
+  no_binary_name = true;
+  subcommand_required = true;
+  arg_required_else_help = true;
+}) (new_app (codes "calvin"))) run_app.top

@@ -1,0 +1,12 @@
+//! The command line of the program: what its words ask for, and with which settings.
+#![tactic(auto)]
+
+pub mod line;
+mod parser;
+pub mod settings;
+
+pub use line::{Command, Line, LineFault, read_line};
+pub use settings::{BadSetting, Settings};
+
+#[cfg(test)]
+mod tests;

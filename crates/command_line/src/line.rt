@@ -1,0 +1,121 @@
+//! Reading a command line.
+
+ghost use Rattle.std.specs.Prelude.{◌≡◌, map, IfErr, IfOk, IfSome, IsNone, string_bytes};
+ghost use Rattle.clap.specs.Words.{found_of, kind_of, rows_of, subcommand_rows_of};
+ghost use Rattle.command_line.specs.CommandLine.{AreSettings, AsksFor, IsAskedFor, IsRefused};
+ghost use Rattle.command_line.specs.declared.line.Line.{Line};
+ghost use Rattle.command_line.specs.declared.line.LineFault.TheVariants.{NoMemory};
+ghost use Rattle.command_line.specs.declared.settings.Settings.{Settings};
+
+use crate::parser::calvin_command;
+use crate::settings::Settings;
+use clap::error::ErrorKind;
+use clap::{ArgMatches, Error};
+use std::alloc::{AllocError, Global};
+
+/// What the program is asked to do.
+#[derive(Debug, Drop, PartialEq, Eq)]
+pub enum Command {
+    /// Run the log on the setup at this path, with `alone` on one thread.
+    Run { alone: bool, setup: String },
+}
+
+/// A command line that was read.
+#[derive(Debug, Drop, PartialEq, Eq)]
+pub struct Line {
+    pub command: Command,
+    pub settings: Settings,
+}
+
+/// Why a command line was not read.
+#[derive(Debug, Drop, PartialEq, Eq)]
+pub enum LineFault {
+    /// The words ask for nothing that is served, or for help. The text says so to the user, in
+    /// whole lines.
+    Refused(String),
+    /// Memory was refused.
+    NoMemory,
+}
+
+impl From<AllocError> for LineFault {
+    ghost from_gives = { λ _ fault. fault ≡ NoMemory };
+
+    fn from(_error: AllocError) -> LineFault {
+        LineFault::NoMemory
+    }
+}
+
+// What stands for an error of the parser.
+fn fault_in(alloc: Global, error: &Error) -> LineFault
+    ensures { kind_of error.now ≡ ErrorKind.OutOfMemory → result ≡ LineFault.NoMemory }
+{
+    if error.kind() == ErrorKind::OutOfMemory {
+        return LineFault::NoMemory;
+    }
+    match error.to_string(alloc) {
+        Ok(text) => LineFault::Refused(text),
+        Err(AllocError) => LineFault::NoMemory,
+    }
+}
+
+// The settings, where the options are numbers in their ranges.
+fn settings_of(matches: &ArgMatches<'_>) -> Option<Settings>
+    ensures some { IfSome result (AreSettings (rows_of (found_of matches.now))) }
+    ensures none { IsNone result → (settings : Settings) → ¬ AreSettings (rows_of (found_of matches.now)) settings }
+{
+    let workers = matches.get_one::<usize>("workers")?;
+    let lanes = matches.get_one::<usize>("lanes")?;
+    let coarsen = matches.get_one::<usize>("coarsen")?;
+    let arena = matches.get_one::<usize>("arena")?;
+    Settings::new(workers, lanes, coarsen, arena).ok()
+}
+
+// What a parse asks for.
+fn line_of(alloc: Global, matches: &ArgMatches<'_>) -> Result<Option<Line>, AllocError>
+    ensures some { IfOk result (λ o. IfSome o (AsksFor (subcommand_rows_of matches.now))) }
+    ensures none { IfOk result (λ o. IsNone o → (line : Line) → ¬ AsksFor (subcommand_rows_of matches.now) line) }
+{
+    let Some(run) = matches.subcommand_matches("run") else {
+        return Ok(None);
+    };
+    let Some(settings) = settings_of(run) else {
+        return Ok(None);
+    };
+    let Some(setup) = run.get_str("setup") else {
+        return Ok(None);
+    };
+    let setup = String::from_str(alloc, setup)?;
+    let alone = run.get_flag("alone");
+    Ok(Some(Line {
+        command: Command::Run { alone, setup },
+        settings,
+    }))
+}
+
+/// Reads a command line, the words after the program's name. Where an option is left out, there
+/// are 4 workers, 8 lanes, 64 entries before coarsening and room for 65,536 requests.
+///
+/// Words that ask for no line are `Refused`, with the text that `clap` answers in place of a line;
+/// a call for help is refused with the help. `NoMemory` is answered where memory was refused.
+pub fn read_line(alloc: Global, words: &[String]) -> Result<Line, LineFault>
+    ensures line { IfOk result (IsAskedFor (map string_bytes words.now)) }
+    ensures refused { IfErr result (λ fault. IsRefused fault → (line : Line) → ¬ IsAskedFor (map string_bytes words.now) line) }
+{
+    let command = calvin_command(alloc)?;
+    let matches = match command.try_get_matches_from(words) {
+        Ok(matches) => matches,
+        Err(error) => return Err(fault_in(alloc, &error)),
+    };
+    match line_of(alloc, &matches)? {
+        Some(line) => Ok(line),
+        None => Err(unserved(alloc)),
+    }
+}
+
+// Stands for what the parser lets through and no line answers: no words are known that lead here.
+fn unserved(alloc: Global) -> LineFault {
+    match String::from_str(alloc, "error: the command is not served\n") {
+        Ok(text) => LineFault::Refused(text),
+        Err(AllocError) => LineFault::NoMemory,
+    }
+}

@@ -1,0 +1,122 @@
+//! The command line as `clap` parses it, with its help.
+
+ghost use Rattle.std.specs.Prelude.{◌≡◌, IfOk, false};
+ghost use Rattle.clap.specs.Words.{app_of, rule_of};
+ghost use Rattle.clap.specs.declared.builder.command.Command.TheViews.{out-Command as fields_of};
+ghost use Rattle.command_line.specs.Words.{calvin_app, flag_rule, number_rule, run_app, word_rule};
+
+use clap::builder::ValueParser;
+use clap::{Arg, ArgAction, Command};
+use std::alloc::{AllocError, Global};
+
+const ABOUT: &str = "Runs a log of procedure calls, in parallel and always with the same outcome";
+
+const RUN_ABOUT: &str = "Runs the log on standard input and prints its report";
+
+const EXAMPLE: &str = "Example:
+  calvin run --workers 8 bank.json < calls.log
+
+bank.json holds tables, procedures and rows. Each line of calls.log is a call, as
+  [\"call\",\"pay\",[1,2,30]]
+`calvin run --help` lists the options.";
+
+const RUN_EXAMPLE: &str = "Examples:
+  calvin run bank.json < calls.log
+  calvin run --workers 8 --coarsen 0 bank.json < calls.log
+  calvin run --alone bank.json < calls.log
+
+The options change the speed of a run, and never its report.";
+
+const SETUP_HELP: &str = "The file of tables, procedures and rows, in JSON";
+
+const LANES_HELP: &str = "Jobs that may be out to workers at a time, 1 to 64";
+
+const COARSEN_HELP: &str =
+    "Rows of a partition, or partitions of a table, that a call locks one by one, 0 to 65535";
+
+const ARENA_HELP: &str = "Lock requests that may stand at a time, 1 to 1048576";
+
+/// An option whose value is a number from `least` to `most`.
+fn number_option<'a>(
+    alloc: Global,
+    name: &'a str,
+    least: u64,
+    most: u64,
+    default: &'a str,
+    help: &'a str,
+) -> Arg<'a>
+    ensures rule { rule_of result ≡ number_rule name.entry.now least most default.entry.now }
+    ensures local { result.global ≡ false }
+{
+    Arg::new(alloc, name)
+        .long(name)
+        .value_name("N")
+        .action(ArgAction::Set)
+        .value_parser(ValueParser::unsigned(least, most))
+        .default_value(default)
+        .help(help)
+}
+
+/// An option without a value.
+fn flag_option<'a>(alloc: Global, name: &'a str, help: &'a str) -> Arg<'a>
+    ensures rule { rule_of result ≡ flag_rule name.entry.now }
+    ensures local { result.global ≡ false }
+{
+    Arg::new(alloc, name)
+        .long(name)
+        .action(ArgAction::SetTrue)
+        .help(help)
+}
+
+/// A word that must be there, which help calls by its `value_name`.
+fn required_word<'a>(alloc: Global, name: &'a str, value_name: &'a str, help: &'a str) -> Arg<'a>
+    ensures rule { rule_of result ≡ word_rule name.entry.now }
+    ensures local { result.global ≡ false }
+{
+    Arg::new(alloc, name)
+        .value_name(value_name)
+        .required(true)
+        .action(ArgAction::Set)
+        .help(help)
+}
+
+/// The command `run`.
+fn run_command<'a>(alloc: Global) -> Result<Command<'a>, AllocError>
+    ensures app { IfOk result (λ r. app_of r ≡ run_app) }
+    ensures local { IfOk result (λ r. (fields_of r).has_globals ≡ false) }
+{
+    let setup = required_word(alloc, "setup", "SETUP", SETUP_HELP);
+    let alone = flag_option(
+        alloc,
+        "alone",
+        "Run on one thread, without workers and lanes",
+    );
+    let workers = number_option(alloc, "workers", 1, 16, "4", "Worker threads, 1 to 16");
+    let lanes = number_option(alloc, "lanes", 1, 64, "8", LANES_HELP);
+    let coarsen = number_option(alloc, "coarsen", 0, 65_535, "64", COARSEN_HELP);
+    let arena = number_option(alloc, "arena", 1, 1_048_576, "65536", ARENA_HELP);
+    Command::new(alloc, "run")
+        .about(RUN_ABOUT)
+        .after_help(RUN_EXAMPLE)
+        .arg(setup)?
+        .arg(alone)?
+        .arg(workers)?
+        .arg(lanes)?
+        .arg(coarsen)?
+        .arg(arena)
+}
+
+/// The whole command line, without the program's name.
+pub(crate) fn calvin_command<'a>(alloc: Global) -> Result<Command<'a>, AllocError>
+    ensures { IfOk result (λ r. app_of r ≡ calvin_app) }
+{
+    let run = run_command(alloc)?;
+    Command::new(alloc, "calvin")
+        .bin_name("calvin")?
+        .about(ABOUT)
+        .after_help(EXAMPLE)
+        .no_binary_name(true)
+        .subcommand_required(true)
+        .arg_required_else_help(true)
+        .subcommand(run)
+}

@@ -1,0 +1,101 @@
+//! A case: what the program is given, and what it must write.
+
+use crate::outputs::Output;
+use crate::stored::CaseFiles;
+use calvin::{FileFault, Files, ReadSource, program};
+use std::alloc::{AllocError, Global};
+use std::io;
+use std::rt;
+
+/// A setup and a log, and what the program must make of them.
+#[derive(Drop)]
+pub(crate) struct Case {
+    setup: Vec<u8>,
+    log: Vec<u8>,
+    stdout: Vec<u8>,
+    stderr: Vec<u8>,
+    status: Vec<u8>,
+}
+
+/// The one file that there is: the setup.
+#[derive(Drop)]
+struct SetupFile<'a> {
+    bytes: &'a [u8],
+}
+
+impl Files for SetupFile<'_> {
+    fn read(&self, alloc: Global, path: &str) -> Result<Vec<u8>, FileFault> {
+        if path != "setup.json" {
+            return Err(FileFault::Unreadable);
+        }
+        match Vec::from_slice(alloc, self.bytes) {
+            Ok(bytes) => Ok(bytes),
+            Err(_) => Err(FileFault::NoMemory),
+        }
+    }
+}
+
+/// The words of a run, and how many bytes its outputs take a write.
+const RUNS: [(&str, &[&str], usize); 3] = [
+    ("--workers 2", &["run", "--workers", "2", "setup.json"], 4096),
+    ("--alone", &["run", "--alone", "setup.json"], 4096),
+    ("a byte a write", &["run", "--workers", "2", "setup.json"], 1),
+];
+
+impl Case {
+    /// Reads the case of that name.
+    pub(crate) fn read<R: rt::Files + AllocGlobal>(
+        files: &CaseFiles<'_, R>,
+        alloc: Global,
+        name: &str,
+    ) -> io::Result<Case> {
+        let setup = files.read(alloc, name, "setup.json")?;
+        let log = files.read(alloc, name, "log")?;
+        let stdout = files.read(alloc, name, "stdout")?;
+        let stderr = files.read(alloc, name, "stderr")?;
+        let status = files.read(alloc, name, "status")?;
+        Ok(Case {
+            setup,
+            log,
+            stdout,
+            stderr,
+            status,
+        })
+    }
+
+    /// Whether the program, with these words, writes what is stored and ends with the status that is stored.
+    fn agrees(&self, alloc: Global, words: &[&str], most: usize) -> Result<bool, AllocError> {
+        let words = owned(alloc, words)?;
+        let mut out = Output::new(Vec::new(alloc), most);
+        let mut err = Output::new(Vec::new(alloc), most);
+        let status = program(
+            alloc,
+            &words,
+            &SetupFile { bytes: &self.setup },
+            &mut ReadSource::new(self.log.as_slice()),
+            &mut out,
+            &mut err,
+        );
+        let status = format!(in alloc; "{status}\n")?;
+        Ok(out.bytes == self.stdout && err.bytes == self.stderr && status.as_bytes() == self.status.as_slice())
+    }
+
+    /// The runs in which the program does otherwise than is stored.
+    pub(crate) fn differing(&self, alloc: Global) -> Result<Vec<&'static str>, AllocError> {
+        let mut runs = Vec::new(alloc);
+        for (name, words, most) in RUNS {
+            if !self.agrees(alloc, words, most)? {
+                runs.push(name)?;
+            }
+        }
+        Ok(runs)
+    }
+}
+
+fn owned(alloc: Global, words: &[&str]) -> Result<Vec<String>, AllocError> {
+    let mut owned = Vec::new(alloc);
+    for word in words {
+        owned.push(String::from_str(alloc, word)?)?;
+    }
+    Ok(owned)
+}

@@ -1,0 +1,3 @@
+pub mod Passing
+pub mod Lines
+pub mod Positions

@@ -1,0 +1,84 @@
+-- Where a reader stands after it took bytes.
+use Rattle.std.proofs.Common.{◌≡◌, ℕ, ◌+◌, ◌<◌, ◌^◌, List, [], ◌∷◌, ◌++◌, length, append-nil, false, Option, refl, sym, ◌∙◌, ap, subst, arith, inl, inr, length-append}
+use Rattle.std.specs.Io.KnownBytes.{Consumes, IsAtEnd, Keeps}
+use Rattle.std.proofs.KnownBytes.{Consumes-trans, Consumes-kept}
+use Rattle.devices.specs.Devices.{Passes}
+use Rattle.devices.specs.Lines.{has_newline, is_newline, line_number, lines_of, newline, newlines_in, next_number, numbered_lines}
+use Rattle.devices.specs.LineReader.{LosesLine, Position, position_after, Takes, TakesLine}
+use Rattle.devices.proofs.Lines.{has_newline-push, lines_of-last, lines_of-newline, newlines_in-line, newlines_in-newline, numbered_lines-last, numbered_lines-newline}
+use Rattle.devices.proofs.Passing.{Passes-from_consumes, Passes-at_end}
+
+length-lines_of-newline : (line : List ℕ) → has_newline line ≡ false → length (lines_of (line ++ newline ∷ [])) ≡ 1
+length-lines_of-newline line h = ap length (lines_of-newline line [] h)
+
+number_same : (n : ℕ) → n < 2 ^ 64 → line_number (n + 0) ≡ n
+number_same n h = omega arith
+
+after_some : (p : Position) (b : ℕ) (rest : List ℕ) (m k : ℕ) → newlines_in (b ∷ rest) ≡ m → length (lines_of (b ∷ rest)) ≡ k →
+    position_after p (b ∷ rest) ≡ record { newlines = line_number (p.newlines + m); begun = line_number (p.newlines + k) }
+after_some p b rest m k e f = rw (e, f) refl
+
+pub after_newline : (p : Position) (line : List ℕ) → has_newline line ≡ false →
+    position_after p (line ++ newline ∷ []) ≡ record { newlines = next_number p.newlines; begun = next_number p.newlines }
+after_newline p [] h = refl
+after_newline p (b ∷ line) h = after_some p b (line ++ newline ∷ []) 1 1 (newlines_in-newline (b ∷ line) h) (length-lines_of-newline (b ∷ line) h)
+
+after_none : (p q : Position) (line : List ℕ) → has_newline line ≡ false → p.newlines < 2 ^ 64 →
+    (length line ≡ 0 → q.begun ≡ p.begun) → (0 < length line → q.begun ≡ next_number p.newlines) → record { newlines = p.newlines; begun = q.begun } ≡ position_after p line
+after_none p q [] h small none some = rw (none refl) refl
+after_none p q (b ∷ line) h small none some =
+    let e = after_some p b line 0 1 (newlines_in-line (b ∷ line) h) (ap length (lines_of-last b line h)) in
+    let f : q.begun ≡ next_number p.newlines = some (omega arith) in
+    rw (e, f, number_same p.newlines small) refl
+
+pub after_line : (p q : Position) (line : List ℕ) → has_newline line ≡ false → p.newlines < 2 ^ 64 → q.newlines ≡ p.newlines →
+    (length line ≡ 0 → q.begun ≡ p.begun) → (0 < length line → q.begun ≡ next_number p.newlines) → q ≡ position_after p line
+after_line p q line h small same none some =
+    let at : ℕ → Position = λ n. record { newlines = n; begun = q.begun } in
+    ap at same ∙ after_none p q line h small none some
+
+-- ---- what a call of the reader takes
+
+pub line_taken : (a m c : Option (List ℕ)) (p : Position) (line : List ℕ) (b k : ℕ) → has_newline line ≡ false →
+    Consumes a m line → Consumes m c (b ∷ []) → b ≡ newline → k ≡ next_number p.newlines →
+    TakesLine a c p (record { newlines = k; begun = k }) line
+line_taken a m c p line b k h first second e f =
+    let P : ℕ → Type 0 = λ v. Consumes a c (line ++ v ∷ []) in
+    (h, inl (subst P e (Consumes-trans a m c line (b ∷ []) first second), rw f (sym (after_newline p line h))))
+
+pub last_taken : (a m c : Option (List ℕ)) (p q : Position) (line : List ℕ) → has_newline line ≡ false → 0 < length line → p.newlines < 2 ^ 64 → q.newlines ≡ p.newlines →
+    Consumes a m line → Consumes m c [] → IsAtEnd c → q.begun ≡ next_number p.newlines → TakesLine a c p q line
+last_taken a m c p q line h some small same first second end f =
+    let taken : Consumes a c line = rw append-nil at (Consumes-trans a m c line [] first second) in
+    (h, inr (some, (taken, after_line p q line h small same (λ none. absurd (omega arith)) (λ _. f)), end))
+
+pub line_lost : (a m c : Option (List ℕ)) (p q : Position) (line : List ℕ) → has_newline line ≡ false → p.newlines < 2 ^ 64 → q.newlines ≡ p.newlines →
+    (length line ≡ 0 → q.begun ≡ p.begun) → (0 < length line → q.begun ≡ next_number p.newlines) → Consumes a m line → Keeps m c → LosesLine a c p q
+line_lost a m c p q line h small same none some first second =
+    (line, h, (Consumes-kept a m c line first second, after_line p q line h small same none some))
+
+pub byte_lost : (a m c : Option (List ℕ)) (p q : Position) (line : List ℕ) (b : ℕ) → has_newline line ≡ false → is_newline b ≡ false → p.newlines < 2 ^ 64 → q.newlines ≡ p.newlines →
+    Consumes a m line → Consumes m c (b ∷ []) → q.begun ≡ next_number p.newlines → LosesLine a c p q
+byte_lost a m c p q line b h e small same first second f =
+    let whole = has_newline-push line b h e in
+    let some : 0 < length (line ++ b ∷ []) = simp length-append (omega arith) in
+    (line ++ b ∷ [], whole, (Consumes-trans a m c line (b ∷ []) first second, after_line p q (line ++ b ∷ []) whole small same (λ none. absurd (omega arith)) (λ _. f)))
+
+-- ---- a line taken is the first of the lines that were left
+
+numbered_newline : (a c : Option (List ℕ)) (p q : Position) (line : List ℕ) → has_newline line ≡ false → Takes a c p q (line ++ newline ∷ []) →
+    Passes (λ xs ys. numbered_lines p.newlines xs ≡ (q.begun, line) ∷ numbered_lines q.newlines ys) a c
+numbered_newline a c p q line h takes =
+    let at : q ≡ record { newlines = next_number p.newlines; begun = next_number p.newlines } = takes.1 ∙ after_newline p line h in
+    Passes-from_consumes _ a c (line ++ newline ∷ []) (λ ys. rw at (numbered_lines-newline p.newlines line ys h)) takes.0
+
+numbered_last : (a c : Option (List ℕ)) (p q : Position) (line : List ℕ) → has_newline line ≡ false → 0 < length line → p.newlines < 2 ^ 64 → Takes a c p q line → IsAtEnd c →
+    Passes (λ xs ys. numbered_lines p.newlines xs ≡ (q.begun, line) ∷ numbered_lines q.newlines ys) a c
+numbered_last a c p q line h some small takes end =
+    let at : q ≡ record { newlines = p.newlines; begun = next_number p.newlines } = takes.1 ∙ sym (after_line p (record { newlines = p.newlines; begun = next_number p.newlines }) line h small refl (λ none. absurd (omega arith)) (λ _. refl)) in
+    Passes-at_end _ a c line (rw at (numbered_lines-last p.newlines line h some)) takes.0 end
+
+pub numbered_of_line : (a c : Option (List ℕ)) (p q : Position) (line : List ℕ) → p.newlines < 2 ^ 64 → TakesLine a c p q line →
+    Passes (λ xs ys. numbered_lines p.newlines xs ≡ (q.begun, line) ∷ numbered_lines q.newlines ys) a c
+numbered_of_line a c p q line small t =
+    elim t.1 [ inl takes ↦ numbered_newline a c p q line t.0 takes | inr last ↦ numbered_last a c p q line t.0 last.0 small last.1 last.2 ]

@@ -1,0 +1,21 @@
+use Rattle.std.proofs.Common.{◌≡◌, ◌<◌, ◌-◌, ◌^◌, true, false, length, vec_len}
+use Rattle.std.specs.Io.KnownBytes.{Consumes}
+use Rattle.devices.specs.Lines.{has_newline, next_number}
+use Rattle.devices.specs.LineReader.{came, source_of, source_name, unread}
+use Rattle.devices.proofs.line_reader.LineReader.read_line.Given as goal
+
+abbrev pub invariant-bytes : goal.invariant-bytes
+invariant-bytes g l = record {
+  same : source_name l.self ≡ source_name l.initial.self;
+  stays : l.self.fault ≡ l.initial.self.fault;
+  taken : Consumes (unread g.S.Source.left l.initial.self) (unread g.S.Source.left l.self) l.line.items;
+  line : has_newline l.line.items ≡ false;
+  newlines : l.self.newlines ≡ l.initial.self.newlines;
+  none : length l.line.items ≡ 0 → l.self.begun ≡ l.initial.self.begun;
+  some : 0 < length l.line.items → l.self.begun ≡ next_number l.self.newlines;
+  late : has_newline (came l.initial.self) ≡ true → (source_of l.self ≡ source_of l.initial.self) × (has_newline (came l.self) ≡ true);
+  fails : g.S.Source.failed (source_of l.self) ≡ g.S.Source.failed (source_of l.initial.self);
+}
+
+abbrev pub decreases-bytes : goal.decreases-bytes
+decreases-bytes g l = 2 ^ 63 - vec_len l.line

@@ -1,0 +1,4 @@
+pub mod Devices
+pub mod Adapters
+pub mod Lines
+pub mod LineReader

@@ -1,0 +1,83 @@
+-- What a clause sees of a reader of lines.
+use Rattle.std.specs.Prelude.{◌≡◌, ℕ, ◌+◌, ◌<◌, ◌⊎◌, List, [], ◌∷◌, ◌++◌, length, slice_range, Option, Some, None, Result, Ok, Err, Bool, true, false}
+use Rattle.std.specs.Borrow.{GName}
+use Rattle.std.specs.Io.KnownBytes.{prepend_known, Consumes, IsAtEnd}
+use Rattle.devices.specs.Lines.{has_newline, line_number, lines_of, newline, newlines_in}
+use Rattle.devices.specs.declared.line_reader.LineFault.{LineFault}
+use Rattle.devices.specs.declared.line_reader.LineFault.TheVariants.{Io, Memory}
+use Rattle.devices.specs.declared.line_reader.LineReader.{LineReader}
+
+-- the source as it is now
+abbrev pub source_of : {S : Type 0} → LineReader S → S
+source_of r = r.source.now
+
+-- the ghost name of the reference to the source
+abbrev pub source_name : {S : Type 0} → LineReader S → GName
+source_name r = r.source.ghost_name
+
+-- the bytes that came from the source and were not taken
+abbrev pub came : {S : Type 0} → LineReader S → List ℕ
+came r = slice_range r.buffer r.start r.end
+
+-- the bytes that were not taken: those that came, and those that the source has left
+abbrev pub unread : {S : Type 0} → (S → Option (List ℕ)) → LineReader S → Option (List ℕ)
+unread left r = prepend_known (came r) (left r.source.now)
+
+-- how many newlines were taken; the number stops rising at 2^64 - 1
+abbrev pub newlines_taken : {S : Type 0} → LineReader S → ℕ
+newlines_taken r = r.newlines
+
+-- the number of the line of which a byte was last taken, or 0
+abbrev pub line_begun : {S : Type 0} → LineReader S → ℕ
+line_begun r = r.begun
+
+-- the fault that the reader ended with
+abbrev pub fault_of : {S : Type 0} → LineReader S → Option LineFault
+fault_of r = r.fault
+
+-- where a reader stands in the lines of a text
+pub record Position : Type 0 where
+  -- how many newlines were taken
+  pub newlines : ℕ
+  -- the number of the line of which a byte was last taken, or 0
+  pub begun : ℕ
+
+abbrev pub position_of : {S : Type 0} → LineReader S → Position
+position_of r = record { newlines = r.newlines; begun = r.begun }
+
+-- the position after these bytes, from one where a line begins
+abbrev pub position_after : Position → List ℕ → Position
+position_after p [] = p
+position_after p (b ∷ rest) = record {
+  newlines = line_number (p.newlines + newlines_in (b ∷ rest));
+  begun = line_number (p.newlines + length (lines_of (b ∷ rest)));
+}
+
+-- known bytes begin with these and lose them, and the position goes on by them
+abbrev pub Takes : Option (List ℕ) → Option (List ℕ) → Position → Position → List ℕ → Type 0
+Takes old new from to taken = Consumes old new taken × (to ≡ position_after from taken)
+
+-- what is taken for a line: the line and its newline, or the last line, which isn't empty and has none
+abbrev pub TakesLine : Option (List ℕ) → Option (List ℕ) → Position → Position → List ℕ → Type 0
+TakesLine old new from to line = (has_newline line ≡ false) ×
+    (Takes old new from to (line ++ newline ∷ []) ⊎ ((0 < length line) × Takes old new from to line × IsAtEnd new))
+
+-- a beginning of a line is taken, and is lost
+abbrev pub LosesLine : Option (List ℕ) → Option (List ℕ) → Position → Position → Type 0
+LosesLine old new from to = (lost : List ℕ) × (has_newline lost ≡ false) × Takes old new from to lost
+
+-- the line of a fault, by where the reader stands
+abbrev pub IsFaultAt : LineFault → Position → Type 0
+IsFaultAt (Io line) p = line ≡ line_number (p.newlines + 1)
+IsFaultAt (Memory line) p = line ≡ p.begun
+
+-- a read failed
+abbrev pub is_io : {T : Type 0} → Result T LineFault → Bool
+is_io (Ok value) = false
+is_io (Err (Io line)) = true
+is_io (Err (Memory line)) = false
+
+-- the fault that a call ended with
+abbrev pub fault_in : {T : Type 0} → Result T LineFault → Option LineFault
+fault_in (Ok value) = None
+fault_in (Err fault) = Some fault

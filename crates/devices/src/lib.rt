@@ -1,0 +1,17 @@
+//! Byte devices: what bytes are read from, what they are written to, and the reader of lines.
+#![tactic(auto)]
+
+pub mod device;
+pub mod laws;
+pub mod line_reader;
+pub mod read_source;
+pub mod write_sink;
+
+pub use device::{DeviceFailed, Sink, Source, write_all};
+pub use laws::lines_are_cut_at_newlines;
+pub use line_reader::{LineFault, LineReader};
+pub use read_source::ReadSource;
+pub use write_sink::WriteSink;
+
+#[cfg(test)]
+mod tests;

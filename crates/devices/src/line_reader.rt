@@ -1,0 +1,180 @@
+//! The reader of a source's lines.
+
+ghost use Rattle.std.specs.Prelude.{◌≡◌, ◌≤◌, ◌<◌, ◌||◌, [], ◌∷◌, ◌++◌, length, true, None, Err, IfOk, IfErr, OnOk, OnErr, IfSome, IsNone, IsOk, IsOkAnd, option_to_list};
+ghost use Rattle.std.specs.Result.{is_err};
+ghost use Rattle.std.specs.Io.KnownBytes.{Consumes, Keeps, IsAtEnd};
+ghost use Rattle.devices.specs.Devices.{Passes};
+ghost use Rattle.devices.specs.Lines.{has_newline, numbered_lines};
+
+use crate::device::{DeviceFailed, Source};
+use std::alloc::Global;
+
+/// Why a line was not read. Lines are numbered from 1.
+#[derive(Clone, Copy, Debug, PartialEq, Eq)]
+pub enum LineFault {
+    /// A read failed. The line's number is that of the newlines taken, plus 1.
+    Io { line: u64 },
+    /// Memory was refused. The line is the one last begun, or 0 where none is.
+    Memory { line: u64 },
+}
+
+/// Reads lines from a source: what stands between its newline bytes, and a rest after the last of
+/// them that isn't empty. Line numbers stop rising at 2^64 - 1.
+#[derive(Drop)]
+pub struct LineReader<'a, S> {
+    source: &'a mut S,
+    // The bytes that came and were not taken stand in `buffer[start..end]`.
+    buffer: [u8; BUFFER_LEN],
+    start: usize,
+    end: usize,
+    newlines: u64,
+    begun: u64,
+    fault: Option<LineFault>,
+    ghost ordered: { start ≤ end },
+    ghost in_bounds: { end ≤ length buffer },
+}
+
+const BUFFER_LEN: usize = 4096;
+
+impl<'a, S: Source> LineReader<'a, S> {
+    ghost use Rattle.devices.specs.LineReader.{came, fault_in, fault_of, IsFaultAt, is_io, line_begun, LosesLine, newlines_taken, position_of, source_name, source_of, Takes, TakesLine, unread};
+
+    /// A reader that has read nothing.
+    pub fn new(source: &'a mut S) -> LineReader<'a, S>
+        ensures same { source_name result ≡ source.entry.ghost_name }
+        ensures source { source_of result ≡ source.old }
+        ensures came { came result ≡ [] }
+        ensures unread { unread S.left result ≡ S.left source.old }
+        ensures position { position_of result ≡ record { newlines = 0; begun = 0 } }
+        ensures fault { fault_of result ≡ None }
+    {
+        LineReader {
+            source,
+            buffer: [0; BUFFER_LEN],
+            start: 0,
+            end: 0,
+            newlines: 0,
+            begun: 0,
+            fault: None,
+        }
+    }
+
+    /// How many newline bytes were taken, up to 2^64 - 1.
+    pub fn newlines(&self) -> u64
+        ensures { result ≡ newlines_taken self.now }
+    {
+        self.newlines
+    }
+
+    /// The number of the line last begun, or 0 where none is. A line begins when its first byte is
+    /// taken.
+    pub fn last_line(&self) -> u64
+        ensures { result ≡ line_begun self.now }
+    {
+        self.begun
+    }
+
+    // Reads on where every byte that came was taken. Then none stands in the buffer only at the end.
+    fn fill(&mut self) -> Result<(), DeviceFailed>
+        ensures same { source_name self.new ≡ source_name self.old }
+        ensures stays { (self.new.newlines ≡ self.old.newlines) × (self.new.begun ≡ self.old.begun) × (self.new.fault ≡ self.old.fault) }
+        ensures bytes { Keeps (unread S.left self.old) (unread S.left self.new) }
+        ensures end { OnOk result (self.new.start ≡ self.new.end → IsAtEnd (unread S.left self.new)) }
+        ensures late { self.old.start < self.old.end → IsOk result × (source_of self.new ≡ source_of self.old) × (came self.new ≡ came self.old) }
+        ensures fails { S.failed (source_of self.new) ≡ (S.failed (source_of self.old) || is_err result) }
+    {
+        if self.start == self.end {
+            let count = self.source.read(&mut self.buffer)?;
+            self.start = 0;
+            self.end = count;
+        }
+        Ok(())
+    }
+
+    // The next byte, which is then taken.
+    fn next_byte(&mut self) -> Result<Option<u8>, DeviceFailed>
+        ensures same { source_name self.new ≡ source_name self.old }
+        ensures stays { (self.new.newlines ≡ self.old.newlines) × (self.new.begun ≡ self.old.begun) × (self.new.fault ≡ self.old.fault) }
+        ensures bytes { IfOk result (λ o. Consumes (unread S.left self.old) (unread S.left self.new) (option_to_list o)) }
+        ensures end { IfOk result (λ o. IsNone o → IsAtEnd (unread S.left self.new)) }
+        ensures err { OnErr result (Keeps (unread S.left self.old) (unread S.left self.new)) }
+        ensures late { 0 < length (came self.old) → (source_of self.new ≡ source_of self.old) × IsOkAnd result (λ o. came self.old ≡ option_to_list o ++ came self.new) }
+        ensures fails { S.failed (source_of self.new) ≡ (S.failed (source_of self.old) || is_err result) }
+    {
+        self.fill()?;
+        if self.start == self.end {
+            return Ok(None);
+        }
+        let byte = self.buffer[self.start];
+        self.start += 1;
+        Ok(Some(byte))
+    }
+
+    // The next line, where the reader has no fault. A line grows by a byte each turn, and none is
+    // longer than memory, so the loop ends.
+    fn read_line(&mut self, alloc: Global) -> Result<Option<Vec<u8>>, LineFault>
+        ensures same { source_name self.new ≡ source_name self.old }
+        ensures stays { self.new.fault ≡ self.old.fault }
+        ensures line { IfOk result (λ o. IfSome o (λ line. TakesLine (unread S.left self.old) (unread S.left self.new) (position_of self.old) (position_of self.new) line.items)) }
+        ensures numbered { IfOk result (λ o. IfSome o (λ line. Passes
+            (λ xs ys. numbered_lines (newlines_taken self.old) xs ≡ (line_begun self.new, line.items) ∷ numbered_lines (newlines_taken self.new) ys)
+            (unread S.left self.old) (unread S.left self.new))) }
+        ensures end { IfOk result (λ o. IsNone o → Passes (λ xs ys. (xs ≡ []) × (ys ≡ [])) (unread S.left self.old) (unread S.left self.new)) }
+        ensures at_end { IfOk result (λ o. IsNone o → position_of self.new ≡ position_of self.old) }
+        ensures lost { OnErr result (LosesLine (unread S.left self.old) (unread S.left self.new) (position_of self.old) (position_of self.new)) }
+        ensures place { IfErr result (λ fault. IsFaultAt fault (position_of self.new)) }
+        ensures late { has_newline (came self.old) ≡ true → source_of self.new ≡ source_of self.old }
+        ensures fails { S.failed (source_of self.new) ≡ (S.failed (source_of self.old) || is_io result) }
+    {
+        let number = self.newlines.saturating_add(1);
+        let mut line = Vec::new(alloc);
+        'bytes: loop {
+            match self.next_byte() {
+                Ok(Some(byte)) => {
+                    self.begun = number;
+                    if byte == b'\n' {
+                        self.newlines = number;
+                        return Ok(Some(line));
+                    }
+                    if line.push(byte).is_err() {
+                        return Err(LineFault::Memory { line: number });
+                    }
+                }
+                Ok(None) if line.is_empty() => return Ok(None),
+                Ok(None) => return Ok(Some(line)),
+                Err(DeviceFailed) => return Err(LineFault::Io { line: number }),
+            }
+        }
+    }
+
+    /// The next line without its newline, or `None` at the end. After a fault each further call
+    /// answers the same fault.
+    pub fn next_line(&mut self, alloc: Global) -> Result<Option<Vec<u8>>, LineFault>
+        ensures same { source_name self.new ≡ source_name self.old }
+        ensures line { IfOk result (λ o. IfSome o (λ line. TakesLine (unread S.left self.old) (unread S.left self.new) (position_of self.old) (position_of self.new) line.items)) }
+        ensures numbered { IfOk result (λ o. IfSome o (λ line. Passes
+            (λ xs ys. numbered_lines (newlines_taken self.old) xs ≡ (line_begun self.new, line.items) ∷ numbered_lines (newlines_taken self.new) ys)
+            (unread S.left self.old) (unread S.left self.new))) }
+        ensures end { IfOk result (λ o. IsNone o → Passes (λ xs ys. (xs ≡ []) × (ys ≡ [])) (unread S.left self.old) (unread S.left self.new)) }
+        ensures at_end { IfOk result (λ o. IsNone o → position_of self.new ≡ position_of self.old) }
+
+        // A call that ends with a fault loses the beginning of a line, and each later call answers that fault.
+        ensures lost { OnErr result (LosesLine (unread S.left self.old) (unread S.left self.new) (position_of self.old) (position_of self.new)) }
+        ensures place { fault_of self.old ≡ None → IfErr result (λ fault. IsFaultAt fault (position_of self.new)) }
+        ensures stays { fault_of self.new ≡ fault_in result }
+        ensures again { IfSome (fault_of self.old) (λ fault. (result ≡ Err fault) × (source_of self.new ≡ source_of self.old)) }
+
+        // Where a whole line has come, no read is made.
+        ensures late { has_newline (came self.old) ≡ true → source_of self.new ≡ source_of self.old }
+        ensures fails { fault_of self.old ≡ None → S.failed (source_of self.new) ≡ (S.failed (source_of self.old) || is_io result) }
+    {
+        if let Some(fault) = self.fault {
+            return Err(fault);
+        }
+        let result = self.read_line(alloc);
+        if let Err(fault) = &result {
+            self.fault = Some(*fault);
+        }
+        result
+    }
+}

@@ -1,0 +1,210 @@
+//! Rights over the tree of resources, and footprints that procedures declare.
+
+ghost use Rattle.std.specs.Prelude.{◌<◌, [], ◌∷◌, length};
+ghost use Rattle.values.specs.declared.value.ColType.TheVariants.{Int};
+ghost use Rattle.proclang_types.specs.Views.{int_view};
+ghost use Rattle.proclang_types.specs.Typing.{IntFits};
+
+use crate::{AbortCode, Footprint, InPart, InTable, Resource, Right, declared};
+use proclang_types::{FootprintEntry, IntExpr, Param, Proc};
+use serde_json::Value as Json;
+use std::alloc::Global;
+use std::test::Fail;
+use values::{Catalogue, ColType, Key, RowName, TableNo, Value};
+
+const BANK: &str = r#"["catalogue",1,[["acct",2,[["bal","int"]]],["ref",1,[["to","int"]]]]]"#;
+
+fn table(place: usize) -> Resource {
+    Resource::Table(TableNo::new(place), InTable::WholeTable)
+}
+
+fn part(place: usize, part: u32) -> Resource {
+    Resource::Table(TableNo::new(place), InTable::Part(part, InPart::WholePart))
+}
+
+fn row(place: usize, part: u32, key: u64) -> Resource {
+    Resource::Table(TableNo::new(place), InTable::Part(part, InPart::Row(key)))
+}
+
+/// Whether a right on one resource covers a right on another.
+fn covers(
+    alloc: Global,
+    granted: (Resource, Right),
+    wanted: (Resource, Right),
+) -> Result<bool, Fail> {
+    let mut footprint = Footprint::new(alloc);
+    footprint.add(granted.0, granted.1)?;
+    Ok(footprint.covers(&wanted.0, wanted.1))
+}
+
+#[test]
+fn a_resource_and_its_ancestors_cover(rt: HostRuntime) -> Result<(), Fail> {
+    let alloc = rt.alloc();
+    let (read, write) = (Right::Read, Right::Write);
+    let wanted = row(0, 1, 7);
+    for resource in [wanted, part(0, 1), table(0), Resource::Db] {
+        assert!(rt; covers(alloc, (resource, read), (wanted, read))?);
+        assert!(rt; !covers(alloc, (resource, read), (wanted, write))?);
+        assert!(rt; covers(alloc, (resource, write), (wanted, read))?);
+        assert!(rt; covers(alloc, (resource, write), (wanted, write))?);
+    }
+    Ok(())
+}
+
+#[test]
+fn other_resources_do_not_cover(rt: HostRuntime) -> Result<(), Fail> {
+    let (read, write) = (Right::Read, Right::Write);
+    let others = [
+        row(0, 1, 8),
+        row(0, 0, 7),
+        row(1, 1, 7),
+        part(0, 0),
+        part(1, 1),
+        table(1),
+    ];
+    for resource in others {
+        assert!(rt; !covers(rt.alloc(), (resource, write), (row(0, 1, 7), read))?);
+        assert!(rt; !covers(rt.alloc(), (resource, write), (Resource::Db, read))?);
+    }
+    Ok(())
+}
+
+#[test]
+fn the_greater_right_counts(rt: HostRuntime) -> Result<(), Fail> {
+    let table = [
+        (Right::Read, Right::Read, Right::Read),
+        (Right::Read, Right::Write, Right::Write),
+        (Right::Write, Right::Read, Right::Write),
+        (Right::Write, Right::Write, Right::Write),
+    ];
+    for (first, second, greater) in table {
+        let mut footprint = Footprint::new(rt.alloc());
+        assert_eq!(rt; footprint.get(&part(0, 1)), None);
+        footprint.add(part(0, 1), first)?;
+        footprint.add(part(0, 1), second)?;
+        assert_eq!(rt; footprint.get(&part(0, 1)), Some(greater));
+        assert_eq!(rt; footprint.get(&row(0, 1, 7)), None);
+    }
+    Ok(())
+}
+
+#[test]
+fn resources_stand_in_tree_order(rt: HostRuntime) {
+    let later = [
+        table(0),
+        part(0, 0),
+        row(0, 0, 2),
+        row(0, 0, 4),
+        part(0, 1),
+        row(0, 1, 1),
+        table(1),
+    ];
+    let mut earlier = Resource::Db;
+    assert_eq!(rt; earlier.parent(), None);
+    for resource in later {
+        assert!(rt; earlier < resource);
+        earlier = resource;
+    }
+    assert_eq!(rt; row(0, 1, 7).parent(), Some(part(0, 1)));
+    assert_eq!(rt; part(0, 1).parent(), Some(table(0)));
+    assert_eq!(rt; table(0).parent(), Some(Resource::Db));
+}
+
+#[test]
+fn numbers_of_codes(rt: HostRuntime) -> Result<(), Fail> {
+    let table = [
+        (AbortCode::NoRow, "1"),
+        (AbortCode::Overflow, "3"),
+        (AbortCode::BadKey, "5"),
+        (AbortCode::TooLong, "7"),
+        (AbortCode::Budget, "8"),
+        (AbortCode::Uncovered, "9"),
+        (AbortCode::Own(100), "100"),
+        (AbortCode::Own(65_535), "65535"),
+    ];
+    for (code, number) in table {
+        let text = format!(in rt.alloc(); "{code}")?;
+        assert_eq!(rt; text.as_str(), number);
+    }
+    Ok(())
+}
+
+/// What a procedure of two numbers declares that writes two rows of the first table.
+fn declares(
+    alloc: Global,
+    catalogue: &Catalogue,
+    keys: (IntExpr, IntExpr),
+    arguments: &[Value],
+) -> Result<Result<Footprint, AbortCode>, Fail>
+    requires table { 0 < length catalogue.now }
+    requires first { IntFits (Int ∷ Int ∷ []) (int_view keys.0) }
+    requires second { IntFits (Int ∷ Int ∷ []) (int_view keys.1) }
+{
+    let mut params = Vec::new(alloc);
+    let name = String::from_str(alloc, "a")?;
+    let kind = ColType::Int;
+    params.push(Param { name, kind })?;
+    let name = String::from_str(alloc, "b")?;
+    params.push(Param { name, kind })?;
+    let (first, second) = keys;
+    let (right, table) = (Right::Write, TableNo::new(0));
+    let mut entries = Vec::new(alloc);
+    let key = first;
+    entries.push(FootprintEntry::Row { right, table, key })?;
+    let key = second;
+    entries.push(FootprintEntry::Row { right, table, key })?;
+    let name = String::from_str(alloc, "pay")?;
+    let proc = Proc::new(catalogue, name, params, entries, Vec::new(alloc));
+    Ok(declared(alloc, catalogue, &proc, arguments)?)
+}
+
+#[test]
+fn rows_are_declared(rt: HostRuntime) -> Result<(), Fail> {
+    let alloc = rt.alloc();
+    let catalogue = Catalogue::read(alloc, &Json::from_str(alloc, BANK)?)?;
+    assert!(rt; catalogue.len() == 2);
+    let keys = (IntExpr::Variable(0), IntExpr::Variable(1));
+    match declares(alloc, &catalogue, keys, &[Value::Int(1), Value::Int(2)])? {
+        Ok(footprint) => {
+            assert_eq!(rt; footprint.get(&row(0, 1, 1)), Some(Right::Write));
+            assert_eq!(rt; footprint.get(&row(0, 0, 2)), Some(Right::Write));
+            assert!(rt; !footprint.covers(&row(0, 1, 3), Right::Read));
+            assert!(rt; !footprint.covers(&part(0, 1), Right::Read));
+        }
+        Err(code) => assert!(rt; false, "{code}"),
+    }
+    match Key::new(7) {
+        Some(key) => {
+            let name = RowName::new(TableNo::new(0), key);
+            assert_eq!(rt; Resource::row(&catalogue, name), row(0, 1, 7));
+        }
+        None => assert!(rt; false, "no key 7"),
+    }
+    Ok(())
+}
+
+#[test]
+fn the_first_fault_aborts(rt: HostRuntime) -> Result<(), Fail> {
+    let alloc = rt.alloc();
+    let catalogue = Catalogue::read(alloc, &Json::from_str(alloc, BANK)?)?;
+    assert!(rt; catalogue.len() == 2);
+    let table = [
+        (i64::MAX, 0, None),
+        (i64::MAX, 1, Some(AbortCode::Overflow)),
+        (-1, 0, Some(AbortCode::BadKey)),
+        (0, -1, Some(AbortCode::BadKey)),
+        (-1, i64::MIN, Some(AbortCode::Overflow)),
+        (1, -1, Some(AbortCode::BadKey)),
+    ];
+    for (one, other, code) in table {
+        let sum = IntExpr::Add(
+            Box::new(alloc, IntExpr::Variable(0))?,
+            Box::new(alloc, IntExpr::Variable(1))?,
+        );
+        let arguments = [Value::Int(one), Value::Int(other)];
+        let keys = (sum, IntExpr::Variable(1));
+        let found = declares(alloc, &catalogue, keys, arguments.as_slice())?;
+        assert_eq!(rt; found.err(), code);
+    }
+    Ok(())
+}

@@ -1,0 +1,3 @@
+pub mod Everywhere
+pub mod Memory
+pub mod Named

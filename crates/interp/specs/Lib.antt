@@ -1,0 +1,4 @@
+pub mod Entries
+pub mod Endings
+pub mod Touched
+pub mod Memory

@@ -1,0 +1,56 @@
+//! Running a body.
+
+ghost use Rattle.std.specs.Prelude.{◌≡◌, false, [], IfOk};
+ghost use Rattle.proclang_types.specs.Views.{stmts_view};
+ghost use Rattle.meaning.specs.Entries.{nothing, run_of};
+ghost use Rattle.meaning.specs.Outcomes.{as_reply, is_commit};
+ghost use Rattle.interp_expr.specs.Overlay.{applied};
+ghost use Rattle.interp_expr.specs.Coverage.{gate_of, ShowsCovered, OnlyCovered};
+ghost use Rattle.interp.specs.Endings.{outcome_of};
+
+use crate::block::block;
+use crate::effect::Effect;
+use interp_expr::{Permit, RowView, Stop, Workspace};
+use meaning::{Ending, Outcome};
+use proclang_types::Stmt;
+use std::alloc::Global;
+use std::collections::BTreeMap;
+use values::{NoMemory, Value};
+
+/// The outcome of a run that ended before the body's end.
+fn outcome_of(ending: Ending) -> Outcome
+    ensures { result ≡ outcome_of ending }
+{
+    match ending {
+        Ending::Abort(code) => Outcome::Abort(code),
+        Ending::Stale => Outcome::Stale,
+    }
+}
+
+/// Runs a body on the rows of the view, of which it asks for no other than the permit covers.
+pub(crate) fn run_body<V: RowView>(
+    alloc: Global,
+    view: &V,
+    permit: &Permit,
+    arguments: &[Value],
+    body: &Vec<Stmt>,
+) -> Result<Effect, NoMemory>
+    requires { ShowsCovered permit.now (V.shows view.now) }
+    ensures gives { IfOk result (λ effect. run_of nothing (gate_of permit.now) (stmts_view body.now.items) arguments.now (V.rows view.now)
+        ≡ (as_reply effect.outcome, applied effect.writes.entries (V.rows view.now))) }
+    ensures covered { IfOk result (λ effect. OnlyCovered permit.now effect.writes.entries) }
+    ensures unchanged { IfOk result (λ effect. is_commit effect.outcome ≡ false → effect.writes.entries ≡ []) }
+{
+    let mut space = Workspace::new(alloc, arguments)?;
+    match block(alloc, view, permit, &mut space, body) {
+        Ok(()) => Ok(Effect {
+            outcome: Outcome::Commit(space.reply),
+            writes: space.writes,
+        }),
+        Err(Stop::Memory) => Err(NoMemory),
+        Err(Stop::End(ending)) => Ok(Effect {
+            outcome: outcome_of(ending),
+            writes: BTreeMap::new(alloc),
+        }),
+    }
+}

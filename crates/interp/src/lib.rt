@@ -1,0 +1,17 @@
+//! Running an entry: its outcome and its writes, on whatever view shows what it may read.
+#![tactic(auto)]
+
+mod block;
+mod body;
+mod effect;
+mod entry;
+mod runs;
+mod statement;
+
+pub use effect::Effect;
+pub use entry::{Entry, Footing};
+pub use interp_expr::RowView;
+pub use runs::run;
+
+#[cfg(test)]
+mod tests;

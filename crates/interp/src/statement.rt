@@ -1,0 +1,92 @@
+//! Statements without blocks.
+#![tactic(auto, unfolding(meaning::specs::Runs::and_then))]
+
+ghost use Rattle.std.specs.Prelude.{◌≡◌, pos, map, unwrap_or, slice_get, IfOk, OnOk};
+ghost use Rattle.values.specs.declared.value.Value.TheVariants.{Int};
+ghost use Rattle.proclang_types.specs.Views.{int_view, value_view};
+ghost use Rattle.meaning.specs.Meaning.{get_column, put_column, reply_with};
+ghost use Rattle.meaning.specs.Entries.{nothing};
+ghost use Rattle.interp_expr.specs.Coverage.{gate_of, ShowsCovered, KeepsCovered};
+ghost use Rattle.interp_expr.specs.States.{seen};
+ghost use Rattle.interp_expr.specs.Answers.{Gives};
+
+use footprint::Right;
+use interp_expr::{
+    Permit, RowView, Stop, Workspace, access, evaluate, evaluate_all, evaluate_int, present_row,
+};
+use proclang_types::{IntExpr, ValueExpr};
+use std::alloc::Global;
+use values::{NoMemory, Row, TableNo, Value};
+
+/// The value in a column; 0 stands for a column that is not there.
+fn column_value(row: &Row, column: usize) -> Result<Value, NoMemory>
+    ensures { IfOk result (λ value. value ≡ unwrap_or (slice_get row.now column) (Int (pos 0))) }
+{
+    match row.get(column) {
+        Some(value) => Ok(value.clone()?),
+        None => Ok(Value::Int(0)),
+    }
+}
+
+/// A variable gets a column of the row with a key.
+pub(crate) fn get_column<V: RowView>(
+    view: &V,
+    permit: &Permit,
+    space: &mut Workspace,
+    variable: usize,
+    table: TableNo,
+    key: &IntExpr,
+    column: usize,
+) -> Result<(), Stop>
+    requires { ShowsCovered permit.now (V.shows view.now) }
+    ensures gives { Gives (λ _. tt) (seen (V.rows view.now) space.new) result (get_column nothing (gate_of permit.now) variable table (int_view key.now) column (seen (V.rows view.now) space.old)) }
+    ensures kept { OnOk result (KeepsCovered permit.now space.old space.new) }
+{
+    let number = evaluate_int(view, permit, space, key)?;
+    let name = access(permit, Right::Read, table, number)?;
+    let row = present_row(view, permit, space, &name)?;
+    let value = column_value(row, column)?;
+    space.set_variable(variable, value)?;
+    Ok(())
+}
+
+/// A column of the row with a key gets a value.
+pub(crate) fn put_column<V: RowView>(
+    alloc: Global,
+    view: &V,
+    permit: &Permit,
+    space: &mut Workspace,
+    table: TableNo,
+    key: &IntExpr,
+    column: usize,
+    value: &ValueExpr,
+) -> Result<(), Stop>
+    requires { ShowsCovered permit.now (V.shows view.now) }
+    ensures gives { Gives (λ _. tt) (seen (V.rows view.now) space.new) result (put_column nothing (gate_of permit.now) table (int_view key.now) column (value_view value.now) (seen (V.rows view.now) space.old)) }
+    ensures kept { OnOk result (KeepsCovered permit.now space.old space.new) }
+{
+    let number = evaluate_int(view, permit, space, key)?;
+    let value = evaluate(alloc, view, permit, space, value)?;
+    let name = access(permit, Right::Write, table, number)?;
+    let mut row = present_row(view, permit, space, &name)?.clone()?;
+    row.set(column, value);
+    space.write(name, row)?;
+    Ok(())
+}
+
+/// Appends values to the reply.
+pub(crate) fn reply_with<V: RowView>(
+    alloc: Global,
+    view: &V,
+    permit: &Permit,
+    space: &mut Workspace,
+    expressions: &Vec<ValueExpr>,
+) -> Result<(), Stop>
+    requires { ShowsCovered permit.now (V.shows view.now) }
+    ensures gives { Gives (λ _. tt) (seen (V.rows view.now) space.new) result (reply_with nothing (gate_of permit.now) (map value_view expressions.now.items) (seen (V.rows view.now) space.old)) }
+    ensures kept { OnOk result (KeepsCovered permit.now space.old space.new) }
+{
+    let values = evaluate_all(alloc, view, permit, space, expressions)?;
+    space.append_reply(values)?;
+    Ok(())
+}

@@ -1,0 +1,67 @@
+//! Rows in memory.
+
+ghost use Rattle.std.specs.Prelude.{◌≡◌, ◌<◌, ◌^◌, option_copied};
+ghost use Rattle.std.specs.FinMap as map;
+
+use footprint::Footprint;
+use interp_expr::{RowView, part_of};
+use std::collections::BTreeMap;
+use values::{Catalogue, Key, Row, RowName, TableNo};
+
+/// Rows in memory, of which the names that a footprint covers are shown. A place without a row counts as no row.
+#[derive(Clone, Copy)]
+pub struct Shown<'a> {
+    pub catalogue: &'a Catalogue,
+    pub footprint: &'a Footprint,
+    pub rows: &'a BTreeMap<RowName, Option<Row>>,
+}
+
+impl Shown<'_> {
+    ghost use Rattle.interp.specs.Memory.{rows_in};
+
+    /// The row with the key of that number.
+    #[tactic(auto, using(crate::proofs::Memory::get_rows_in))]
+    fn at(&self, table: TableNo, number: u64) -> Option<&Row>
+        requires { number < 2 ^ 63 }
+        ensures { option_copied result ≡ map.get (rows_in self.now.rows.now.entries) (record { table = table; key = number }) }
+    {
+        let key = Key::new(number as i64)?;
+        match self.rows.get(&RowName::new(table, key)) {
+            Some(row) => row.as_ref(),
+            None => None,
+        }
+    }
+}
+
+impl RowView for Shown<'_> {
+    ghost use Rattle.proclang_types.specs.declared.right.Right.TheVariants.{Read};
+    ghost use Rattle.footprint.specs.Rights.{covers_row};
+    ghost use Rattle.interp.specs.Memory.{rows_in};
+
+    ghost tables = { λ v. v.catalogue.now };
+
+    ghost shows = { λ v name. covers_row v.catalogue.now v.footprint.now name Read };
+
+    ghost rows = { λ v. rows_in v.rows.now.entries };
+
+    fn row(&self, table: TableNo, key: Key) -> Option<&Row> {
+        self.at(table, key.number())
+    }
+
+    /// Tries each key in turn.
+    fn next_row(&self, table: TableNo, part: u32, after: Option<Key>) -> Option<(Key, &Row)> {
+        let first = match after {
+            Some(key) => key.number() + 1,
+            None => 0,
+        };
+        for number in first..1 << 63 {
+            let key = Key::new(number as i64)?;
+            if part_of(self.catalogue, table, key) == part {
+                if let Some(row) = self.at(table, number) {
+                    return Some((key, row));
+                }
+            }
+        }
+        None
+    }
+}

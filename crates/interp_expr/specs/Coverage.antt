@@ -1,0 +1,32 @@
+-- What a permit covers: what a run may ask of a view, and what it may write.
+use Rattle.std.specs.Prelude.{◌≡◌, Bool, true, false, List, Option, None}
+use Rattle.std.specs.Map.{lookup}
+use Rattle.std.specs.BTreeMap.{is_at}
+use Rattle.values.specs.declared.name.RowName.{RowName}
+use Rattle.values.specs.Database.{RowOf, name_cmp}
+use Rattle.proclang_types.specs.declared.right.Right.{Right}
+use Rattle.proclang_types.specs.declared.right.Right.TheVariants.{Read, Write}
+use Rattle.footprint.specs.Rights.{covers_row}
+use Rattle.meaning.specs.Runs.{Gate, covered}
+use Rattle.interp_expr.specs.declared.permit.Permit.{Permit}
+use Rattle.interp_expr.specs.declared.workspace.Workspace.{Workspace}
+
+-- the permit covers a right on a row name
+abbrev pub permits : Permit → RowName → Right → Bool
+permits permit name right = covers_row permit.catalogue.now permit.footprint.now name right
+
+-- what happens at an access under a permit
+abbrev pub gate_of : Permit → Gate
+gate_of permit = covered permit.catalogue.now permit.footprint.now permit.uncovered
+
+-- each name that is covered with Read is shown
+pub record ShowsCovered (permit : Permit) (shows : RowName → Bool) : Type 0 where
+  pub shown : (name : RowName) → permits permit name Read ≡ true → shows name ≡ true
+
+-- there are only writes of names that are covered with Write
+pub record OnlyCovered (permit : Permit) (writes : List (RowName × Option RowOf)) : Type 0 where
+  pub others : (name : RowName) → permits permit name Write ≡ false → lookup (is_at (name_cmp name)) writes ≡ None
+
+-- where there were only writes of covered names, there are only such
+abbrev pub KeepsCovered : Permit → Workspace → Workspace → Type 0
+KeepsCovered permit old new = OnlyCovered permit old.writes.entries → OnlyCovered permit new.writes.entries

@@ -1,0 +1,5 @@
+pub mod Overlay
+pub mod Scan
+pub mod Coverage
+pub mod States
+pub mod Answers

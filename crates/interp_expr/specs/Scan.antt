@@ -1,0 +1,34 @@
+-- Scans: the rows of a partition by ascending key.
+use Rattle.std.specs.Prelude.{◌≡◌, ℕ, Bool, true, ◌&&◌, ◌==◌, nat_lt, List, Option, None, Some, unwrap_or}
+use Rattle.std.specs.FinMap.{get}
+use Rattle.values.specs.declared.name.RowName.{RowName}
+use Rattle.values.specs.Shapes.{TableShape}
+use Rattle.values.specs.Keys.{partition_of}
+use Rattle.values.specs.Database.{Database, RowOf}
+
+-- the name is of that partition of the table
+abbrev pub is_in_part : List TableShape → ℕ → ℕ → RowName → Bool
+is_in_part tables table part name = (name.table == table) && (unwrap_or (partition_of tables table name.key) 0 == part)
+
+abbrev pub is_after : Option ℕ → ℕ → Bool
+is_after None key = true
+is_after (Some k) key = nat_lt k key
+
+-- the names of a partition that a scan has yet to come to
+abbrev pub is_ahead : List TableShape → ℕ → ℕ → Option ℕ → RowName → Bool
+is_ahead tables table part after name = is_in_part tables table part name && is_after after name.key
+
+-- the row with the least key ahead
+pub record IsNextRow (tables : List TableShape) (db : Database) (table part : ℕ) (after : Option ℕ) (found : ℕ × RowOf) : Type 0 where
+  pub ahead : is_ahead tables table part after (record { table = table; key = found.0 }) ≡ true
+  pub row : get db (record { table = table; key = found.0 }) ≡ Some found.1
+  pub least : (name : RowName) → is_ahead tables table part after name ≡ true → nat_lt name.key found.0 ≡ true → get db name ≡ None
+
+-- what a scan comes to next, behind a key or from the start
+abbrev pub IsNext : List TableShape → Database → ℕ → ℕ → Option ℕ → Option (ℕ × RowOf) → Type 0
+IsNext tables db table part after None = (name : RowName) → is_ahead tables table part after name ≡ true → get db name ≡ None
+IsNext tables db table part after (Some found) = IsNextRow tables db table part after found
+
+-- each name of the partition is shown
+pub record ShowsPart (tables : List TableShape) (shows : RowName → Bool) (table part : ℕ) : Type 0 where
+  pub shown : (name : RowName) → is_in_part tables table part name ≡ true → shows name ≡ true

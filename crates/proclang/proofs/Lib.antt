@@ -1,0 +1,11 @@
+pub mod Arrays
+pub mod Seen
+pub mod Extends
+pub mod Walk
+pub mod Blocks
+pub mod Params
+pub mod TypedExpressions
+pub mod TypedStatements
+pub mod ProcLists
+pub mod TypedProcs
+pub mod Requests

@@ -1,0 +1,128 @@
+-- A procedure that is read fits the catalogue, and its name is a new one that obeys the rule.
+use Rattle.std.proofs.Common.{◌≡◌, ℕ, ◌+◌, ◌<◌, Bool, true, false, not, List, [], ◌∷◌, ◌++◌, map, Some, Ok, refl, ap, subst}
+use Rattle.std.specs.Prelude.{length}
+use Rattle.std.specs.List.{AllByRecursion, IsDistinct}
+use Rattle.std.proofs.lemmas.List.Quantifiers.{position-Some}
+use Rattle.std.specs.Str.{bytes_eq}
+use Rattle.serde_json.specs.Data.{Data}
+use Rattle.documents.specs.Reading.{formed, rule}
+use Rattle.documents.proofs.Steps.{bind_ok, formed_ok}
+use Rattle.values.specs.declared.value.ColType.{ColType}
+use Rattle.values.specs.Shapes.{TableShape}
+use Rattle.values.specs.Names.{is_name}
+use Rattle.values.specs.Keys.{table_named}
+use Rattle.values.specs.Reading.{is_used}
+use Rattle.values.proofs.Named.{distinct_push}
+use Rattle.proclang_types.specs.Syntax.{EntrySyntax, row_entry, ParamShape, ProcSyntax, block_of}
+use Rattle.proclang_types.specs.Procedures.{ProcParts, proc_syntax}
+use Rattle.proclang_types.specs.Typing.{EntryFits, BlockFits, kinds_of, ProcFits}
+use Rattle.proclang.specs.declared.fault.FaultKind.TheVariants.{Shape, UnknownTable, DuplicateName}
+use Rattle.proclang.specs.declared.fault.ProcFault.{ProcFault}
+use Rattle.proclang.specs.declared.fault.ProcFault.TheVariants.{At}
+use Rattle.proclang.specs.Seen.{Seen, seen_of, seen_kinds}
+use Rattle.proclang.specs.Walk.{each_from, behind, at_most}
+use Rattle.proclang.specs.Lookups.{declared_at, table_at}
+use Rattle.proclang.specs.Expressions.{deepest, as_int, expr_at}
+use Rattle.proclang.specs.Statements.{block_at}
+use Rattle.proclang.specs.ProcForms.{ProcDocument, proc_form, declared_form, EntryDocument, row_parts, entry_form}
+use Rattle.proclang.specs.Procs.{fresh_at, params_at, entry_of, entry_at, footprint_at, PartsSyntax, parts_at, proc_at, each_proc}
+use Rattle.proclang.specs.ProcLists.{AreOver, AreProcs}
+use Rattle.proclang.proofs.TypedExpressions.{int_fits, expr_fits}
+use Rattle.proclang.proofs.TypedStatements.{all_push, each_keeps, block_fits}
+
+-- parameters are seen with their types
+kinds_seen : (params : List ParamShape) → seen_kinds (seen_of params) ≡ kinds_of params
+kinds_seen [] = refl
+kinds_seen (p ∷ ps) = ap (λ (ks : List ColType). p.kind ∷ ks) (kinds_seen ps)
+
+entry_fits : (tables : List TableShape) (path : List ℕ) (scope : List Seen) (f : EntryDocument) (e : EntrySyntax) → entry_of tables path scope f ≡ Ok e → EntryFits tables (seen_kinds scope) e
+unfolding entry_of
+entry_fits tables path scope (row_parts right table key) e r =
+    let t = bind_ok (table_at (path ++ 2 ∷ []) tables table) _ e r in
+    let x = bind_ok (expr_at deepest (path ++ 3 ∷ []) scope key) _ e t.2 in
+    let k = bind_ok (as_int (path ++ 3 ∷ []) x.0) _ e x.2 in
+    let is : row_entry right t.0 k.0 ≡ e = (let h = k.2 in cc) in
+    let named : table_named tables table ≡ Some t.0 = formed_ok (At UnknownTable (path ++ 2 ∷ [])) (table_named tables table) t.0 t.1 in
+    let there : t.0 < length tables = within tables table t.0 named in
+    subst (EntryFits tables (seen_kinds scope)) is (there, int_fits (path ++ 3 ∷ []) (seen_kinds scope) x.0 k.0 (expr_fits deepest (path ++ 3 ∷ []) scope key x.0 x.1) k.1)
+  where
+    within : (tables : List TableShape) (name : List ℕ) (place : ℕ) → table_named tables name ≡ Some place → place < length tables
+    within [] name place e = absurd cc
+    within (t ∷ ts) name place e = (position-Some (λ u. bytes_eq name u.name) (t ∷ ts) place t e).0
+
+footprint_fits : (tables : List TableShape) (path : List ℕ) (scope : List Seen) (d : Data) (es : List EntrySyntax) → footprint_at tables path scope d ≡ Ok es → AllByRecursion (EntryFits tables (seen_kinds scope)) es
+unfolding footprint_at entry_at
+footprint_fits tables path scope d es e =
+    let f = bind_ok (formed (At Shape path) (declared_form d)) _ es e in
+    let few = bind_ok (at_most path 256 f.0) _ es f.2 in
+    each_keeps (EntryFits tables (seen_kinds scope)) (λ p before x. entry_at tables scope p x)
+    (λ p before x y h. let form = bind_ok (formed (At Shape p) (entry_form x)) _ y h in entry_fits tables p scope form.0 y form.2) path 1 [] f.0 es tt few.2
+
+-- what follows a procedure's name fits
+pub parts_fit : (tables : List TableShape) (path : List ℕ) (form : ProcDocument) (name : List ℕ) (p : PartsSyntax) → parts_at tables path form ≡ Ok p → ProcFits tables (record { name = name; params = p.params; footprint = p.footprint; body = p.body })
+unfolding parts_at
+parts_fit tables path form name p e =
+    let params = bind_ok (params_at (path ++ 1 ∷ []) form.params) _ p e in
+    let foot = bind_ok (footprint_at tables (path ++ 2 ∷ []) (seen_of params.0) form.footprint) _ p params.2 in
+    let body = bind_ok (block_at tables deepest (path ++ 3 ∷ []) (seen_of params.0) form.body) _ p foot.2 in
+    let made : PartsSyntax = record { params = params.0; footprint = foot.0; body = body.0 } in
+    let is : made ≡ p = (let h = body.2 in cc) in
+    let entries : AllByRecursion (EntryFits tables (kinds_of params.0)) foot.0 = rw kinds_seen at (footprint_fits tables (path ++ 2 ∷ []) (seen_of params.0) form.footprint foot.0 foot.1) in
+    let block : BlockFits tables (kinds_of params.0) (block_of body.0) = rw kinds_seen at (block_fits tables deepest (path ++ 3 ∷ []) (seen_of params.0) form.body body.0 body.1) in
+    subst (λ (q : PartsSyntax). ProcFits tables (record { name = name; params = q.params; footprint = q.footprint; body = q.body })) is (record { footprint = entries; body = block })
+
+not_false : (b : Bool) → not b ≡ true → b ≡ false
+not_false true e = absurd cc
+not_false false e = refl
+
+-- a name that none before it has, and that obeys the rule
+pub fresh_is : {X : Type 0} (name_of : X → List ℕ) (path : List ℕ) (before : List X) (name : List ℕ) → fresh_at name_of path before name ≡ Ok tt → (is_name name ≡ true) × (is_used name_of name before ≡ false)
+fresh_is name_of path before name e =
+    let rule_kept = bind_ok (declared_at path name) _ tt e in
+    (named (At Shape path) (is_name name) rule_kept.1, not_false (is_used name_of name before) (named (At DuplicateName path) (not (is_used name_of name before)) rule_kept.2))
+  where
+    named : (f : ProcFault) (b : Bool) → rule b f ≡ Ok tt → b ≡ true
+    named f true h = refl
+    named f false h = absurd cc
+
+-- the name of a procedure that is read is new and obeys the rule
+pub proc_fresh : (tables : List TableShape) (path : List ℕ) (before : List ProcSyntax) (d : Data) (p : ProcSyntax) → proc_at tables path before d ≡ Ok p → (is_name p.name ≡ true) × (is_used (λ q. q.name) p.name before ≡ false)
+unfolding proc_at
+proc_fresh tables path before d p e =
+    let form = bind_ok (formed (At Shape path) (proc_form d)) _ p e in
+    let name = bind_ok (fresh_at (λ q. q.name) (path ++ 0 ∷ []) before form.0.name) _ p form.2 in
+    let parts = bind_ok (parts_at tables path form.0) _ p name.2 in
+    let is : form.0.name ≡ p.name = (let h = parts.2 in cc) in
+    rw (← is) (fresh_is (λ q. q.name) (path ++ 0 ∷ []) before form.0.name name.1)
+
+-- names so far
+pub record AreNamed (ps : List ProcSyntax) : Type 0 where
+  pub names : AllByRecursion (λ p. is_name p.name ≡ true) ps
+  pub distinct : IsDistinct bytes_eq (map (λ p. p.name) ps)
+
+-- the names of procedures that are read obey the rule, and no two are the same
+pub each_named : (tables : List TableShape) (path : List ℕ) (place : ℕ) (before : List ProcSyntax) (ds : List Data) (all : List ProcSyntax) → AreNamed before
+    → each_from (λ p b d. behind b (proc_at tables p b d)) path place before ds ≡ Ok all → AreNamed all
+each_named tables path place before [] all h e = let is : before ≡ all = cc in subst AreNamed is h
+each_named tables path place before (d ∷ ds) all h e =
+    let step = bind_ok (behind before (proc_at tables (path ++ place ∷ []) before d)) _ all e in
+    let p = bind_ok (proc_at tables (path ++ place ∷ []) before d) _ step.0 step.1 in
+    let is : before ++ p.0 ∷ [] ≡ step.0 = (let g = p.2 in cc) in
+    let new = proc_fresh tables (path ++ place ∷ []) before d p.0 p.1 in
+    each_named tables path (place + 1) step.0 ds all
+    (subst AreNamed is (record { names = all_push (λ q. is_name q.name ≡ true) before p.0 h.names new.0; distinct = distinct_push (λ q. q.name) before p.0 h.distinct new.1 })) step.2
+
+names_seen : (ps : List ProcParts) → AllByRecursion (λ p. is_name p.name ≡ true) (map proc_syntax ps) → AllByRecursion (λ p. is_name p.name ≡ true) ps
+names_seen [] h = tt
+names_seen (p ∷ ps) h = (h.0, names_seen ps h.1)
+
+same_names : (ps : List ProcParts) → map (λ p. p.name) (map proc_syntax ps) ≡ map (λ p. p.name) ps
+same_names [] = refl
+same_names (p ∷ ps) = ap (λ (ns : List (List ℕ)). p.name ∷ ns) (same_names ps)
+
+-- procedures that are read, as they lie in memory
+pub procs_sound : (tables : List TableShape) (path : List ℕ) (ds : List Data) (ps : List ProcParts) → each_proc tables path ds ≡ Ok (map proc_syntax ps) → AreOver tables ps → AreProcs tables ps
+unfolding IsDistinct
+procs_sound tables path ds ps e over =
+    let named = each_named tables path 0 [] ds (map proc_syntax ps) (record { names = tt; distinct = tt }) e in
+    record { over = over; names = names_seen ps named.names; distinct = rw (← same_names ps) named.distinct }

@@ -1,0 +1,13 @@
+pub mod Paths
+pub mod Faults
+pub mod Seen
+pub mod ExprForms
+pub mod Expressions
+pub mod Lookups
+pub mod StmtForms
+pub mod Walk
+pub mod Statements
+pub mod ProcForms
+pub mod Procs
+pub mod ProcLists
+pub mod Requests

@@ -1,0 +1,71 @@
+-- One level of a procedure, and of an entry of its footprint, before their parts are read.
+use Rattle.std.specs.Prelude.{ℕ, List, [], ◌∷◌, map, Option, Some, None, option_map, option_and_then, if◌then◌else◌, codes}
+use Rattle.std.specs.Str.{bytes_eq}
+use Rattle.serde_json.specs.Data.{Data}
+use Rattle.serde_json.specs.Find.{as_str}
+use Rattle.serde_json.specs.View.{view}
+use Rattle.documents.specs.Json.{elements, four}
+use Rattle.proclang_types.specs.declared.right.Right.{Right}
+use Rattle.proclang_types.specs.declared.right.Right.TheVariants.{Read, Write}
+use Rattle.proclang.specs.declared.proc_form.ProcForm.{ProcForm}
+use Rattle.proclang.specs.declared.proc_form.EntryForm.{EntryForm}
+use Rattle.proclang.specs.declared.proc_form.EntryForm.TheVariants as forms
+
+pub record ProcDocument : Type 0 where
+  pub name : List ℕ
+  pub params : List Data
+  pub footprint : Data
+  pub body : Data
+
+abbrev pub proc_parts_of : ProcForm → ProcDocument
+proc_parts_of p = record { name = p.name.now; params = map view p.params.now; footprint = view p.footprint.now; body = view p.body.now }
+
+-- a name, parameters, a footprint, and a block
+unfoldable pub proc_form : Data → Option ProcDocument
+proc_form d =
+    option_and_then (λ (p : Data × Data × Data × Data).
+    option_and_then (λ (name : List ℕ).
+    option_map (λ (params : List Data). record { name = name; params = params; footprint = p.2; body = p.3 }) (elements p.1))
+    (as_str p.0))
+    (option_and_then four (elements d))
+
+-- ---- footprints
+
+unfoldable pub declared_entries : List Data → Option (List Data)
+declared_entries [] = None
+declared_entries (head ∷ entries) = option_and_then (λ word. if bytes_eq word (codes "declared") then Some entries else None) (as_str head)
+
+-- the entries of a declared footprint
+unfoldable pub declared_form : Data → Option (List Data)
+declared_form d = option_and_then declared_entries (elements d)
+
+pub data EntryDocument : Type 0 where
+  -- right, table, KEY
+  row_parts : Right → List ℕ → Data → EntryDocument
+
+abbrev pub entry_form_view : EntryForm → EntryDocument
+entry_form_view (forms.Row right table key) = row_parts right table.now (view key.now)
+
+-- the right that a word stands for
+abbrev pub right_of : List ℕ → Option Right
+right_of word =
+    if bytes_eq word (codes "r") then Some Read else
+    (if bytes_eq word (codes "w") then Some Write else None)
+
+unfoldable pub row_form : List Data → Option EntryDocument
+row_form (right ∷ table ∷ key ∷ []) =
+    option_and_then (λ (r : Right).
+    option_map (λ (t : List ℕ). row_parts r t key) (as_str table))
+    (option_and_then right_of (as_str right))
+row_form parts = None
+
+-- what stands behind a head word
+unfoldable pub entry_word : List ℕ → List Data → Option EntryDocument
+entry_word word parts = if bytes_eq word (codes "row") then row_form parts else None
+
+abbrev pub entry_words : List Data → Option EntryDocument
+entry_words [] = None
+entry_words (head ∷ parts) = option_and_then (λ word. entry_word word parts) (as_str head)
+
+unfoldable pub entry_form : Data → Option EntryDocument
+entry_form d = option_and_then entry_words (elements d)

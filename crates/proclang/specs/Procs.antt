@@ -1,0 +1,101 @@
+-- Reading procedures into typed syntax, with the first fault that is met and its path.
+use Rattle.std.specs.Prelude.{ℕ, List, [], ◌∷◌, ◌++◌, map, not, Result, Ok, codes, ⊤}
+use Rattle.serde_json.specs.Data.{Data}
+use Rattle.documents.specs.Json.{versioned_list}
+use Rattle.documents.specs.Reading.{◌>>=◌, formed, rule}
+use Rattle.values.specs.Shapes.{TableShape}
+use Rattle.values.specs.Reading.{column_form, is_used}
+use Rattle.proclang_types.specs.Syntax.{EntrySyntax, row_entry, ParamShape, StmtSyntax, ProcSyntax}
+use Rattle.proclang_types.specs.Procedures.{param_shape}
+use Rattle.proclang_types.specs.Views.{entry_view, stmts_view}
+use Rattle.proclang.specs.declared.read_proc.Parts.{Parts}
+use Rattle.proclang.specs.declared.fault.FaultKind.TheVariants.{Shape, DuplicateName}
+use Rattle.proclang.specs.declared.fault.ProcFault.{ProcFault}
+use Rattle.proclang.specs.declared.fault.ProcFault.TheVariants.{At}
+use Rattle.proclang.specs.Seen.{Seen, seen_of}
+use Rattle.proclang.specs.Walk.{each_from, behind, at_most}
+use Rattle.proclang.specs.Lookups.{declared_at, table_at}
+use Rattle.proclang.specs.Expressions.{deepest, as_int, expr_at}
+use Rattle.proclang.specs.Statements.{block_at}
+use Rattle.proclang.specs.ProcForms.{ProcDocument, proc_form, declared_form, EntryDocument, row_parts, entry_form}
+
+-- ---- parameters
+
+-- a name that none before it has
+abbrev pub fresh_at : {X : Type 0} → (X → List ℕ) → List ℕ → List X → List ℕ → Result ⊤ ProcFault
+fresh_at name_of path before name = do
+  _ ← declared_at path name
+  rule (not (is_used name_of name before)) (At DuplicateName path)
+
+unfoldable pub param_at : List ℕ → List ParamShape → Data → Result ParamShape ProcFault
+param_at path before d = do
+  form ← formed (At Shape path) (column_form d)
+  _ ← fresh_at (λ p. p.name) (path ++ 0 ∷ []) before form.0
+  Ok (record { name = form.0; kind = form.1 })
+
+abbrev pub each_param : List ℕ → List Data → Result (List ParamShape) ProcFault
+each_param path ds = each_from (λ p before d. behind before (param_at p before d)) path 0 [] ds
+
+unfoldable pub params_at : List ℕ → List Data → Result (List ParamShape) ProcFault
+params_at path ds = do
+  _ ← at_most path 16 ds
+  each_param path ds
+
+-- ---- footprints
+
+unfoldable pub entry_of : List TableShape → List ℕ → List Seen → EntryDocument → Result EntrySyntax ProcFault
+entry_of tables path scope (row_parts right table key) = do
+  t ← table_at (path ++ 2 ∷ []) tables table
+  e ← expr_at deepest (path ++ 3 ∷ []) scope key
+  k ← as_int (path ++ 3 ∷ []) e
+  Ok (row_entry right t k)
+
+unfoldable pub entry_at : List TableShape → List Seen → List ℕ → Data → Result EntrySyntax ProcFault
+entry_at tables scope path d = do
+  form ← formed (At Shape path) (entry_form d)
+  entry_of tables path scope form
+
+-- entries at the places from 1 on
+abbrev pub each_entry : List TableShape → List ℕ → List Seen → List Data → Result (List EntrySyntax) ProcFault
+each_entry tables path scope ds = each_from (λ p before e. behind before (entry_at tables scope p e)) path 1 [] ds
+
+unfoldable pub footprint_at : List TableShape → List ℕ → List Seen → Data → Result (List EntrySyntax) ProcFault
+footprint_at tables path scope d = do
+  ds ← formed (At Shape path) (declared_form d)
+  _ ← at_most path 256 ds
+  each_entry tables path scope ds
+
+-- ---- procedures
+
+-- what follows a procedure's name
+pub record PartsSyntax : Type 0 where
+  pub params : List ParamShape
+  pub footprint : List EntrySyntax
+  pub body : List StmtSyntax
+
+abbrev pub parts_view : Parts → PartsSyntax
+parts_view p = record { params = map param_shape p.params.items; footprint = map entry_view p.footprint.items; body = stmts_view p.body.items }
+
+unfoldable pub parts_at : List TableShape → List ℕ → ProcDocument → Result PartsSyntax ProcFault
+parts_at tables path form = do
+  params ← params_at (path ++ 1 ∷ []) form.params
+  footprint ← footprint_at tables (path ++ 2 ∷ []) (seen_of params) form.footprint
+  body ← block_at tables deepest (path ++ 3 ∷ []) (seen_of params) form.body
+  Ok (record { params = params; footprint = footprint; body = body })
+
+unfoldable pub proc_at : List TableShape → List ℕ → List ProcSyntax → Data → Result ProcSyntax ProcFault
+proc_at tables path before d = do
+  form ← formed (At Shape path) (proc_form d)
+  _ ← fresh_at (λ p. p.name) (path ++ 0 ∷ []) before form.name
+  parts ← parts_at tables path form
+  Ok (record { name = form.name; params = parts.params; footprint = parts.footprint; body = parts.body })
+
+abbrev pub each_proc : List TableShape → List ℕ → List Data → Result (List ProcSyntax) ProcFault
+each_proc tables path ds = each_from (λ p before e. behind before (proc_at tables p before e)) path 0 [] ds
+
+-- the procedures that a document says over the tables of a catalogue, or its first fault
+unfoldable pub procs_at : List TableShape → Data → Result (List ProcSyntax) ProcFault
+procs_at tables d = do
+  ds ← formed (At Shape []) (versioned_list (codes "procs") d)
+  _ ← at_most (2 ∷ []) 256 ds
+  each_proc tables (2 ∷ []) ds

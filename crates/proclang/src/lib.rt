@@ -1,0 +1,29 @@
+//! Reading procedures: from a JSON document to typed syntax, or the first fault and where it stands.
+#![tactic(auto)]
+
+mod expr_form;
+mod fault;
+mod limits;
+mod path;
+mod proc_form;
+mod proc_map;
+mod procs;
+mod read_block;
+mod read_expr;
+mod read_footprint;
+mod read_names;
+mod read_params;
+mod read_proc;
+mod read_stmt;
+mod request;
+mod scope;
+mod stmt_form;
+#[cfg(test)]
+mod tests;
+
+pub use fault::{FaultKind, Places, ProcFault};
+pub use proclang_types::{
+    BoolExpr, Expr, FootprintEntry, IntExpr, Param, Proc, Right, Stmt, TextExpr, ValueExpr,
+};
+pub use procs::{Procs, read_procs};
+pub use request::{Request, RequestFault};

@@ -1,0 +1,103 @@
+//! One level of a procedure, and of an entry of its footprint, before their parts are read.
+
+ghost use Rattle.std.specs.Prelude.{◌≡◌, option_map, map};
+ghost use Rattle.serde_json.specs.View.{view};
+ghost use Rattle.proclang.specs.ProcForms.{proc_parts_of, proc_form, declared_entries, declared_form, right_of, entry_form_view, row_form, entry_word, entry_words, entry_form};
+
+use documents::{elements, four};
+use proclang_types::Right;
+use serde_json::Value;
+
+#[derive(Clone, Copy)]
+pub(crate) struct ProcForm<'a> {
+    pub(crate) name: &'a str,
+    pub(crate) params: &'a [Value],
+    pub(crate) footprint: &'a Value,
+    pub(crate) body: &'a Value,
+}
+
+/// The form of a procedure, `None` of a document that has none.
+#[tactic(auto, unfolding(crate::specs::ProcForms::proc_form))]
+pub(crate) fn proc_form(value: &Value) -> Option<ProcForm<'_>>
+    ensures { option_map proc_parts_of result ≡ proc_form (view value.now) }
+{
+    let (name, params, footprint, body) = four(value)?;
+    Some(ProcForm {
+        name: name.as_str()?,
+        params: elements(params)?,
+        footprint,
+        body,
+    })
+}
+
+#[tactic(auto, unfolding(crate::specs::ProcForms::declared_entries))]
+fn declared_entries(items: &[Value]) -> Option<&[Value]>
+    ensures { option_map (λ s. map view s.now) result ≡ declared_entries (map view items.now) }
+{
+    let (head, entries) = items.split_first()?;
+    match head.as_str()? {
+        "declared" => Some(entries),
+        _ => None,
+    }
+}
+
+/// The entries of a declared footprint, `None` of a document that is none.
+#[tactic(auto, unfolding(crate::specs::ProcForms::declared_form))]
+pub(crate) fn declared_form(value: &Value) -> Option<&[Value]>
+    ensures { option_map (λ s. map view s.now) result ≡ declared_form (view value.now) }
+{
+    declared_entries(elements(value)?)
+}
+
+#[derive(Clone, Copy)]
+pub(crate) enum EntryForm<'a> {
+    Row(Right, &'a str, &'a Value),
+}
+
+fn right_of(word: &str) -> Option<Right>
+    ensures { result ≡ right_of word.now }
+{
+    match word {
+        "r" => Some(Right::Read),
+        "w" => Some(Right::Write),
+        _ => None,
+    }
+}
+
+#[tactic(auto, unfolding(crate::specs::ProcForms::row_form))]
+fn row_form(parts: &[Value]) -> Option<EntryForm<'_>>
+    ensures { option_map entry_form_view result ≡ row_form (map view parts.now) }
+{
+    match parts {
+        [right, table, key] => {
+            let right = right_of(right.as_str()?)?;
+            Some(EntryForm::Row(right, table.as_str()?, key))
+        }
+        _ => None,
+    }
+}
+
+#[tactic(auto, unfolding(crate::specs::ProcForms::entry_word))]
+fn entry_word<'a>(word: &str, parts: &'a [Value]) -> Option<EntryForm<'a>>
+    ensures { option_map entry_form_view result ≡ entry_word word.now (map view parts.now) }
+{
+    match word {
+        "row" => row_form(parts),
+        _ => None,
+    }
+}
+
+fn entry_words(items: &[Value]) -> Option<EntryForm<'_>>
+    ensures { option_map entry_form_view result ≡ entry_words (map view items.now) }
+{
+    let (head, parts) = items.split_first()?;
+    entry_word(head.as_str()?, parts)
+}
+
+/// The form of an entry, `None` of a document that has none.
+#[tactic(auto, unfolding(crate::specs::ProcForms::entry_form))]
+pub(crate) fn entry_form(value: &Value) -> Option<EntryForm<'_>>
+    ensures { option_map entry_form_view result ≡ entry_form (view value.now) }
+{
+    entry_words(elements(value)?)
+}

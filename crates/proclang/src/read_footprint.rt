@@ -1,0 +1,82 @@
+//! Reading the footprint that a procedure declares.
+
+ghost use Rattle.std.specs.Prelude.{◌≡◌, map};
+ghost use Rattle.serde_json.specs.View.{view};
+ghost use Rattle.documents.specs.Reading.{Gives};
+ghost use Rattle.proclang_types.specs.Views.{entry_view};
+ghost use Rattle.proclang.specs.Paths.{places};
+ghost use Rattle.proclang.specs.Faults.{is_memory};
+ghost use Rattle.proclang.specs.Procs.{entry_at, each_entry, footprint_at};
+
+use crate::fault::{FaultKind, ProcFault, fault};
+use crate::limits::at_most;
+use crate::path::Path;
+use crate::proc_form::{EntryForm, declared_form, entry_form};
+use crate::read_expr::{DEEPEST, as_int, read_expr};
+use crate::read_names::read_table;
+use crate::scope::Scope;
+use proclang_types::FootprintEntry;
+use serde_json::Value;
+use std::alloc::Global;
+use values::Catalogue;
+
+#[tactic(auto, unfolding(crate::specs::Procs::entry_at, crate::specs::Procs::entry_of))]
+fn read_entry(
+    alloc: Global,
+    catalogue: &Catalogue,
+    scope: &Scope,
+    path: &Path<'_>,
+    value: &Value,
+) -> Result<FootprintEntry, ProcFault>
+    ensures { Gives is_memory entry_view result (entry_at catalogue.now scope.now (places path.now) (view value.now)) }
+{
+    let Some(form) = entry_form(value) else {
+        return Err(fault(alloc, FaultKind::Shape, path));
+    };
+    match form {
+        EntryForm::Row(right, table, key) => {
+            let key_path = Path::Element(&*path, 3);
+            let table = read_table(alloc, &Path::Element(&*path, 2), catalogue, table)?;
+            let key = read_expr(alloc, scope, DEEPEST, &key_path, key)?;
+            let key = as_int(alloc, &key_path, key)?;
+            Ok(FootprintEntry::Row { right, table, key })
+        }
+    }
+}
+
+fn read_each(
+    alloc: Global,
+    catalogue: &Catalogue,
+    scope: &Scope,
+    path: &Path<'_>,
+    values: &[Value],
+) -> Result<Vec<FootprintEntry>, ProcFault>
+    ensures { Gives is_memory (λ v. map entry_view v.items) result
+        (each_entry catalogue.now (places path.now) scope.now (map view values.now)) }
+{
+    let mut entries = Vec::new(alloc);
+    for (index, value) in values.iter().enumerate() {
+        let place = Path::Element(&*path, index + 1);
+        entries.push(read_entry(alloc, catalogue, scope, &place, value)?)?;
+    }
+    Ok(entries)
+}
+
+/// The footprint that the document says, of a procedure whose parameters are seen.
+#[tactic(auto, unfolding(crate::specs::Procs::footprint_at))]
+pub(crate) fn read_footprint(
+    alloc: Global,
+    catalogue: &Catalogue,
+    scope: &Scope,
+    path: &Path<'_>,
+    value: &Value,
+) -> Result<Vec<FootprintEntry>, ProcFault>
+    ensures { Gives is_memory (λ v. map entry_view v.items) result
+        (footprint_at catalogue.now (places path.now) scope.now (view value.now)) }
+{
+    let Some(values) = declared_form(value) else {
+        return Err(fault(alloc, FaultKind::Shape, path));
+    };
+    at_most(alloc, path, 256, values)?;
+    read_each(alloc, catalogue, scope, path, values)
+}

@@ -1,0 +1,90 @@
+//! Reading a procedure.
+
+ghost use Rattle.std.specs.Prelude.{◌≡◌, IfOk, map};
+ghost use Rattle.serde_json.specs.View.{view};
+ghost use Rattle.documents.specs.Reading.{Gives};
+ghost use Rattle.proclang_types.specs.Procedures.{proc_syntax};
+ghost use Rattle.proclang.specs.Paths.{places};
+ghost use Rattle.proclang.specs.Faults.{is_memory};
+ghost use Rattle.proclang.specs.ProcForms.{proc_parts_of};
+ghost use Rattle.proclang.specs.Procs.{parts_view, parts_at, proc_at};
+ghost use Rattle.proclang.specs.ProcLists.{AreKeyed, procs_of};
+
+use crate::fault::{FaultKind, ProcFault, fault};
+use crate::path::Path;
+use crate::proc_form::{ProcForm, proc_form};
+use crate::proc_map::has_proc;
+use crate::read_block::read_block;
+use crate::read_expr::DEEPEST;
+use crate::read_footprint::read_footprint;
+use crate::read_names::declare;
+use crate::read_params::read_params;
+use crate::scope::Scope;
+use indexmap::IndexMap;
+use proclang_types::{FootprintEntry, Param, Proc, Stmt};
+use serde_json::Value;
+use std::alloc::Global;
+use std::sync::Arc;
+use values::Catalogue;
+
+/// What follows a procedure's name.
+#[derive(Drop)]
+pub(crate) struct Parts {
+    params: Vec<Param>,
+    footprint: Vec<FootprintEntry>,
+    body: Vec<Stmt>,
+}
+
+#[tactic(auto, unfolding(crate::specs::Procs::parts_at))]
+fn read_parts(
+    alloc: Global,
+    catalogue: &Catalogue,
+    path: &Path<'_>,
+    form: ProcForm<'_>,
+) -> Result<Parts, ProcFault>
+    ensures { Gives is_memory parts_view result (parts_at catalogue.now (places path.now) (proc_parts_of form.entry)) }
+{
+    let params = read_params(alloc, &Path::Element(&*path, 1), form.params)?;
+    let mut scope = Scope::of_params(alloc, &params)?;
+    let footprint_path = Path::Element(&*path, 2);
+    let footprint = read_footprint(alloc, catalogue, &scope, &footprint_path, form.footprint)?;
+    let body_path = Path::Element(&*path, 3);
+    let body = read_block(alloc, catalogue, &mut scope, DEEPEST, &body_path, form.body)?;
+    Ok(Parts {
+        params,
+        footprint,
+        body,
+    })
+}
+
+/// A procedure, behind those before it.
+#[tactic(auto, unfolding(crate::specs::Procs::proc_at))]
+pub(crate) fn read_proc(
+    alloc: Global,
+    catalogue: &Catalogue,
+    path: &Path<'_>,
+    earlier: &IndexMap<String, Arc<Proc>>,
+    value: &Value,
+) -> Result<Proc, ProcFault>
+    requires { AreKeyed earlier.now.entries }
+    ensures exact { Gives is_memory proc_syntax result
+        (proc_at catalogue.now (places path.now) (map proc_syntax (procs_of earlier.now.entries)) (view value.now)) }
+    ensures tables { IfOk result (λ p. p.tables ≡ catalogue.now) }
+{
+    let Some(form) = proc_form(value) else {
+        return Err(fault(alloc, FaultKind::Shape, path));
+    };
+    let name_path = Path::Element(&*path, 0);
+    declare(alloc, &name_path, form.name)?;
+    if has_proc(earlier, form.name) {
+        return Err(fault(alloc, FaultKind::DuplicateName, &name_path));
+    }
+    let parts = read_parts(alloc, catalogue, path, form)?;
+    let name = String::from_str(alloc, form.name)?;
+    let Parts {
+        params,
+        footprint,
+        body,
+    } = parts;
+    Ok(Proc::new(catalogue, name, params, footprint, body))
+}

@@ -1,0 +1,115 @@
+//! The variables that are seen, each at its place.
+
+ghost use Rattle.std.specs.Prelude.{◌≡◌, List, [], ◌∷◌, ◌++◌, length, map, take, string_bytes, OnOk, IfOk, position};
+ghost use Rattle.std.specs.Str.{bytes_eq};
+ghost use Rattle.proclang_types.specs.Procedures.{param_shape};
+ghost use Rattle.proclang.specs.Seen.{seen, seen_of, found_in};
+ghost use Rattle.proclang.specs.declared.scope.Declaration.TheVariants.{Statement};
+
+use proclang_types::Param;
+use std::alloc::{AllocError, Global};
+use std::marker::Model;
+use values::ColType;
+
+/// How a variable was declared.
+#[derive(Clone, Copy, Debug, PartialEq, Eq)]
+pub(crate) enum Declaration {
+    Parameter,
+    Statement,
+}
+
+#[derive(Drop)]
+pub(crate) struct Variable {
+    name: String,
+    kind: ColType,
+    declaration: Declaration,
+}
+
+/// A variable that is seen, and its place.
+#[derive(Clone, Copy)]
+pub(crate) struct Found {
+    pub(crate) place: usize,
+    pub(crate) kind: ColType,
+    pub(crate) declaration: Declaration,
+}
+
+/// The variables that are seen, in the order of their declarations.
+#[derive(Drop)]
+pub(crate) struct Scope {
+    variables: Vec<Variable>,
+}
+
+impl Model for Scope {
+    ghost use Rattle.std.specs.Prelude.{List, map};
+    ghost use Rattle.proclang.specs.Seen.{Seen, seen};
+
+    ghost Value = { List Seen };
+
+    ghost view = { λ s. map seen s.variables.items };
+}
+
+impl Scope {
+    /// The parameters of a procedure.
+    pub(crate) fn of_params(alloc: Global, params: &[Param]) -> Result<Scope, AllocError>
+        ensures { IfOk result (λ s. s ≡ seen_of (map param_shape params.now)) }
+    {
+        let mut variables = Vec::new(alloc);
+        for param in params {
+            variables.push(Variable {
+                name: param.name.clone()?,
+                kind: param.kind,
+                declaration: Declaration::Parameter,
+            })?;
+        }
+        Ok(Scope { variables })
+    }
+
+    /// The variable of that name.
+    #[tactic(auto, using(crate::proofs::Seen::seen_place))]
+    pub(crate) fn find(&self, name: &str) -> Option<Found>
+        ensures { result ≡ found_in name.now self.now }
+    {
+        let place = place_of(self.variables.as_slice(), name)?;
+        let variable = &self.variables[place];
+        Some(Found {
+            place,
+            kind: variable.kind,
+            declaration: variable.declaration,
+        })
+    }
+
+    /// How many variables are seen.
+    pub(crate) fn len(&self) -> usize
+        ensures { result ≡ length self.now }
+    {
+        self.variables.len()
+    }
+
+    /// Declares a variable behind the others.
+    pub(crate) fn declare(&mut self, name: String, kind: ColType) -> Result<(), AllocError>
+        ensures ok { OnOk result (self.new
+            ≡ self.old ++ record { name = string_bytes name; kind = kind; declaration = Statement } ∷ []) }
+    {
+        self.variables.push(Variable {
+            name,
+            kind,
+            declaration: Declaration::Statement,
+        })?;
+        Ok(())
+    }
+
+    /// Lets go of the variables behind the first so many.
+    pub(crate) fn truncate(&mut self, len: usize)
+        ensures { self.new ≡ take len self.old }
+    {
+        self.variables.truncate(len);
+    }
+}
+
+fn place_of(variables: &[Variable], name: &str) -> Option<usize>
+    ensures { result ≡ position (λ v. bytes_eq name.now (string_bytes v.name)) variables.now }
+{
+    variables
+        .iter()
+        .position(|variable| name == variable.name.as_str())
+}

@@ -1,0 +1,123 @@
+//! One level of a statement, before its parts are read.
+
+ghost use Rattle.std.specs.Prelude.{◌≡◌, option_map, map};
+ghost use Rattle.serde_json.specs.View.{view};
+ghost use Rattle.proclang.specs.StmtForms.{stmt_form_view, get_form, put_form, if_form, abort_form, word_form, words_form, statement_form};
+
+use documents::elements;
+use serde_json::Value;
+
+#[derive(Clone, Copy)]
+pub(crate) struct GetForm<'a> {
+    pub(crate) variable: &'a str,
+    pub(crate) table: &'a str,
+    pub(crate) key: &'a Value,
+    pub(crate) column: &'a str,
+}
+
+#[derive(Clone, Copy)]
+pub(crate) struct PutForm<'a> {
+    pub(crate) table: &'a str,
+    pub(crate) key: &'a Value,
+    pub(crate) column: &'a str,
+    pub(crate) value: &'a Value,
+}
+
+#[derive(Clone, Copy)]
+pub(crate) struct IfForm<'a> {
+    pub(crate) test: &'a Value,
+    pub(crate) first: &'a Value,
+    pub(crate) second: &'a Value,
+}
+
+#[derive(Clone, Copy)]
+pub(crate) enum StmtForm<'a> {
+    Get(GetForm<'a>),
+    Put(PutForm<'a>),
+    If(IfForm<'a>),
+    Abort(i64),
+    Reply(&'a [Value]),
+}
+
+#[tactic(auto, unfolding(crate::specs::StmtForms::get_form))]
+fn get_form(parts: &[Value]) -> Option<StmtForm<'_>>
+    ensures { option_map stmt_form_view result ≡ get_form (map view parts.now) }
+{
+    match parts {
+        [variable, table, key, column] => Some(StmtForm::Get(GetForm {
+            variable: variable.as_str()?,
+            table: table.as_str()?,
+            key,
+            column: column.as_str()?,
+        })),
+        _ => None,
+    }
+}
+
+#[tactic(auto, unfolding(crate::specs::StmtForms::put_form))]
+fn put_form(parts: &[Value]) -> Option<StmtForm<'_>>
+    ensures { option_map stmt_form_view result ≡ put_form (map view parts.now) }
+{
+    match parts {
+        [table, key, column, value] => Some(StmtForm::Put(PutForm {
+            table: table.as_str()?,
+            key,
+            column: column.as_str()?,
+            value,
+        })),
+        _ => None,
+    }
+}
+
+#[tactic(auto, unfolding(crate::specs::StmtForms::if_form))]
+fn if_form(parts: &[Value]) -> Option<StmtForm<'_>>
+    ensures { option_map stmt_form_view result ≡ if_form (map view parts.now) }
+{
+    match parts {
+        [test, first, second] => Some(StmtForm::If(IfForm {
+            test,
+            first,
+            second,
+        })),
+        _ => None,
+    }
+}
+
+#[tactic(auto, unfolding(crate::specs::StmtForms::abort_form))]
+fn abort_form(parts: &[Value]) -> Option<StmtForm<'_>>
+    ensures { option_map stmt_form_view result ≡ abort_form (map view parts.now) }
+{
+    match parts {
+        [code] => Some(StmtForm::Abort(code.as_i64()?)),
+        _ => None,
+    }
+}
+
+#[tactic(auto, unfolding(crate::specs::StmtForms::word_form))]
+fn word_form<'a>(word: &str, parts: &'a [Value]) -> Option<StmtForm<'a>>
+    ensures { option_map stmt_form_view result ≡ word_form word.now (map view parts.now) }
+{
+    match word {
+        "get" => get_form(parts),
+        "put" => put_form(parts),
+        "if" => if_form(parts),
+        "abort" => abort_form(parts),
+        "reply" => Some(StmtForm::Reply(parts)),
+        _ => None,
+    }
+}
+
+fn words_form(items: &[Value]) -> Option<StmtForm<'_>>
+    ensures { option_map stmt_form_view result ≡ words_form (map view items.now) }
+{
+    let (head, parts) = items.split_first()?;
+    word_form(head.as_str()?, parts)
+}
+
+/// The form of a statement, `None` of a document that has none.
+#[tactic(auto, unfolding(crate::specs::StmtForms::statement_form))]
+pub(crate) fn statement_form(value: &Value) -> Option<StmtForm<'_>>
+    ensures { option_map stmt_form_view result ≡ statement_form (view value.now) }
+{
+    words_form(elements(value)?)
+}

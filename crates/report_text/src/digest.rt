@@ -1,0 +1,79 @@
+//! Digests.
+
+ghost use Rattle.std.specs.Prelude.{◌≡◌, ◌++◌, [], List, ℕ, IfOk, OnOk, string_bytes};
+ghost use Rattle.sha2.specs.Hashers.{Holds256};
+ghost use Rattle.hex.specs.Hex.{encode_lower};
+ghost use Rattle.sha2.specs.Sha256.{sha256};
+ghost use Rattle.report_text.specs.Texts.{digest, row_line, row_lines, table_name, values_text};
+
+use crate::values_text::push_values;
+use sha2::{Digest, Sha256};
+use std::alloc::{AllocError, Global};
+use std::collections::btree_map::Iter;
+use values::{Catalogue, Row, RowName, TableNo};
+
+/// The SHA-256 digest of a text, in 64 lower-case hexadecimal digits. (FIPS 180-4.)
+#[tactic(auto, unfolding(crate::specs::Texts::digest))]
+pub fn digest_text(alloc: Global, text: &[u8]) -> Result<String, AllocError>
+    ensures { IfOk result (λ t. string_bytes t ≡ digest text.now) }
+{
+    hex::encode(alloc, Sha256::digest(text))
+}
+
+/// Appends a table's name; nothing for a table that the catalogue doesn't have.
+fn push_table_name(
+    text: &mut String,
+    catalogue: &Catalogue,
+    table: TableNo,
+) -> Result<(), AllocError>
+    ensures { OnOk result (string_bytes text.new ≡ string_bytes text.old ++ table_name catalogue.now table) }
+{
+    if table.place() < catalogue.len() {
+        text.push_str(catalogue.table_name(table))
+    } else {
+        Ok(())
+    }
+}
+
+/// A row line: the table's name, the key, the values, and a newline.
+#[tactic(auto, unfolding(crate::specs::Texts::row_line))]
+pub fn row_line(
+    alloc: Global,
+    catalogue: &Catalogue,
+    name: &RowName,
+    row: &Row,
+) -> Result<String, AllocError>
+    ensures { IfOk result (λ t. string_bytes t ≡ row_line catalogue.now name.now row.now) }
+{
+    let mut text = String::new(alloc);
+    push_table_name(&mut text, catalogue, name.table)?;
+    let key = name.key.number();
+    write!(text, " {key}")?;
+    push_values(alloc, &mut text, row.values())?;
+    text.push_str("\n")?;
+    Ok(text)
+}
+
+/// The digest of row lines, fed line by line.
+pub fn rows_digest(
+    alloc: Global,
+    catalogue: &Catalogue,
+    rows: Iter<'_, RowName, Row>,
+) -> Result<String, AllocError>
+    ensures { IfOk result (λ t. string_bytes t ≡ digest (row_lines catalogue.now rows.entry)) }
+{
+    let mut hasher = Sha256::new();
+    for (name, row) in rows {
+        let line = row_line(alloc, catalogue, name, row)?;
+        hasher.update(line.as_bytes());
+    }
+    digest_of(alloc, hasher)
+}
+
+/// The digest of what a hasher was fed.
+#[tactic(auto, unfolding(crate::specs::Texts::digest))]
+pub fn digest_of(alloc: Global, hasher: Sha256) -> Result<String, AllocError>
+    ensures { (m : List ℕ) → Holds256 hasher m → IfOk result (λ t. string_bytes t ≡ digest m) }
+{
+    hex::encode(alloc, hasher.finalize())
+}

@@ -1,0 +1,12 @@
+//! The texts of a report: values, row lines, reply lines, batch and end lines, and their digests.
+#![tactic(auto)]
+
+mod digest;
+mod lines;
+#[cfg(test)]
+mod tests;
+mod values_text;
+
+pub use digest::{digest_of, digest_text, row_line, rows_digest};
+pub use lines::{push_batch_line, push_end_line, push_reply_line};
+pub use values_text::push_value;

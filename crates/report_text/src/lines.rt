@@ -1,0 +1,68 @@
+//! Reply lines, batch lines and end lines.
+
+ghost use Rattle.std.specs.Prelude.{◌≡◌, ◌++◌, OnOk, string_bytes};
+ghost use Rattle.report_text.specs.Texts.{reply_line, reply_words, batch_line, end_line};
+ghost use Rattle.meaning.specs.Outcomes.{as_reply};
+
+use crate::values_text::push_values;
+use meaning::Outcome;
+use std::alloc::{AllocError, Global};
+
+/// Appends what stands behind a transaction's number.
+#[tactic(auto, unfolding(crate::specs::Texts::reply_words))]
+fn push_reply_words(alloc: Global, text: &mut String, outcome: &Outcome) -> Result<(), AllocError>
+    ensures { OnOk result (string_bytes text.new ≡ string_bytes text.old ++ reply_words (as_reply outcome.now)) }
+{
+    match outcome {
+        Outcome::Commit(values) => {
+            text.push_str(" commit")?;
+            push_values(alloc, text, values)
+        }
+        Outcome::Abort(code) => {
+            let number = code.number();
+            write!(text, " abort {number}")
+        }
+        Outcome::Stale => text.push_str(" stale"),
+    }
+}
+
+/// Appends a reply line: the transaction's number, its outcome, and a newline.
+#[tactic(auto, unfolding(crate::specs::Texts::reply_line))]
+pub fn push_reply_line(
+    alloc: Global,
+    text: &mut String,
+    number: u64,
+    outcome: &Outcome,
+) -> Result<(), AllocError>
+    ensures { OnOk result (string_bytes text.new ≡ string_bytes text.old ++ reply_line number (as_reply outcome.now)) }
+{
+    write!(text, "{number}")?;
+    push_reply_words(alloc, text, outcome)?;
+    text.push_str("\n")
+}
+
+/// Appends a batch line, from the digests of the rows after the batch and of its reply lines.
+#[tactic(auto, unfolding(crate::specs::Texts::batch_line))]
+pub fn push_batch_line(
+    text: &mut String,
+    batch: u64,
+    rows: &str,
+    replies: &str,
+) -> Result<(), AllocError>
+    ensures { OnOk result (string_bytes text.new ≡ string_bytes text.old ++ batch_line batch rows.now replies.now) }
+{
+    writeln!(text, "batch {batch} rows {rows} replies {replies}")
+}
+
+/// Appends the end line, from the number of transactions and the digests of the rows at the end and of all reply lines.
+#[tactic(auto, unfolding(crate::specs::Texts::end_line))]
+pub fn push_end_line(
+    text: &mut String,
+    count: u64,
+    rows: &str,
+    replies: &str,
+) -> Result<(), AllocError>
+    ensures { OnOk result (string_bytes text.new ≡ string_bytes text.old ++ end_line count rows.now replies.now) }
+{
+    writeln!(text, "end {count} rows {rows} replies {replies}")
+}

@@ -1,0 +1,13 @@
+-- What a batch holds.
+use Rattle.std.specs.Prelude.{ℕ, ◌+◌, List, [], ◌∷◌}
+use Rattle.proclang.specs.Requests.{Call}
+use Rattle.sequencer.specs.declared.batch.Item.{Item}
+use Rattle.sequencer.specs.declared.batch.Batch.{Batch}
+
+abbrev pub items_of : Batch → List Item
+items_of batch = batch.items.items
+
+-- requests that came with no client, numbered from a first one
+abbrev pub items_from : ℕ → List Call → List Item
+items_from number [] = []
+items_from number (request ∷ requests) = record { client = 0; number = number; request = request } ∷ items_from (number + 1) requests

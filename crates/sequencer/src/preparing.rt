@@ -1,0 +1,57 @@
+//! Preparing a batch.
+
+ghost use Rattle.std.specs.Prelude.{◌≡◌, IfOk, map};
+ghost use Rattle.std.specs.List.{AllByRecursion};
+ghost use Rattle.interp.specs.Entries.{entry_shape, footing_shape};
+ghost use Rattle.sequencer.specs.Batches.{items_of};
+ghost use Rattle.sequencer.specs.Entries.{prepared};
+
+use crate::batch::Batch;
+use footprint::declared;
+use interp::{Entry, Footing};
+use interp_expr::RowView;
+use proclang::{Procs, Request};
+use std::alloc::Global;
+use values::{Catalogue, NoMemory};
+
+/// The footing of a request: the footprint that its procedure declares for its values, or the abort of the first fault.
+fn footing_of(alloc: Global, catalogue: &Catalogue, request: &Request) -> Result<Footing, NoMemory>
+    requires { request.now.proc.tables ≡ catalogue.now }
+    ensures { IfOk result (λ footing. footing_shape footing ≡ (prepared request.now).footing) }
+{
+    match declared(alloc, catalogue, request.proc(), request.args())? {
+        Ok(footprint) => Ok(Footing::Declared(footprint)),
+        Err(code) => Ok(Footing::Faulting(code)),
+    }
+}
+
+fn entry_of(alloc: Global, catalogue: &Catalogue, request: &Request) -> Result<Entry, NoMemory>
+    requires { request.now.proc.tables ≡ catalogue.now }
+    ensures shape { IfOk result (λ entry. entry_shape entry ≡ prepared request.now) }
+    ensures tables { IfOk result (λ entry. entry.request.proc.tables ≡ catalogue.now) }
+{
+    let footing = footing_of(alloc, catalogue, request)?;
+    let request = request.clone()?;
+    Entry::new(alloc, request, footing)
+}
+
+/// The entries of a batch's requests, in order: each request with the footprint that its procedure declares for its values,
+/// or with the abort of the first fault. The view shows every name.
+pub fn prepare<V: RowView>(
+    alloc: Global,
+    batch: &Batch,
+    catalogue: &Catalogue,
+    _procs: &Procs,
+    _view: &V,
+) -> Result<Vec<Entry>, NoMemory>
+    requires { AllByRecursion (λ item. item.request.proc.tables ≡ catalogue.now) (items_of batch.now) }
+    // Each entry is over the tables of the catalogue.
+    ensures tables { IfOk result (λ entries. AllByRecursion (λ entry. entry.request.proc.tables ≡ catalogue.now) entries.items) }
+    ensures exact { IfOk result (λ entries. map entry_shape entries.items ≡ map (λ item. prepared item.request) (items_of batch.now)) }
+{
+    let mut entries = Vec::new(alloc);
+    for item in batch.items() {
+        entries.push(entry_of(alloc, catalogue, &item.request)?)?;
+    }
+    Ok(entries)
+}

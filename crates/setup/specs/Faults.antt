@@ -1,0 +1,12 @@
+-- Which faults stand for want of memory.
+use Rattle.std.specs.Prelude.{Bool, true, false}
+use Rattle.setup.specs.declared.fault.SetupFault.{SetupFault}
+use Rattle.setup.specs.declared.fault.SetupFault.TheVariants.{Memory, Catalogue, Procedure}
+use Rattle.values.specs.Reading as catalogue
+use Rattle.proclang.specs.Faults as procedures
+
+abbrev pub is_memory : SetupFault → Bool
+is_memory Memory = true
+is_memory (Catalogue fault) = catalogue.is_memory fault
+is_memory (Procedure fault) = procedures.is_memory fault
+is_memory fault = false

@@ -1,0 +1,65 @@
+-- What a setup document says, with the first fault from left to right.
+use Rattle.std.specs.Prelude.{ℕ, ℤ, List, map, ◌&&◌, codes, Option, Some, None, option_and_then, Result, Ok, Err, if◌then◌else◌}
+use Rattle.std.specs.Str.{bytes_eq, is_utf8}
+use Rattle.serde_json.specs.Data.{Data}
+use Rattle.serde_json.specs.Find.{as_str}
+use Rattle.serde_json.specs.Read.{read}
+use Rattle.documents.specs.Json.{elements, five, integer, is_one}
+use Rattle.documents.specs.Reading.{◌>>=◌, formed}
+use Rattle.values.specs.Shapes.{TableShape}
+use Rattle.values.specs.Reading.{catalogue_at}
+use Rattle.proclang_types.specs.Syntax.{ProcSyntax}
+use Rattle.proclang_types.specs.Procedures.{proc_syntax}
+use Rattle.proclang.specs.Procs.{procs_at}
+use Rattle.setup.specs.declared.fault.SetupFault.{SetupFault}
+use Rattle.setup.specs.declared.fault.SetupFault.TheVariants.{NotJson, Shape, Catalogue, Procedure}
+use Rattle.setup.specs.declared.setup.Setup.{Setup}
+use Rattle.setup.specs.Rows.{RowAt, rows_at}
+
+-- the parts of a setup document
+pub record SetupDocument : Type 0 where
+  pub catalogue : Data
+  pub procs : Data
+  pub rows : Data
+
+-- what stands behind the head word and the version 1
+abbrev pub parts_of : Data × Data × Data × Data × Data → Option SetupDocument
+parts_of p =
+    option_and_then (λ (word : List ℕ).
+        option_and_then (λ (version : ℤ).
+            if bytes_eq word (codes "setup") && is_one version then Some (record { catalogue = p.2; procs = p.3; rows = p.4 }) else None)
+        (integer p.1))
+    (as_str p.0)
+
+unfoldable pub setup_form : Data → Option SetupDocument
+setup_form d = option_and_then parts_of (option_and_then five (elements d))
+
+-- a fault of a part is one of the setup
+abbrev pub part : {A E : Type 0} → (E → SetupFault) → Result A E → Result A SetupFault
+part fault (Ok x) = Ok x
+part fault (Err e) = Err (fault e)
+
+-- tables, procedures over them, and starting rows
+pub record SetupShape : Type 0 where
+  pub tables : List TableShape
+  pub procs : List ProcSyntax
+  pub rows : List RowAt
+
+unfoldable pub setup_at : Data → Result SetupShape SetupFault
+setup_at d = do
+  form ← formed Shape (setup_form d)
+  tables ← part Catalogue (catalogue_at form.catalogue)
+  procs ← part Procedure (procs_at tables form.procs)
+  rows ← rows_at tables form.rows
+  Ok (record { tables = tables; procs = procs; rows = rows })
+
+abbrev pub document_said : Option Data → Result SetupShape SetupFault
+document_said None = Err NotJson
+document_said (Some d) = setup_at d
+
+-- the setup that a text says, or its first fault
+unfoldable pub setup_said : List ℕ → Result SetupShape SetupFault
+setup_said text = if is_utf8 text then document_said (read text) else Err NotJson
+
+abbrev pub setup_view : Setup → SetupShape
+setup_view s = record { tables = s.catalogue; procs = map proc_syntax s.procs.procs; rows = s.rows.items }

@@ -1,0 +1,61 @@
+//! Reading setups.
+
+ghost use Rattle.std.specs.Prelude.{◌≡◌, option_map};
+ghost use Rattle.serde_json.specs.View.{view};
+ghost use Rattle.documents.specs.Reading.{Gives};
+ghost use Rattle.setup.specs.Faults.{is_memory};
+ghost use Rattle.setup.specs.Setups.{setup_form, setup_at, setup_said, setup_view};
+
+use crate::fault::SetupFault;
+use crate::rows::read_rows;
+use crate::setup::Setup;
+use documents::five;
+use proclang::read_procs;
+use serde_json::Value;
+use std::alloc::Global;
+use std::str;
+use values::Catalogue;
+
+/// The catalogue, the procedures and the rows of a document `["setup", 1, CATALOGUE, PROCEDURES, ROWS]`.
+#[tactic(auto, unfolding(crate::specs::Setups::setup_form))]
+fn setup_form(document: &Value) -> Option<(&Value, &Value, &Value)>
+    ensures { option_map (λ p. record { catalogue = view p.0.now; procs = view p.1.now; rows = view p.2.now }) result ≡ setup_form (view document.now) }
+{
+    let (word, version, catalogue, procs, rows) = five(document)?;
+    if word.as_str()? == "setup" && version.as_i64()? == 1 {
+        Some((catalogue, procs, rows))
+    } else {
+        None
+    }
+}
+
+#[tactic(auto, unfolding(crate::specs::Setups::setup_at))]
+fn read_document(alloc: Global, document: &Value) -> Result<Setup, SetupFault>
+    ensures { Gives is_memory setup_view result (setup_at (view document.now)) }
+{
+    let (catalogue, procs, rows) = setup_form(document).ok_or(SetupFault::Shape)?;
+    let catalogue = Catalogue::read(alloc, catalogue)?;
+    let procs = read_procs(alloc, procs, &catalogue)?;
+    let rows = read_rows(alloc, &catalogue, rows)?;
+    Ok(Setup {
+        catalogue,
+        procs,
+        rows,
+    })
+}
+
+/// The setup that a JSON text says, or its first fault: that of the text, of the document's outer form, of the catalogue,
+/// of the procedures, and of the rows, in this order.
+#[tactic(auto, using(crate::proofs::Texts::said_of_text, crate::proofs::Texts::said_of_bytes))]
+pub fn read_setup(alloc: Global, text: &[u8]) -> Result<Setup, SetupFault>
+    ensures { Gives is_memory setup_view result (setup_said text.now) }
+{
+    let Ok(text) = str::from_utf8(text) else {
+        return Err(SetupFault::NotJson);
+    };
+    match Value::from_str(alloc, text) {
+        Ok(document) => read_document(alloc, &document),
+        Err(e) if e.is_memory() => Err(SetupFault::Memory),
+        Err(_) => Err(SetupFault::NotJson),
+    }
+}

@@ -1,0 +1,71 @@
+//! Reading starting rows.
+
+ghost use Rattle.std.specs.Prelude.{◌≡◌, ◌<◌, List, length, map, IfOk};
+ghost use Rattle.serde_json.specs.View.{view};
+ghost use Rattle.documents.specs.Reading.{Gives};
+ghost use Rattle.setup.specs.Faults.{is_memory};
+ghost use Rattle.setup.specs.Names.{HoldsNames};
+ghost use Rattle.setup.specs.Rows.{RowAt, row_at, rows_at, row_values, is_given};
+
+use crate::fault::SetupFault;
+use documents::{text_number_list, versioned_list};
+use serde_json::Value;
+use std::alloc::Global;
+use std::collections::BTreeSet;
+use values::{Catalogue, Key, NoMemory, Row, RowName, TableNo, read_values};
+
+/// The row of a table that documents say, `None` where they are not one value a column, of its type.
+fn read_row(
+    alloc: Global,
+    catalogue: &Catalogue,
+    table: TableNo,
+    documents: &[Value],
+) -> Result<Option<Row>, NoMemory>
+    requires { table < length catalogue.now }
+    ensures { IfOk result (λ row. row ≡ row_values catalogue.now table (map view documents.now)) }
+{
+    match read_values(alloc, documents)? {
+        Some(values) if catalogue.takes(table, &values) => Ok(Some(Row::new(values))),
+        _ => Ok(None),
+    }
+}
+
+/// A row that the document says.
+#[tactic(auto, unfolding(crate::specs::Rows::row_at))]
+fn read_one(
+    alloc: Global,
+    catalogue: &Catalogue,
+    names: &BTreeSet<RowName>,
+    document: &Value,
+) -> Result<(TableNo, Key, Row), SetupFault>
+    ensures { (before : List RowAt) → HoldsNames names.now before → Gives is_memory (λ r. r) result (row_at catalogue.now before (view document.now)) }
+{
+    let (name, key, values) = text_number_list(document).ok_or(SetupFault::Shape)?;
+    let table = catalogue.table(name).ok_or(SetupFault::RowTable)?;
+    let key = Key::new(key).ok_or(SetupFault::RowKey)?;
+    let row = read_row(alloc, catalogue, table, values)?.ok_or(SetupFault::RowValue)?;
+    if names.contains(&RowName::new(table, key)) {
+        return Err(SetupFault::RowTwice);
+    }
+    Ok((table, key, row))
+}
+
+/// The starting rows that a document says, in its order, or its first fault.
+#[tactic(auto, unfolding(crate::specs::Rows::rows_at))]
+pub fn read_rows(
+    alloc: Global,
+    catalogue: &Catalogue,
+    document: &Value,
+) -> Result<Vec<(TableNo, Key, Row)>, SetupFault>
+    ensures { Gives is_memory (λ v. v.items) result (rows_at catalogue.now (view document.now)) }
+{
+    let documents = versioned_list("rows", document).ok_or(SetupFault::Shape)?;
+    let mut names = BTreeSet::new(alloc);
+    let mut rows = Vec::new(alloc);
+    for document in documents {
+        let (table, key, row) = read_one(alloc, catalogue, &names, document)?;
+        names.insert(RowName::new(table, key))?;
+        rows.push((table, key, row))?;
+    }
+    Ok(rows)
+}
