@@ -48,7 +48,7 @@ pub run_gives : (old new : Engine) (batch : Batch) (done : BatchDone) (entries :
     IsRunOf old new batch done
 run_gives old new batch done entries outcomes es rs end first settled_is next =
     let each : length outcomes ≡ length (items_of batch) =
-        sym (length-map outcomes as_reply) ∙ ap length rs ∙ replies_each entries (rows_of old) ∙ ap length es ∙ length-map (items_of batch) (λ item. prepared item.request) in
+    sym (length-map outcomes as_reply) ∙ ap length rs ∙ replies_each entries (rows_of old) ∙ ap length es ∙ length-map (items_of batch) (λ item. prepared item.request) in
     record {
       first = first;
       sent = ap (map sent_of) settled_is ∙ settled_sent (next_of old) (items_of batch) outcomes each;

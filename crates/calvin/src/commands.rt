@@ -70,7 +70,15 @@ pub fn command<F: Files, S: Source, K: Sink, E: Sink>(
     } else {
         Execution::Workers
     };
-    match run_log(alloc, execution, setup, line.settings, &OpenGate, source, out) {
+    match run_log(
+        alloc,
+        execution,
+        setup,
+        line.settings,
+        &OpenGate,
+        source,
+        out,
+    ) {
         Ok(_) => DONE,
         Err(fault) => {
             say(alloc, err, &fault);

@@ -117,7 +117,13 @@ impl Engine {
         ensures done { IfOk result (IsRunOf self.old self.new batch.now) }
     {
         let items = batch.items();
-        let entries = prepare(alloc, batch, self.store.catalogue(), &self.procs, &self.store)?;
+        let entries = prepare(
+            alloc,
+            batch,
+            self.store.catalogue(),
+            &self.procs,
+            &self.store,
+        )?;
         let first = self.next;
         let outcomes = run_serially(alloc, &mut self.store, first, &entries, gate)?;
         let replies = settled(alloc, first, items, outcomes)?;
@@ -126,7 +132,12 @@ impl Engine {
     }
 
     /// Runs a batch, or gives it back where it can't be taken. Where memory is refused the batch is held.
-    fn take<G: Gate>(&mut self, alloc: Global, batch: Batch, gate: &G) -> Result<BatchDone, ExecFault>
+    fn take<G: Gate>(
+        &mut self,
+        alloc: Global,
+        batch: Batch,
+        gate: &G,
+    ) -> Result<BatchDone, ExecFault>
         requires { AreOver (tables_of self.old) (items_of batch) }
         ensures same { KeepsSetting self.old self.new }
         ensures done { IfOk result (IsRunOf self.old self.new batch) }

@@ -13,7 +13,9 @@ mod serial;
 mod status;
 mod transcript;
 
-pub use batch_log::{DeviceFailed, FaultKind, LogFault, LogReader, ReadSource, Sink, Source, WriteSink};
+pub use batch_log::{
+    DeviceFailed, FaultKind, LogFault, LogReader, ReadSource, Sink, Source, WriteSink,
+};
 pub use command_line::{BadSetting, Command, Line, LineFault, Settings, read_line};
 pub use commands::command;
 pub use engine::{Engine, ExecFault};
@@ -25,3 +27,6 @@ pub use run_fault::RunFault;
 pub use running::run_text;
 pub use sequencer::{Batch, BatchFault, Item};
 pub use setup::{Setup, SetupFault, read_setup};
+
+#[cfg(test)]
+mod tests;

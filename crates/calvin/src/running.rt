@@ -103,7 +103,16 @@ pub(crate) fn run_log<G: Gate, S: Source, K: Sink>(
             Err(fault) => return Err(RunFault::Log(fault)),
         };
         let line = reader.last_line();
-        match run_batch(alloc, execution, &mut engine, gate, requests, &mut transcript, sink, line) {
+        match run_batch(
+            alloc,
+            execution,
+            &mut engine,
+            gate,
+            requests,
+            &mut transcript,
+            sink,
+            line,
+        ) {
             Ok(()) => {}
             Err(fault) => return Err(fault),
         }

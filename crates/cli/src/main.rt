@@ -3,11 +3,9 @@
 
 use calvin::{FileFault, Files, ReadSource, WriteSink, program};
 use std::alloc::Global;
-use std::env;
-use std::fs;
 use std::io::{self, ErrorKind};
 use std::process::ExitCode;
-use std::rt;
+use std::{env, fs, rt};
 
 /// The files of the machine that the program runs on.
 #[derive(Drop)]

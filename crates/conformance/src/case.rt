@@ -4,8 +4,7 @@ use crate::outputs::Output;
 use crate::stored::CaseFiles;
 use calvin::{FileFault, Files, ReadSource, program};
 use std::alloc::{AllocError, Global};
-use std::io;
-use std::rt;
+use std::{io, rt};
 
 /// A setup and a log, and what the program must make of them.
 #[derive(Drop)]
@@ -37,9 +36,17 @@ impl Files for SetupFile<'_> {
 
 /// The words of a run, and how many bytes its outputs take a write.
 const RUNS: [(&str, &[&str], usize); 3] = [
-    ("--workers 2", &["run", "--workers", "2", "setup.json"], 4096),
+    (
+        "--workers 2",
+        &["run", "--workers", "2", "setup.json"],
+        4096,
+    ),
     ("--alone", &["run", "--alone", "setup.json"], 4096),
-    ("a byte a write", &["run", "--workers", "2", "setup.json"], 1),
+    (
+        "a byte a write",
+        &["run", "--workers", "2", "setup.json"],
+        1,
+    ),
 ];
 
 impl Case {
@@ -77,7 +84,11 @@ impl Case {
             &mut err,
         );
         let status = format!(in alloc; "{status}\n")?;
-        Ok(out.bytes == self.stdout && err.bytes == self.stderr && status.as_bytes() == self.status.as_slice())
+        Ok(
+            out.bytes == self.stdout
+                && err.bytes == self.stderr
+                && status.as_bytes() == self.status.as_slice(),
+        )
     }
 
     /// The runs in which the program does otherwise than is stored.

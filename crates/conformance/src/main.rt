@@ -10,9 +10,8 @@ mod outputs;
 mod stored;
 
 use case::Case;
+use std::{fs, io};
 use stored::CaseFiles;
-use std::fs;
-use std::io;
 
 fn main(rt: HostRuntime) -> io::Result<()> {
     let alloc = rt.alloc();

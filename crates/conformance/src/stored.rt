@@ -1,9 +1,8 @@
 //! The files that are stored with a case.
 
 use std::alloc::Global;
-use std::fs;
-use std::io;
 use std::rt::Files;
+use std::{fs, io};
 
 /// The files where the program runs.
 #[derive(Drop)]

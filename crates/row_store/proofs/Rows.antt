@@ -7,7 +7,7 @@ use Rattle.std.specs.Map.{lookup}
 use Rattle.std.specs.List.{AllByRecursion}
 use Rattle.std.specs.List.Sorted.{IsStrictlySortedBy}
 use Rattle.std.specs.FinMap.Entries.{by_order, put}
-use Rattle.std.specs.FinMap.{entries, entries-insert, empty, len, len-empty, len-entries, get, insert, remove, find, from_entries, get-insert, get-remove, get-from_entries, same_map}
+use Rattle.std.specs.FinMap.{entries, entries-insert, len-empty, len-entries, get, insert, remove, find, get-insert, get-remove, get-from_entries, same_map}
 use Rattle.std.proofs.lemmas.Map.Lookups.{CmpEqualImpliesEq, exact_pairs, exact_unsigned}
 use Rattle.values.specs.declared.name.RowName.{RowName}
 use Rattle.values.specs.contracts.name.RowNameOrd.TheImpl.Laws as laws

@@ -1,10 +1,9 @@
 -- A walk over the rows in order comes to the next row of a partition.
-use Rattle.std.proofs.Common.{◌≡◌, ℕ, Bool, true, false, cond, ◌&&◌, ◌==◌, List, [], ◌∷◌, refl, sym, ap, ◌∙◌, subst, Option, Some, None, Ordering, Less, Equal, Greater, arith, map}
-use Rattle.std.specs.Prelude.{nat_lt, ⊤}
+use Rattle.std.proofs.Common.{◌≡◌, ℕ, Bool, true, false, cond, ◌&&◌, ◌==◌, List, [], ◌∷◌, refl, sym, ap, ◌∙◌, Option, Some, None, Ordering, Less, Equal, Greater, arith, map}
+use Rattle.std.specs.Prelude.{nat_lt}
 use Rattle.std.specs.List.{AllByRecursion}
 use Rattle.std.specs.List.Sorted.{IsStrictlySortedBy}
-use Rattle.std.specs.Ordering.{is_eq, eq_by_cmp}
-use Rattle.std.specs.Cmp.{eq_by_cmp_equiv}
+use Rattle.std.specs.Ordering.{is_eq}
 use Rattle.std.specs.BTreeMap.{is_at}
 use Rattle.std.specs.Map.{lookup}
 use Rattle.std.specs.FinMap.{get}
@@ -34,12 +33,12 @@ is_equal Greater e = absurd (cc)
 passed : (tables : List TableShape) (table part : ℕ) (after : Option ℕ) (e : RowName × RowOf) (rest : List (RowName × RowOf)) (q : RowName)
     → is_ahead tables table part after e.0 ≡ false → is_ahead tables table part after q ≡ true → at q (e ∷ rest) ≡ at q rest
 passed tables table part after e rest q miss a = elim (is_at (name_cmp q) e.0) as (λ b. is_at (name_cmp q) e.0 ≡ b → cond b (Some e.1) (at q rest) ≡ at q rest) [
-    | true ↦ λ is.
-        let same : q ≡ e.0 = exact_names q e.0 (is_equal (name_cmp q e.0) is) in
-        let clash : true ≡ false = sym a ∙ ap (is_ahead tables table part after) same ∙ miss in
-        absurd (cc)
-    | false ↦ λ is. refl
-  ] refl
+  | true ↦ λ is.
+      let same : q ≡ e.0 = exact_names q e.0 (is_equal (name_cmp q e.0) is) in
+      let clash : true ≡ false = sym a ∙ ap (is_ahead tables table part after) same ∙ miss in
+      absurd (cc)
+  | false ↦ λ is. refl
+] refl
 
 tail_sorted : (e : RowName × RowOf) (rest : List (RowName × RowOf)) → IsStrictlySortedBy name_cmp (map (λ e. e.0) (e ∷ rest)) → IsStrictlySortedBy name_cmp (map (λ e. e.0) rest)
 unfolding IsStrictlySortedBy

@@ -3,6 +3,8 @@
 
 mod scan;
 mod store;
+#[cfg(test)]
+mod tests;
 mod view;
 
 pub use store::RowStore;

@@ -28,7 +28,13 @@ fn is_after(after: &Option<Key>, key: Key) -> bool
     }
 }
 
-fn is_ahead(catalogue: &Catalogue, table: TableNo, part: u32, after: &Option<Key>, name: &RowName) -> bool
+fn is_ahead(
+    catalogue: &Catalogue,
+    table: TableNo,
+    part: u32,
+    after: &Option<Key>,
+    name: &RowName,
+) -> bool
     ensures { result ≡ is_ahead catalogue.now table part after.now name.now }
 {
     name.table == table && part_of(catalogue, name) == part && is_after(after, name.key)

@@ -68,10 +68,7 @@ impl RowStore {
 }
 
 /// The rows by their names.
-fn map_of(
-    alloc: Global,
-    rows: Vec<(TableNo, Key, Row)>,
-) -> Result<BTreeMap<RowName, Row>, NoMemory>
+fn map_of(alloc: Global, rows: Vec<(TableNo, Key, Row)>) -> Result<BTreeMap<RowName, Row>, NoMemory>
     ensures { IfOk result (λ m. database_of m.entries ≡ with_rows map.empty rows.items) }
 {
     let mut map = BTreeMap::new(alloc);

@@ -1,10 +1,9 @@
 -- The starting rows that a document says, with the first fault from left to right.
-use Rattle.std.specs.Prelude.{ℕ, ◌==◌, Bool, true, ◌&&◌, not, List, [], ◌∷◌, map, codes, Option, Some, None, option_map, option_and_then, slice_get, Result, Ok, Err, if◌then◌else◌}
+use Rattle.std.specs.Prelude.{ℕ, ◌==◌, Bool, ◌&&◌, not, List, [], map, codes, Option, Some, None, option_and_then, slice_get, Result, Ok, if◌then◌else◌}
 use Rattle.std.specs.List.{list_any}
 use Rattle.serde_json.specs.Data.{Data}
 use Rattle.documents.specs.Json.{text_number_list, versioned_list}
 use Rattle.documents.specs.Reading.{◌>>=◌, formed, rule, each_at}
-use Rattle.values.specs.declared.name.RowName.{RowName}
 use Rattle.values.specs.declared.value.Value.{Value}
 use Rattle.values.specs.Shapes.{TableShape}
 use Rattle.values.specs.Keys.{key_of, table_named}

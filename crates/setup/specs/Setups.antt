@@ -26,9 +26,9 @@ pub record SetupDocument : Type 0 where
 abbrev pub parts_of : Data × Data × Data × Data × Data → Option SetupDocument
 parts_of p =
     option_and_then (λ (word : List ℕ).
-        option_and_then (λ (version : ℤ).
-            if bytes_eq word (codes "setup") && is_one version then Some (record { catalogue = p.2; procs = p.3; rows = p.4 }) else None)
-        (integer p.1))
+    option_and_then (λ (version : ℤ).
+    if bytes_eq word (codes "setup") && is_one version then Some (record { catalogue = p.2; procs = p.3; rows = p.4 }) else None)
+    (integer p.1))
     (as_str p.0)
 
 unfoldable pub setup_form : Data → Option SetupDocument

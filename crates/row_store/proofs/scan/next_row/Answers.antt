@@ -1,6 +1,4 @@
-use Rattle.std.proofs.Common.{◌≡◌, ◌∷◌, List, false, true, subst, sym, ◌∙◌, ap}
-use Rattle.values.specs.declared.name.RowName.{RowName}
-use Rattle.values.specs.Database.{RowOf}
+use Rattle.std.proofs.Common.{◌≡◌, ◌∷◌, subst, sym, ◌∙◌}
 use Rattle.row_store.proofs.Scans.{IsLeft, left_on, left_found, left_none}
 use Rattle.row_store.proofs.scan.next_row.Goals as goal
 
