@@ -4,6 +4,7 @@ use Rattle.values.specs.Shapes.{TableShape}
 use Rattle.values.specs.Database.{Database}
 use Rattle.proclang.specs.ProcLists.{ProcsParts}
 use Rattle.command_line.specs.declared.settings.Settings.{Settings}
+use Rattle.sequencer.specs.declared.batch.Batch.{Batch}
 use Rattle.calvin.specs.declared.engine.Engine.{Engine}
 use Rattle.calvin.specs.declared.engine.ExecFault.{ExecFault}
 use Rattle.calvin.specs.declared.engine.ExecFault.TheVariants.{Busy, LogFull, Spawn, NoMemory}
@@ -21,6 +22,10 @@ rows_of engine = engine.store.rows
 -- the number of the next transaction
 abbrev pub next_of : Engine → ℕ
 next_of engine = engine.next
+
+-- the batch that is unfinished
+abbrev pub held_of : Engine → Option Batch
+held_of engine = engine.held
 
 -- whether a batch is unfinished
 abbrev pub is_busy : Engine → Bool

@@ -1,5 +1,5 @@
 -- What executing a batch comes to.
-use Rattle.std.specs.Prelude.{◌≡◌, ◌+◌, ◌<◌, ◌^◌, List, length, map, true}
+use Rattle.std.specs.Prelude.{◌≡◌, ◌+◌, ◌<◌, ◌^◌, List, length, map, true, Some, ⊤}
 use Rattle.std.specs.List.{AllByRecursion}
 use Rattle.values.specs.Shapes.{TableShape}
 use Rattle.meaning.specs.Serial.{serial_end, serial_replies}
@@ -11,7 +11,7 @@ use Rattle.calvin.specs.declared.engine.ExecFault.{ExecFault}
 use Rattle.calvin.specs.declared.engine.ExecFault.TheVariants.{Busy, LogFull, Spawn, NoMemory}
 use Rattle.calvin.specs.declared.replies.BatchDone.{BatchDone}
 use Rattle.calvin.specs.Batches.{entries_of}
-use Rattle.calvin.specs.Engines.{tables_of, procs_of, rows_of, next_of, is_busy, settings_of}
+use Rattle.calvin.specs.Engines.{tables_of, procs_of, rows_of, next_of, held_of, is_busy, settings_of}
 use Rattle.calvin.specs.Replies.{reply_of, sent_of, sent_from}
 
 -- each request is of a procedure over those tables
@@ -33,9 +33,15 @@ pub record IsRunOf (old new : Engine) (batch : Batch) (run : BatchDone) : Type 0
   pub next : next_of new ≡ next_of old + length (items_of batch)
 
 -- The batch was not run: it comes back from a busy engine, and where the log would have more than 2^48 transactions, and
--- nothing is changed. Where a thread or memory was refused, the engine holds it.
+-- nothing is changed. Where a thread was refused nothing has run, and where memory was refused not the whole batch; the
+-- engine holds it, and its transactions have no numbers yet.
 abbrev pub IsRefusal : Engine → Engine → Batch → ExecFault → Type 0
 IsRefusal old new batch (Busy back) = (back ≡ batch) × (is_busy old ≡ true) × (new ≡ old)
 IsRefusal old new batch (LogFull back) = (back ≡ batch) × (2 ^ 48 < next_of old + length (items_of batch)) × (new ≡ old)
-IsRefusal old new batch Spawn = is_busy new ≡ true
-IsRefusal old new batch NoMemory = is_busy new ≡ true
+IsRefusal old new batch Spawn = (held_of new ≡ Some batch) × (next_of new ≡ next_of old) × (rows_of new ≡ rows_of old)
+IsRefusal old new batch NoMemory = (held_of new ≡ Some batch) × (next_of new ≡ next_of old)
+
+-- a thread was refused
+abbrev pub IsSpawn : ExecFault → Type 0
+IsSpawn Spawn = ⊤
+IsSpawn fault = ⊥

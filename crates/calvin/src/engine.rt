@@ -1,6 +1,6 @@
 //! The engine.
 
-ghost use Rattle.std.specs.Prelude.{◌≡◌, ◌+◌, ◌<◌, ◌≤◌, ◌^◌, IfOk, IfErr, OnOk, Err, length, map, false, true};
+ghost use Rattle.std.specs.Prelude.{◌≡◌, ◌+◌, ◌<◌, ◌≤◌, ◌^◌, IfOk, IfErr, OnOk, OnErr, Err, length, map, false, true};
 ghost use Rattle.std.specs.FinMap as map_of;
 ghost use Rattle.row_store.specs.Stock.{with_rows};
 ghost use Rattle.sequencer.specs.Batches.{items_of};
@@ -48,7 +48,7 @@ pub struct Engine {
 
 impl Engine {
     ghost use Rattle.calvin.specs.Engines.{tables_of, procs_of, rows_of, next_of, is_busy, settings_of};
-    ghost use Rattle.calvin.specs.Executions.{AreOver, IsRunOf, IsRefusal, KeepsSetting};
+    ghost use Rattle.calvin.specs.Executions.{AreOver, IsRunOf, IsRefusal, IsSpawn, KeepsSetting};
 
     /// An engine on the starting rows of a setup.
     pub fn new(alloc: Global, setup: Setup, settings: Settings) -> Result<Engine, NoMemory>
@@ -78,6 +78,13 @@ impl Engine {
         ensures { result ≡ is_busy self.now }
     {
         self.held.is_some()
+    }
+
+    /// How many transactions were run: the number of the next one.
+    pub fn transactions(&self) -> u64
+        ensures { result ≡ next_of self.now }
+    {
+        self.next
     }
 
     /// The procedures.
@@ -114,6 +121,7 @@ impl Engine {
         requires room { next_of self.old + length (items_of batch.now) ≤ 2 ^ 48 }
         ensures same { KeepsSetting self.old self.new }
         ensures held { self.new.held ≡ self.old.held }
+        ensures stays { OnErr result (next_of self.new ≡ next_of self.old) }
         ensures done { IfOk result (IsRunOf self.old self.new batch.now) }
     {
         let items = batch.items();
@@ -145,6 +153,7 @@ impl Engine {
         ensures busy { is_busy self.old ≡ true → result ≡ Err (ExecFault.Busy batch) }
         ensures full { is_busy self.old ≡ false → 2 ^ 48 < next_of self.old + length (items_of batch) → result ≡ Err (ExecFault.LogFull batch) }
         ensures refused { IfErr result (IsRefusal self.old self.new batch) }
+        ensures threadless { IfErr result (λ fault. ¬ IsSpawn fault) }
     {
         if self.is_busy() {
             return Err(ExecFault::Busy(batch));
@@ -198,6 +207,8 @@ impl Engine {
         ensures busy { is_busy self.old ≡ true → result ≡ Err (ExecFault.Busy batch) }
         ensures full { is_busy self.old ≡ false → 2 ^ 48 < next_of self.old + length (items_of batch) → result ≡ Err (ExecFault.LogFull batch) }
         ensures refused { IfErr result (IsRefusal self.old self.new batch) }
+        // It starts no thread.
+        ensures threadless { IfErr result (λ fault. ¬ IsSpawn fault) }
     {
         self.take(alloc, batch, &OpenGate)
     }

@@ -29,4 +29,6 @@ pub use sequencer::{Batch, BatchFault, Item};
 pub use setup::{Setup, SetupFault, read_setup};
 
 #[cfg(test)]
+mod engine_tests;
+#[cfg(test)]
 mod tests;

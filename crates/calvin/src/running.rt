@@ -1,12 +1,25 @@
 //! Running a log: from its bytes to the bytes of its report.
 
-ghost use Rattle.std.specs.Prelude.{◌≡◌, OnOk, false};
+ghost use Rattle.std.specs.Prelude.{◌≡◌, ◌+◌, ◌++◌, ◌||◌, List, ℕ, [], Some, None, length, map, IfOk, IfSome, OnOk, false};
 ghost use Rattle.std.specs.List.{AllByRecursion};
-ghost use Rattle.calvin.specs.Engines.{tables_of, is_busy};
-ghost use Rattle.calvin.specs.Executions.{KeepsSetting};
+ghost use Rattle.std.specs.FinMap as map_of;
+ghost use Rattle.std.specs.Io.KnownBytes.{Appends};
+ghost use Rattle.sha2.specs.Hashers.{Holds256};
+ghost use Rattle.devices.specs.Devices.{AppendsFront};
+ghost use Rattle.meaning.specs.Serial.{serial_end, serial_replies};
+ghost use Rattle.row_store.specs.Stock.{with_rows};
+ghost use Rattle.sequencer.specs.Batches.{items_of};
+ghost use Rattle.sequencer.specs.Entries.{prepared};
+ghost use Rattle.report_text.specs.Texts.{digest, end_line, row_text};
+ghost use Rattle.report_text.specs.Report.{batch_text, next_batch, reply_lines, entries_of};
+ghost use Rattle.calvin.specs.Engines.{tables_of, rows_of, next_of, is_busy};
+ghost use Rattle.calvin.specs.Executions.{AreOver, IsRunOf, KeepsSetting};
+ghost use Rattle.calvin.specs.Hashers.{batch_of, said_of};
+ghost use Rattle.calvin.specs.Reports.{batches_in, fault_in, report_of};
 
 use crate::engine::{Engine, ExecFault};
 use crate::gate::Gate;
+use crate::replies::BatchDone;
 use crate::run_fault::RunFault;
 use crate::transcript::Transcript;
 use batch_log::{FaultKind, LogReader, Sink, Source};
@@ -41,6 +54,25 @@ fn batch_fault(fault: BatchFault, line: u64) -> RunFault {
     }
 }
 
+/// Executes a batch.
+fn execute<G: Gate>(
+    alloc: Global,
+    execution: Execution,
+    engine: &mut Engine,
+    gate: &G,
+    batch: Batch,
+) -> Result<BatchDone, ExecFault>
+    requires { AreOver (tables_of engine.old) (items_of batch) }
+    ensures same { KeepsSetting engine.old engine.new }
+    ensures done { IfOk result (IsRunOf engine.old engine.new batch) }
+    ensures idle { OnOk result (is_busy engine.new ≡ false) }
+{
+    match execution {
+        Execution::Workers => engine.execute(alloc, batch, gate),
+        Execution::Alone => engine.run_alone(alloc, batch, &[]),
+    }
+}
+
 /// Executes the requests of a batch and writes its report. The line is the last one read.
 fn run_batch<G: Gate, K: Sink>(
     alloc: Global,
@@ -55,21 +87,48 @@ fn run_batch<G: Gate, K: Sink>(
     requires { AllByRecursion (λ request. request.proc.tables ≡ tables_of engine.old) requests.items }
     ensures same { KeepsSetting engine.old engine.new }
     ensures idle { OnOk result (is_busy engine.new ≡ false) }
+    ensures rows { OnOk result (rows_of engine.new ≡ serial_end (map prepared requests.items) (rows_of engine.old)) }
+    ensures next { OnOk result (next_of engine.new ≡ next_of engine.old + length requests.items) }
+    ensures batch { OnOk result (batch_of transcript.new ≡ next_batch (batch_of transcript.old)) }
+    ensures said { OnOk result ((m : List ℕ) → Holds256 (said_of transcript.old) m
+        → Holds256 (said_of transcript.new) (m ++ reply_lines (next_of engine.old) (serial_replies (map prepared requests.items) (rows_of engine.old)))) }
+    ensures text { OnOk result (Appends (K.taken sink.old) (K.taken sink.new)
+        (batch_text (tables_of engine.old) (batch_of transcript.old) (next_of engine.old) (rows_of engine.old) (map prepared requests.items))) }
+    ensures front { AppendsFront (K.taken sink.old) (K.taken sink.new)
+        (batch_text (tables_of engine.old) (batch_of transcript.old) (next_of engine.old) (rows_of engine.old) (map prepared requests.items)) }
 {
     let batch = match Batch::of(alloc, requests) {
         Ok(batch) => batch,
         Err(fault) => return Err(batch_fault(fault, line)),
     };
-    let done = match execution {
-        Execution::Workers => engine.execute(alloc, batch, gate),
-        Execution::Alone => engine.run_alone(alloc, batch, &[]),
-    };
-    let done = match done {
+    let done = match execute(alloc, execution, engine, gate, batch) {
         Ok(done) => done,
         Err(fault) => return Err(exec_fault(&fault, line)),
     };
     match transcript.write_batch(alloc, sink, engine.rows(), &done.replies) {
         Ok(()) => Ok(()),
+        Err(kind) => Err(RunFault::at(kind, line)),
+    }
+}
+
+/// Writes the end line. The line is the last one read.
+fn finish<K: Sink>(
+    alloc: Global,
+    engine: &Engine,
+    transcript: Transcript,
+    sink: &mut K,
+    line: u64,
+) -> Result<u64, RunFault>
+    requires { is_busy engine.now ≡ false }
+    ensures count { IfOk result (λ n. n ≡ next_of engine.now) }
+    ensures text { (m : List ℕ) → Holds256 (said_of transcript) m → OnOk result (Appends (K.taken sink.old) (K.taken sink.new)
+        (end_line (next_of engine.now) (digest (row_text (tables_of engine.now) (rows_of engine.now))) (digest m))) }
+    ensures front { (m : List ℕ) → Holds256 (said_of transcript) m → AppendsFront (K.taken sink.old) (K.taken sink.new)
+        (end_line (next_of engine.now) (digest (row_text (tables_of engine.now) (rows_of engine.now))) (digest m)) }
+{
+    let count = engine.transactions();
+    match transcript.write_end(alloc, sink, engine.rows(), count) {
+        Ok(()) => Ok(count),
         Err(kind) => Err(RunFault::at(kind, line)),
     }
 }
@@ -83,7 +142,14 @@ pub(crate) fn run_log<G: Gate, S: Source, K: Sink>(
     gate: &G,
     source: &mut S,
     sink: &mut K,
-) -> Result<u64, RunFault> {
+) -> Result<u64, RunFault>
+    // `Ok`: the log has no fault, and its report was written.
+    ensures count { IfOk result (λ n. IfSome (S.left source.old) (λ log. n ≡ length (entries_of (batches_in setup.procs log)))) }
+    ensures sound { OnOk result (IfSome (S.left source.old) (λ log. fault_in setup.procs log ≡ None)) }
+    ensures ok { OnOk result (IfSome (S.left source.old) (λ log. Appends (K.taken sink.old) (K.taken sink.new) (report_of setup.procs (with_rows map_of.empty setup.rows.items) log))) }
+    // However it ends, what was written is a beginning of the report.
+    ensures front { IfSome (S.left source.old) (λ log. AppendsFront (K.taken sink.old) (K.taken sink.new) (report_of setup.procs (with_rows map_of.empty setup.rows.items) log)) }
+{
     let Ok(mut engine) = Engine::new(alloc, setup, settings) else {
         return Err(RunFault::at(FaultKind::Memory, 0));
     };
@@ -92,14 +158,7 @@ pub(crate) fn run_log<G: Gate, S: Source, K: Sink>(
     'batches: for _ in 0..u64::MAX {
         let requests = match reader.next_batch(alloc, engine.procs()) {
             Ok(Some(requests)) => requests,
-            Ok(None) => {
-                let line = reader.last_line();
-                let count = transcript.transactions();
-                return match transcript.write_end(alloc, sink, engine.rows()) {
-                    Ok(()) => Ok(count),
-                    Err(kind) => Err(RunFault::at(kind, line)),
-                };
-            }
+            Ok(None) => return finish(alloc, &engine, transcript, sink, reader.last_line()),
             Err(fault) => return Err(RunFault::Log(fault)),
         };
         let line = reader.last_line();
@@ -133,7 +192,14 @@ pub fn run_text<G: Gate, S: Source, K: Sink>(
     gate: &G,
     source: &mut S,
     sink: &mut K,
-) -> Result<u64, RunFault> {
+) -> Result<u64, RunFault>
+    // `Ok`: the log has no fault, and its report was written.
+    ensures count { IfOk result (λ n. IfSome (S.left source.old) (λ log. n ≡ length (entries_of (batches_in setup.procs log)))) }
+    ensures sound { OnOk result (IfSome (S.left source.old) (λ log. fault_in setup.procs log ≡ None)) }
+    ensures ok { OnOk result (IfSome (S.left source.old) (λ log. Appends (K.taken sink.old) (K.taken sink.new) (report_of setup.procs (with_rows map_of.empty setup.rows.items) log))) }
+    // However it ends, what was written is a beginning of the report.
+    ensures front { IfSome (S.left source.old) (λ log. AppendsFront (K.taken sink.old) (K.taken sink.new) (report_of setup.procs (with_rows map_of.empty setup.rows.items) log)) }
+{
     run_log(
         alloc,
         Execution::Workers,

@@ -1,23 +1,15 @@
-//! Runs of the bank: whole programs with files and devices in memory, and an engine.
+//! Runs of the bank: whole programs with files and devices in memory.
 
-ghost use Rattle.std.specs.Prelude.{◌≡◌, None, OnOk, IfOk, false};
-ghost use Rattle.std.specs.List.{AllByRecursion};
-ghost use Rattle.sequencer.specs.Batches.{items_of};
-ghost use Rattle.calvin.specs.Engines.{tables_of, is_busy};
-ghost use Rattle.calvin.specs.Executions.{AreOver};
+ghost use Rattle.std.specs.Prelude.{None};
 
 use crate::{
-    Batch, BatchDone, DeviceFailed, Engine, FileFault, Files, LogReader, OpenGate, ReadSource,
-    Settings, Sink, Source, WriteSink, program, read_setup, run_text,
+    DeviceFailed, FileFault, Files, OpenGate, ReadSource, Settings, Sink, Source, WriteSink,
+    program, read_setup, run_text,
 };
-use meaning::Outcome;
-use proclang::Request;
 use std::alloc::Global;
-use std::process::Abort;
 use std::test::Fail;
-use values::Value;
 
-const BANK: &str = r#"["setup",1,
+pub(crate) const BANK: &str = r#"["setup",1,
 ["catalogue",1,[["acct",2,[["bal","int"]]],["ref",1,[["to","int"]]]]],
 ["procs",1,[
 ["pay",[["a","int"],["b","int"],["n","int"]],
@@ -40,7 +32,7 @@ const TWO_TABLES_OF_ONE_NAME: &str = r#"["setup",1,
 const NO_ROWS: &str = r#"["setup",1,
 ["catalogue",1,[["acct",1,[["bal","int"]]]]],["procs",1,[]],["rows",1,[]]]"#;
 
-const TWO_PAYS: &str = "[\"call\",\"pay\",[1,2,30]]\n[\"call\",\"pay\",[1,2,30]]\n";
+pub(crate) const TWO_PAYS: &str = "[\"call\",\"pay\",[1,2,30]]\n[\"call\",\"pay\",[1,2,30]]\n";
 
 /// The report of two payments of 30 from account 1 to account 2.
 const REPORT: &str = "0 commit 70\n\
@@ -347,116 +339,5 @@ fn runs_a_text(rt: HostRuntime) -> Result<(), Fail> {
     let count = run_text(alloc, setup, settings, &OpenGate, &mut source, &mut out);
     assert_eq!(rt; count, Ok(2));
     assert_eq!(rt; out.into_inner().as_slice(), REPORT.as_bytes());
-    Ok(())
-}
-
-/// The batch of requests over an engine's tables.
-fn batch_over(alloc: Global, _engine: &Engine, requests: Vec<Request>) -> Result<Batch, Fail>
-    requires { AllByRecursion (λ request. request.proc.tables ≡ tables_of _engine.now) requests.items }
-    ensures { IfOk result (λ batch. AreOver (tables_of _engine.now) (items_of batch)) }
-{
-    Ok(Batch::of(alloc, requests)?)
-}
-
-/// The batch of a log's calls of an engine's procedures.
-fn batch_of(alloc: Global, engine: &Engine, log: &str) -> Result<Batch, Fail>
-    ensures { IfOk result (λ batch. AreOver (tables_of engine.now) (items_of batch)) }
-{
-    let mut source = ReadSource::new(log.as_bytes());
-    let mut reader = LogReader::new(&mut source);
-    let Some(requests) = reader.next_batch(alloc, engine.procs())? else {
-        return Err(Fail::from("no calls"));
-    };
-    batch_over(alloc, engine, requests)
-}
-
-/// Executes a batch, on the engine's workers or alone.
-fn executed(
-    alloc: Global,
-    engine: &mut Engine,
-    is_alone: bool,
-    batch: Batch,
-) -> Result<BatchDone, Fail>
-    requires { AreOver (tables_of engine.old) (items_of batch) }
-    ensures tables { tables_of engine.new ≡ tables_of engine.old }
-    ensures idle { OnOk result (is_busy engine.new ≡ false) }
-{
-    let done = if is_alone {
-        engine.run_alone(alloc, batch, &[])
-    } else {
-        engine.execute(alloc, batch, &OpenGate)
-    };
-    match done {
-        Ok(done) => Ok(done),
-        Err(_) => Err(Fail::from("not executed")),
-    }
-}
-
-/// The replies are commits with one value each; of each its number, its number in the batch, and the value.
-fn replies_are(
-    rt: &impl Abort,
-    alloc: Global,
-    done: &BatchDone,
-    replies: &[(u64, u64, i64)],
-) -> Result<(), Fail> {
-    assert_eq!(rt; done.replies.len(), replies.len());
-    for (reply, (no, number, value)) in done.replies.iter().zip(replies) {
-        assert_eq!(rt; (reply.no, reply.client, reply.number), (*no, 0, *number));
-        let outcome = Outcome::Commit(vec![in alloc; Value::Int(*value)]?);
-        assert!(rt; reply.outcome == outcome, "at {no}");
-    }
-    Ok(())
-}
-
-/// The rows are these; of each the place of its table, its key, and its one value.
-fn rows_are(rt: &impl Abort, engine: &Engine, rows: &[(usize, u64, i64)])
-    requires { is_busy engine.now ≡ false }
-{
-    let mut count: usize = 0;
-    for ((name, row), (table, key, value)) in engine.rows().iter().zip(rows) {
-        assert_eq!(rt; (name.table.place(), name.key.number()), (*table, *key));
-        assert!(rt; row.values() == [Value::Int(*value)].as_slice());
-        count = count.saturating_add(1);
-    }
-    assert_eq!(rt;
-        (count, engine.rows().iter().count()),
-        (rows.len(), rows.len())
-    );
-}
-
-#[test]
-fn an_engine_executes_batches(rt: HostRuntime) -> Result<(), Fail> {
-    let alloc = rt.alloc();
-    for is_alone in [false, true] {
-        let setup = read_setup(alloc, BANK.as_bytes())?;
-        let settings = Settings::new(2, 8, 64, 65_536)?;
-        let mut engine = Engine::new(alloc, setup, settings)?;
-        assert!(rt; !engine.is_busy());
-        assert_eq!(rt; engine.settings(), settings);
-        assert!(rt; engine.procs().has("pay") && !engine.procs().has("set"));
-        rows_are(&rt, &engine, &[(0, 1, 100), (0, 2, 100), (1, 1, 2)]);
-
-        let batch = batch_of(alloc, &engine, TWO_PAYS)?;
-        let done = executed(alloc, &mut engine, is_alone, batch)?;
-        assert_eq!(rt; done.first, 0);
-        replies_are(&rt, alloc, &done, &[(0, 0, 70), (1, 1, 40)])?;
-        rows_are(&rt, &engine, &[(0, 1, 40), (0, 2, 160), (1, 1, 2)]);
-
-        let empty = Batch::of(alloc, Vec::new(alloc))?;
-        let done = executed(alloc, &mut engine, is_alone, empty)?;
-        assert_eq!(rt; done.first, 2);
-        assert!(rt; done.replies.is_empty());
-
-        let batch = batch_of(
-            alloc,
-            &engine,
-            "[\"call\",\"peek\",[2]]\n[\"call\",\"pay\",[2,1,60]]",
-        )?;
-        let done = executed(alloc, &mut engine, is_alone, batch)?;
-        assert_eq!(rt; done.first, 2);
-        replies_are(&rt, alloc, &done, &[(2, 0, 160), (3, 1, 100)])?;
-        rows_are(&rt, &engine, &[(0, 1, 100), (0, 2, 100), (1, 1, 2)]);
-        assert!(rt; !engine.is_busy());
-    }
     Ok(())
 }

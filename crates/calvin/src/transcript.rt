@@ -1,5 +1,13 @@
 //! The report of a run, as it is written.
 
+ghost use Rattle.std.specs.Prelude.{◌≡◌, ◌++◌, ◌||◌, List, ℕ, [], IfOk, IfErr, OnOk, string_bytes};
+ghost use Rattle.std.specs.Io.KnownBytes.{Appends};
+ghost use Rattle.sha2.specs.Hashers.{Holds256};
+ghost use Rattle.devices.specs.Devices.{AppendsFront};
+ghost use Rattle.report_text.specs.Texts.{digest, end_line, row_text};
+ghost use Rattle.report_text.specs.Report.{next_batch};
+ghost use Rattle.calvin.specs.Transcripts.{said_lines, with_batch_line, write_failed, IsOfMachine};
+
 use crate::replies::Reply;
 use batch_log::{FaultKind, Sink, write_all};
 use report_text::{
@@ -9,16 +17,19 @@ use row_store::RowStore;
 use sha2::{Digest, Sha256};
 use std::alloc::{AllocError, Global};
 
-/// What was reported so far: how many batches and transactions, and the reply lines by their hasher.
+/// What was reported so far.
 #[derive(Drop)]
 pub(crate) struct Transcript {
-    batches: u64,
-    transactions: u64,
-    replies: Sha256,
+    /// The number of the next batch, from 1.
+    batch: u64,
+    /// All reply lines, by their hasher.
+    said: Sha256,
 }
 
 /// The reply lines of a batch.
-fn reply_lines(alloc: Global, replies: &[Reply]) -> Result<String, AllocError> {
+fn reply_lines(alloc: Global, replies: &[Reply]) -> Result<String, AllocError>
+    ensures { IfOk result (λ lines. string_bytes lines ≡ said_lines replies.now) }
+{
     let mut lines = String::new(alloc);
     for reply in replies {
         push_reply_line(alloc, &mut lines, reply.no, &reply.outcome)?;
@@ -26,33 +37,54 @@ fn reply_lines(alloc: Global, replies: &[Reply]) -> Result<String, AllocError> {
     Ok(lines)
 }
 
+/// Reply lines, and behind them the batch line.
+#[tactic(auto, unfolding(crate::specs::Transcripts::with_batch_line))]
+fn batch_text(alloc: Global, batch: u64, rows: &RowStore, lines: &str) -> Result<String, AllocError>
+    ensures { IfOk result (λ text. string_bytes text ≡ with_batch_line batch rows.now.tables rows.now.rows lines.now) }
+{
+    let rows = rows_digest(alloc, rows.catalogue(), rows.iter())?;
+    let replies = digest_text(alloc, lines.as_bytes())?;
+    let mut text = String::from_str(alloc, lines)?;
+    push_batch_line(&mut text, batch, &rows, &replies)?;
+    Ok(text)
+}
+
+/// The end line, from the reply lines by their hasher.
+fn end_text(alloc: Global, count: u64, rows: &RowStore, said: Sha256) -> Result<String, AllocError>
+    ensures { (m : List ℕ) → Holds256 said m → IfOk result (λ text. string_bytes text ≡ end_line count (digest (row_text rows.now.tables rows.now.rows)) (digest m)) }
+{
+    let rows = rows_digest(alloc, rows.catalogue(), rows.iter())?;
+    let replies = digest_of(alloc, said)?;
+    let mut text = String::new(alloc);
+    push_end_line(&mut text, count, &rows, &replies)?;
+    Ok(text)
+}
+
+/// Writes a text that was made, and tells what failed.
+fn write_text<K: Sink>(sink: &mut K, text: &str) -> Result<(), FaultKind>
+    ensures text { OnOk result (Appends (K.taken sink.old) (K.taken sink.new) text.now) }
+    ensures front { AppendsFront (K.taken sink.old) (K.taken sink.new) text.now }
+    ensures kind { IfErr result IsOfMachine }
+    ensures fails { K.broken sink.new ≡ (K.broken sink.old || write_failed result) }
+{
+    match write_all(sink, text.as_bytes()) {
+        Ok(()) => Ok(()),
+        Err(_) => Err(FaultKind::Io),
+    }
+}
+
 impl Transcript {
+    ghost use Rattle.calvin.specs.Hashers.{batch_of, said_of};
+
     /// Nothing was reported.
-    pub(crate) fn new() -> Transcript {
+    pub(crate) fn new() -> Transcript
+        ensures batch { batch_of result ≡ 1 }
+        ensures said { Holds256 (said_of result) [] }
+    {
         Transcript {
-            batches: 0,
-            transactions: 0,
-            replies: Sha256::new(),
+            batch: 1,
+            said: Sha256::new(),
         }
-    }
-
-    /// How many transactions were reported.
-    pub(crate) fn transactions(&self) -> u64 {
-        self.transactions
-    }
-
-    /// The text of a batch: its reply lines, and its batch line with the digests of the rows after it and of these lines.
-    fn batch_text(
-        &self,
-        alloc: Global,
-        rows: &RowStore,
-        lines: &str,
-    ) -> Result<String, AllocError> {
-        let rows = rows_digest(alloc, rows.catalogue(), rows.iter())?;
-        let replies = digest_text(alloc, lines.as_bytes())?;
-        let mut text = String::from_str(alloc, lines)?;
-        push_batch_line(&mut text, self.batches, &rows, &replies)?;
-        Ok(text)
     }
 
     /// Writes the report of a batch.
@@ -62,44 +94,45 @@ impl Transcript {
         sink: &mut K,
         rows: &RowStore,
         replies: &[Reply],
-    ) -> Result<(), FaultKind> {
-        self.batches = self.batches.saturating_add(1);
+    ) -> Result<(), FaultKind>
+        ensures batch { OnOk result (batch_of self.new ≡ next_batch (batch_of self.old)) }
+        ensures said { OnOk result ((m : List ℕ) → Holds256 (said_of self.old) m → Holds256 (said_of self.new) (m ++ said_lines replies.now)) }
+        ensures text { OnOk result (Appends (K.taken sink.old) (K.taken sink.new) (with_batch_line (batch_of self.old) rows.now.tables rows.now.rows (said_lines replies.now))) }
+        ensures front { AppendsFront (K.taken sink.old) (K.taken sink.new) (with_batch_line (batch_of self.old) rows.now.tables rows.now.rows (said_lines replies.now)) }
+        ensures kind { IfErr result IsOfMachine }
+        ensures fails { K.broken sink.new ≡ (K.broken sink.old || write_failed result) }
+    {
         let Ok(lines) = reply_lines(alloc, replies) else {
             return Err(FaultKind::Memory);
         };
-        let Ok(text) = self.batch_text(alloc, rows, &lines) else {
+        let Ok(text) = batch_text(alloc, self.batch, rows, &lines) else {
             return Err(FaultKind::Memory);
         };
-        if write_all(sink, text.as_bytes()).is_err() {
-            return Err(FaultKind::Io);
+        match write_text(sink, &text) {
+            Ok(()) => {}
+            Err(kind) => return Err(kind),
         }
-        self.replies.update(lines.as_bytes());
-        self.transactions = self.transactions.saturating_add(replies.len() as u64);
+        self.said.update(lines.as_bytes());
+        self.batch = self.batch.saturating_add(1);
         Ok(())
     }
 
-    /// The end line, with the digests of the rows and of all reply lines.
-    fn end_text(self, alloc: Global, rows: &RowStore) -> Result<String, AllocError> {
-        let rows = rows_digest(alloc, rows.catalogue(), rows.iter())?;
-        let replies = digest_of(alloc, self.replies)?;
-        let mut text = String::new(alloc);
-        push_end_line(&mut text, self.transactions, &rows, &replies)?;
-        Ok(text)
-    }
-
-    /// Writes the end line.
+    /// Writes the end line, for so many transactions.
     pub(crate) fn write_end<K: Sink>(
         self,
         alloc: Global,
         sink: &mut K,
         rows: &RowStore,
-    ) -> Result<(), FaultKind> {
-        let Ok(text) = self.end_text(alloc, rows) else {
+        count: u64,
+    ) -> Result<(), FaultKind>
+        ensures text { (m : List ℕ) → Holds256 (said_of self) m → OnOk result (Appends (K.taken sink.old) (K.taken sink.new) (end_line count (digest (row_text rows.now.tables rows.now.rows)) (digest m))) }
+        ensures front { (m : List ℕ) → Holds256 (said_of self) m → AppendsFront (K.taken sink.old) (K.taken sink.new) (end_line count (digest (row_text rows.now.tables rows.now.rows)) (digest m)) }
+        ensures kind { IfErr result IsOfMachine }
+        ensures fails { K.broken sink.new ≡ (K.broken sink.old || write_failed result) }
+    {
+        let Ok(text) = end_text(alloc, count, rows, self.said) else {
             return Err(FaultKind::Memory);
         };
-        match write_all(sink, text.as_bytes()) {
-            Ok(()) => Ok(()),
-            Err(_) => Err(FaultKind::Io),
-        }
+        write_text(sink, &text)
     }
 }

@@ -1,0 +1,27 @@
+-- The report of a log on a setup.
+use Rattle.std.specs.Prelude.{ℕ, List, map, is_some, Option, Result}
+use Rattle.values.specs.Shapes.{TableShape}
+use Rattle.values.specs.Database.{Database}
+use Rattle.proclang.specs.ProcLists.{ProcsParts}
+use Rattle.proclang.specs.Requests.{Call}
+use Rattle.sequencer.specs.Entries.{prepared}
+use Rattle.batch_log.specs.declared.fault.FaultKind.{FaultKind}
+use Rattle.batch_log.specs.declared.fault.LogFault.{LogFault}
+use Rattle.batch_log.specs.Log.{batches_of, first_fault, log_said}
+use Rattle.report_text.specs.Report as texts
+
+-- what a whole log says to these procedures
+abbrev pub whole_log : ProcsParts → List ℕ → List (ℕ × Result Call FaultKind)
+whole_log procs log = log_said procs.procs 0 0 log
+
+-- the entries of the batches that are whole before a log's first fault
+abbrev pub batches_in : ProcsParts → List ℕ → List texts.Batch
+batches_in procs log = map (map prepared) (batches_of (whole_log procs log))
+
+-- the first fault of a log
+abbrev pub fault_in : ProcsParts → List ℕ → Option LogFault
+fault_in procs log = first_fault (whole_log procs log)
+
+-- what is written for a log on procedures and starting rows: the texts of its batches, and the end line if it has no fault
+abbrev pub report_of : ProcsParts → Database → List ℕ → List ℕ
+report_of procs db log = texts.report procs.tables db (batches_in procs log) (is_some (fault_in procs log))

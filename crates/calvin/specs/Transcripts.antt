@@ -1,0 +1,30 @@
+-- What is written of a batch, and how a write ends.
+use Rattle.std.specs.Prelude.{◌≡◌, ℕ, List, [], ◌∷◌, ◌++◌, Bool, true, false, Result, Ok, Err, ⊤}
+use Rattle.values.specs.Shapes.{TableShape}
+use Rattle.values.specs.Database.{Database}
+use Rattle.batch_log.specs.declared.fault.FaultKind.{FaultKind}
+use Rattle.batch_log.specs.declared.fault.FaultKind.TheVariants.{Io, Memory}
+use Rattle.batch_log.specs.Faults.{is_io}
+use Rattle.report_text.specs.Texts.{reply_line, row_text, digest, batch_line}
+use Rattle.calvin.specs.declared.replies.Reply.{Reply}
+use Rattle.calvin.specs.Replies.{reply_of}
+
+-- the reply lines of replies
+abbrev pub said_lines : List Reply → List ℕ
+said_lines [] = []
+said_lines (reply ∷ replies) = reply_line reply.no (reply_of reply) ++ said_lines replies
+
+-- reply lines, and the batch line with the digests of the rows and of these lines
+unfoldable pub with_batch_line : ℕ → List TableShape → Database → List ℕ → List ℕ
+with_batch_line batch tables db lines = lines ++ batch_line batch (digest (row_text tables db)) (digest lines)
+
+-- whether a write failed
+abbrev pub write_failed : {T : Type 0} → Result T FaultKind → Bool
+write_failed (Ok x) = false
+write_failed (Err kind) = is_io kind
+
+-- a device or memory failed, and no line of the log is at fault
+abbrev pub IsOfMachine : FaultKind → Type 0
+IsOfMachine Io = ⊤
+IsOfMachine Memory = ⊤
+IsOfMachine kind = ⊥
