@@ -1,0 +1,3 @@
+pub mod Rights
+pub mod Modes
+pub mod Laws
