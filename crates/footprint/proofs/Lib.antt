@@ -1,2 +1,3 @@
 pub mod Resources
 pub mod Rights
+pub mod Entries

@@ -1,12 +1,13 @@
 -- The numbers of the abort codes.
 use Rattle.std.specs.Prelude.{ℕ}
 use Rattle.footprint.specs.declared.abort_code.AbortCode.{AbortCode}
-use Rattle.footprint.specs.declared.abort_code.AbortCode.TheVariants.{NoRow, Overflow, BadKey, TooLong, Budget, Uncovered, Own}
+use Rattle.footprint.specs.declared.abort_code.AbortCode.TheVariants.{NoRow, Overflow, BadKey, BadPart, TooLong, Budget, Uncovered, Own}
 
 abbrev pub number_of : AbortCode → ℕ
 number_of NoRow = 1
 number_of Overflow = 3
 number_of BadKey = 5
+number_of BadPart = 6
 number_of TooLong = 7
 number_of Budget = 8
 number_of Uncovered = 9

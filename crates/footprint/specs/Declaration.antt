@@ -4,13 +4,16 @@ use Rattle.std.specs.FinMap.{empty}
 use Rattle.values.specs.declared.value.Value.{Value}
 use Rattle.values.specs.declared.value.Value.TheVariants as values
 use Rattle.values.specs.Shapes.{TableShape}
-use Rattle.values.specs.Keys.{key_of}
+use Rattle.values.specs.Keys.{key_of, partition_numbered}
 use Rattle.documents.specs.Reading.{◌>>=◌, rule, formed}
 use Rattle.proclang_types.specs.declared.right.Right.{Right}
-use Rattle.proclang_types.specs.Syntax.{IntSyntax, number, variable, add, subtract, EntrySyntax, row_entry}
+use Rattle.proclang_types.specs.Syntax.{IntSyntax, number, variable, add, subtract, EntrySyntax, row_entry, part_entry, table_entry, db_entry}
 use Rattle.footprint.specs.declared.abort_code.AbortCode.{AbortCode}
-use Rattle.footprint.specs.declared.abort_code.AbortCode.TheVariants.{Overflow, BadKey, TooLong}
+use Rattle.footprint.specs.declared.abort_code.AbortCode.TheVariants.{Overflow, BadKey, BadPart, TooLong}
 use Rattle.footprint.specs.declared.resource.Resource.{Resource}
+use Rattle.footprint.specs.declared.resource.Resource.TheVariants.{Db, Table}
+use Rattle.footprint.specs.declared.resource.InTable.TheVariants.{WholeTable, Part}
+use Rattle.footprint.specs.declared.resource.InPart.TheVariants.{WholePart}
 use Rattle.footprint.specs.Tree.{row_resource}
 use Rattle.footprint.specs.Rights.{FootprintOf, with_right}
 
@@ -42,12 +45,19 @@ value_of arguments (subtract a b) = do
   y ← value_of arguments b
   in_range (x -ℤ y)
 
--- what an entry adds: a resource, and a right on it
+-- What an entry adds: a resource, and a right on it. A negative key is a bad key, and a number that is no partition of the table a
+-- bad partition.
 abbrev pub grant_of : List TableShape → List Value → EntrySyntax → Result (Resource × Right) AbortCode
 grant_of tables arguments (row_entry right table key) = do
   z ← value_of arguments key
   k ← formed BadKey (key_of z)
   Ok (row_resource tables (record { table = table; key = k }), right)
+grant_of tables arguments (part_entry right table part) = do
+  z ← value_of arguments part
+  p ← formed BadPart (partition_numbered tables table z)
+  Ok (Table table (Part p WholePart), right)
+grant_of tables arguments (table_entry right table) = Ok (Table table WholeTable, right)
+grant_of tables arguments (db_entry right) = Ok (Db, right)
 
 -- entry by entry: repeats count, and at most 65,536 resources may be added. Of two rights on a resource the greater counts
 abbrev pub with_entries : List TableShape → List Value → ℕ → FootprintOf → List EntrySyntax → Result FootprintOf AbortCode

@@ -14,6 +14,8 @@ pub enum AbortCode {
     Overflow,
     /// 5: a negative key.
     BadKey,
+    /// 6: a partition number outside 0 to P - 1, of a table of P partitions.
+    BadPart,
     /// 7: a reply of more than 64 values, or a declared footprint of more than 65,536 resources.
     TooLong,
     /// 8: step 10,001.
@@ -33,6 +35,7 @@ impl AbortCode {
             AbortCode::NoRow => 1,
             AbortCode::Overflow => 3,
             AbortCode::BadKey => 5,
+            AbortCode::BadPart => 6,
             AbortCode::TooLong => 7,
             AbortCode::Budget => 8,
             AbortCode::Uncovered => 9,

@@ -10,7 +10,7 @@ ghost use Rattle.footprint.specs.Stops.{Gives};
 
 use crate::abort_code::AbortCode;
 use crate::footprint::Footprint;
-use crate::resource::Resource;
+use crate::resource::{InPart, InTable, Resource};
 use proclang_types::{FootprintEntry, IntExpr, Proc, Right};
 use std::alloc::Global;
 use values::{Catalogue, Key, NoMemory, RowName, Value};
@@ -107,6 +107,20 @@ fn grant_of(
                 None => Err(AbortCode::BadKey),
             }
         }
+        FootprintEntry::Part { right, table, part } => {
+            let number = int_value(arguments, part)?;
+            match catalogue.part(*table, number) {
+                Some(part) => {
+                    let whole = InTable::Part(part, InPart::WholePart);
+                    Ok((Resource::Table(*table, whole), *right))
+                }
+                None => Err(AbortCode::BadPart),
+            }
+        }
+        FootprintEntry::Table { right, table } => {
+            Ok((Resource::Table(*table, InTable::WholeTable), *right))
+        }
+        FootprintEntry::Db { right } => Ok((Resource::Db, *right)),
     }
 }
 
@@ -134,8 +148,8 @@ fn with_entries(
 }
 
 /// The footprint that a procedure declares for these arguments, or the abort of the first fault: entries are evaluated in
-/// order, a result outside the signed 64-bit range is an overflow, a negative key a bad key, and more than 65,536
-/// resources, repeats included, are too long.
+/// order, a result outside the signed 64-bit range is an overflow, a negative key a bad key, a number that is no
+/// partition of its table a bad partition, and more than 65,536 resources, repeats included, are too long.
 pub fn declared(
     alloc: Global,
     catalogue: &Catalogue,

@@ -42,9 +42,16 @@ declared_form d = option_and_then declared_entries (elements d)
 pub data EntryDocument : Type 0 where
   -- right, table, KEY
   row_parts : Right → List ℕ → Data → EntryDocument
+  -- right, table, PART
+  part_parts : Right → List ℕ → Data → EntryDocument
+  table_parts : Right → List ℕ → EntryDocument
+  db_parts : Right → EntryDocument
 
 abbrev pub entry_form_view : EntryForm → EntryDocument
 entry_form_view (forms.Row right table key) = row_parts right table.now (view key.now)
+entry_form_view (forms.Part right table part) = part_parts right table.now (view part.now)
+entry_form_view (forms.Table right table) = table_parts right table.now
+entry_form_view (forms.Db right) = db_parts right
 
 -- the right that a word stands for
 abbrev pub right_of : List ℕ → Option Right
@@ -59,9 +66,31 @@ row_form (right ∷ table ∷ key ∷ []) =
     (option_and_then right_of (as_str right))
 row_form parts = None
 
+unfoldable pub part_form : List Data → Option EntryDocument
+part_form (right ∷ table ∷ part ∷ []) =
+    option_and_then (λ (r : Right).
+    option_map (λ (t : List ℕ). part_parts r t part) (as_str table))
+    (option_and_then right_of (as_str right))
+part_form parts = None
+
+unfoldable pub table_form : List Data → Option EntryDocument
+table_form (right ∷ table ∷ []) =
+    option_and_then (λ (r : Right).
+    option_map (λ (t : List ℕ). table_parts r t) (as_str table))
+    (option_and_then right_of (as_str right))
+table_form parts = None
+
+unfoldable pub db_form : List Data → Option EntryDocument
+db_form (right ∷ []) = option_map db_parts (option_and_then right_of (as_str right))
+db_form parts = None
+
 -- what stands behind a head word
 unfoldable pub entry_word : List ℕ → List Data → Option EntryDocument
-entry_word word parts = if bytes_eq word (codes "row") then row_form parts else None
+entry_word word parts =
+    if bytes_eq word (codes "row") then row_form parts else
+    (if bytes_eq word (codes "part") then part_form parts else
+    (if bytes_eq word (codes "table") then table_form parts else
+    (if bytes_eq word (codes "db") then db_form parts else None)))
 
 abbrev pub entry_words : List Data → Option EntryDocument
 entry_words [] = None

@@ -5,7 +5,7 @@ use Rattle.documents.specs.Json.{versioned_list}
 use Rattle.documents.specs.Reading.{◌>>=◌, formed, rule}
 use Rattle.values.specs.Shapes.{TableShape}
 use Rattle.values.specs.Reading.{column_form, is_used}
-use Rattle.proclang_types.specs.Syntax.{EntrySyntax, row_entry, ParamShape, StmtSyntax, ProcSyntax}
+use Rattle.proclang_types.specs.Syntax.{IntSyntax, EntrySyntax, row_entry, part_entry, table_entry, db_entry, ParamShape, StmtSyntax, ProcSyntax}
 use Rattle.proclang_types.specs.Procedures.{param_shape}
 use Rattle.proclang_types.specs.Views.{entry_view, stmts_view}
 use Rattle.proclang.specs.declared.read_proc.Parts.{Parts}
@@ -17,7 +17,7 @@ use Rattle.proclang.specs.Walk.{each_from, behind, at_most}
 use Rattle.proclang.specs.Lookups.{declared_at, table_at}
 use Rattle.proclang.specs.Expressions.{deepest, as_int, expr_at}
 use Rattle.proclang.specs.Statements.{block_at}
-use Rattle.proclang.specs.ProcForms.{ProcDocument, proc_form, declared_form, EntryDocument, row_parts, entry_form}
+use Rattle.proclang.specs.ProcForms.{ProcDocument, proc_form, declared_form, EntryDocument, row_parts, part_parts, table_parts, db_parts, entry_form}
 
 -- ---- parameters
 
@@ -43,12 +43,25 @@ params_at path ds = do
 
 -- ---- footprints
 
+-- an Int expression
+unfoldable pub int_at : List ℕ → List Seen → Data → Result IntSyntax ProcFault
+int_at path scope d = do
+  e ← expr_at deepest path scope d
+  as_int path e
+
 unfoldable pub entry_of : List TableShape → List ℕ → List Seen → EntryDocument → Result EntrySyntax ProcFault
 entry_of tables path scope (row_parts right table key) = do
   t ← table_at (path ++ 2 ∷ []) tables table
-  e ← expr_at deepest (path ++ 3 ∷ []) scope key
-  k ← as_int (path ++ 3 ∷ []) e
+  k ← int_at (path ++ 3 ∷ []) scope key
   Ok (row_entry right t k)
+entry_of tables path scope (part_parts right table part) = do
+  t ← table_at (path ++ 2 ∷ []) tables table
+  p ← int_at (path ++ 3 ∷ []) scope part
+  Ok (part_entry right t p)
+entry_of tables path scope (table_parts right table) = do
+  t ← table_at (path ++ 2 ∷ []) tables table
+  Ok (table_entry right t)
+entry_of tables path scope (db_parts right) = Ok (db_entry right)
 
 unfoldable pub entry_at : List TableShape → List Seen → List ℕ → Data → Result EntrySyntax ProcFault
 entry_at tables scope path d = do

@@ -2,7 +2,7 @@
 
 ghost use Rattle.std.specs.Prelude.{◌≡◌, option_map, map};
 ghost use Rattle.serde_json.specs.View.{view};
-ghost use Rattle.proclang.specs.ProcForms.{proc_parts_of, proc_form, declared_entries, declared_form, right_of, entry_form_view, row_form, entry_word, entry_words, entry_form};
+ghost use Rattle.proclang.specs.ProcForms.{proc_parts_of, proc_form, declared_entries, declared_form, right_of, entry_form_view, row_form, part_form, table_form, db_form, entry_word, entry_words, entry_form};
 
 use documents::{elements, four};
 use proclang_types::Right;
@@ -52,6 +52,9 @@ pub(crate) fn declared_form(value: &Value) -> Option<&[Value]>
 #[derive(Clone, Copy)]
 pub(crate) enum EntryForm<'a> {
     Row(Right, &'a str, &'a Value),
+    Part(Right, &'a str, &'a Value),
+    Table(Right, &'a str),
+    Db(Right),
 }
 
 fn right_of(word: &str) -> Option<Right>
@@ -77,12 +80,51 @@ fn row_form(parts: &[Value]) -> Option<EntryForm<'_>>
     }
 }
 
+#[tactic(auto, unfolding(crate::specs::ProcForms::part_form))]
+fn part_form(parts: &[Value]) -> Option<EntryForm<'_>>
+    ensures { option_map entry_form_view result ≡ part_form (map view parts.now) }
+{
+    match parts {
+        [right, table, part] => {
+            let right = right_of(right.as_str()?)?;
+            Some(EntryForm::Part(right, table.as_str()?, part))
+        }
+        _ => None,
+    }
+}
+
+#[tactic(auto, unfolding(crate::specs::ProcForms::table_form))]
+fn table_form(parts: &[Value]) -> Option<EntryForm<'_>>
+    ensures { option_map entry_form_view result ≡ table_form (map view parts.now) }
+{
+    match parts {
+        [right, table] => {
+            let right = right_of(right.as_str()?)?;
+            Some(EntryForm::Table(right, table.as_str()?))
+        }
+        _ => None,
+    }
+}
+
+#[tactic(auto, unfolding(crate::specs::ProcForms::db_form))]
+fn db_form<'a>(parts: &[Value]) -> Option<EntryForm<'a>>
+    ensures { option_map entry_form_view result ≡ db_form (map view parts.now) }
+{
+    match parts {
+        [right] => Some(EntryForm::Db(right_of(right.as_str()?)?)),
+        _ => None,
+    }
+}
+
 #[tactic(auto, unfolding(crate::specs::ProcForms::entry_word))]
 fn entry_word<'a>(word: &str, parts: &'a [Value]) -> Option<EntryForm<'a>>
     ensures { option_map entry_form_view result ≡ entry_word word.now (map view parts.now) }
 {
     match word {
         "row" => row_form(parts),
+        "part" => part_form(parts),
+        "table" => table_form(parts),
+        "db" => db_form(parts),
         _ => None,
     }
 }

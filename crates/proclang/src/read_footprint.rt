@@ -3,10 +3,11 @@
 ghost use Rattle.std.specs.Prelude.{◌≡◌, map};
 ghost use Rattle.serde_json.specs.View.{view};
 ghost use Rattle.documents.specs.Reading.{Gives};
-ghost use Rattle.proclang_types.specs.Views.{entry_view};
+ghost use Rattle.proclang_types.specs.Views.{int_view, entry_view};
 ghost use Rattle.proclang.specs.Paths.{places};
 ghost use Rattle.proclang.specs.Faults.{is_memory};
-ghost use Rattle.proclang.specs.Procs.{entry_at, each_entry, footprint_at};
+ghost use Rattle.proclang.specs.ProcForms.{entry_form_view};
+ghost use Rattle.proclang.specs.Procs.{int_at, entry_of, entry_at, each_entry, footprint_at};
 
 use crate::fault::{FaultKind, ProcFault, fault};
 use crate::limits::at_most;
@@ -15,12 +16,57 @@ use crate::proc_form::{EntryForm, declared_form, entry_form};
 use crate::read_expr::{DEEPEST, as_int, read_expr};
 use crate::read_names::read_table;
 use crate::scope::Scope;
-use proclang_types::FootprintEntry;
+use proclang_types::{FootprintEntry, IntExpr};
 use serde_json::Value;
 use std::alloc::Global;
 use values::Catalogue;
 
-#[tactic(auto, unfolding(crate::specs::Procs::entry_at, crate::specs::Procs::entry_of))]
+/// An expression of type Int over the parameters.
+#[tactic(auto, unfolding(crate::specs::Procs::int_at))]
+fn read_int(
+    alloc: Global,
+    scope: &Scope,
+    path: &Path<'_>,
+    value: &Value,
+) -> Result<IntExpr, ProcFault>
+    ensures { Gives is_memory int_view result (int_at (places path.now) scope.now (view value.now)) }
+{
+    let expr = read_expr(alloc, scope, DEEPEST, path, value)?;
+    as_int(alloc, path, expr)
+}
+
+#[tactic(auto, unfolding(crate::specs::Procs::entry_of))]
+fn read_parts(
+    alloc: Global,
+    catalogue: &Catalogue,
+    scope: &Scope,
+    path: &Path<'_>,
+    form: EntryForm<'_>,
+) -> Result<FootprintEntry, ProcFault>
+    ensures { Gives is_memory entry_view result (entry_of catalogue.now (places path.now) scope.now (entry_form_view form.entry)) }
+{
+    let table_path = Path::Element(&*path, 2);
+    let number_path = Path::Element(&*path, 3);
+    match form {
+        EntryForm::Row(right, table, key) => {
+            let table = read_table(alloc, &table_path, catalogue, table)?;
+            let key = read_int(alloc, scope, &number_path, key)?;
+            Ok(FootprintEntry::Row { right, table, key })
+        }
+        EntryForm::Part(right, table, part) => {
+            let table = read_table(alloc, &table_path, catalogue, table)?;
+            let part = read_int(alloc, scope, &number_path, part)?;
+            Ok(FootprintEntry::Part { right, table, part })
+        }
+        EntryForm::Table(right, table) => {
+            let table = read_table(alloc, &table_path, catalogue, table)?;
+            Ok(FootprintEntry::Table { right, table })
+        }
+        EntryForm::Db(right) => Ok(FootprintEntry::Db { right }),
+    }
+}
+
+#[tactic(auto, unfolding(crate::specs::Procs::entry_at))]
 fn read_entry(
     alloc: Global,
     catalogue: &Catalogue,
@@ -33,15 +79,7 @@ fn read_entry(
     let Some(form) = entry_form(value) else {
         return Err(fault(alloc, FaultKind::Shape, path));
     };
-    match form {
-        EntryForm::Row(right, table, key) => {
-            let key_path = Path::Element(&*path, 3);
-            let table = read_table(alloc, &Path::Element(&*path, 2), catalogue, table)?;
-            let key = read_expr(alloc, scope, DEEPEST, &key_path, key)?;
-            let key = as_int(alloc, &key_path, key)?;
-            Ok(FootprintEntry::Row { right, table, key })
-        }
-    }
+    read_parts(alloc, catalogue, scope, path, form)
 }
 
 fn read_each(

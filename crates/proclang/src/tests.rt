@@ -50,6 +50,14 @@ fn the_bank_is_read(rt: HostRuntime) -> Result<(), Fail> {
 }
 
 #[test]
+fn entries_of_each_form_are_read(rt: HostRuntime) -> Result<(), Fail> {
+    let text =
+        r#"["procs",1,[["mix",[["p","int"]],["declared",["row","w","acct",2],["part","r","acct",["+","p",0]],["table","r","ref"],["db","w"]],[]]]]"#;
+    assert_eq!(rt; outcome(rt.alloc(), text)?.as_str(), "ok");
+    Ok(())
+}
+
+#[test]
 fn documents(rt: HostRuntime) -> Result<(), Fail> {
     let table = [
         (r#"["procs",1,[]]"#, "ok"),
@@ -88,6 +96,30 @@ fn wrong_forms(rt: HostRuntime) -> Result<(), Fail> {
             r#"["p",[],["declared",["row","x","acct",1]],[]]"#,
             "fault 11 at /2/0/2/1",
         ),
+        (
+            r#"["p",[],["declared",["part","x","nope",0]],[]]"#,
+            "fault 11 at /2/0/2/1",
+        ),
+        (
+            r#"["p",[],["declared",["part","r","acct"]],[]]"#,
+            "fault 11 at /2/0/2/1",
+        ),
+        (
+            r#"["p",[],["declared",["table","r","acct",0]],[]]"#,
+            "fault 11 at /2/0/2/1",
+        ),
+        (
+            r#"["p",[],["declared",["db","r"],["db","r","acct"]],[]]"#,
+            "fault 11 at /2/0/2/2",
+        ),
+        (
+            r#"["p",[],["declared",["db","x"]],[]]"#,
+            "fault 11 at /2/0/2/1",
+        ),
+        (
+            r#"["p",[],["declared",["rows","r","acct",1,2]],[]]"#,
+            "fault 11 at /2/0/2/1",
+        ),
         (r#"["p",[],["declared"],{}]"#, "fault 11 at /2/0/3"),
         (
             r#"["p",[],["declared"],[["get","X","acct",1,"bal"]]]"#,
@@ -107,6 +139,18 @@ fn wrong_names(rt: HostRuntime) -> Result<(), Fail> {
         (
             r#"["p",[],["declared",["row","r","nope",1]],[]]"#,
             "fault 12 at /2/0/2/1/2",
+        ),
+        (
+            r#"["p",[],["declared",["part","r","nope",["<",1,2]]],[]]"#,
+            "fault 12 at /2/0/2/1/2",
+        ),
+        (
+            r#"["p",[],["declared",["db","w"],["table","w","nope"]],[]]"#,
+            "fault 12 at /2/0/2/2/2",
+        ),
+        (
+            r#"["p",[],["declared",["part","r","acct","k"]],[]]"#,
+            "fault 14 at /2/0/2/1/3",
         ),
         (
             r#"["p",[],["declared"],[["put","nope",1,"bal",1]]]"#,
@@ -148,6 +192,10 @@ fn wrong_types(rt: HostRuntime) -> Result<(), Fail> {
     let table = [
         (
             r#"["p",[],["declared",["row","r","acct",["<",1,2]]],[]]"#,
+            "fault 15 at /2/0/2/1/3",
+        ),
+        (
+            r#"["p",[],["declared",["part","w","acct",["<",1,2]]],[]]"#,
             "fault 15 at /2/0/2/1/3",
         ),
         (

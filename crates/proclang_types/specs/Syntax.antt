@@ -46,6 +46,11 @@ block_of (s ∷ ss) = followed s (block_of ss)
 pub data EntrySyntax : Type 0 where
   -- right, table, key
   row_entry : Right → ℕ → IntSyntax → EntrySyntax
+  -- right, table, number of the partition
+  part_entry : Right → ℕ → IntSyntax → EntrySyntax
+  table_entry : Right → ℕ → EntrySyntax
+  -- the whole database
+  db_entry : Right → EntrySyntax
 
 pub record ParamShape : Type 0 where
   pub name : List ℕ

@@ -4,7 +4,7 @@ use Rattle.std.specs.List.{AllByRecursion}
 use Rattle.values.specs.declared.value.ColType.{ColType}
 use Rattle.values.specs.declared.value.ColType.TheVariants as types
 use Rattle.values.specs.Shapes.{TableShape}
-use Rattle.proclang_types.specs.Syntax.{IntSyntax, number, variable, add, subtract, TextSyntax, literal, text_variable, BoolSyntax, less, ValueSyntax, int_value, text_value, ExprSyntax, int, text, bool, StmtSyntax, get, put, choose, abort, reply, BlockSyntax, no_statements, followed, block_of, EntrySyntax, row_entry, ParamShape, ProcSyntax}
+use Rattle.proclang_types.specs.Syntax.{IntSyntax, number, variable, add, subtract, TextSyntax, literal, text_variable, BoolSyntax, less, ValueSyntax, int_value, text_value, ExprSyntax, int, text, bool, StmtSyntax, get, put, choose, abort, reply, BlockSyntax, no_statements, followed, block_of, EntrySyntax, row_entry, part_entry, table_entry, db_entry, ParamShape, ProcSyntax}
 
 -- the type of a column of a table
 abbrev pub column_kind : List TableShape → ℕ → ℕ → Option ColType
@@ -65,6 +65,9 @@ abbrev mutual
 
 abbrev pub EntryFits : List TableShape → List ColType → EntrySyntax → Type 0
 EntryFits tables kinds (row_entry right table key) = (table < length tables) × IntFits kinds key
+EntryFits tables kinds (part_entry right table part) = (table < length tables) × IntFits kinds part
+EntryFits tables kinds (table_entry right table) = table < length tables
+EntryFits tables kinds (db_entry right) = ⊤
 
 abbrev pub kinds_of : List ParamShape → List ColType
 kinds_of params = map (λ p. p.kind) params

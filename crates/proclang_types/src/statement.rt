@@ -43,4 +43,14 @@ pub enum FootprintEntry {
         table: TableNo,
         key: IntExpr,
     },
+    /// A partition, by its number from 0.
+    Part {
+        right: Right,
+        table: TableNo,
+        part: IntExpr,
+    },
+    /// A whole table.
+    Table { right: Right, table: TableNo },
+    /// The whole database.
+    Db { right: Right },
 }

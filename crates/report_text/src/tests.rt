@@ -79,6 +79,7 @@ fn replies(rt: HostRuntime) -> Result<(), Fail> {
         (0, commit(alloc, &[70])?, "0 commit 70\n"),
         (1, commit(alloc, &[])?, "1 commit\n"),
         (12, commit(alloc, &[1, -2])?, "12 commit 1 -2\n"),
+        (0, Outcome::Abort(AbortCode::BadPart), "0 abort 6\n"),
         (1, Outcome::Abort(AbortCode::Uncovered), "1 abort 9\n"),
         (2, Outcome::Abort(AbortCode::Own(100)), "2 abort 100\n"),
         (3, Outcome::Stale, "3 stale\n"),

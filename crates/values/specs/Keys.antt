@@ -1,5 +1,5 @@
 -- Keys, and the partition of a table that a key falls in.
-use Rattle.std.specs.Prelude.{ℕ, ℤ, pos, negsuc, ◌%◌, List, Option, Some, None, option_map, slice_get}
+use Rattle.std.specs.Prelude.{ℕ, ℤ, pos, negsuc, ◌%◌, nat_lt, List, Option, Some, None, option_map, option_and_then, if◌then◌else◌, slice_get}
 use Rattle.std.specs.Str.{bytes_eq}
 use Rattle.std.specs.Prelude.{position}
 use Rattle.values.specs.Shapes.{ColumnShape, TableShape}
@@ -12,6 +12,11 @@ key_of (negsuc n) = None
 -- key k of a table of P partitions falls in partition k mod P
 abbrev pub partition_of : List TableShape → ℕ → ℕ → Option ℕ
 partition_of tables table key = option_map (λ t. key % t.partitions) (slice_get tables table)
+
+-- the partitions of a table of P partitions have the numbers 0 to P - 1
+abbrev pub partition_numbered : List TableShape → ℕ → ℤ → Option ℕ
+partition_numbered tables table (pos n) = option_and_then (λ t. if nat_lt n t.partitions then Some n else None) (slice_get tables table)
+partition_numbered tables table (negsuc n) = None
 
 -- the place of the table with a name
 abbrev pub table_named : List TableShape → List ℕ → Option ℕ

@@ -2,7 +2,7 @@
 
 ghost use Rattle.std.specs.Prelude.{◌≡◌, ◌⊎◌, ◌<◌, [], false, IfErr, IsOkUnless, ℕ, length, option_map, IfOk, Ok, List, slice_get, Some, IfSome, map};
 ghost use Rattle.values.specs.Shapes.{tables_shape, columns_shape, table_shape, TableShape};
-ghost use Rattle.values.specs.Keys.{table_named, column_named, partition_of};
+ghost use Rattle.values.specs.Keys.{table_named, column_named, partition_of, partition_numbered};
 ghost use Rattle.values.specs.Tables.{IsTableAt};
 ghost use Rattle.values.specs.Rows.{kinds_match};
 
@@ -142,6 +142,19 @@ impl Catalogue {
     {
         let partitions = partitions_of(&self.tables, table);
         (key.number() % u64::from(partitions)) as u32
+    }
+
+    /// The partition of a table with a number, `None` exactly where the number is not from 0 to P - 1, for a table of P
+    /// partitions.
+    pub fn part(&self, table: TableNo, number: i64) -> Option<u32>
+        requires { table < length self.now }
+        ensures { result ≡ partition_numbered self.now table number }
+    {
+        let partitions = partitions_of(&self.tables, table);
+        if number < 0 || number >= i64::from(partitions) {
+            return None;
+        }
+        Some(number as u32)
     }
 }
 

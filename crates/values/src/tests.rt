@@ -59,6 +59,34 @@ fn keys_are_in_partitions(rt: HostRuntime) -> Result<(), Fail> {
 }
 
 #[test]
+fn partitions_have_numbers(rt: HostRuntime) -> Result<(), Fail> {
+    let catalogue = Catalogue::read(rt.alloc(), &Json::from_str(rt.alloc(), BANK)?)?;
+    assert!(rt; catalogue.len() == 2);
+    let table = [
+        (0, Some(0), Some(0)),
+        (1, Some(1), None),
+        (2, None, None),
+        (-1, None, None),
+        (1 << 32, None, None),
+        (i64::MIN, None, None),
+        (i64::MAX, None, None),
+    ];
+    for (number, of_accounts, of_references) in table {
+        assert_eq!(rt;
+            catalogue.part(TableNo::new(0), number),
+            of_accounts,
+            "{number}"
+        );
+        assert_eq!(rt;
+            catalogue.part(TableNo::new(1), number),
+            of_references,
+            "{number}"
+        );
+    }
+    Ok(())
+}
+
+#[test]
 fn tables_take_values_of_their_columns(rt: HostRuntime) -> Result<(), Fail> {
     let alloc = rt.alloc();
     let catalogue = Catalogue::read(alloc, &Json::from_str(alloc, BANK)?)?;

@@ -26,7 +26,9 @@ const PROCEDURES: &str = r#"["procs",1,[
   ["put","acct","b","bal",["+","y","n"]],
   ["reply",["-","x","n"]]]],
 ["bad5",[],["declared",["row","r","acct",1],["row","r","acct",3]],
- [["get","x","acct",5,"bal"],["reply","x"]]]
+ [["get","x","acct",5,"bal"],["reply","x"]]],
+["peek",[["p","int"],["k","int"]],["declared",["part","r","acct","p"]],
+ [["get","x","acct","k","bal"],["reply","x"]]]
 ]]"#;
 
 /// The entry of a call, with the footing that its procedure declares.
@@ -145,5 +147,27 @@ fn an_access_beyond_the_declaration_aborts(rt: HostRuntime) -> Result<(), Fail> 
     let entry = entry_of(alloc, &bank.catalogue, &procs, "bad5", Vec::new(alloc))?;
     let effect = run_entry(alloc, &bank, &entry)?;
     assert_eq!(rt; effect.outcome, Outcome::Abort(AbortCode::Uncovered));
+    Ok(())
+}
+
+#[test]
+fn a_partition_covers_its_rows(rt: HostRuntime) -> Result<(), Fail> {
+    let alloc = rt.alloc();
+    let bank = Bank::new(alloc)?;
+    let procs = procedures(alloc, &bank.catalogue)?;
+    for (part, key, outcome) in [
+        (0, 2, commit(alloc, 100)?),
+        (1, 1, commit(alloc, 100)?),
+        (1, 2, Outcome::Abort(AbortCode::Uncovered)),
+        (0, 4, Outcome::Abort(AbortCode::NoRow)),
+        (2, 2, Outcome::Abort(AbortCode::BadPart)),
+        (-1, 2, Outcome::Abort(AbortCode::BadPart)),
+    ] {
+        let args = vec![in alloc; Value::Int(part), Value::Int(key)]?;
+        let entry = entry_of(alloc, &bank.catalogue, &procs, "peek", args)?;
+        let effect = run_entry(alloc, &bank, &entry)?;
+        assert_eq!(rt; effect.outcome, outcome);
+        assert_eq!(rt; effect.writes.len(), 0);
+    }
     Ok(())
 }
