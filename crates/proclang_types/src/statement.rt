@@ -50,7 +50,12 @@ pub enum FootprintEntry {
         part: IntExpr,
     },
     /// A whole table.
-    Table { right: Right, table: TableNo },
+    Table {
+        right: Right,
+        table: TableNo,
+    },
     /// The whole database.
-    Db { right: Right },
+    Db {
+        right: Right,
+    },
 }
