@@ -9,3 +9,10 @@ pub mod TypedStatements
 pub mod ProcLists
 pub mod TypedProcs
 pub mod Requests
+pub mod FirstExpressions
+pub mod FirstStatements
+pub mod FirstProcs
+pub mod Spelled
+pub mod SaidExpressions
+pub mod SaidStatements
+pub mod SaidProcs

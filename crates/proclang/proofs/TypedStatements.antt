@@ -38,7 +38,7 @@ pub record IsBound (scope : List Seen) (kind : ColType) (r : ℕ × List Seen) :
   pub takes : Takes (seen_kinds scope) r.0 kind
   pub after : declared (seen_kinds scope) r.0 kind ≡ seen_kinds r.1
 
-types_are : (a b : ColType) → same_type a b ≡ true → a ≡ b
+pub types_are : (a b : ColType) → same_type a b ≡ true → a ≡ b
 types_are types.Int types.Int e = refl
 types_are types.Text types.Text e = refl
 types_are types.Int types.Text e = absurd cc
@@ -106,7 +106,7 @@ get_fits tables path scope form r e =
         let same : declared (seen_kinds scope) v.0 (unwrap_or (column_kind tables table column) types.Int) ≡ seen_kinds v.1 = rw is_kind known.after in
         subst (Fit tables scope) is ((fits, (kind, is_kind, known.takes)), same)
 
-typed_is : (path : List ℕ) (kind : ColType) (v value : ValueSyntax) → of_type path kind v ≡ Ok value → (v ≡ value) × (kind_of value ≡ kind)
+pub typed_is : (path : List ℕ) (kind : ColType) (v value : ValueSyntax) → of_type path kind v ≡ Ok value → (v ≡ value) × (kind_of value ≡ kind)
 typed_is path kind v value e = by (same_type (kind_of v) kind) refl
   where
     by : (b : Bool) → same_type (kind_of v) kind ≡ b → (v ≡ value) × (kind_of value ≡ kind)

@@ -11,3 +11,9 @@ pub mod ProcForms
 pub mod Procs
 pub mod ProcLists
 pub mod Requests
+pub mod ExprTypes
+pub mod BrokenExpressions
+pub mod BrokenStatements
+pub mod BrokenProcs
+pub mod Spells
+pub mod Says

@@ -1,9 +1,14 @@
 //! The procedures of a setup.
 
-ghost use Rattle.std.specs.Prelude.{◌≡◌, map, IfOk, [], ◌∷◌};
+ghost use Rattle.std.specs.Prelude.{◌≡◌, ◌⊎◌, List, Some, Ok, map, IfOk, IfErr, IsOkUnless, [], ◌∷◌};
 ghost use Rattle.serde_json.specs.View.{view};
+ghost use Rattle.documents.specs.FirstFault.{first};
 ghost use Rattle.documents.specs.Reading.{Gives};
 ghost use Rattle.proclang_types.specs.Procedures.{proc_syntax};
+ghost use Rattle.proclang_types.specs.Syntax.{ProcSyntax};
+ghost use Rattle.proclang.specs.BrokenProcs.{broken_rules};
+ghost use Rattle.proclang.specs.Says.{SaysProcs};
+ghost use Rattle.proclang.specs.declared.fault.ProcFault.TheVariants.{Memory};
 ghost use Rattle.proclang.specs.Paths.{places};
 ghost use Rattle.proclang.specs.Faults.{is_memory};
 ghost use Rattle.proclang.specs.Procs.{each_proc, procs_at};
@@ -100,17 +105,10 @@ fn read_each(
     Ok(procs)
 }
 
-/// The procedures of a document `["procs", 1, [PROC ..]]` over the tables of a catalogue, or the first fault of the document.
 #[tactic(auto, unfolding(crate::specs::Procs::procs_at))]
-pub fn read_procs(
-    alloc: Global,
-    document: &Value,
-    catalogue: &Catalogue,
-) -> Result<Procs, ProcFault>
-    // What is read is over the catalogue's tables, with names that obey the rule and that differ.
+fn read_document(alloc: Global, document: &Value, catalogue: &Catalogue) -> Result<Procs, ProcFault>
     ensures tables { IfOk result (λ p. p.tables ≡ catalogue.now) }
     ensures sound { IfOk result (λ p. AreProcs p.tables p.procs) }
-    // Which procedures, or which fault it is, and where.
     ensures exact { Gives is_memory (λ p. map proc_syntax p.procs) result (procs_at catalogue.now (view document.now)) }
 {
     let Some(values) = versioned_list("procs", document) else {
@@ -123,4 +121,30 @@ pub fn read_procs(
         catalogue: Snapshot::of(catalogue),
         procs,
     })
+}
+
+/// The procedures of a document `["procs", 1, [PROC ..]]` over the tables of a catalogue, or the first rule that the
+/// document breaks, with the path to where it does.
+pub fn read_procs(
+    alloc: Global,
+    document: &Value,
+    catalogue: &Catalogue,
+) -> Result<Procs, ProcFault>
+    // What is read is over the catalogue's tables, with names that obey the rule and that differ.
+    ensures tables { IfOk result (λ p. p.tables ≡ catalogue.now) }
+    ensures sound { IfOk result (λ p. AreProcs p.tables p.procs) }
+    // What is read is what the document says.
+    ensures found { IfOk result (λ p. SaysProcs catalogue.now (view document.now) (map proc_syntax p.procs)) }
+    // Procedures that the document says are what is read, unless memory runs out.
+    ensures only { (ps : List ProcSyntax) → SaysProcs catalogue.now (view document.now) ps → Gives is_memory (λ p. map proc_syntax p.procs) result (Ok ps) }
+    // The fault is the first rule that the document breaks, with its path.
+    ensures first { IfErr result (λ e. (e ≡ Memory) ⊎ (first (broken_rules catalogue.now (view document.now)) ≡ Some e)) }
+    // A document that breaks no rule is read, unless memory runs out.
+    ensures none { broken_rules catalogue.now (view document.now) ≡ [] → IsOkUnless result Memory }
+    ensures exact { Gives is_memory (λ p. map proc_syntax p.procs) result (procs_at catalogue.now (view document.now)) }
+{
+    match read_document(alloc, document, catalogue) {
+        Ok(procs) => Ok(procs),
+        Err(fault) => Err(fault),
+    }
 }

@@ -2,3 +2,5 @@ pub mod Faults
 pub mod Rows
 pub mod Names
 pub mod Setups
+pub mod Says
+pub mod FirstFault

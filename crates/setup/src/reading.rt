@@ -1,10 +1,12 @@
 //! Reading setups.
 
-ghost use Rattle.std.specs.Prelude.{◌≡◌, option_map};
+ghost use Rattle.std.specs.Prelude.{◌≡◌, true, false, option_map, Ok, IfOk, IfErr};
 ghost use Rattle.serde_json.specs.View.{view};
 ghost use Rattle.documents.specs.Reading.{Gives};
 ghost use Rattle.setup.specs.Faults.{is_memory};
-ghost use Rattle.setup.specs.Setups.{setup_form, setup_at, setup_said, setup_view};
+ghost use Rattle.setup.specs.FirstFault.{BreaksFirst, InDocument};
+ghost use Rattle.setup.specs.Says.{SaysDocument, SaysSetup};
+ghost use Rattle.setup.specs.Setups.{SetupShape, setup_form, setup_at, setup_said, setup_view};
 
 use crate::fault::SetupFault;
 use crate::rows::read_rows;
@@ -31,7 +33,10 @@ fn setup_form(document: &Value) -> Option<(&Value, &Value, &Value)>
 
 #[tactic(auto, unfolding(crate::specs::Setups::setup_at))]
 fn read_document(alloc: Global, document: &Value) -> Result<Setup, SetupFault>
-    ensures { Gives is_memory setup_view result (setup_at (view document.now)) }
+    ensures found { IfOk result (λ s. SaysDocument (view document.now) (setup_view s)) }
+    ensures only { (s : SetupShape) → SaysDocument (view document.now) s → Gives is_memory setup_view result (Ok s) }
+    ensures first { IfErr result (λ e. is_memory e ≡ false → InDocument (view document.now) e) }
+    ensures exact { Gives is_memory setup_view result (setup_at (view document.now)) }
 {
     let (catalogue, procs, rows) = setup_form(document).ok_or(SetupFault::Shape)?;
     let catalogue = Catalogue::read(alloc, catalogue)?;
@@ -44,11 +49,12 @@ fn read_document(alloc: Global, document: &Value) -> Result<Setup, SetupFault>
     })
 }
 
-/// The setup that a JSON text says, or its first fault: that of the text, of the document's outer form, of the catalogue,
-/// of the procedures, and of the rows, in this order.
 #[tactic(auto, using(crate::proofs::Texts::said_of_text, crate::proofs::Texts::said_of_bytes))]
-pub fn read_setup(alloc: Global, text: &[u8]) -> Result<Setup, SetupFault>
-    ensures { Gives is_memory setup_view result (setup_said text.now) }
+fn read_text(alloc: Global, text: &[u8]) -> Result<Setup, SetupFault>
+    ensures found { IfOk result (λ s. SaysSetup text.now (setup_view s)) }
+    ensures only { (s : SetupShape) → SaysSetup text.now s → Gives is_memory setup_view result (Ok s) }
+    ensures first { IfErr result (λ e. is_memory e ≡ false → BreaksFirst text.now e) }
+    ensures exact { Gives is_memory setup_view result (setup_said text.now) }
 {
     let Ok(text) = str::from_utf8(text) else {
         return Err(SetupFault::NotJson);
@@ -57,5 +63,24 @@ pub fn read_setup(alloc: Global, text: &[u8]) -> Result<Setup, SetupFault>
         Ok(document) => read_document(alloc, &document),
         Err(e) if e.is_memory() => Err(SetupFault::Memory),
         Err(_) => Err(SetupFault::NotJson),
+    }
+}
+
+/// The setup that a JSON text says, or the first rule that it breaks: of the text, of the document's outer form, of the
+/// catalogue, of the procedures, and of the rows, in this order.
+pub fn read_setup(alloc: Global, text: &[u8]) -> Result<Setup, SetupFault>
+    // What is read is what the text says.
+    ensures found { IfOk result (λ s. SaysSetup text.now (setup_view s)) }
+    // A setup that the text says is what is read, unless memory runs out.
+    ensures only { (s : SetupShape) → SaysSetup text.now s → Gives is_memory setup_view result (Ok s) }
+    // The fault is that of the first rule that the text breaks.
+    ensures first { IfErr result (λ e. is_memory e ≡ false → BreaksFirst text.now e) }
+    // A text that breaks no rule is read, unless memory runs out.
+    ensures none { ((e : SetupFault) → BreaksFirst text.now e → ⊥) → IfErr result (λ e. is_memory e ≡ true) }
+    ensures exact { Gives is_memory setup_view result (setup_said text.now) }
+{
+    match read_text(alloc, text) {
+        Ok(setup) => Ok(setup),
+        Err(fault) => Err(fault),
     }
 }

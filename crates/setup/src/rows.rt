@@ -1,11 +1,14 @@
 //! Reading starting rows.
 
-ghost use Rattle.std.specs.Prelude.{◌≡◌, ◌<◌, List, length, map, IfOk};
+ghost use Rattle.std.specs.Prelude.{◌≡◌, ◌<◌, true, false, List, [], length, map, Some, Ok, IfOk, IfErr};
 ghost use Rattle.serde_json.specs.View.{view};
+ghost use Rattle.documents.specs.FirstFault.{first};
 ghost use Rattle.documents.specs.Reading.{Gives};
 ghost use Rattle.setup.specs.Faults.{is_memory};
+ghost use Rattle.setup.specs.FirstFault.{broken_rules};
 ghost use Rattle.setup.specs.Names.{HoldsNames};
 ghost use Rattle.setup.specs.Rows.{RowAt, row_at, rows_at, row_values, is_given};
+ghost use Rattle.setup.specs.Says.{SaysRows};
 
 use crate::fault::SetupFault;
 use documents::{text_number_list, versioned_list};
@@ -50,9 +53,8 @@ fn read_one(
     Ok((table, key, row))
 }
 
-/// The starting rows that a document says, in its order, or its first fault.
 #[tactic(auto, unfolding(crate::specs::Rows::rows_at))]
-pub fn read_rows(
+fn read_document(
     alloc: Global,
     catalogue: &Catalogue,
     document: &Value,
@@ -68,4 +70,26 @@ pub fn read_rows(
         rows.push((table, key, row))?;
     }
     Ok(rows)
+}
+
+/// The starting rows of a document `["rows", 1, [ROW ..]]`, in its order, or the first rule that the document breaks.
+pub fn read_rows(
+    alloc: Global,
+    catalogue: &Catalogue,
+    document: &Value,
+) -> Result<Vec<(TableNo, Key, Row)>, SetupFault>
+    // What is read is what the document says.
+    ensures found { IfOk result (λ v. SaysRows catalogue.now (view document.now) v.items) }
+    // Rows that the document says are what is read, unless memory runs out.
+    ensures only { (rows : List RowAt) → SaysRows catalogue.now (view document.now) rows → Gives is_memory (λ v. v.items) result (Ok rows) }
+    // The fault is the first rule that the document breaks.
+    ensures first { IfErr result (λ e. is_memory e ≡ false → first (broken_rules catalogue.now (view document.now)) ≡ Some e) }
+    // A document that breaks no rule is read, unless memory runs out.
+    ensures none { broken_rules catalogue.now (view document.now) ≡ [] → IfErr result (λ e. is_memory e ≡ true) }
+    ensures exact { Gives is_memory (λ v. v.items) result (rows_at catalogue.now (view document.now)) }
+{
+    match read_document(alloc, catalogue, document) {
+        Ok(rows) => Ok(rows),
+        Err(fault) => Err(fault),
+    }
 }

@@ -3,7 +3,7 @@ use Rattle.serde_json.specs.View.{view}
 use Rattle.documents.specs.Reading.{each_at}
 use Rattle.setup.specs.Names.{HoldsNames}
 use Rattle.setup.specs.Rows.{row_at}
-use Rattle.setup.proofs.rows.read_rows.Given as goal
+use Rattle.setup.proofs.rows.read_document.Given as goal
 
 -- what the rest gives behind the rows so far is what all documents give, and the names are those of the rows so far
 abbrev pub invariant-loop-document : goal.invariant-loop-document

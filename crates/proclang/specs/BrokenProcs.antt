@@ -1,0 +1,103 @@
+-- Every rule that a document of procedures breaks, each with its path, in the order of the rules. No rule here hangs on what reading gives.
+use Rattle.std.specs.Prelude.{ℕ, ◌+◌, not, List, [], ◌∷◌, ◌++◌, Option, Some, None, option_map, codes}
+use Rattle.std.specs.List.{list_any}
+use Rattle.std.specs.Option.{option_to_list}
+use Rattle.std.specs.Str.{bytes_eq}
+use Rattle.serde_json.specs.Data.{Data}
+use Rattle.documents.specs.FirstFault.{broken}
+use Rattle.documents.specs.Json.{versioned_list}
+use Rattle.values.specs.Broken.{is_among}
+use Rattle.values.specs.declared.value.ColType.{ColType}
+use Rattle.values.specs.Names.{is_name}
+use Rattle.values.specs.Reading.{column_form}
+use Rattle.values.specs.Shapes.{TableShape}
+use Rattle.proclang_types.specs.Syntax.{ParamShape}
+use Rattle.proclang.specs.declared.fault.FaultKind.TheVariants.{Shape, DuplicateName}
+use Rattle.proclang.specs.declared.fault.ProcFault.{ProcFault}
+use Rattle.proclang.specs.declared.fault.ProcFault.TheVariants.{At}
+use Rattle.proclang.specs.BrokenExpressions.{not_int, in_expr}
+use Rattle.proclang.specs.BrokenStatements.{in_table, in_parts, too_many, in_block}
+use Rattle.proclang.specs.Expressions.{deepest}
+use Rattle.proclang.specs.ProcForms.{ProcDocument, proc_form, declared_form, EntryDocument, row_parts, part_parts, table_parts, db_parts, entry_form}
+use Rattle.proclang.specs.Seen.{Seen, seen_of}
+
+-- those of each part in turn, the first at the place that is given, behind the names that the parts before it give
+abbrev pub in_named_parts : (Data → Option (List ℕ)) → (List ℕ → List (List ℕ) → Data → List ProcFault) → List ℕ → ℕ → List (List ℕ) → List Data → List ProcFault
+in_named_parts named one path place names [] = []
+in_named_parts named one path place names (d ∷ ds) =
+    one (path ++ place ∷ []) names d ++ in_named_parts named one path (place + 1) (names ++ option_to_list (named d)) ds
+
+-- a name obeys the rule, and none before it is the same
+abbrev pub in_new_name : List ℕ → List (List ℕ) → List ℕ → List ProcFault
+in_new_name path names name = broken (is_name name) (At Shape path) ++ broken (not (is_among name names)) (At DuplicateName path)
+
+-- ---- parameters
+
+abbrev pub name_of_param : Data → Option (List ℕ)
+name_of_param d = option_map (λ (f : List ℕ × ColType). f.0) (column_form d)
+
+abbrev pub in_param_form : List ℕ → List (List ℕ) → Option (List ℕ × ColType) → List ProcFault
+in_param_form path names None = At Shape path ∷ []
+in_param_form path names (Some f) = in_new_name (path ++ 0 ∷ []) names f.0
+
+abbrev pub in_param : List ℕ → List (List ℕ) → Data → List ProcFault
+in_param path names d = in_param_form path names (column_form d)
+
+abbrev pub in_params : List ℕ → List Data → List ProcFault
+in_params path ds = too_many path 16 ds ++ in_named_parts name_of_param in_param path 0 [] ds
+
+-- the parameters that documents say
+abbrev pub params_of_form : Option (List ℕ × ColType) → List ParamShape → List ParamShape
+params_of_form None params = params
+params_of_form (Some f) params = record { name = f.0; kind = f.1 } ∷ params
+
+abbrev pub params_said : List Data → List ParamShape
+params_said [] = []
+params_said (d ∷ ds) = params_of_form (column_form d) (params_said ds)
+
+-- ---- footprints
+
+-- an Int expression over the parameters
+abbrev pub in_int : List ℕ → List Seen → Data → List ProcFault
+in_int path scope d = in_expr deepest path scope d ++ not_int path scope d
+
+abbrev pub in_entry_form : List TableShape → List ℕ → List Seen → Option EntryDocument → List ProcFault
+in_entry_form tables path scope None = At Shape path ∷ []
+in_entry_form tables path scope (Some (row_parts right table key)) = in_table (path ++ 2 ∷ []) tables table ++ in_int (path ++ 3 ∷ []) scope key
+in_entry_form tables path scope (Some (part_parts right table part)) = in_table (path ++ 2 ∷ []) tables table ++ in_int (path ++ 3 ∷ []) scope part
+in_entry_form tables path scope (Some (table_parts right table)) = in_table (path ++ 2 ∷ []) tables table
+in_entry_form tables path scope (Some (db_parts right)) = []
+
+abbrev pub in_entry : List TableShape → List Seen → List ℕ → Data → List ProcFault
+in_entry tables scope path d = in_entry_form tables path scope (entry_form d)
+
+abbrev pub in_footprint_form : List TableShape → List ℕ → List Seen → Option (List Data) → List ProcFault
+in_footprint_form tables path scope None = At Shape path ∷ []
+in_footprint_form tables path scope (Some ds) = too_many path 256 ds ++ in_parts (in_entry tables scope) path 1 ds
+
+abbrev pub in_footprint : List TableShape → List ℕ → List Seen → Data → List ProcFault
+in_footprint tables path scope d = in_footprint_form tables path scope (declared_form d)
+
+-- ---- procedures
+
+abbrev pub name_of_proc : Data → Option (List ℕ)
+name_of_proc d = option_map (λ (p : ProcDocument). p.name) (proc_form d)
+
+abbrev pub in_proc_form : List TableShape → List ℕ → List (List ℕ) → Option ProcDocument → List ProcFault
+in_proc_form tables path names None = At Shape path ∷ []
+in_proc_form tables path names (Some form) =
+    in_new_name (path ++ 0 ∷ []) names form.name
+    ++ (in_params (path ++ 1 ∷ []) form.params
+    ++ (in_footprint tables (path ++ 2 ∷ []) (seen_of (params_said form.params)) form.footprint
+    ++ in_block tables deepest (path ++ 3 ∷ []) (seen_of (params_said form.params)) form.body))
+
+abbrev pub in_proc : List TableShape → List ℕ → List (List ℕ) → Data → List ProcFault
+in_proc tables path names d = in_proc_form tables path names (proc_form d)
+
+abbrev pub in_procs_form : List TableShape → Option (List Data) → List ProcFault
+in_procs_form tables None = At Shape [] ∷ []
+in_procs_form tables (Some ds) = too_many (2 ∷ []) 256 ds ++ in_named_parts name_of_proc (in_proc tables) (2 ∷ []) 0 [] ds
+
+-- every rule that a document of procedures over the tables of a catalogue breaks
+abbrev pub broken_rules : List TableShape → Data → List ProcFault
+broken_rules tables d = in_procs_form tables (versioned_list (codes "procs") d)

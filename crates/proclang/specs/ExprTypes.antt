@@ -1,0 +1,50 @@
+-- The type that an expression has, by its outermost word alone.
+use Rattle.std.specs.Prelude.{Bool, true, false, List, Option, Some, None, option_map, option_and_then}
+use Rattle.serde_json.specs.Data.{Data}
+use Rattle.values.specs.declared.value.ColType.{ColType}
+use Rattle.values.specs.declared.value.ColType.TheVariants as types
+use Rattle.proclang.specs.declared.expr_form.Operator.{Operator}
+use Rattle.proclang.specs.declared.expr_form.Operator.TheVariants.{Add, Subtract, Less}
+use Rattle.proclang.specs.Seen.{Seen, found_in}
+use Rattle.proclang.specs.ExprForms.{Form, number_form, variable_form, binary_form, expr_form}
+
+-- Int, Text and Bool. No variable, column or reply is Bool.
+pub data ExprType : Type 0 where
+  int_type text_type bool_type : ExprType
+
+abbrev pub variable_type : ColType → ExprType
+variable_type types.Int = int_type
+variable_type types.Text = text_type
+
+abbrev pub result_type : Operator → ExprType
+result_type Add = int_type
+result_type Subtract = int_type
+result_type Less = bool_type
+
+abbrev pub type_of_form : List Seen → Form → Option ExprType
+type_of_form scope (number_form z) = Some int_type
+type_of_form scope (variable_form name) = option_map (λ v. variable_type v.kind) (found_in name scope)
+type_of_form scope (binary_form op a b) = Some (result_type op)
+
+-- the type of an expression, where it has a form and its variable is seen
+abbrev pub type_said : List Seen → Data → Option ExprType
+type_said scope d = option_and_then (type_of_form scope) (expr_form d)
+
+abbrev pub is_int : Option ExprType → Bool
+is_int None = false
+is_int (Some int_type) = true
+is_int (Some text_type) = false
+is_int (Some bool_type) = false
+
+abbrev pub is_bool : Option ExprType → Bool
+is_bool None = false
+is_bool (Some int_type) = false
+is_bool (Some text_type) = false
+is_bool (Some bool_type) = true
+
+-- what a column, a variable or a reply may hold
+abbrev pub is_value : Option ExprType → Bool
+is_value None = false
+is_value (Some int_type) = true
+is_value (Some text_type) = true
+is_value (Some bool_type) = false

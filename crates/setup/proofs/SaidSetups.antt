@@ -1,0 +1,206 @@
+-- What a setup's document says, and where it breaks a rule first, from what its parts say.
+use Rattle.std.proofs.Common.{◌≡◌, ◌⊎◌, inl, inr, ℕ, ℤ, pos, negsuc, Bool, true, false, if◌then◌else◌, ◌&&◌, List, [], ◌∷◌, map, Option, Some, None, option_and_then, Result, Ok, Err, refl, sym, ap, ◌∙◌, subst}
+use Rattle.std.specs.Prelude.{codes, ⊤}
+use Rattle.std.specs.Result.{IsErrAnd, IfOk, IfErr}
+use Rattle.std.specs.Str.{bytes_eq, IsUtf8, is_utf8}
+use Rattle.std.proofs.lemmas.Bool.{eqb-true}
+use Rattle.std.proofs.lemmas.Str.{IsUtf8-from_is_utf8, is_utf8-from_IsUtf8}
+use Rattle.std.proofs.lemmas.Slice.Eq.{bytes_eq-Decides}
+use Rattle.serde_json.specs.Data.{Data, string, array}
+use Rattle.serde_json.specs.Find.{as_str}
+use Rattle.serde_json.specs.Read.{read}
+use Rattle.serde_json.specs.View.{items_of}
+use Rattle.documents.specs.Json.{elements, five, integer, is_one}
+use Rattle.documents.specs.FirstFault.{first}
+use Rattle.documents.specs.Reading.{Gives}
+use Rattle.documents.proofs.Said.{string_said, elements_said, elements_again}
+use Rattle.documents.proofs.Steps.{and_then_ok}
+use Rattle.values.specs.Reading as catalogues
+use Rattle.values.specs.Rules.{SaysCatalogue, IsCatalogue}
+use Rattle.values.specs.Shapes.{TableShape}
+use Rattle.values.specs.declared.fault.CatalogueFault.{CatalogueFault}
+use Rattle.proclang_types.specs.Syntax.{ProcSyntax}
+use Rattle.proclang.specs.BrokenProcs as procedure_rules
+use Rattle.proclang.specs.Faults as procedures
+use Rattle.proclang.specs.Says.{SaysProcs}
+use Rattle.proclang.specs.declared.fault.ProcFault.{ProcFault}
+use Rattle.proclang.specs.declared.fault.ProcFault.TheVariants as proc_faults
+use Rattle.setup.specs.declared.fault.SetupFault.{SetupFault}
+use Rattle.setup.specs.declared.fault.SetupFault.TheVariants.{Procedure}
+use Rattle.setup.specs.declared.setup.Setup.{Setup}
+use Rattle.setup.specs.Faults.{is_memory}
+use Rattle.setup.specs.FirstFault.{InDocument, BreaksFirst, broken_rules}
+use Rattle.setup.specs.Rows.{RowAt}
+use Rattle.setup.specs.Says.{SaysRows, SpellsSetup, SaysDocument, IsJson, SaysSetup}
+use Rattle.setup.specs.Setups.{SetupDocument, SetupShape, parts_of, setup_form, setup_view}
+
+-- ---- the outer form
+
+five_said : (ds : List Data) (p : Data × Data × Data × Data × Data) → five ds ≡ Some p → ds ≡ p.0 ∷ p.1 ∷ p.2 ∷ p.3 ∷ p.4 ∷ []
+five_said (a ∷ b ∷ c ∷ d ∷ e ∷ []) p h = cc
+five_said [] p h = absurd cc
+five_said (a ∷ []) p h = absurd cc
+five_said (a ∷ b ∷ []) p h = absurd cc
+five_said (a ∷ b ∷ c ∷ []) p h = absurd cc
+five_said (a ∷ b ∷ c ∷ d ∷ []) p h = absurd cc
+five_said (a ∷ b ∷ c ∷ d ∷ e ∷ x ∷ ds) p h = absurd cc
+
+one_is : (z : ℤ) → is_one z ≡ true → z ≡ pos 1
+one_is (pos n) e = ap pos (eqb-true n 1 e)
+one_is (negsuc n) e = absurd cc
+
+choice_said : (word : List ℕ) (z : ℤ) (x y : SetupDocument) → (if bytes_eq word (codes "setup") && is_one z then Some x else None) ≡ Some y → (word ≡ codes "setup") × (z ≡ pos 1) × (x ≡ y)
+choice_said word z x y e = by (bytes_eq word (codes "setup")) (is_one z) refl refl
+  where
+    by : (a b : Bool) → bytes_eq word (codes "setup") ≡ a → is_one z ≡ b → (word ≡ codes "setup") × (z ≡ pos 1) × (x ≡ y)
+    by true true p q = ((bytes_eq-Decides word (codes "setup")).0 p, one_is z q, (let h = rw (p, q) at e in cc))
+    by true false p q = absurd (let h = rw (p, q) at e in cc)
+    by false b p q = absurd (let h = rw p at e in cc)
+
+head_is : (a b : Data) (w : List ℕ) (rest : List Data) → a ≡ string w → w ≡ codes "setup" → array (items_of (a ∷ b ∷ rest)) ≡ array (items_of (string (codes "setup") ∷ b ∷ rest))
+head_is a b w rest p q = rw (p, q) refl
+
+pub form_said : (d : Data) (form : SetupDocument) → setup_form d ≡ Some form → SpellsSetup d form
+unfolding setup_form
+form_said d form e =
+    let p = and_then_ok parts_of (option_and_then five (elements d)) form e in
+    let ds = and_then_ok five (elements d) p.0 p.1 in
+    let word = and_then_ok _ (as_str p.0.0) form p.2 in
+    let version = and_then_ok _ (integer p.0.1) form word.2 in
+    let said = choice_said word.0 version.0 (record { catalogue = p.0.2; procs = p.0.3; rows = p.0.4 }) form version.2 in
+    let spelled : SpellsSetup d (record { catalogue = p.0.2; procs = p.0.3; rows = p.0.4 }) = record {
+      version = p.0.1;
+      is_form = elements_said d ds.0 ds.1 ∙ ap (λ (es : List Data). array (items_of es)) (five_said ds.0 p.0 ds.2) ∙ head_is p.0.0 p.0.1 word.0 (p.0.2 ∷ p.0.3 ∷ p.0.4 ∷ []) (string_said p.0.0 word.0 word.1) said.0;
+      is_version = version.1 ∙ ap (λ (z : ℤ). Some z) said.1;
+    } in
+    subst (SpellsSetup d) said.2 spelled
+
+pub form_again : (d : Data) (form : SetupDocument) → SpellsSetup d form → setup_form d ≡ Some form
+unfolding setup_form
+form_again d form h = ap (λ (x : Data). option_and_then parts_of (option_and_then five (elements x))) h.is_form ∙ rw h.is_version refl
+
+-- a document has one form
+pub form_is : (d : Data) (form : SetupDocument) (s : SetupShape) → setup_form d ≡ Some form → (h : SaysDocument d s) → h.form ≡ form
+form_is d form s e h = some_is h.form form (sym (form_again d h.form h.is_form) ∙ e)
+  where
+    some_is : (x y : SetupDocument) → Some x ≡ Some y → x ≡ y
+    some_is x y e = cc
+
+-- ---- answers
+
+-- an answer for want of memory alone says nothing of the document
+pub refused : (r : Result Setup SetupFault) (e : SetupFault) (s : SetupShape) → IsErrAnd r (λ x. x ≡ e) → (is_memory e ≡ false → ⊥) → Gives is_memory setup_view r (Ok s)
+refused (Ok x) e s h none = absurd h
+refused (Err x) e s h none = λ known. absurd (none (subst (λ (y : SetupFault). is_memory y ≡ false) h known))
+
+pub breaks : (r : Result Setup SetupFault) (e : SetupFault) (d : Data) → IsErrAnd r (λ x. x ≡ e) → (is_memory e ≡ false → InDocument d e) → IfErr r (λ x. is_memory x ≡ false → InDocument d x)
+breaks (Ok x) e d h there = absurd h
+breaks (Err x) e d h there = λ known. subst (InDocument d) (sym h) (there (subst (λ (y : SetupFault). is_memory y ≡ false) h known))
+
+pub none_is : {A B : Type 0} {x : A} → ◌≡◌ {A = Option A} None (Some x) → B
+none_is e = absurd cc
+
+same_tables : (x y : List TableShape) → ◌≡◌ {A = Result (List TableShape) CatalogueFault} (Ok x) (Ok y) → x ≡ y
+same_tables x y e = cc
+
+same_procs : (x y : List ProcSyntax) → ◌≡◌ {A = Result (List ProcSyntax) ProcFault} (Ok x) (Ok y) → x ≡ y
+same_procs x y e = cc
+
+same_rows : (x y : List RowAt) → ◌≡◌ {A = Result (List RowAt) SetupFault} (Ok x) (Ok y) → x ≡ y
+same_rows x y e = cc
+
+-- ---- a setup that the document says, and a part that was read or refused
+
+module _ (d : Data) (form : SetupDocument) (s : SetupShape) where
+  catalogue_of : setup_form d ≡ Some form → SaysDocument d s → SaysCatalogue form.catalogue s.tables
+  catalogue_of e h = subst (λ (f : SetupDocument). SaysCatalogue f.catalogue s.tables) (form_is d form s e h) h.catalogue
+
+  procs_of : setup_form d ≡ Some form → SaysDocument d s → SaysProcs s.tables form.procs s.procs
+  procs_of e h = subst (λ (f : SetupDocument). SaysProcs s.tables f.procs s.procs) (form_is d form s e h) h.procs
+
+  rows_of : setup_form d ≡ Some form → SaysDocument d s → SaysRows s.tables form.rows s.rows
+  rows_of e h = subst (λ (f : SetupDocument). SaysRows s.tables f.rows s.rows) (form_is d form s e h) h.rows
+
+  pub no_catalogue : (f : CatalogueFault) → setup_form d ≡ Some form → SaysDocument d s
+      → ((ts : List TableShape) → IsCatalogue ts → SaysCatalogue form.catalogue ts → catalogues.is_memory f ≡ false → ◌≡◌ {A = Result (List TableShape) CatalogueFault} (Ok ts) (Err f)) → catalogues.is_memory f ≡ false → ⊥
+  no_catalogue f e h only known = let g = only s.tables h.is_catalogue (catalogue_of e h) known in cc
+
+  -- the tables that were read are those that the document says
+  tables_are : (tables : List TableShape) → setup_form d ≡ Some form → SaysDocument d s
+      → ((ts : List TableShape) → IsCatalogue ts → SaysCatalogue form.catalogue ts → ◌≡◌ {A = Result (List TableShape) CatalogueFault} (Ok ts) (Ok tables)) → s.tables ≡ tables
+  tables_are tables e h only = same_tables s.tables tables (only s.tables h.is_catalogue (catalogue_of e h))
+
+  pub no_procs : (tables : List TableShape) (f : ProcFault) → setup_form d ≡ Some form → SaysDocument d s
+      → ((ts : List TableShape) → IsCatalogue ts → SaysCatalogue form.catalogue ts → ◌≡◌ {A = Result (List TableShape) CatalogueFault} (Ok ts) (Ok tables))
+      → ((ps : List ProcSyntax) → SaysProcs tables form.procs ps → procedures.is_memory f ≡ false → ◌≡◌ {A = Result (List ProcSyntax) ProcFault} (Ok ps) (Err f)) → procedures.is_memory f ≡ false → ⊥
+  no_procs tables f e h only_tables only known =
+      let says : SaysProcs tables form.procs s.procs = subst (λ (ts : List TableShape). SaysProcs ts form.procs s.procs) (tables_are tables e h only_tables) (procs_of e h) in
+      let g = only s.procs says known in cc
+
+  pub no_rows : (tables : List TableShape) (f : SetupFault) → setup_form d ≡ Some form → SaysDocument d s
+      → ((ts : List TableShape) → IsCatalogue ts → SaysCatalogue form.catalogue ts → ◌≡◌ {A = Result (List TableShape) CatalogueFault} (Ok ts) (Ok tables))
+      → ((rows : List RowAt) → SaysRows tables form.rows rows → is_memory f ≡ false → ◌≡◌ {A = Result (List RowAt) SetupFault} (Ok rows) (Err f)) → is_memory f ≡ false → ⊥
+  no_rows tables f e h only_tables only known =
+      let says : SaysRows tables form.rows s.rows = subst (λ (ts : List TableShape). SaysRows ts form.rows s.rows) (tables_are tables e h only_tables) (rows_of e h) in
+      let g = only s.rows says known in cc
+
+  pub only_parts : (tables : List TableShape) (procs : List ProcSyntax) (rows : List RowAt) → setup_form d ≡ Some form → SaysDocument d s
+      → ((ts : List TableShape) → IsCatalogue ts → SaysCatalogue form.catalogue ts → ◌≡◌ {A = Result (List TableShape) CatalogueFault} (Ok ts) (Ok tables))
+      → ((ps : List ProcSyntax) → SaysProcs tables form.procs ps → ◌≡◌ {A = Result (List ProcSyntax) ProcFault} (Ok ps) (Ok procs))
+      → ((rs : List RowAt) → SaysRows tables form.rows rs → ◌≡◌ {A = Result (List RowAt) SetupFault} (Ok rs) (Ok rows))
+      → ◌≡◌ {A = Result SetupShape SetupFault} (Ok s) (Ok (record { tables = tables; procs = procs; rows = rows }))
+  only_parts tables procs rows e h only_tables only_procs only_rows =
+      let same = tables_are tables e h only_tables in
+      let procs_are = same_procs s.procs procs (only_procs s.procs (subst (λ (ts : List TableShape). SaysProcs ts form.procs s.procs) same (procs_of e h))) in
+      let rows_are = same_rows s.rows rows (only_rows s.rows (subst (λ (ts : List TableShape). SaysRows ts form.rows s.rows) same (rows_of e h))) in
+      made s.tables tables s.procs procs s.rows rows same procs_are rows_are
+    where
+      made : (a b : List TableShape) (p q : List ProcSyntax) (x y : List RowAt) → a ≡ b → p ≡ q → x ≡ y
+          → ◌≡◌ {A = Result SetupShape SetupFault} (Ok (record { tables = a; procs = p; rows = x })) (Ok (record { tables = b; procs = q; rows = y }))
+      made a b p q x y g h i = rw (g, h, i) refl
+
+-- ---- the first fault
+
+module _ (d : Data) (form : SetupDocument) (tables : List TableShape) where
+  pub in_procs : (f : ProcFault) → setup_form d ≡ Some form → SaysCatalogue form.catalogue tables → IsCatalogue tables → (f ≡ proc_faults.Memory) ⊎ (first (procedure_rules.broken_rules tables form.procs) ≡ Some f)
+      → procedures.is_memory f ≡ false → InDocument d (Procedure f)
+  in_procs f e says is (inl m) known = absurd (let g = sym (ap procedures.is_memory m) ∙ known in cc)
+  in_procs f e says is (inr h) known = inr (form, e, inr (inl (record { tables = tables; catalogue = says; is_catalogue = is; rule = f; is = refl; is_first = h })))
+
+  pub in_rows : (procs : List ProcSyntax) (f : SetupFault) → setup_form d ≡ Some form → SaysCatalogue form.catalogue tables → IsCatalogue tables → SaysProcs tables form.procs procs
+      → (is_memory f ≡ false → first (broken_rules tables form.rows) ≡ Some f) → is_memory f ≡ false → InDocument d f
+  in_rows procs f e says is are h known = inr (form, e, inr (inr (record { tables = tables; catalogue = says; is_catalogue = is; procs = procs; are_procs = are; is_first = h known })))
+
+  pub found_parts : (procs : List ProcSyntax) (rows : List RowAt) → setup_form d ≡ Some form → SaysCatalogue form.catalogue tables → IsCatalogue tables → SaysProcs tables form.procs procs → SaysRows tables form.rows rows
+      → SaysDocument d (record { tables = tables; procs = procs; rows = rows })
+  found_parts procs rows e says is are there = record { form = form; is_form = form_said d form e; catalogue = says; is_catalogue = is; procs = are; rows = there }
+
+-- ---- texts
+
+pub not_utf8 : (text : List ℕ) → (IsUtf8 text → ⊥) → is_utf8 text ≡ false
+not_utf8 text never = by (is_utf8 text) refl
+  where
+    by : (b : Bool) → is_utf8 text ≡ b → is_utf8 text ≡ false
+    by false e = e
+    by true e = absurd (never (IsUtf8-from_is_utf8 text e))
+
+pub says_nothing : {B : Type 0} (text : List ℕ) (s : SetupShape) → (IsUtf8 text → ⊥) → SaysSetup text s → B
+says_nothing text s never says = absurd (never (IsUtf8-from_is_utf8 text says.1.utf8))
+
+json_of : (text bytes : List ℕ) (d : Data) → bytes ≡ text → IsUtf8 text → read bytes ≡ Some d → IsJson text d
+json_of text bytes d same utf8 e = record { utf8 = is_utf8-from_IsUtf8 text utf8; json = ap read (sym same) ∙ e }
+
+pub text_found : (text bytes : List ℕ) (d : Data) (r : Result Setup SetupFault) → bytes ≡ text → IsUtf8 text → read bytes ≡ Some d → IfOk r (λ s. SaysDocument d (setup_view s)) → IfOk r (λ s. SaysSetup text (setup_view s))
+text_found text bytes d (Ok s) same utf8 e h = (d, json_of text bytes d same utf8 e, h)
+text_found text bytes d (Err f) same utf8 e h = tt
+
+pub text_first : (text bytes : List ℕ) (d : Data) (r : Result Setup SetupFault) → bytes ≡ text → IsUtf8 text → read bytes ≡ Some d → IfErr r (λ f. is_memory f ≡ false → InDocument d f) → IfErr r (λ f. is_memory f ≡ false → BreaksFirst text f)
+text_first text bytes d (Ok s) same utf8 e h = tt
+text_first text bytes d (Err f) same utf8 e h = λ known. inr (d, json_of text bytes d same utf8 e, h known)
+
+pub unbroken : {P : Type 0} (e : SetupFault) → (is_memory e ≡ false → P) → (P → ⊥) → is_memory e ≡ true
+unbroken e h never = by (is_memory e) refl
+  where
+    by : (b : Bool) → is_memory e ≡ b → is_memory e ≡ true
+    by true q = q
+    by false q = absurd (never (h q))

@@ -1,0 +1,101 @@
+-- Where a setup breaks a rule first: all that comes before that place is well formed, and the fault is that of the first rule that is broken there.
+use Rattle.std.specs.Prelude.{◌≡◌, ◌⊎◌, ℕ, ℤ, ◌==◌, ◌&&◌, Bool, false, not, List, [], ◌∷◌, ◌++◌, Option, Some, None, is_some, option_and_then, option_map, codes}
+use Rattle.std.specs.List.{list_any}
+use Rattle.serde_json.specs.Data.{Data}
+use Rattle.documents.specs.FirstFault.{broken, in_each, first}
+use Rattle.documents.specs.Json.{text_number_list, versioned_list}
+use Rattle.values.specs.Broken as catalogues
+use Rattle.values.specs.declared.fault.CatalogueFault.{CatalogueFault}
+use Rattle.values.specs.declared.value.Value.{Value}
+use Rattle.values.specs.Keys.{key_of, table_named}
+use Rattle.values.specs.Rules.{SaysCatalogue, IsCatalogue}
+use Rattle.values.specs.Shapes.{TableShape}
+use Rattle.proclang_types.specs.Syntax.{ProcSyntax}
+use Rattle.proclang.specs.BrokenProcs as procedures
+use Rattle.proclang.specs.declared.fault.ProcFault.{ProcFault}
+use Rattle.proclang.specs.Says.{SaysProcs}
+use Rattle.setup.specs.declared.fault.SetupFault.{SetupFault}
+use Rattle.setup.specs.declared.fault.SetupFault.TheVariants.{NotJson, Shape, RowTable, RowKey, RowValue, RowTwice, Catalogue, Procedure}
+use Rattle.setup.specs.Rows.{row_values}
+use Rattle.setup.specs.Says.{IsJson, IsNotJson}
+use Rattle.setup.specs.Setups.{SetupDocument, setup_form}
+
+-- ---- rows: every rule that their document breaks, in its order
+
+-- a table and a key
+abbrev pub Place : Type 0
+Place = ℕ × ℕ
+
+abbrev pub Form : Type 0
+Form = List ℕ × ℤ × List Data
+
+abbrev pub place_of_form : List TableShape → Form → Option Place
+place_of_form tables f = option_and_then (λ (table : ℕ). option_map (λ (key : ℕ). (table, key)) (key_of f.1)) (table_named tables f.0)
+
+-- the table and the key that a row's document gives
+abbrev pub place_said : List TableShape → Data → Option Place
+place_said tables d = option_and_then (place_of_form tables) (text_number_list d)
+
+-- the values of a row that the table of that name takes
+abbrev pub values_for : List TableShape → Form → Option (List Value)
+values_for tables f = option_and_then (λ (table : ℕ). row_values tables table f.2) (table_named tables f.0)
+
+abbrev pub is_taken : List Place → Option Place → Bool
+is_taken places None = false
+is_taken places (Some p) = list_any (λ (q : Place). (q.0 == p.0) && (q.1 == p.1)) places
+
+-- behind rows of these names
+abbrev pub in_row_form : List TableShape → List Place → Option Form → List SetupFault
+in_row_form tables places None = Shape ∷ []
+in_row_form tables places (Some f) =
+    broken (is_some (table_named tables f.0)) RowTable
+    ++ (broken (is_some (key_of f.1)) RowKey
+    ++ (broken (is_some (values_for tables f)) RowValue
+    ++ broken (not (is_taken places (place_of_form tables f))) RowTwice))
+
+abbrev pub in_row : List TableShape → List Place → Data → List SetupFault
+in_row tables places d = in_row_form tables places (text_number_list d)
+
+abbrev pub in_rows_form : List TableShape → Option (List Data) → List SetupFault
+in_rows_form tables None = Shape ∷ []
+in_rows_form tables (Some ds) = in_each (place_said tables) (in_row tables) [] ds
+
+abbrev pub broken_rules : List TableShape → Data → List SetupFault
+broken_rules tables d = in_rows_form tables (versioned_list (codes "rows") d)
+
+-- ---- setups
+
+-- the catalogue breaks a rule
+pub record InCatalogue (form : SetupDocument) (fault : SetupFault) : Type 0 where
+  pub rule : CatalogueFault
+  pub is : fault ≡ Catalogue rule
+  pub is_first : first (catalogues.broken_rules form.catalogue) ≡ Some rule
+
+-- the catalogue says tables, and the procedures break a rule over them
+pub record InProcs (form : SetupDocument) (fault : SetupFault) : Type 0 where
+  pub tables : List TableShape
+  pub catalogue : SaysCatalogue form.catalogue tables
+  pub is_catalogue : IsCatalogue tables
+  pub rule : ProcFault
+  pub is : fault ≡ Procedure rule
+  pub is_first : first (procedures.broken_rules tables form.procs) ≡ Some rule
+
+-- the catalogue says tables, there are procedures over them, and the rows break a rule
+pub record InRows (form : SetupDocument) (fault : SetupFault) : Type 0 where
+  pub tables : List TableShape
+  pub catalogue : SaysCatalogue form.catalogue tables
+  pub is_catalogue : IsCatalogue tables
+  pub procs : List ProcSyntax
+  pub are_procs : SaysProcs tables form.procs procs
+  pub is_first : first (broken_rules tables form.rows) ≡ Some fault
+
+abbrev pub InForm : SetupDocument → SetupFault → Type 0
+InForm form fault = InCatalogue form fault ⊎ (InProcs form fault ⊎ InRows form fault)
+
+-- the outer form comes before the parts
+abbrev pub InDocument : Data → SetupFault → Type 0
+InDocument d fault = ((fault ≡ Shape) × (setup_form d ≡ None)) ⊎ ((form : SetupDocument) × (setup_form d ≡ Some form) × InForm form fault)
+
+-- the first rule that a text breaks
+abbrev pub BreaksFirst : List ℕ → SetupFault → Type 0
+BreaksFirst text fault = ((fault ≡ NotJson) × IsNotJson text) ⊎ ((d : Data) × IsJson text d × InDocument d fault)

@@ -1,0 +1,66 @@
+-- Which documents say a setup: a relation between documents and what they say, apart from faults and the order in which a document is read.
+use Rattle.std.specs.Prelude.{◌≡◌, ◌⊎◌, ℕ, ◌==◌, ◌&&◌, pos, Bool, true, false, List, [], ◌∷◌, map, Option, Some, None, codes}
+use Rattle.std.specs.List.{IsDistinct}
+use Rattle.std.specs.Str.{is_utf8}
+use Rattle.serde_json.specs.Data.{Data, string, array}
+use Rattle.serde_json.specs.Read.{read}
+use Rattle.serde_json.specs.View.{items_of}
+use Rattle.documents.specs.Json.{integer}
+use Rattle.values.specs.Keys.{table_named}
+use Rattle.values.specs.Rules.{Says, SaysCatalogue, IsCatalogue}
+use Rattle.values.specs.Shapes.{TableShape}
+use Rattle.proclang.specs.Says.{SaysProcs}
+use Rattle.setup.specs.Rows.{RowAt, row_values}
+use Rattle.setup.specs.Setups.{SetupDocument, SetupShape}
+
+-- ---- rows
+
+-- ["acct", 1, [100]]: values that the table of that name takes
+pub record SaysRow (tables : List TableShape) (d : Data) (row : RowAt) : Type 0 where
+  pub table : List ℕ
+  pub key : Data
+  pub list : List Data
+  pub is_form : d ≡ array (items_of (string table ∷ key ∷ array (items_of list) ∷ []))
+  pub is_table : table_named tables table ≡ Some row.0
+  pub is_key : integer key ≡ Some (pos row.1)
+  pub is_row : row_values tables row.0 list ≡ Some row.2
+
+-- two rows of one table and key
+abbrev pub same_name : RowAt → RowAt → Bool
+same_name a b = (a.0 == b.0) && (a.1 == b.1)
+
+-- ["rows", 1, [ROW ..]], and no two rows have one name
+pub record SaysRows (tables : List TableShape) (d : Data) (rows : List RowAt) : Type 0 where
+  pub version : Data
+  pub list : List Data
+  pub is_form : d ≡ array (items_of (string (codes "rows") ∷ version ∷ array (items_of list) ∷ []))
+  pub is_version : integer version ≡ Some (pos 1)
+  pub are : Says (SaysRow tables) list rows
+  pub distinct : IsDistinct same_name rows
+
+-- ---- setups
+
+-- ["setup", 1, CATALOGUE, PROCEDURES, ROWS]
+pub record SpellsSetup (d : Data) (form : SetupDocument) : Type 0 where
+  pub version : Data
+  pub is_form : d ≡ array (items_of (string (codes "setup") ∷ version ∷ form.catalogue ∷ form.procs ∷ form.rows ∷ []))
+  pub is_version : integer version ≡ Some (pos 1)
+
+pub record SaysDocument (d : Data) (s : SetupShape) : Type 0 where
+  pub form : SetupDocument
+  pub is_form : SpellsSetup d form
+  pub catalogue : SaysCatalogue form.catalogue s.tables
+  pub is_catalogue : IsCatalogue s.tables
+  pub procs : SaysProcs s.tables form.procs s.procs
+  pub rows : SaysRows s.tables form.rows s.rows
+
+-- a text is UTF-8 and JSON, and says that document
+pub record IsJson (text : List ℕ) (d : Data) : Type 0 where
+  pub utf8 : is_utf8 text ≡ true
+  pub json : read text ≡ Some d
+
+abbrev pub IsNotJson : List ℕ → Type 0
+IsNotJson text = (is_utf8 text ≡ false) ⊎ (read text ≡ None)
+
+abbrev pub SaysSetup : List ℕ → SetupShape → Type 0
+SaysSetup text s = (d : Data) × IsJson text d × SaysDocument d s
