@@ -1,5 +1,5 @@
 -- The fault that reading an expression meets is the first rule that it breaks.
-use Rattle.std.proofs.Common.{◌≡◌, ℕ, zero, suc, Bool, true, false, List, [], ◌∷◌, ◌++◌, Option, Some, None, option_map, option_and_then, is_some, Result, Ok, Err, refl, sym, ap, ◌∙◌, subst}
+use Rattle.std.proofs.Common.{◌≡◌, ℕ, zero, suc, List, [], ◌∷◌, ◌++◌, Option, Some, None, option_map, option_and_then, is_some, Result, Ok, refl, sym, ap, ◌∙◌, subst}
 use Rattle.serde_json.specs.Data.{Data}
 use Rattle.documents.specs.FirstFault.{broken, IsFirst}
 use Rattle.documents.specs.Reading.{formed}
@@ -7,7 +7,7 @@ use Rattle.documents.proofs.FirstFault.{bind_first, formed_first, ok_first}
 use Rattle.documents.proofs.Steps.{bind_ok, formed_ok}
 use Rattle.values.specs.declared.value.ColType.{ColType}
 use Rattle.values.specs.declared.value.ColType.TheVariants as types
-use Rattle.proclang_types.specs.Syntax.{IntSyntax, number, add, subtract, BoolSyntax, less, ExprSyntax, int, text, bool, ValueSyntax, int_value, text_value}
+use Rattle.proclang_types.specs.Syntax.{IntSyntax, number, add, subtract, less, ExprSyntax, int, text, bool}
 use Rattle.proclang.specs.declared.fault.FaultKind.TheVariants.{Shape, UnknownName, TypeMismatch, Limit}
 use Rattle.proclang.specs.declared.fault.ProcFault.{ProcFault}
 use Rattle.proclang.specs.declared.fault.ProcFault.TheVariants.{At}

@@ -1,5 +1,5 @@
 -- The fault that reading procedures meets is the first rule that their document breaks.
-use Rattle.std.proofs.Common.{◌≡◌, ◌⊎◌, inl, inr, ℕ, zero, suc, ◌+◌, Bool, true, false, ◌||◌, not, leb, List, [], ◌∷◌, ◌++◌, length, map, Option, Some, None, option_map, option_and_then, is_some, Result, Ok, Err, refl, sym, ap, ◌∙◌, subst, append_assoc}
+use Rattle.std.proofs.Common.{◌≡◌, ◌⊎◌, inl, inr, ℕ, ◌+◌, Bool, true, false, ◌||◌, not, leb, List, [], ◌∷◌, ◌++◌, length, map, Option, Some, option_map, Result, Ok, Err, refl, sym, ap, ◌∙◌, subst, append_assoc}
 use Rattle.std.specs.Prelude.{codes}
 use Rattle.std.specs.Option.{option_to_list}
 use Rattle.std.specs.Str.{bytes_eq}
@@ -8,28 +8,28 @@ use Rattle.serde_json.specs.Data.{Data}
 use Rattle.documents.specs.FirstFault.{broken, first, IsFirst}
 use Rattle.documents.specs.Json.{versioned_list}
 use Rattle.documents.specs.Reading.{◌>>=◌, formed, rule}
-use Rattle.documents.proofs.FirstFault.{bind_first, formed_first, ok_first, rule_first, rule_last}
-use Rattle.documents.proofs.Steps.{bind_ok, rule_ok, formed_ok}
+use Rattle.documents.proofs.FirstFault.{bind_first, formed_first, ok_first, rule_first}
+use Rattle.documents.proofs.Steps.{bind_ok, formed_ok}
 use Rattle.values.specs.Broken.{is_among}
 use Rattle.values.specs.declared.value.ColType.{ColType}
 use Rattle.values.specs.Names.{is_name}
 use Rattle.values.specs.Reading.{column_form, is_used}
 use Rattle.values.specs.Shapes.{TableShape}
 use Rattle.values.specs.Keys.{table_named}
-use Rattle.proclang_types.specs.Syntax.{IntSyntax, EntrySyntax, row_entry, part_entry, table_entry, db_entry, ParamShape, StmtSyntax, ProcSyntax}
+use Rattle.proclang_types.specs.Syntax.{row_entry, part_entry, table_entry, ParamShape, ProcSyntax}
 use Rattle.proclang.specs.declared.fault.FaultKind.TheVariants.{Shape, UnknownTable, DuplicateName, Limit}
 use Rattle.proclang.specs.declared.fault.ProcFault.{ProcFault}
 use Rattle.proclang.specs.declared.fault.ProcFault.TheVariants.{Memory, At}
 use Rattle.proclang.specs.Faults.{is_memory}
 use Rattle.proclang.specs.Seen.{Seen, seen_of}
 use Rattle.proclang.specs.Walk.{each_from, behind, at_most}
-use Rattle.proclang.specs.Lookups.{declared_at, table_at}
+use Rattle.proclang.specs.Lookups.{table_at}
 use Rattle.proclang.specs.Expressions.{deepest, as_int, expr_at}
 use Rattle.proclang.specs.Statements.{block_at}
 use Rattle.proclang.specs.ProcForms.{ProcDocument, proc_form, declared_form, EntryDocument, row_parts, part_parts, table_parts, db_parts, entry_form}
 use Rattle.proclang.specs.Procs.{fresh_at, param_at, each_param, params_at, int_at, entry_of, entry_at, each_entry, footprint_at, PartsSyntax, parts_at, proc_at, each_proc, procs_at}
 use Rattle.proclang.specs.BrokenExpressions.{not_int, in_expr}
-use Rattle.proclang.specs.BrokenStatements.{in_table, in_parts, too_many, in_block}
+use Rattle.proclang.specs.BrokenStatements.{in_table, in_parts, in_block}
 use Rattle.proclang.specs.BrokenProcs.{in_named_parts, in_new_name, name_of_param, in_param_form, in_param, in_params, params_of_form, params_said, in_int, in_entry_form, in_entry, in_footprint_form, in_footprint, name_of_proc, in_proc_form, in_proc, in_procs_form, broken_rules}
 use Rattle.proclang.proofs.FirstExpressions.{type_so, int_first, expr_first}
 use Rattle.proclang.proofs.FirstStatements.{found_first, parts_first, block_first}

@@ -1,11 +1,11 @@
 -- The fault that reading a statement or a block meets is the first rule that it breaks.
-use Rattle.std.proofs.Common.{◌≡◌, ℕ, zero, suc, ℤ, pos, negsuc, ◌+◌, Bool, true, false, cond, leb, ◌&&◌, not, List, [], ◌∷◌, ◌++◌, length, Option, Some, None, option_map, option_and_then, is_some, Result, Ok, Err, refl, sym, ap, ◌∙◌, subst, append_assoc}
+use Rattle.std.proofs.Common.{◌≡◌, ℕ, zero, suc, ℤ, pos, negsuc, ◌+◌, Bool, true, false, leb, ◌&&◌, not, List, [], ◌∷◌, ◌++◌, length, Option, Some, None, option_and_then, is_some, Result, Ok, refl, sym, ap, ◌∙◌, subst, append_assoc}
 use Rattle.std.specs.Prelude.{⊤}
 use Rattle.std.proofs.lemmas.List.{append-nil}
 use Rattle.serde_json.specs.Data.{Data}
 use Rattle.documents.specs.FirstFault.{broken, IsFirst}
 use Rattle.documents.specs.Json.{elements}
-use Rattle.documents.specs.Reading.{◌>>=◌, formed, rule}
+use Rattle.documents.specs.Reading.{formed}
 use Rattle.documents.proofs.FirstFault.{bind_first, formed_first, ok_first, rule_first, rule_last, if_first}
 use Rattle.documents.proofs.Steps.{bind_ok, rule_ok, formed_ok}
 use Rattle.values.specs.declared.value.ColType.{ColType}
@@ -13,8 +13,7 @@ use Rattle.values.specs.declared.value.ColType.TheVariants as types
 use Rattle.values.specs.Keys.{table_named}
 use Rattle.values.specs.Names.{is_name}
 use Rattle.values.specs.Shapes.{TableShape}
-use Rattle.proclang_types.specs.Syntax.{IntSyntax, BoolSyntax, ExprSyntax, int, text, bool, ValueSyntax, int_value, text_value, StmtSyntax, get, put, choose, abort, reply, block_of}
-use Rattle.proclang_types.specs.Typing.{kind_of}
+use Rattle.proclang_types.specs.Syntax.{ExprSyntax, int, text, bool, ValueSyntax, int_value, text_value, StmtSyntax, get, put, choose, abort, reply, block_of}
 use Rattle.proclang.specs.declared.fault.FaultKind.TheVariants.{Shape, UnknownTable, UnknownColumn, TypeMismatch, DuplicateName, AbortCode, Limit}
 use Rattle.proclang.specs.declared.fault.ProcFault.{ProcFault}
 use Rattle.proclang.specs.declared.fault.ProcFault.TheVariants.{At}
@@ -22,14 +21,14 @@ use Rattle.proclang.specs.declared.scope.Declaration.TheVariants.{Statement}
 use Rattle.proclang.specs.declared.scope.Found.{Found}
 use Rattle.proclang.specs.Faults.{refuse}
 use Rattle.proclang.specs.Seen.{Seen, found_in}
-use Rattle.proclang.specs.Walk.{each_from, behind, at_most}
+use Rattle.proclang.specs.Walk.{each_from, behind}
 use Rattle.proclang.specs.Lookups.{declared_at, table_at, column_in, column_at}
 use Rattle.proclang.specs.Expressions.{deepest, as_int, as_bool, as_value, expr_at}
 use Rattle.proclang.specs.StmtForms.{GetParts, PutParts, IfParts, StatementForm, get_parts, put_parts, if_parts, abort_code, reply_values, statement_form}
 use Rattle.proclang.specs.Statements.{is_parameter, target_of, target_at, same_type, bound, of_type, get_at, put_at, if_at, abort_at, exprs_at, values_at, reply_at, in_scope, form_at, statement_at, next_statement, block_at}
-use Rattle.proclang.specs.ExprTypes.{ExprType, int_type, text_type, bool_type, type_said}
+use Rattle.proclang.specs.ExprTypes.{type_said}
 use Rattle.proclang.specs.BrokenExpressions.{not_int, not_bool, not_value, in_expr}
-use Rattle.proclang.specs.BrokenStatements.{in_table, column_said, in_column, in_target, keeps_type, is_of_column, in_get, in_put, in_if, is_abort_code, in_abort, in_parts, too_many, in_reply, in_statement_form, in_statement, seen_with, seen_after_form, seen_after, in_statements, in_deep_block, in_block_form, in_block}
+use Rattle.proclang.specs.BrokenStatements.{in_table, column_said, in_column, in_target, keeps_type, is_of_column, in_get, in_put, in_if, in_abort, in_parts, in_reply, in_statement_form, in_statement, seen_with, seen_after_form, seen_after, in_statements, in_deep_block, in_block_form, in_block}
 use Rattle.proclang.proofs.FirstExpressions.{type_read, type_so, int_first, bool_first, value_first, expr_first}
 
 -- ---- names

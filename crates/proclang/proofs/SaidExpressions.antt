@@ -1,5 +1,5 @@
 -- What is read is an expression that the document says, and such an expression is read.
-use Rattle.std.proofs.Common.{◌≡◌, ℕ, zero, suc, List, [], ◌∷◌, ◌++◌, Option, Some, None, Result, Ok, Err, refl, sym, ap, ◌∙◌, subst}
+use Rattle.std.proofs.Common.{◌≡◌, ℕ, zero, suc, List, [], ◌∷◌, ◌++◌, Option, Some, None, Result, Ok, refl, sym, ap, ◌∙◌, subst}
 use Rattle.serde_json.specs.Data.{Data}
 use Rattle.documents.specs.Reading.{formed}
 use Rattle.documents.proofs.Steps.{bind_ok, formed_ok}

@@ -1,36 +1,33 @@
 -- What is read are the procedures that the document says, and such procedures are read.
-use Rattle.std.proofs.Common.{◌≡◌, ◌≤◌, ℕ, zero, suc, pos, ◌+◌, Bool, true, false, ◌||◌, not, leb, List, [], ◌∷◌, ◌++◌, length, map, Option, Some, None, Result, Ok, Err, refl, sym, ap, ◌∙◌, subst, append_assoc}
+use Rattle.std.proofs.Common.{◌≡◌, ℕ, ◌+◌, Bool, true, false, not, List, [], ◌∷◌, ◌++◌, map, Some, Result, Ok, refl, sym, ap, ◌∙◌, subst, append_assoc}
 use Rattle.std.specs.Prelude.{⊤, codes}
 use Rattle.std.specs.List.{AllByRecursion, IsDistinct}
 use Rattle.std.specs.Str.{bytes_eq}
-use Rattle.std.proofs.lemmas.Bool.{leb-true, le-leb}
-use Rattle.std.proofs.lemmas.List.{append-nil, map-append}
-use Rattle.serde_json.specs.Data.{Data, string, array}
-use Rattle.serde_json.specs.View.{items_of}
-use Rattle.documents.specs.Json.{integer, versioned_list}
+use Rattle.std.proofs.lemmas.List.{append-nil}
+use Rattle.serde_json.specs.Data.{Data}
+use Rattle.documents.specs.Json.{versioned_list}
 use Rattle.documents.specs.Reading.{formed, rule}
 use Rattle.documents.proofs.Said.{versioned_said, versioned_again}
 use Rattle.documents.proofs.Steps.{bind_ok, rule_ok, formed_ok}
-use Rattle.values.specs.declared.value.ColType.{ColType}
 use Rattle.values.specs.Keys.{table_named}
 use Rattle.values.specs.Names.{is_name}
-use Rattle.values.specs.Reading.{column_form, is_used, type_of_word}
+use Rattle.values.specs.Reading.{column_form, is_used}
 use Rattle.values.specs.Rules.{Says}
 use Rattle.values.specs.Shapes.{TableShape}
 use Rattle.values.proofs.Forms.{column_said, column_again}
 use Rattle.values.proofs.Named.{distinct_push, unused}
-use Rattle.proclang_types.specs.Syntax.{IntSyntax, ExprSyntax, int, EntrySyntax, row_entry, part_entry, table_entry, db_entry, ParamShape, StmtSyntax, ProcSyntax}
+use Rattle.proclang_types.specs.Syntax.{IntSyntax, int, EntrySyntax, row_entry, part_entry, table_entry, db_entry, ParamShape, StmtSyntax, ProcSyntax}
 use Rattle.proclang.specs.declared.fault.FaultKind.TheVariants.{Shape, UnknownTable, DuplicateName}
 use Rattle.proclang.specs.declared.fault.ProcFault.{ProcFault}
 use Rattle.proclang.specs.declared.fault.ProcFault.TheVariants.{At}
 use Rattle.proclang.specs.Seen.{Seen, seen_of}
 use Rattle.proclang.specs.Walk.{each_from, behind, at_most}
-use Rattle.proclang.specs.Lookups.{declared_at, table_at}
-use Rattle.proclang.specs.Expressions.{deepest, as_int, expr_at}
+use Rattle.proclang.specs.Lookups.{table_at}
+use Rattle.proclang.specs.Expressions.{deepest, expr_at}
 use Rattle.proclang.specs.Statements.{block_at}
 use Rattle.proclang.specs.ProcForms.{ProcDocument, proc_form, declared_form, EntryDocument, row_parts, part_parts, table_parts, db_parts, entry_form}
-use Rattle.proclang.specs.Procs.{fresh_at, param_at, each_param, params_at, int_at, entry_of, entry_at, each_entry, footprint_at, PartsSyntax, parts_at, proc_at, each_proc, procs_at}
-use Rattle.proclang.specs.Says.{SaysExpr, SaysInt, SaysBlock, SaysParam, AreNames, SaysParams, SaysEntryForm, SaysEntry, SaysFootprint, SaysProc, SaysProcs}
+use Rattle.proclang.specs.Procs.{fresh_at, param_at, params_at, int_at, entry_of, entry_at, footprint_at, PartsSyntax, parts_at, proc_at, procs_at}
+use Rattle.proclang.specs.Says.{SaysExpr, SaysInt, SaysBlock, SaysParam, SaysParams, SaysEntryForm, SaysEntry, SaysFootprint, SaysProc, SaysProcs}
 use Rattle.proclang.proofs.SaidExpressions.{int_found, expr_found, expr_read}
 use Rattle.proclang.proofs.SaidStatements.{few_found, few_again, parts_found, parts_read, block_found, block_read}
 use Rattle.proclang.proofs.Spelled.{entry_said, entry_again, declared_said, declared_again, proc_said, proc_again}

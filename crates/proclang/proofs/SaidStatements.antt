@@ -1,11 +1,11 @@
 -- What is read is a block that the document says, and such a block is read.
-use Rattle.std.proofs.Common.{◌≡◌, ◌≤◌, ℕ, zero, suc, ℤ, pos, negsuc, ◌+◌, Bool, true, false, leb, not, List, [], ◌∷◌, ◌++◌, length, map, Option, Some, None, Result, Ok, Err, refl, sym, ap, ◌∙◌, subst, append_assoc, inl, inr}
+use Rattle.std.proofs.Common.{◌≡◌, ◌≤◌, ℕ, zero, suc, ℤ, pos, negsuc, ◌+◌, Bool, true, false, leb, not, List, [], ◌∷◌, ◌++◌, length, map, Option, Some, None, Result, Ok, refl, sym, ap, ◌∙◌, subst, append_assoc, inl, inr}
 use Rattle.std.specs.Prelude.{⊤}
 use Rattle.std.proofs.lemmas.Bool.{leb-true, le-leb}
 use Rattle.std.proofs.lemmas.List.{append-nil}
 use Rattle.serde_json.specs.Data.{Data}
 use Rattle.documents.specs.Json.{elements}
-use Rattle.documents.specs.Reading.{formed, rule}
+use Rattle.documents.specs.Reading.{formed}
 use Rattle.documents.proofs.Said.{elements_said, elements_again}
 use Rattle.documents.proofs.Steps.{bind_ok, rule_ok, formed_ok}
 use Rattle.values.specs.declared.value.ColType.{ColType}
@@ -14,7 +14,7 @@ use Rattle.values.specs.Keys.{table_named}
 use Rattle.values.specs.Names.{is_name}
 use Rattle.values.specs.Rules.{Says}
 use Rattle.values.specs.Shapes.{TableShape}
-use Rattle.proclang_types.specs.Syntax.{IntSyntax, ExprSyntax, int, bool, ValueSyntax, StmtSyntax, get, put, choose, abort, reply, block_of}
+use Rattle.proclang_types.specs.Syntax.{ExprSyntax, int, bool, ValueSyntax, StmtSyntax, get, put, choose, abort, reply, block_of}
 use Rattle.proclang_types.specs.Typing.{kind_of}
 use Rattle.proclang.specs.declared.fault.FaultKind.TheVariants.{Shape, UnknownTable, UnknownColumn, DuplicateName}
 use Rattle.proclang.specs.declared.fault.ProcFault.{ProcFault}
@@ -28,7 +28,7 @@ use Rattle.proclang.specs.Lookups.{declared_at, table_at, column_in, column_at}
 use Rattle.proclang.specs.Expressions.{deepest, as_int, as_bool, as_value, expr_at}
 use Rattle.proclang.specs.StmtForms.{GetParts, PutParts, IfParts, StatementForm, get_parts, put_parts, if_parts, abort_code, reply_values, statement_form}
 use Rattle.proclang.specs.Statements.{is_parameter, target_of, target_at, same_type, bound, of_type, get_at, put_at, if_at, abort_at, exprs_at, values_at, reply_at, in_scope, form_at, statement_at, next_statement, block_at}
-use Rattle.proclang.specs.Says.{SaysExpr, as_expr, SaysValue, Declares, Changes, Gets, SaysGet, SaysPut, SaysIf, SaysStatementForm, SaysStatement, SaysStatements, SaysBlock}
+use Rattle.proclang.specs.Says.{SaysExpr, as_expr, SaysValue, Gets, SaysGet, SaysPut, SaysIf, SaysStatementForm, SaysStatements, SaysBlock}
 use Rattle.proclang.proofs.SaidExpressions.{int_found, bool_found, value_found, value_again, expr_found, expr_read}
 use Rattle.proclang.proofs.Spelled.{statement_said, statement_again}
 use Rattle.proclang.proofs.TypedStatements.{target_is, types_are, typed_is}

@@ -17,7 +17,7 @@ use Rattle.proclang.specs.declared.expr_form.Operator.TheVariants.{Add, Subtract
 use Rattle.proclang.specs.ExprForms.{Form, number_form, variable_form, binary_form, operator_of, call_form, expr_form}
 use Rattle.proclang.specs.ProcForms.{ProcDocument, proc_form, declared_entries, declared_form, EntryDocument, row_parts, part_parts, table_parts, db_parts, right_of, row_form, part_form, table_form, db_form, entry_word, entry_words, entry_form}
 use Rattle.proclang.specs.Spells.{words, word_of, SpellsExpr, SpellsStatement, right_word, SpellsEntry, SpellsProc}
-use Rattle.proclang.specs.StmtForms.{GetParts, PutParts, IfParts, StatementForm, get_parts, put_parts, if_parts, abort_code, reply_values, get_form, put_form, if_form, abort_form, word_form, words_form, statement_form}
+use Rattle.proclang.specs.StmtForms.{StatementForm, get_parts, put_parts, if_parts, abort_code, reply_values, get_form, put_form, if_form, abort_form, word_form, words_form, statement_form}
 
 -- a word is the one that is asked for, or the choice goes on
 word_or : {A : Type 0} (a b : List ℕ) (x y : Option A) (f : A) → (if bytes_eq a b then x else y) ≡ Some f → ((a ≡ b) × (x ≡ Some f)) ⊎ (y ≡ Some f)

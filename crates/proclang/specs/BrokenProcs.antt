@@ -1,8 +1,6 @@
 -- Every rule that a document of procedures breaks, each with its path, in the order of the rules. No rule here hangs on what reading gives.
 use Rattle.std.specs.Prelude.{ℕ, ◌+◌, not, List, [], ◌∷◌, ◌++◌, Option, Some, None, option_map, codes}
-use Rattle.std.specs.List.{list_any}
 use Rattle.std.specs.Option.{option_to_list}
-use Rattle.std.specs.Str.{bytes_eq}
 use Rattle.serde_json.specs.Data.{Data}
 use Rattle.documents.specs.FirstFault.{broken}
 use Rattle.documents.specs.Json.{versioned_list}

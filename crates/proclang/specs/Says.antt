@@ -1,5 +1,5 @@
 -- Which documents say a procedure: a relation between documents and typed syntax, apart from paths, faults and the order in which a document is read.
-use Rattle.std.specs.Prelude.{◌≡◌, ◌⊎◌, ◌≤◌, ℕ, zero, suc, pos, List, [], ◌∷◌, ◌++◌, length, map, Option, Some, None, true, ⊤, codes}
+use Rattle.std.specs.Prelude.{◌≡◌, ◌⊎◌, ◌≤◌, ℕ, zero, suc, pos, List, [], ◌∷◌, ◌++◌, length, map, Some, None, true, ⊤, codes}
 use Rattle.std.specs.List.{AllByRecursion, IsDistinct}
 use Rattle.std.specs.Str.{bytes_eq}
 use Rattle.serde_json.specs.Data.{Data, array, string}
@@ -9,7 +9,7 @@ use Rattle.values.specs.declared.value.ColType.{ColType}
 use Rattle.values.specs.Keys.{table_named}
 use Rattle.values.specs.Names.{is_name}
 use Rattle.values.specs.Rules.{Says, SaysColumn}
-use Rattle.values.specs.Shapes.{ColumnShape, TableShape}
+use Rattle.values.specs.Shapes.{TableShape}
 use Rattle.proclang_types.specs.Syntax.{IntSyntax, number, add, subtract, BoolSyntax, less, ExprSyntax, int, text, bool, ValueSyntax, int_value, text_value, StmtSyntax, get, put, choose, abort, reply, block_of, EntrySyntax, row_entry, part_entry, table_entry, db_entry, ParamShape, ProcSyntax}
 use Rattle.proclang_types.specs.Typing.{kind_of}
 use Rattle.proclang.specs.declared.expr_form.Operator.{Operator}

@@ -1,15 +1,13 @@
 -- Rows that are read are those that the document says, such rows are read, and a fault is the first rule that is broken.
 use Rattle.std.proofs.Common.{◌≡◌, ℕ, ℤ, pos, negsuc, eqb, Bool, true, false, ◌&&◌, ◌||◌, not, List, [], ◌∷◌, ◌++◌, map, Option, Some, None, option_map, option_and_then, is_some, Result, Ok, Err, refl, sym, ap, ◌∙◌, subst, append_assoc}
-use Rattle.std.specs.Prelude.{codes, ⊤}
-use Rattle.std.specs.List.{AllByRecursion, IsDistinct, list_any}
-use Rattle.std.specs.Option.{option_to_list}
-use Rattle.std.proofs.lemmas.List.{append-nil, map-append}
-use Rattle.serde_json.specs.Data.{Data, string, array}
-use Rattle.serde_json.specs.View.{items_of}
-use Rattle.documents.specs.FirstFault.{broken, first, in_each, IsFirst}
-use Rattle.documents.specs.Json.{integer, text_number_list, versioned_list}
+use Rattle.std.specs.Prelude.{codes}
+use Rattle.std.specs.List.{AllByRecursion, IsDistinct}
+use Rattle.std.proofs.lemmas.List.{append-nil}
+use Rattle.serde_json.specs.Data.{Data}
+use Rattle.documents.specs.FirstFault.{broken, first, IsFirst}
+use Rattle.documents.specs.Json.{text_number_list, versioned_list}
 use Rattle.documents.specs.Reading.{◌>>=◌, formed, rule, each_at}
-use Rattle.documents.proofs.FirstFault.{bind_first, formed_first, rule_last, each_first}
+use Rattle.documents.proofs.FirstFault.{formed_first, rule_last, each_first}
 use Rattle.documents.proofs.Said.{text_number_list_said, text_number_list_again, versioned_said, versioned_again}
 use Rattle.documents.proofs.Steps.{bind_ok, rule_ok, formed_ok}
 use Rattle.values.specs.declared.value.Value.{Value}

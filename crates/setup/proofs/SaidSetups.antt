@@ -1,6 +1,6 @@
 -- What a setup's document says, and where it breaks a rule first, from what its parts say.
-use Rattle.std.proofs.Common.{◌≡◌, ◌⊎◌, inl, inr, ℕ, ℤ, pos, negsuc, Bool, true, false, if◌then◌else◌, ◌&&◌, List, [], ◌∷◌, map, Option, Some, None, option_and_then, Result, Ok, Err, refl, sym, ap, ◌∙◌, subst}
-use Rattle.std.specs.Prelude.{codes, ⊤}
+use Rattle.std.proofs.Common.{◌≡◌, ◌⊎◌, inl, inr, ℕ, ℤ, pos, negsuc, Bool, true, false, if◌then◌else◌, ◌&&◌, List, [], ◌∷◌, Option, Some, None, option_and_then, Result, Ok, Err, refl, sym, ap, ◌∙◌, subst}
+use Rattle.std.specs.Prelude.{codes}
 use Rattle.std.specs.Result.{IsErrAnd, IfOk, IfErr}
 use Rattle.std.specs.Str.{bytes_eq, IsUtf8, is_utf8}
 use Rattle.std.proofs.lemmas.Bool.{eqb-true}
@@ -13,7 +13,7 @@ use Rattle.serde_json.specs.View.{items_of}
 use Rattle.documents.specs.Json.{elements, five, integer, is_one}
 use Rattle.documents.specs.FirstFault.{first}
 use Rattle.documents.specs.Reading.{Gives}
-use Rattle.documents.proofs.Said.{string_said, elements_said, elements_again}
+use Rattle.documents.proofs.Said.{string_said, elements_said}
 use Rattle.documents.proofs.Steps.{and_then_ok}
 use Rattle.values.specs.Reading as catalogues
 use Rattle.values.specs.Rules.{SaysCatalogue, IsCatalogue}

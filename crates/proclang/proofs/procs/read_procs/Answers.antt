@@ -1,4 +1,4 @@
-use Rattle.std.proofs.Common.{◌≡◌, map, Ok, sym, ◌∙◌}
+use Rattle.std.proofs.Common.{map, sym, ◌∙◌}
 use Rattle.serde_json.specs.View.{view}
 use Rattle.proclang_types.specs.Procedures.{proc_syntax}
 use Rattle.proclang.specs.BrokenProcs.{broken_rules}

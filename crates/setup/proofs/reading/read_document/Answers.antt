@@ -1,12 +1,9 @@
-use Rattle.std.proofs.Common.{◌≡◌, inl, inr, Some, None, Ok, sym, refl, ap, ◌∙◌, map, subst}
+use Rattle.std.proofs.Common.{◌≡◌, Some, None, sym, refl, ◌∙◌, map}
 use Rattle.serde_json.specs.View.{view}
-use Rattle.values.specs.Rules.{SaysCatalogue}
-use Rattle.values.specs.Shapes.{TableShape}
 use Rattle.proclang_types.specs.Procedures.{proc_syntax}
 use Rattle.setup.specs.declared.fault.SetupFault.TheVariants.{Catalogue, Procedure}
-use Rattle.setup.specs.Rows.{RowAt}
-use Rattle.setup.specs.Setups.{SetupDocument, setup_form, setup_view}
-use Rattle.setup.proofs.SaidSetups.{form_said, form_again, form_is, refused, breaks, no_catalogue, no_procs, no_rows, in_procs, in_rows, found_parts, only_parts, none_is}
+use Rattle.setup.specs.Setups.{setup_form}
+use Rattle.setup.proofs.SaidSetups.{form_again, refused, breaks, no_catalogue, no_procs, no_rows, in_procs, in_rows, found_parts, only_parts, none_is}
 use Rattle.setup.proofs.reading.read_document.Goals as goal
 
 pub returns-in_err-catalogue-clause-only : goal.returns-in_err-catalogue-clause-only

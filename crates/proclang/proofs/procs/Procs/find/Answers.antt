@@ -1,4 +1,3 @@
-use Rattle.std.proofs.Common.{◌≡◌}
 use Rattle.proclang.specs.ProcLists.{procs_of}
 use Rattle.proclang.proofs.ProcLists.{found_over}
 use Rattle.proclang.proofs.procs.Procs.find.Goals as goal
