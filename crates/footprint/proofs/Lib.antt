@@ -1,3 +1,4 @@
 pub mod Resources
 pub mod Rights
 pub mod Entries
+pub mod InOrder

@@ -4,3 +4,4 @@ pub mod Rights
 pub mod Declaration
 pub mod Stops
 pub mod Tables
+pub mod OfCatalogue

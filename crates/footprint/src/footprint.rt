@@ -14,7 +14,7 @@ use values::NoMemory;
 /// A footprint: resources and the rights on them. Contracts see a finite map.
 #[derive(Drop)]
 pub struct Footprint {
-    rights: BTreeMap<Resource, Right>,
+    pub(crate) rights: BTreeMap<Resource, Right>,
 }
 
 impl Model for Footprint {

@@ -4,6 +4,7 @@
 mod abort_code;
 mod declare;
 mod footprint;
+mod iter;
 mod resource;
 #[cfg(test)]
 mod tests;

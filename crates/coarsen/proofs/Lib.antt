@@ -1,0 +1,14 @@
+pub mod Tree
+pub mod Greatest
+pub mod Parents
+pub mod Requesting
+pub mod Entries
+pub mod Covered
+pub mod Counts
+pub mod OfTables
+pub mod Planning
+pub mod Clashing
+pub mod Merging
+pub mod TreeLaws
+pub mod CoarseningLaws
+pub mod PlanLaws

@@ -1,0 +1,48 @@
+use Rattle.std.proofs.Common.{◌≡◌, ℕ, ◌∙◌, ap, subst, arith}
+use Rattle.footprint.specs.Rights.{FootprintOf}
+use Rattle.coarsen.specs.Subtrees.{Requests}
+use Rattle.coarsen.specs.Coarsening.{coarsened, on_database}
+use Rattle.coarsen.specs.Plans.{IsPlanOf}
+use Rattle.coarsen.proofs.Planning.{covers_full, covers_whole, over_full, over_whole, none_full, none_whole, whole_length, sound_of}
+use Rattle.coarsen.proofs.plan.Plan.new.Goals as goal
+
+-- the plan is one of the coarsened footprint
+full_is : (k : ℕ) (f coarse : FootprintOf) (plan : Requests) → coarse ≡ coarsened k f → IsPlanOf coarse plan → IsPlanOf (coarsened k f) plan
+full_is k f coarse plan e is = subst (λ (d : FootprintOf). IsPlanOf d plan) e is
+
+-- the plan is one of an entry on the database
+whole_is : (k : ℕ) (f coarse whole : FootprintOf) (plan : Requests) → coarse ≡ coarsened k f → whole ≡ on_database coarse → IsPlanOf whole plan → IsPlanOf (on_database (coarsened k f)) plan
+whole_is k f coarse whole plan e d is = subst (λ (d : FootprintOf). IsPlanOf d plan) (d ∙ ap (λ (d : FootprintOf). on_database d) e) is
+
+pub returns-then-requests-most-clause-covers : goal.returns-then-requests-most-clause-covers
+returns-then-requests-most-clause-covers c = covers_full c.args.threshold c.args.footprint.now c.in_ok-full.full (full_is _ _ c.in_ok-coarse.coarse _ c.in_ok-coarse.ensures c.in_ok-full.ensures)
+
+pub returns-then-requests-most-clause-protocol : goal.returns-then-requests-most-clause-protocol
+returns-then-requests-most-clause-protocol c = (sound_of c.in_ok-coarse.coarse c.in_ok-full.full c.in_ok-full.ensures).protocol
+
+pub returns-then-requests-most-clause-empty : goal.returns-then-requests-most-clause-empty
+returns-then-requests-most-clause-empty c = none_full c.args.threshold c.args.footprint.now c.in_ok-full.full (full_is _ _ c.in_ok-coarse.coarse _ c.in_ok-coarse.ensures c.in_ok-full.ensures)
+
+pub returns-then-requests-most-clause-over : goal.returns-then-requests-most-clause-over
+returns-then-requests-most-clause-over c = over_full c.args.threshold c.args.footprint.now c.in_ok-full.full (full_is _ _ c.in_ok-coarse.coarse _ c.in_ok-coarse.ensures c.in_ok-full.ensures)
+
+pub returns-clause-covers : goal.returns-clause-covers
+returns-clause-covers c = covers_whole c.args.threshold c.args.footprint.now c.in_ok-plan.plan
+    (whole_is _ _ c.in_ok-coarse.coarse c.in_ok-whole.whole _ c.in_ok-coarse.ensures c.in_ok-whole.ensures c.in_ok-plan.ensures)
+
+pub returns-clause-size : goal.returns-clause-size
+returns-clause-size c =
+    let is = whole_is c.args.threshold c.args.footprint.now c.in_ok-coarse.coarse c.in_ok-whole.whole c.in_ok-plan.plan c.in_ok-coarse.ensures c.in_ok-whole.ensures c.in_ok-plan.ensures in
+    let l = whole_length (coarsened c.args.threshold c.args.footprint.now) c.in_ok-plan.plan is in
+    omega (arith, l, c.requires)
+
+pub returns-clause-protocol : goal.returns-clause-protocol
+returns-clause-protocol c = (sound_of c.in_ok-whole.whole c.in_ok-plan.plan c.in_ok-plan.ensures).protocol
+
+pub returns-clause-empty : goal.returns-clause-empty
+returns-clause-empty c = none_whole c.args.threshold c.args.footprint.now c.in_ok-plan.plan
+    (whole_is _ _ c.in_ok-coarse.coarse c.in_ok-whole.whole _ c.in_ok-coarse.ensures c.in_ok-whole.ensures c.in_ok-plan.ensures)
+
+pub returns-clause-over : goal.returns-clause-over
+returns-clause-over c = over_whole c.args.threshold c.args.footprint.now c.in_ok-plan.plan
+    (whole_is _ _ c.in_ok-coarse.coarse c.in_ok-whole.whole _ c.in_ok-coarse.ensures c.in_ok-whole.ensures c.in_ok-plan.ensures)

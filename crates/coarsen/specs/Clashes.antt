@@ -1,0 +1,24 @@
+-- Plans that clash.
+use Rattle.std.specs.Prelude.{◌≡◌, true, false, List}
+use Rattle.std.specs.List.{Contains}
+use Rattle.values.specs.declared.name.RowName.{RowName}
+use Rattle.values.specs.Shapes.{TableShape}
+use Rattle.footprint.specs.declared.resource.Resource.{Resource}
+use Rattle.footprint.specs.Tree.{row_resource}
+use Rattle.footprint.specs.OfCatalogue.{IsRowName}
+use Rattle.modes.specs.declared.mode.Mode.{Mode}
+use Rattle.modes.specs.Rights.{ranks_clash}
+use Rattle.modes.specs.Modes.{are_compatible}
+use Rattle.coarsen.specs.Subtrees.{Requests, own_over}
+
+-- both cover some row name of these tables, whether or not such a row is there, with rights that clash
+abbrev pub Clash : List TableShape → Requests → Requests → Type 0
+Clash tables a b =
+    (name : RowName) × IsRowName tables name
+    × (ranks_clash (own_over a (row_resource tables name)) (own_over b (row_resource tables name)) ≡ true)
+
+-- both have a request on some resource, and the modes are not compatible
+abbrev pub Conflict : Requests → Requests → Type 0
+Conflict a b =
+    (resource : Resource) × (first : Mode) × (second : Mode)
+    × Contains a (resource, first) × Contains b (resource, second) × (are_compatible first second ≡ false)

@@ -1,0 +1,6 @@
+pub mod Subtrees
+pub mod Coarsening
+pub mod Plans
+pub mod Clashes
+pub mod Requests
+pub mod Laws

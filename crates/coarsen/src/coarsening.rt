@@ -1,0 +1,102 @@
+//! The coarsening of a footprint.
+
+ghost use Rattle.std.specs.Prelude.{◌≡◌, IfOk, not, unwrap_or};
+ghost use Rattle.std.specs.BTreeMap.{get as count_at};
+ghost use Rattle.footprint.specs.Tree.{resource_cmp};
+ghost use Rattle.footprint.specs.declared.resource.Resource.{Resource as AnyResource};
+ghost use Rattle.coarsen.specs.Coarsening.{is_needed, needed, children, lifted, coarsened, on_database};
+
+use crate::level::Level;
+use footprint::{Footprint, Resource, Right};
+use std::alloc::Global;
+use std::collections::BTreeMap;
+use values::NoMemory;
+
+/// Whether no ancestor has at least the right.
+fn is_needed(footprint: &Footprint, resource: &Resource, right: Right) -> bool
+    ensures { result ≡ is_needed footprint.now (resource.now, right) }
+{
+    match resource.parent() {
+        Some(parent) => !footprint.covers(&parent, right),
+        None => true,
+    }
+}
+
+/// The entries that no entry on an ancestor covers.
+fn needed(alloc: Global, footprint: &Footprint) -> Result<Footprint, NoMemory>
+    ensures { IfOk result (λ new. new ≡ needed footprint.now) }
+{
+    let mut new = Footprint::new(alloc);
+    for (resource, right) in footprint.iter() {
+        if is_needed(footprint, resource, *right) {
+            new.add(*resource, *right)?;
+        }
+    }
+    Ok(new)
+}
+
+/// How many entries of a level each resource has as its children.
+fn children(
+    alloc: Global,
+    footprint: &Footprint,
+    level: Level,
+) -> Result<BTreeMap<Resource, usize>, NoMemory>
+    ensures { IfOk result (λ counts. (parent : AnyResource) → unwrap_or (count_at resource_cmp counts parent) 0 ≡ children level footprint.now parent) }
+{
+    let mut counts = BTreeMap::new(alloc);
+    for (resource, _) in footprint.iter() {
+        if let Some(parent) = level.parent(resource) {
+            let count = counts.get(&parent).copied().unwrap_or(0);
+            counts.insert(parent, count + 1)?;
+        }
+    }
+    Ok(counts)
+}
+
+/// The footprint with the entries of a level replaced by one on their parent, wherever a parent has more than the
+/// threshold of them.
+fn lifted(
+    alloc: Global,
+    footprint: &Footprint,
+    level: Level,
+    threshold: usize,
+) -> Result<Footprint, NoMemory>
+    ensures { IfOk result (λ new. new ≡ lifted level threshold footprint.now) }
+{
+    let counts = children(alloc, footprint, level)?;
+    let mut new = Footprint::new(alloc);
+    for (resource, right) in footprint.iter() {
+        let place = match level.parent(resource) {
+            Some(parent) if counts.get(&parent).copied().unwrap_or(0) > threshold => parent,
+            _ => *resource,
+        };
+        new.add(place, *right)?;
+    }
+    Ok(new)
+}
+
+/// The footprint with few entries: none that an ancestor's covers, and at most the threshold of rows of a partition and of
+/// partitions of a table.
+pub(crate) fn coarsened(
+    alloc: Global,
+    footprint: &Footprint,
+    threshold: usize,
+) -> Result<Footprint, NoMemory>
+    ensures { IfOk result (λ new. new ≡ coarsened threshold footprint.now) }
+{
+    let bare = needed(alloc, footprint)?;
+    let rows_lifted = lifted(alloc, &bare, Level::Rows, threshold)?;
+    let partitions_lifted = lifted(alloc, &rows_lifted, Level::Partitions, threshold)?;
+    needed(alloc, &partitions_lifted)
+}
+
+/// One entry on the database, with the greatest right of all.
+pub(crate) fn on_database(alloc: Global, footprint: &Footprint) -> Result<Footprint, NoMemory>
+    ensures { IfOk result (λ new. new ≡ on_database footprint.now) }
+{
+    let mut new = Footprint::new(alloc);
+    for (_, right) in footprint.iter() {
+        new.add(Resource::Db, *right)?;
+    }
+    Ok(new)
+}

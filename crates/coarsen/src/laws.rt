@@ -1,0 +1,33 @@
+//! Laws of the definitions, as contracts of functions that do nothing.
+
+ghost use Rattle.coarsen.specs.Laws.{HoldsDescendants, DropsCovered, ReplacesMany, PlansAreExact, ClashEitherWay, FootprintsAreOf};
+
+/// The subtree of a resource is the resource and what has it as an ancestor.
+pub fn subtrees_are_of_ancestors()
+    ensures { HoldsDescendants }
+{}
+
+/// What the first step of coarsening, and the fourth, leave of each entry.
+pub fn covered_entries_go()
+    ensures { DropsCovered }
+{}
+
+/// What the second step and the third leave on each resource.
+pub fn many_entries_become_one()
+    ensures { ReplacesMany }
+{}
+
+/// Which requests a plan has.
+pub fn plans_are_exact()
+    ensures { PlansAreExact }
+{}
+
+/// If one plan clashes with another, the other clashes with it.
+pub fn clashes_are_either_way()
+    ensures { ClashEitherWay }
+{}
+
+/// How a footprint comes to be of a catalogue.
+pub fn footprints_are_of_catalogues()
+    ensures { FootprintsAreOf }
+{}

@@ -1,0 +1,18 @@
+//! Plans: the lock requests for a footprint, after coarsening, and whether two plans clash.
+#![tactic(auto)]
+
+mod clashes;
+mod coarsening;
+mod laws;
+mod level;
+mod plan;
+mod requests;
+#[cfg(test)]
+mod tests;
+
+pub use clashes::clash;
+pub use laws::{
+    clashes_are_either_way, covered_entries_go, footprints_are_of_catalogues,
+    many_entries_become_one, plans_are_exact, subtrees_are_of_ancestors,
+};
+pub use plan::Plan;
