@@ -18,7 +18,7 @@ use Rattle.proclang_types.specs.Syntax.{ParamShape}
 use Rattle.proclang.specs.ProcLists.{proc_named}
 use Rattle.proclang.specs.Requests.{Call, fits, IsShort, AreArgs}
 use Rattle.batch_log.specs.declared.fault.FaultKind.TheVariants.{NotJson, UnknownProc, Args}
-use Rattle.batch_log.specs.Log.{all_fit, call_said, document_said, line_said}
+use Rattle.batch_log.specs.Lines.{all_fit, call_said, document_said, line_said}
 
 -- ---- a line's bytes
 

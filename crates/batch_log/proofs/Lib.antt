@@ -1,4 +1,6 @@
 pub mod Batches
 pub mod Calls
+pub mod CutLaws
 pub mod Lines
 pub mod Moves
+pub mod Taken

@@ -14,6 +14,10 @@ source_of r = lines.source_of r.lines
 abbrev pub source_name : {S : Type 0} → LogReader S → GName
 source_name r = lines.source_name r.lines
 
+-- the bytes that came from the source and were not taken
+abbrev pub came : {S : Type 0} → LogReader S → List ℕ
+came r = lines.came r.lines
+
 -- the bytes that were not taken: those that came, and those that the source has left
 abbrev pub unread : {S : Type 0} → (S → Option (List ℕ)) → LogReader S → Option (List ℕ)
 unread left r = lines.unread left r.lines

@@ -1,15 +1,17 @@
 //! The calls of a batch, from the lines of a log.
 
-ghost use Rattle.std.specs.Prelude.{◌≡◌, ◌+◌, ◌≤◌, ◌||◌, length, None, Ok, Err, [], ◌∷◌, IfOk, IfErr, OnOk, IfSome, IsNone};
+ghost use Rattle.std.specs.Prelude.{◌≡◌, ℕ, ◌+◌, ◌≤◌, ◌^◌, ◌||◌, List, length, true, None, Ok, Err, [], ◌∷◌, IfOk, IfErr, OnOk, IfSome, IsNone};
 ghost use Rattle.std.specs.List.{AllByRecursion};
 ghost use Rattle.devices.specs.Devices.{Passes};
-ghost use Rattle.devices.specs.LineReader.{fault_of, line_begun, newlines_taken, position_of, source_name, source_of, unread};
-ghost use Rattle.batch_log.specs.Faults.{ends_in_io, IsOfLine, place_of};
-ghost use Rattle.batch_log.specs.Log.{calls_in, is_room, lines_said, log_said, IsEnd, IsFault, IsNextBatch};
+ghost use Rattle.devices.specs.LineReader.{came, fault_of, line_begun, newlines_taken, position_of, source_name, source_of, unread};
+ghost use Rattle.batch_log.specs.Faults.{ends_in_io, is_io, IsOfLine, place_of};
+ghost use Rattle.batch_log.specs.Lines.{line_said, lines_said, IsOver};
+ghost use Rattle.batch_log.specs.Log.{calls_in, is_room, log_said, IsEnd, IsFault, IsNextBatch};
 ghost use Rattle.batch_log.specs.Moves.{Moves};
+ghost use Rattle.batch_log.specs.Taken.{IsFirstLine, LosesFirst, TakesCalls};
 
 use crate::fault::{FaultKind, LogFault, device_fault};
-use crate::line::read_line;
+use crate::line::{LogLine, read_line};
 use devices::{LineReader, Source};
 use proclang::{Procs, Request};
 use std::alloc::Global;
@@ -24,24 +26,29 @@ fn fault_of_line<S: Source>(lines: &LineReader<'_, S>, kind: FaultKind) -> LogFa
     }
 }
 
-/// The call that the next line says, or `None` at the end.
-fn next_call<S: Source>(
+/// What the next line says, or `None` at the end.
+fn next_said<S: Source>(
     alloc: Global,
     procs: &Procs,
     lines: &mut LineReader<'_, S>,
-) -> Result<Option<Request>, LogFault>
+) -> Result<Option<LogLine>, LogFault>
     ensures same { source_name lines.new ≡ source_name lines.old }
-    ensures call { IfOk result (λ o. IfSome o (λ c. Passes
-        (λ xs ys. lines_said procs.now.procs (newlines_taken lines.old) xs ≡ (line_begun lines.new, Ok c) ∷ lines_said procs.now.procs (newlines_taken lines.new) ys)
+    ensures line { IfOk result (λ o. IfSome o (λ said. Passes
+        (λ xs ys. lines_said procs.now.procs (newlines_taken lines.old) xs ≡ (line_begun lines.new, Ok said) ∷ lines_said procs.now.procs (newlines_taken lines.new) ys)
         (unread S.left lines.old) (unread S.left lines.new))) }
-    ensures tables { IfOk result (λ o. IfSome o (λ c. c.proc.tables ≡ procs.now.tables)) }
+    ensures tables { IfOk result (λ o. IfSome o (IsOver procs.now.tables)) }
     ensures end { IfOk result (λ o. IsNone o → Passes (λ xs ys. (xs ≡ []) × (ys ≡ [])) (unread S.left lines.old) (unread S.left lines.new)) }
     ensures fault { IfErr result (λ e. IsOfLine e.kind → Passes
         (λ xs ys. lines_said procs.now.procs (newlines_taken lines.old) xs ≡ (e.line, Err e.kind) ∷ lines_said procs.now.procs (newlines_taken lines.new) ys)
         (unread S.left lines.old) (unread S.left lines.new)) }
+    ensures first { IfOk result (λ o. IfSome o (λ said. Passes
+        (λ xs ys. (line : List ℕ) × IsFirstLine line xs ys × (line_said procs.now.procs line ≡ Ok said))
+        (unread S.left lines.old) (unread S.left lines.new))) }
+    ensures lost { IfErr result (λ e. Passes (LosesFirst (is_io e.kind)) (unread S.left lines.old) (unread S.left lines.new)) }
     ensures moves { Moves (unread S.left lines.old) (unread S.left lines.new) (position_of lines.old) (position_of lines.new) }
     ensures stays { OnOk result (fault_of lines.new ≡ None) }
     ensures place { fault_of lines.old ≡ None → IfErr result (λ e. e.line ≡ place_of e.kind (position_of lines.new)) }
+    ensures spent { fault_of lines.old ≡ None → ends_in_io result ≡ true → came lines.new ≡ [] }
     ensures fails { fault_of lines.old ≡ None → S.failed (source_of lines.new) ≡ (S.failed (source_of lines.old) || ends_in_io result) }
 {
     let line = match lines.next_line(alloc) {
@@ -50,7 +57,7 @@ fn next_call<S: Source>(
         Err(fault) => return Err(device_fault(fault)),
     };
     match read_line(alloc, procs, &line) {
-        Ok(request) => Ok(Some(request)),
+        Ok(said) => Ok(Some(said)),
         Err(kind) => Err(fault_of_line(lines, kind)),
     }
 }
@@ -69,6 +76,7 @@ pub(crate) fn read_batch<S: Source>(
     lines: &mut LineReader<'_, S>,
     total: &mut u64,
 ) -> Result<Option<Vec<Request>>, LogFault>
+    requires { total.old ≤ 2 ^ 48 }
     ensures same { source_name lines.new ≡ source_name lines.old }
     ensures batch { IfOk result (λ o. IfSome o (λ calls. Passes
         (λ xs ys. IsNextBatch (log_said procs.now.procs (newlines_taken lines.old) total.old xs) calls.items
@@ -83,15 +91,19 @@ pub(crate) fn read_batch<S: Source>(
     ensures tables { IfOk result (λ o. IfSome o (λ calls. AllByRecursion (λ c. c.proc.tables ≡ procs.now.tables) calls.items)) }
     ensures few { IfOk result (λ o. IfSome o (λ calls. length calls.items ≤ 4096)) }
     ensures counted { IfOk result (λ o. total.new ≡ total.old + calls_in o) }
+    ensures room { total.new ≤ 2 ^ 48 }
+    ensures taken { Passes (TakesCalls procs.now.procs total.old (ends_in_io result)) (unread S.left lines.old) (unread S.left lines.new) }
     ensures moves { Moves (unread S.left lines.old) (unread S.left lines.new) (position_of lines.old) (position_of lines.new) }
     ensures stays { OnOk result (fault_of lines.new ≡ None) }
     ensures place { fault_of lines.old ≡ None → IfErr result (λ e. e.line ≡ place_of e.kind (position_of lines.new)) }
+    ensures spent { fault_of lines.old ≡ None → ends_in_io result ≡ true → came lines.new ≡ [] }
     ensures fails { fault_of lines.old ≡ None → S.failed (source_of lines.new) ≡ (S.failed (source_of lines.old) || ends_in_io result) }
 {
     let mut calls = Vec::new(alloc);
     'lines: loop {
-        let call = match next_call(alloc, procs, lines) {
-            Ok(Some(call)) => call,
+        let call = match next_said(alloc, procs, lines) {
+            Ok(Some(LogLine::Call(call))) => call,
+            Ok(Some(LogLine::Cut)) => return Ok(Some(calls)),
             Ok(None) if calls.is_empty() => return Ok(None),
             Ok(None) => return Ok(Some(calls)),
             Err(fault) => return Err(fault),

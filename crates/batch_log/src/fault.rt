@@ -11,7 +11,7 @@ use std::fmt;
 pub enum FaultKind {
     /// The line is no JSON text.
     NotJson = 31,
-    /// The line is no call.
+    /// The line is neither a call nor a cut.
     Shape = 32,
     /// No procedure has the name.
     UnknownProc = 33,

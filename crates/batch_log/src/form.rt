@@ -11,6 +11,7 @@ use serde_json::Value;
 #[derive(Clone, Copy)]
 pub(crate) enum LineForm<'a> {
     Call(&'a str, &'a [Value]),
+    Cut,
 }
 
 #[tactic(auto, unfolding(crate::specs::Forms::words_form))]
@@ -18,12 +19,9 @@ fn words_form<'a>(word: &str, rest: &'a [Value]) -> Option<LineForm<'a>>
     ensures { option_map form_view result ≡ words_form word.now (map view rest.now) }
 {
     match rest {
-        [name, values] => {
-            if word == "call" {
-                Some(LineForm::Call(name.as_str()?, elements(values)?))
-            } else {
-                None
-            }
+        [] if word == "cut" => Some(LineForm::Cut),
+        [name, values] if word == "call" => {
+            Some(LineForm::Call(name.as_str()?, elements(values)?))
         }
         _ => None,
     }

@@ -4,11 +4,13 @@
 mod batch;
 mod fault;
 mod form;
+mod laws;
 mod line;
 mod reader;
 
 pub use devices::{DeviceFailed, ReadSource, Sink, Source, WriteSink, write_all};
 pub use fault::{FaultKind, LogFault};
+pub use laws::batches_end_at_cuts;
 pub use reader::LogReader;
 
 #[cfg(test)]

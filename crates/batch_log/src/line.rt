@@ -4,7 +4,7 @@ ghost use Rattle.std.specs.Prelude.{◌≡◌, map, IfErr, IfOk, false, Some};
 ghost use Rattle.serde_json.specs.View.{view};
 ghost use Rattle.documents.specs.Reading.{Gives};
 ghost use Rattle.batch_log.specs.Faults.{is_io, is_memory};
-ghost use Rattle.batch_log.specs.Log.{call_said, document_said, line_said};
+ghost use Rattle.batch_log.specs.Lines.{call_said, document_said, line_said, IsOver};
 
 use crate::fault::FaultKind;
 use crate::form::{LineForm, line_form};
@@ -13,6 +13,15 @@ use serde_json::Value;
 use std::alloc::Global;
 use std::str;
 use values::read_values;
+
+/// What a line of a log says.
+#[derive(Drop)]
+pub(crate) enum LogLine {
+    /// One transaction.
+    Call(Request),
+    /// The batch ends.
+    Cut,
+}
 
 /// The call of the procedure of that name with the values that the documents say.
 fn read_call(
@@ -41,22 +50,25 @@ fn read_call(
     }
 }
 
-fn read_document(alloc: Global, procs: &Procs, document: &Value) -> Result<Request, FaultKind>
-    ensures exact { Gives is_memory (λ r. r) result (document_said procs.now.procs (Some (view document.now))) }
-    ensures tables { IfOk result (λ r. r.proc.tables ≡ procs.now.tables) }
+fn read_document(alloc: Global, procs: &Procs, document: &Value) -> Result<LogLine, FaultKind>
+    ensures exact { Gives is_memory (λ said. said) result (document_said procs.now.procs (Some (view document.now))) }
+    ensures tables { IfOk result (IsOver procs.now.tables) }
     ensures no_device { IfErr result (λ kind. is_io kind ≡ false) }
 {
     match line_form(document) {
-        Some(LineForm::Call(name, documents)) => read_call(alloc, procs, name, documents),
+        Some(LineForm::Call(name, documents)) => {
+            Ok(LogLine::Call(read_call(alloc, procs, name, documents)?))
+        }
+        Some(LineForm::Cut) => Ok(LogLine::Cut),
         None => Err(FaultKind::Shape),
     }
 }
 
-/// The call that a line says, or the first rule that it breaks.
+/// What a line says, or the first rule that it breaks.
 #[tactic(auto, using(crate::proofs::Calls::said_of_text, crate::proofs::Calls::said_of_bytes))]
-pub(crate) fn read_line(alloc: Global, procs: &Procs, line: &[u8]) -> Result<Request, FaultKind>
-    ensures exact { Gives is_memory (λ r. r) result (line_said procs.now.procs line.now) }
-    ensures tables { IfOk result (λ r. r.proc.tables ≡ procs.now.tables) }
+pub(crate) fn read_line(alloc: Global, procs: &Procs, line: &[u8]) -> Result<LogLine, FaultKind>
+    ensures exact { Gives is_memory (λ said. said) result (line_said procs.now.procs line.now) }
+    ensures tables { IfOk result (IsOver procs.now.tables) }
     ensures no_device { IfErr result (λ kind. is_io kind ≡ false) }
 {
     let Ok(text) = str::from_utf8(line) else {

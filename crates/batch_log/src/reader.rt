@@ -1,12 +1,13 @@
 //! The reader of a log's batches.
 
-ghost use Rattle.std.specs.Prelude.{◌≡◌, ◌+◌, ◌≤◌, ◌||◌, length, None, Err, IfOk, IfErr, IfSome, IsNone};
+ghost use Rattle.std.specs.Prelude.{◌≡◌, ◌+◌, ◌≤◌, ◌^◌, ◌||◌, length, true, None, Err, IfOk, IfErr, IfSome, IsNone};
 ghost use Rattle.std.specs.List.{AllByRecursion};
 ghost use Rattle.devices.specs.Devices.{Passes};
 ghost use Rattle.devices.specs.LineReader as line_reader;
 ghost use Rattle.batch_log.specs.Faults.{ends_in_io, fault_in, IsOfLine, place_of};
 ghost use Rattle.batch_log.specs.Log.{calls_in, IsEnd, IsFault, IsNextBatch, log_said};
 ghost use Rattle.batch_log.specs.Moves.{Moves};
+ghost use Rattle.batch_log.specs.Taken.{TakesCalls};
 
 use crate::batch::read_batch;
 use crate::fault::LogFault;
@@ -21,12 +22,13 @@ pub struct LogReader<'a, S> {
     // How many calls were read.
     total: u64,
     fault: Option<LogFault>,
+    ghost few: { total ≤ 2 ^ 48 },
     ghost lines_read: { fault ≡ None → line_reader.fault_of lines ≡ None },
 }
 
 impl<'a, S: Source> LogReader<'a, S> {
     ghost use Rattle.std.specs.Prelude.{[]};
-    ghost use Rattle.batch_log.specs.Reader.{calls_read, fault_of, line_begun, newlines_taken, position_of, source_name, source_of, unread};
+    ghost use Rattle.batch_log.specs.Reader.{calls_read, came, fault_of, line_begun, newlines_taken, position_of, source_name, source_of, unread};
 
     /// A reader that has read nothing.
     pub fn new(source: &'a mut S) -> LogReader<'a, S>
@@ -52,9 +54,11 @@ impl<'a, S: Source> LogReader<'a, S> {
         self.lines.last_line()
     }
 
-    /// The calls of the next batch, or `None` at the end. The end of a log ends a batch of the
-    /// calls before it, unless there are none. After a fault each further call answers the same
-    /// fault.
+    /// The calls of the next batch, or `None` at the end. A cut ends a batch, also an empty one.
+    /// The end of a log ends a batch of the calls before it, unless there are none. After a fault
+    /// each further call answers the same fault.
+    ///
+    /// No byte is taken behind the line that ends the batch or has the fault.
     pub fn next_batch(
         &mut self,
         alloc: Global,
@@ -72,13 +76,18 @@ impl<'a, S: Source> LogReader<'a, S> {
         ensures tables { IfOk result (λ o. IfSome o (λ calls. AllByRecursion (λ c. c.proc.tables ≡ procs.now.tables) calls.items)) }
         ensures few { IfOk result (λ o. IfSome o (λ calls. length calls.items ≤ 4096)) }
         ensures counted { IfOk result (λ o. calls_read self.new ≡ calls_read self.old + calls_in o) }
+        ensures room { calls_read self.new ≤ 2 ^ 48 }
 
         // A fault of a line is the log's first, and no batch is whole before it.
         ensures fault { fault_of self.old ≡ None → IfErr result (λ e. IsOfLine e.kind → Passes
             (λ xs ys. IsFault (log_said procs.now.procs (newlines_taken self.old) (calls_read self.old) xs) e)
             (unread S.left self.old) (unread S.left self.new)) }
+        // Whole lines of calls are taken, and then one more line, or a beginning of it.
+        ensures taken { Passes (TakesCalls procs.now.procs (calls_read self.old) (ends_in_io result)) (unread S.left self.old) (unread S.left self.new) }
         ensures moves { Moves (unread S.left self.old) (unread S.left self.new) (position_of self.old) (position_of self.new) }
         ensures place { fault_of self.old ≡ None → IfErr result (λ e. e.line ≡ place_of e.kind (position_of self.new)) }
+        // Where a read failed, every byte that came was taken.
+        ensures spent { fault_of self.old ≡ None → ends_in_io result ≡ true → came self.new ≡ [] }
         ensures stays { fault_of self.new ≡ fault_in result }
         ensures again { IfSome (fault_of self.old) (λ e. (result ≡ Err e) × (source_of self.new ≡ source_of self.old)) }
         ensures fails { fault_of self.old ≡ None → S.failed (source_of self.new) ≡ (S.failed (source_of self.old) || ends_in_io result) }

@@ -30,6 +30,8 @@ const BANK: &str = r#"["procs",1,[
 
 const PAY: &str = r#"["call","pay",[1,2,30]]"#;
 
+const CUT: &str = r#"["cut"]"#;
+
 const PEEK: &str = r#"["call","peek",[1]]"#;
 
 /// Gives a byte a call, and fails at its `failing`th call.
@@ -128,7 +130,11 @@ fn lines_with_faults(rt: HostRuntime) -> Result<(), Fail> {
         ("", "end"),
         ("\n", "fault 31 line 1"),
         ("[\n", "fault 31 line 1"),
-        (r#"["cut"]"#, "fault 32 line 1"),
+        (r#"["cut"]"#, "0 calls"),
+        (r#"["cut",1]"#, "fault 32 line 1"),
+        (r#"["cuts"]"#, "fault 32 line 1"),
+        (r#"["call"]"#, "fault 32 line 1"),
+        (r#"["cut","pay",[1,2,30]]"#, "fault 32 line 1"),
         ("{}\n", "fault 32 line 1"),
         (r#"["call","pay"]"#, "fault 32 line 1"),
         (r#"["call",1,[]]"#, "fault 32 line 1"),
@@ -164,6 +170,86 @@ fn a_batch_has_at_most_4096_calls(rt: HostRuntime) -> Result<(), Fail> {
         first(alloc, long.as_str().as_bytes())?.as_str(),
         "fault 35 line 4097"
     );
+    Ok(())
+}
+
+#[test]
+fn cuts_end_batches(rt: HostRuntime) -> Result<(), Fail> {
+    let alloc = rt.alloc();
+    let procs = bank(alloc)?;
+    let table = [
+        ("C", ["0 calls", "end", "end"]),
+        ("PC", ["1 calls", "end", "end"]),
+        ("PPCP", ["2 calls", "1 calls", "end"]),
+        ("CC", ["0 calls", "0 calls", "end"]),
+        ("PCX", ["1 calls", "fault 31 line 3", "fault 31 line 3"]),
+        ("PCPX", ["1 calls", "fault 31 line 4", "fault 31 line 4"]),
+        (
+            "XC",
+            ["fault 31 line 1", "fault 31 line 1", "fault 31 line 1"],
+        ),
+    ];
+    for (letters, outcomes) in table {
+        let mut log = String::new(alloc);
+        for letter in letters.chars() {
+            log.push_str(match letter {
+                'P' => PAY,
+                'C' => CUT,
+                _ => "[",
+            })?;
+            log.push_str("\n")?;
+        }
+        let mut source = ReadSource::new(log.as_bytes());
+        let mut reader = LogReader::new(&mut source);
+        for want in outcomes {
+            assert_eq!(rt;
+                outcome(alloc, &procs, &mut reader)?.as_str(),
+                want,
+                "at {letters}"
+            );
+        }
+    }
+    Ok(())
+}
+
+#[test]
+fn each_batch_has_4096_calls_of_its_own(rt: HostRuntime) -> Result<(), Fail> {
+    let alloc = rt.alloc();
+    let procs = bank(alloc)?;
+    let mut log = lines(alloc, PEEK, 4096)?;
+    log.push_str(CUT)?;
+    log.push_str("\n")?;
+    let more = lines(alloc, PEEK, 4097)?;
+    log.push_str(more.as_str())?;
+    let mut source = ReadSource::new(log.as_bytes());
+    let mut reader = LogReader::new(&mut source);
+    for want in ["4096 calls", "fault 35 line 8194"] {
+        assert_eq!(rt; outcome(alloc, &procs, &mut reader)?.as_str(), want);
+    }
+    Ok(())
+}
+
+#[test]
+fn takes_no_byte_behind_a_batch(rt: HostRuntime) -> Result<(), Fail> {
+    let alloc = rt.alloc();
+    let procs = bank(alloc)?;
+    let mut log = lines(alloc, CUT, 1)?;
+    log.push_str(PAY)?;
+    // The line of the cut has 8 bytes with its newline, and the read behind it fails.
+    let mut source = Slow {
+        bytes: log.as_bytes(),
+        call: 0,
+        failing: 9,
+        failed: false,
+    };
+    let mut reader = LogReader::new(&mut source);
+    assert_eq!(rt; outcome(alloc, &procs, &mut reader)?.as_str(), "0 calls");
+    assert_eq!(rt; reader.last_line(), 1);
+    assert_eq!(rt;
+        outcome(alloc, &procs, &mut reader)?.as_str(),
+        "fault 36 line 2"
+    );
+    assert_eq!(rt; reader.last_line(), 1);
     Ok(())
 }
 

@@ -17,6 +17,7 @@ use Rattle.meaning.specs.Serial.{serial_end, serial_replies}
 use Rattle.sequencer.specs.Entries.{prepared}
 use Rattle.batch_log.specs.declared.fault.FaultKind.{FaultKind}
 use Rattle.batch_log.specs.declared.fault.LogFault.{LogFault}
+use Rattle.batch_log.specs.Lines.{Lines}
 use Rattle.batch_log.specs.Log.{batches_of, first_fault, log_said, IsEnd, IsNextBatch}
 use Rattle.report_text.specs.Texts.{digest, end_line, row_text, reply_line}
 use Rattle.report_text.specs.Report.{batch_text, batch_texts, end_text, entries_of, next_batch, reply_lines, report}
@@ -54,10 +55,6 @@ reply_lines-append n (x ∷ xs) ys = rw (reply_lines-append (n + 1) xs ys, more 
 -- after these entries, of the rest of a log
 abbrev pub to_write : List TableShape → Database → ℕ → List EntryShape → List (List EntryShape) → Option LogFault → List ℕ
 to_write tables db b es batches fault = batch_texts tables b (length es) (serial_end es db) batches ++ end_text (is_some fault) tables db (es ++ entries_of batches)
-
--- what a log says from a place on
-abbrev pub Lines : Type 0
-Lines = List (ℕ × Result Call FaultKind)
 
 abbrev pub batches : Lines → List (List EntryShape)
 batches lines = map (map prepared) (batches_of lines)

@@ -1,17 +1,16 @@
 -- The report of a log on a setup.
-use Rattle.std.specs.Prelude.{ℕ, List, map, is_some, Option, Result}
+use Rattle.std.specs.Prelude.{ℕ, List, map, is_some, Option}
 use Rattle.values.specs.Shapes.{TableShape}
 use Rattle.values.specs.Database.{Database}
 use Rattle.proclang.specs.ProcLists.{ProcsParts}
-use Rattle.proclang.specs.Requests.{Call}
 use Rattle.sequencer.specs.Entries.{prepared}
-use Rattle.batch_log.specs.declared.fault.FaultKind.{FaultKind}
 use Rattle.batch_log.specs.declared.fault.LogFault.{LogFault}
+use Rattle.batch_log.specs.Lines.{Lines}
 use Rattle.batch_log.specs.Log.{batches_of, first_fault, log_said}
 use Rattle.report_text.specs.Report as texts
 
 -- what a whole log says to these procedures
-abbrev pub whole_log : ProcsParts → List ℕ → List (ℕ × Result Call FaultKind)
+abbrev pub whole_log : ProcsParts → List ℕ → Lines
 whole_log procs log = log_said procs.procs 0 0 log
 
 -- the entries of the batches that are whole before a log's first fault

@@ -40,6 +40,31 @@ const REPORT: &str = "0 commit 70\n\
 batch 1 rows 68ac09305eca49a274f3934804070e0de76ae55d440e16f99225b50e2aa7c15b replies 7ad580324160126f3415a69928b5ccf43101d2e9b7929b6b688c5241878f5de6\n\
 end 2 rows 68ac09305eca49a274f3934804070e0de76ae55d440e16f99225b50e2aa7c15b replies 7ad580324160126f3415a69928b5ccf43101d2e9b7929b6b688c5241878f5de6\n";
 
+const TWO_BATCHES: &str = "[\"call\",\"pay\",[1,2,30]]\n[\"cut\"]\n[\"call\",\"pay\",[1,2,30]]\n";
+
+/// The report of a payment of 30, a cut, and a second one.
+const TWO_BATCH_REPORT: &str = "0 commit 70\n\
+batch 1 rows 77c71e7158ef9dd1261c616d96297a3d25f0173baf33c35fd2218de6651ebb95 replies 4f17b80d79bfc3a75492ce18b44b1eb844398e49ff0351065af95b282b90c2b2\n\
+1 commit 40\n\
+batch 2 rows 68ac09305eca49a274f3934804070e0de76ae55d440e16f99225b50e2aa7c15b replies 253441159e755f09fa35091eaab27292e3f5c910f51fd0e926a22bfe6ea9eeea\n\
+end 2 rows 68ac09305eca49a274f3934804070e0de76ae55d440e16f99225b50e2aa7c15b replies 7ad580324160126f3415a69928b5ccf43101d2e9b7929b6b688c5241878f5de6\n";
+
+/// A batch, and a line that is cut off.
+const TORN_BATCH: &str = "[\"call\",\"pay\",[1,2,30]]\n[\"cut\"]\n[\"call\",\"pay\",[1,2";
+
+/// A batch, and half of another before its fault.
+const LATE_FAULT: &str =
+    "[\"call\",\"pay\",[1,2,30]]\n[\"cut\"]\n[\"call\",\"pay\",[1,2,30]]\n[\"call\",\"pay\",[1,2]]\n";
+
+/// The report of the first batch of either.
+const ONE_BATCH: &str = "0 commit 70\n\
+batch 1 rows 77c71e7158ef9dd1261c616d96297a3d25f0173baf33c35fd2218de6651ebb95 replies 4f17b80d79bfc3a75492ce18b44b1eb844398e49ff0351065af95b282b90c2b2\n";
+
+/// The report of one cut and nothing else on the bank.
+const EMPTY_BATCH: &str =
+    "batch 1 rows b74f97b042398188bea87628ab25ab660b2b07a7f1628de4b9db964324cd6bf7 replies e3b0c44298fc1c149afbf4c8996fb92427ae41e4649b934ca495991b7852b855\n\
+end 0 rows b74f97b042398188bea87628ab25ab660b2b07a7f1628de4b9db964324cd6bf7 replies e3b0c44298fc1c149afbf4c8996fb92427ae41e4649b934ca495991b7852b855\n";
+
 /// The report of an empty log on no rows.
 const NOTHING: &str =
     "end 0 rows e3b0c44298fc1c149afbf4c8996fb92427ae41e4649b934ca495991b7852b855 replies e3b0c44298fc1c149afbf4c8996fb92427ae41e4649b934ca495991b7852b855\n";
@@ -232,10 +257,39 @@ fn reports_replies(rt: HostRuntime) -> Result<(), Fail> {
 }
 
 #[test]
+fn reports_batches(rt: HostRuntime) -> Result<(), Fail> {
+    let alloc = rt.alloc();
+    for (log, status, report, fault) in [
+        (r#"["cut"]"#, 0, EMPTY_BATCH, ""),
+        (TWO_BATCHES, 0, TWO_BATCH_REPORT, ""),
+        (TORN_BATCH, 1, ONE_BATCH, "fault 31 line 3\n"),
+        (LATE_FAULT, 1, ONE_BATCH, "fault 34 line 4\n"),
+    ] {
+        for line in ["run --workers 2 bank.json", "run --alone bank.json"] {
+            let left = left_by(alloc, line, BANK, log)?;
+            assert!(rt; left.is(status, report, fault), "at {log} by {line}");
+        }
+    }
+    Ok(())
+}
+
+#[test]
+fn refuses_a_batch_that_is_too_long(rt: HostRuntime) -> Result<(), Fail> {
+    let alloc = rt.alloc();
+    let mut log = String::new(alloc);
+    for _ in 0..4097 {
+        log.push_str("[\"call\",\"peek\",[1]]\n")?;
+    }
+    let left = left_by(alloc, "run bank.json", BANK, log.as_str())?;
+    assert!(rt; left.is(1, "", "fault 35 line 4097\n"));
+    Ok(())
+}
+
+#[test]
 fn refuses_logs(rt: HostRuntime) -> Result<(), Fail> {
     for (log, fault) in [
         (r#"["call","pay",[1,2]]"#, "fault 34 line 1\n"),
-        (r#"["cut"]"#, "fault 32 line 1\n"),
+        (r#"["cut",1]"#, "fault 32 line 1\n"),
         ("[\"call\",\"peek\",[1]]\n\n", "fault 31 line 2\n"),
         (r#"["call","gone",[]]"#, "fault 33 line 1\n"),
     ] {

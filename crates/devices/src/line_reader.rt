@@ -81,6 +81,7 @@ impl<'a, S: Source> LineReader<'a, S> {
         ensures bytes { Keeps (unread S.left self.old) (unread S.left self.new) }
         ensures end { OnOk result (self.new.start ≡ self.new.end → IsAtEnd (unread S.left self.new)) }
         ensures late { self.old.start < self.old.end → IsOk result × (source_of self.new ≡ source_of self.old) × (came self.new ≡ came self.old) }
+        ensures spent { OnErr result (came self.new ≡ []) }
         ensures fails { S.failed (source_of self.new) ≡ (S.failed (source_of self.old) || is_err result) }
     {
         if self.start == self.end {
@@ -99,6 +100,7 @@ impl<'a, S: Source> LineReader<'a, S> {
         ensures end { IfOk result (λ o. IsNone o → IsAtEnd (unread S.left self.new)) }
         ensures err { OnErr result (Keeps (unread S.left self.old) (unread S.left self.new)) }
         ensures late { 0 < length (came self.old) → (source_of self.new ≡ source_of self.old) × IsOkAnd result (λ o. came self.old ≡ option_to_list o ++ came self.new) }
+        ensures spent { OnErr result (came self.new ≡ []) }
         ensures fails { S.failed (source_of self.new) ≡ (S.failed (source_of self.old) || is_err result) }
     {
         self.fill()?;
@@ -124,6 +126,7 @@ impl<'a, S: Source> LineReader<'a, S> {
         ensures lost { OnErr result (LosesLine (unread S.left self.old) (unread S.left self.new) (position_of self.old) (position_of self.new)) }
         ensures place { IfErr result (λ fault. IsFaultAt fault (position_of self.new)) }
         ensures late { has_newline (came self.old) ≡ true → source_of self.new ≡ source_of self.old }
+        ensures spent { is_io result ≡ true → came self.new ≡ [] }
         ensures fails { S.failed (source_of self.new) ≡ (S.failed (source_of self.old) || is_io result) }
     {
         let number = self.newlines.saturating_add(1);
@@ -166,6 +169,9 @@ impl<'a, S: Source> LineReader<'a, S> {
 
         // Where a whole line has come, no read is made.
         ensures late { has_newline (came self.old) ≡ true → source_of self.new ≡ source_of self.old }
+
+        // Where a read failed, every byte that came was taken.
+        ensures spent { fault_of self.old ≡ None → is_io result ≡ true → came self.new ≡ [] }
         ensures fails { fault_of self.old ≡ None → S.failed (source_of self.new) ≡ (S.failed (source_of self.old) || is_io result) }
     {
         if let Some(fault) = self.fault {

@@ -1,14 +1,15 @@
 use Rattle.std.proofs.Common.{refl, ◌≡◌, Ok, Err}
 use Rattle.devices.specs.LineReader.{newlines_taken}
 use Rattle.devices.proofs.Passing.{Passes-weaken}
-use Rattle.batch_log.specs.Log.{line_said}
+use Rattle.batch_log.specs.Lines.{line_said}
 use Rattle.batch_log.proofs.Lines.{of_line, said_next}
 use Rattle.batch_log.proofs.Moves.{Moves-end, Moves-line, Moves-lost}
-use Rattle.batch_log.proofs.batch.next_call.Goals as goal
+use Rattle.batch_log.proofs.Taken.{first_line, lost_line, lost_whole}
+use Rattle.batch_log.proofs.batch.next_said.Goals as goal
 
-pub returns-in-Ok-clause-call : goal.returns-in-Ok-clause-call
-returns-in-Ok-clause-call g c =
-    let said : line_said c.args.procs.now.procs c.in-Ok-Some.line.items ≡ Ok c.in-Ok.request = rw c.deref.ensures.value at c.in-Ok.ensures.exact in
+pub returns-in-Ok-clause-line : goal.returns-in-Ok-clause-line
+returns-in-Ok-clause-line g c =
+    let said : line_said c.args.procs.now.procs c.in-Ok-Some.line.items ≡ Ok c.in-Ok.said = rw c.deref.ensures.value at c.in-Ok.ensures.exact in
     Passes-weaken _ _ _ _ (rw c.in-Ok-Some.field-0-is at c.in-Ok-Some.ensures.numbered) (λ x y p. said_next _ (newlines_taken c.args.lines.now) (newlines_taken c.next_line.new.self) _ _ x y _ said p)
 
 pub returns-clause-fault : goal.returns-clause-fault
@@ -29,3 +30,15 @@ returns-in-Ok-clause-moves g c = Moves-line _ _ _ _ c.in-Ok-Some.line.items (rw 
 
 pub returns-clause-moves : goal.returns-clause-moves
 returns-clause-moves g c = Moves-line _ _ _ _ c.in-Ok-Some.line.items (rw c.in-Ok-Some.field-0-is at c.in-Ok-Some.ensures.line)
+
+pub returns-in-Ok-clause-first : goal.returns-in-Ok-clause-first
+returns-in-Ok-clause-first g c =
+    let said : line_said c.args.procs.now.procs c.in-Ok-Some.line.items ≡ Ok c.in-Ok.said = rw c.deref.ensures.value at c.in-Ok.ensures.exact in
+    Passes-weaken _ _ _ _ (first_line _ _ _ _ c.in-Ok-Some.line.items (rw c.in-Ok-Some.field-0-is at c.in-Ok-Some.ensures.line)) (λ x y h. (c.in-Ok-Some.line.items, h, said))
+
+pub returns-in-Err-clause-lost : goal.returns-in-Err-clause-lost
+returns-in-Err-clause-lost g c = lost_line _ _ _ _ _ c.in-Err.ensures.lost
+
+pub returns-clause-lost : goal.returns-clause-lost
+returns-clause-lost g c =
+    lost_whole _ _ _ _ _ c.in-Ok-Some.line.items (rw c.fault_of_line.ensures c.in-Err-read_line.ensures.no_device) (rw c.in-Ok-Some.field-0-is at c.in-Ok-Some.ensures.line)
