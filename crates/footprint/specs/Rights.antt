@@ -1,10 +1,9 @@
 -- Rights, footprints, and what a footprint covers.
-use Rattle.std.specs.Prelude.{◌≡◌, Bool, true, false, List, ◌∷◌, Option, Some, None}
+use Rattle.std.specs.Prelude.{Bool, true, false, List, ◌∷◌, Option, Some, None}
 use Rattle.std.specs.List.{list_any}
 use Rattle.std.specs.FinMap.{FinMap, get, insert}
 use Rattle.values.specs.declared.name.RowName.{RowName}
 use Rattle.values.specs.Shapes.{TableShape}
-use Rattle.values.specs.Database.{Database}
 use Rattle.proclang_types.specs.declared.right.Right.{Right}
 use Rattle.proclang_types.specs.declared.right.Right.TheVariants.{Read, Write}
 use Rattle.footprint.specs.declared.resource.Resource.{Resource}
@@ -44,7 +43,3 @@ with_right footprint resource right = insert footprint resource (greater (get fo
 -- the footprint covers a right on a row name of these tables
 abbrev pub covers_row : List TableShape → FootprintOf → RowName → Right → Bool
 covers_row tables footprint name right = covers footprint (row_resource tables name) right
-
--- two databases have the same row, or none, at each row name that the footprint covers with Read
-abbrev pub AgreeOn : List TableShape → FootprintOf → Database → Database → Type 0
-AgreeOn tables footprint a b = (name : RowName) → covers_row tables footprint name Read ≡ true → get b name ≡ get a name

@@ -1,10 +1,10 @@
 //! Declared footprints.
 
-ghost use Rattle.std.specs.Prelude.{◌≡◌, ◌+ℤ◌, ◌-ℤ◌, IfOk, map, slice_get};
+ghost use Rattle.std.specs.Prelude.{◌≡◌, pos, ◌+ℤ◌, ◌-ℤ◌, IfOk, map, slice_get};
 ghost use Rattle.std.specs.List.{AllByRecursion};
 ghost use Rattle.proclang_types.specs.Views.{int_view, entry_view};
 ghost use Rattle.proclang_types.specs.Procedures.{proc_syntax};
-ghost use Rattle.footprint.specs.Declaration.{value_of, int_of_value, in_range, grant_of, declared_footprint};
+ghost use Rattle.footprint.specs.Declaration.{value_of, number_or, in_range, grant_of, declared_footprint};
 ghost use Rattle.footprint.specs.Tables.{HasTable};
 ghost use Rattle.footprint.specs.Stops.{Gives};
 
@@ -43,7 +43,7 @@ impl From<AbortCode> for Stop {
 
 /// The number of a variable; 0 stands for one that is not there or is a text.
 fn int_at(arguments: &[Value], place: usize) -> i64
-    ensures { result ≡ int_of_value (slice_get arguments.now place) }
+    ensures { result ≡ number_or (pos 0) (slice_get arguments.now place) }
 {
     match arguments.get(place) {
         Some(Value::Int(number)) => *number,
@@ -72,7 +72,7 @@ fn subtract(left: i64, right: i64) -> Result<i64, AbortCode>
 
 /// The value of an expression over the parameters, or the abort of its first fault.
 fn int_value(arguments: &[Value], expression: &IntExpr) -> Result<i64, AbortCode>
-    ensures { result ≡ value_of arguments.now (int_view expression.now) }
+    ensures { result ≡ value_of (pos 0) arguments.now (int_view expression.now) }
 {
     match expression {
         IntExpr::Number(number) => Ok(*number),
@@ -97,7 +97,7 @@ fn grant_of(
     entry: &FootprintEntry,
 ) -> Result<(Resource, Right), AbortCode>
     requires { HasTable catalogue.now (entry_view entry.now) }
-    ensures { result ≡ grant_of catalogue.now arguments.now (entry_view entry.now) }
+    ensures { result ≡ grant_of (pos 0) catalogue.now arguments.now (entry_view entry.now) }
 {
     match entry {
         FootprintEntry::Row { right, table, key } => {

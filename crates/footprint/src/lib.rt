@@ -5,6 +5,7 @@ mod abort_code;
 mod declare;
 mod footprint;
 mod iter;
+mod laws;
 mod resource;
 #[cfg(test)]
 mod tests;
@@ -12,5 +13,6 @@ mod tests;
 pub use abort_code::AbortCode;
 pub use declare::declared;
 pub use footprint::Footprint;
+pub use laws::stand_in_never_shows;
 pub use proclang_types::Right;
 pub use resource::{InPart, InTable, Resource};

@@ -59,7 +59,9 @@ impl Clone for Entry {
 }
 
 impl Entry {
-    ghost use Rattle.interp.specs.Entries.{footing_shape};
+    ghost use Rattle.proclang_types.specs.Procedures.{proc_syntax};
+    ghost use Rattle.meaning.specs.Fitting.{IsCallOf};
+    ghost use Rattle.interp.specs.Entries.{entry_shape, footing_shape};
 
     /// The request with that footing.
     pub fn new(alloc: Global, request: Request, footing: Footing) -> Result<Entry, NoMemory>
@@ -91,5 +93,14 @@ impl Entry {
             Footing::Declared(footprint) | Footing::Found(footprint) => Some(footprint),
             Footing::Faulting(_) => None,
         }
+    }
+
+    /// It is a call of its procedure, which fits its tables, and its arguments fit the parameters.
+    pub(crate) fn is_call(&self)
+        ensures { IsCallOf (proc_syntax self.now.request.proc) (entry_shape self.now) }
+    {
+        let request = self.request();
+        let _body = request.proc().body();
+        let _args = request.args();
     }
 }

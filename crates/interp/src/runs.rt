@@ -3,6 +3,7 @@
 ghost use Rattle.std.specs.Prelude.{◌≡◌, false, [], IfOk};
 ghost use Rattle.values.specs.Database.{Database};
 ghost use Rattle.meaning.specs.Entries.{meaning};
+ghost use Rattle.meaning.specs.Fitting.{HasTypes, StandInNeverShows};
 ghost use Rattle.meaning.specs.Frame.{Agree};
 ghost use Rattle.meaning.specs.Outcomes.{as_reply, is_commit};
 ghost use Rattle.interp_expr.specs.Overlay.{applied};
@@ -14,7 +15,7 @@ use crate::effect::Effect;
 use crate::entry::{Entry, Footing};
 use footprint::AbortCode;
 use interp_expr::{Permit, RowView};
-use meaning::{Ending, Outcome, stays_in_footprint};
+use meaning::{Ending, Outcome, stand_in_never_shows, stays_in_footprint};
 use std::alloc::Global;
 use std::collections::BTreeMap;
 use values::{Catalogue, NoMemory};
@@ -69,7 +70,11 @@ pub fn run<V: RowView>(
     ensures covered { IfOk result (λ effect. OnlyTouched (entry_shape entry.now) effect.writes.entries) }
     // Without a commit there is none.
     ensures unchanged { IfOk result (λ effect. is_commit effect.outcome ≡ false → effect.writes.entries ≡ []) }
+    // What stands for a variable or a column that is not there makes no difference, on rows of the columns' types.
+    ensures stand_in { (db : Database) → HasTypes entry.now.request.proc.tables db → StandInNeverShows (entry_shape entry.now) db }
 {
     stays_in_footprint();
+    stand_in_never_shows();
+    entry.is_call();
     run_here(alloc, catalogue, entry, view)
 }

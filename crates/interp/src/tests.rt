@@ -10,7 +10,10 @@ use footprint::{AbortCode, Footprint, InPart, InTable, Resource, Right};
 use interp_expr::{Permit, part_of};
 use meaning::{Ending, Outcome};
 use memory::Shown;
-use procedures::{ACCOUNTS, REFS, bad5, catalogue, echo, pay, peek, repeated_reply, row_of, set};
+use procedures::{
+    ACCOUNTS, REFS, bad5, catalogue, echo, pay, peek, repeated_reply, replies_in_blocks, row_of,
+    set,
+};
 use proclang_types::Stmt;
 use std::alloc::Global;
 use std::collections::BTreeMap;
@@ -245,11 +248,18 @@ fn a_run_has_10000_steps_at_most(rt: HostRuntime) -> Result<(), Fail> {
     let alloc = rt.alloc();
     let bank = Bank::new(alloc)?;
     let uncovered = Ending::Abort(AbortCode::Uncovered);
-    let body = repeated_reply(alloc, 10_000, 0)?;
-    let effect = bank.run(alloc, Right::Read, &[], uncovered, &[], &body)?;
-    assert_eq!(rt; effect.outcome, Outcome::Commit(Vec::new(alloc)));
-    let body = repeated_reply(alloc, 10_001, 0)?;
-    let effect = bank.run(alloc, Right::Read, &[], uncovered, &[], &body)?;
-    assert_eq!(rt; effect.outcome, Outcome::Abort(AbortCode::Budget));
+    let committed = Outcome::Commit(Vec::new(alloc));
+    let aborted = Outcome::Abort(AbortCode::Budget);
+    // An `if` takes a step, and so does each statement of its block: 775 + 9 * (1 + 1,024) steps are 10,000.
+    for (replies, blocks, outcome) in [
+        (10_000, 0, &committed),
+        (10_001, 0, &aborted),
+        (775, 9, &committed),
+        (776, 9, &aborted),
+    ] {
+        let body = replies_in_blocks(alloc, replies, blocks, 1024)?;
+        let effect = bank.run(alloc, Right::Read, &[], uncovered, &[], &body)?;
+        assert_eq!(rt; &effect.outcome, outcome);
+    }
     Ok(())
 }

@@ -4,8 +4,9 @@
 ghost use Rattle.std.specs.Prelude.{◌≡◌, pos, [], true, OnOk, IfOk, slice_get};
 ghost use Rattle.values.specs.Database.{Database};
 ghost use Rattle.proclang_types.specs.declared.right.Right.TheVariants.{Write};
+ghost use Rattle.footprint.specs.Declaration.{number_or};
 ghost use Rattle.meaning.specs.Runs.{step, set_row, set_variable, replying};
-ghost use Rattle.meaning.specs.Meaning.{number_or, text_or};
+ghost use Rattle.meaning.specs.Meaning.{text_or};
 ghost use Rattle.meaning.specs.Entries.{start};
 ghost use Rattle.interp_expr.specs.Coverage.{KeepsCovered, permits};
 ghost use Rattle.interp_expr.specs.States.{seen, with_first};

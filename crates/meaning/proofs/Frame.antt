@@ -17,15 +17,16 @@ use Rattle.footprint.specs.declared.abort_code.AbortCode.TheVariants.{BadKey, No
 use Rattle.footprint.specs.declared.resource.Resource.{Resource}
 use Rattle.footprint.specs.Tree.{row_resource, ancestors_of}
 use Rattle.footprint.specs.Rights.{FootprintOf, covers, covers_row, is_at_least}
+use Rattle.footprint.specs.Declaration.{number_or}
 use Rattle.meaning.specs.declared.outcome.Ending.{Ending}
 use Rattle.meaning.specs.declared.outcome.Ending.TheVariants as endings
 use Rattle.meaning.specs.Runs.{State, Ran, after, and_then, ok, ended, look, alter, provided, Gate, passing, covered, step, key_of, accessed, row_now, present, set_row, with_variable, set_variable, scoped, replying}
-use Rattle.meaning.specs.Meaning.{StandIn, number_or, text_or, int_of, text_of, bool_of, value_of, values_of, chosen, effect, in_order}
+use Rattle.meaning.specs.Meaning.{StandIn, text_or, int_of, text_of, bool_of, value_of, values_of, chosen, effect, in_order}
 use Rattle.meaning.specs.Entries.{EntryShape, Footing, declares, faults, finds, Reply, commit, start, reply_of, finished, run_of, nothing}
 use Rattle.meaning.specs.Frame.{Agree, StaysInFootprint}
 use Rattle.meaning.proofs.Names.{names_total, exact_names}
 
-is_equal : (o : Ordering) → is_eq o ≡ true → o ≡ Equal
+pub is_equal : (o : Ordering) → is_eq o ≡ true → o ≡ Equal
 is_equal Less e = absurd (cc)
 is_equal Equal e = refl
 is_equal Greater e = absurd (cc)

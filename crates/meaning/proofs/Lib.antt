@@ -1,2 +1,3 @@
 pub mod Names
 pub mod Frame
+pub mod StandIns

@@ -21,7 +21,7 @@ touches entry = may_touch entry.tables (footprint_of entry.footing)
 abbrev pub Agree : EntryShape → Database → Database → Type 0
 Agree entry a b = (name : RowName) → touches entry name Read ≡ true → get b name ≡ get a name
 
--- From databases that agree on what the entry may read it has one outcome and leaves them agreeing, and it changes no row
+-- The entry has one outcome on both databases, the databases that it leaves agree on what it may read, and it changes no row
 -- name that it may not write.
 pub record StaysInFootprint (entry : EntryShape) (one two : Database) : Type 0 where
   pub outcome : (meaning entry two).0 ≡ (meaning entry one).0

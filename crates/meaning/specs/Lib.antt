@@ -4,3 +4,4 @@ pub mod Entries
 pub mod Frame
 pub mod Serial
 pub mod Outcomes
+pub mod Fitting

@@ -6,18 +6,14 @@ use Rattle.proclang_types.specs.declared.right.Right.TheVariants.{Read, Write}
 use Rattle.proclang_types.specs.Syntax.{IntSyntax, number, variable, add, subtract, TextSyntax, literal, text_variable, BoolSyntax, less, ValueSyntax, int_value, text_value, StmtSyntax, get, put, choose, reply, BlockSyntax, no_statements, followed}
 use Rattle.proclang_types.specs.Syntax as syntax
 use Rattle.footprint.specs.declared.abort_code.AbortCode.TheVariants.{Own}
+use Rattle.footprint.specs.Declaration.{number_or}
 use Rattle.meaning.specs.Runs.{Ran, ◌>>=◌, ok, abort, look, Gate, step, in_range, accessed, row_now, present, set_row, set_variable, scoped, replying}
 
--- What stands for a variable or a column that is not there, or has the other type. For well typed procedures on rows of the
--- catalogue's types it never shows.
+-- What stands for a variable or a column that is not there, or has the other type. That it never shows
+-- where procedure, arguments and rows fit the tables is a law of its own, StandInNeverShows.
 pub record StandIn : Type 0 where
   pub number : ℤ
   pub text : List ℕ
-
-abbrev pub number_or : ℤ → Option Value → ℤ
-number_or other (Some (values.Int z)) = z
-number_or other (Some (values.Text s)) = other
-number_or other None = other
 
 abbrev pub text_or : List ℕ → Option Value → List ℕ
 text_or other (Some (values.Int z)) = other

@@ -1,6 +1,6 @@
 -- The serial run: entries one after another on one database. (Calvin, 2012: the outcome is a function of the log and the
 -- start.)
-use Rattle.std.specs.Prelude.{ℕ, List, [], ◌∷◌, take}
+use Rattle.std.specs.Prelude.{List, [], ◌∷◌}
 use Rattle.values.specs.Database.{Database}
 use Rattle.meaning.specs.Entries.{EntryShape, Reply, meaning}
 
@@ -13,7 +13,3 @@ serial_end (entry ∷ entries) db = serial_end entries (meaning entry db).1
 abbrev pub serial_replies : List EntryShape → Database → List Reply
 serial_replies [] db = []
 serial_replies (entry ∷ entries) db = (meaning entry db).0 ∷ serial_replies entries (meaning entry db).1
-
--- the database before the entry at a place
-abbrev pub state_at : List EntryShape → Database → ℕ → Database
-state_at entries db place = serial_end (take place entries) db

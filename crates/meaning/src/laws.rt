@@ -1,12 +1,21 @@
 //! Laws of the meaning.
 
 ghost use Rattle.values.specs.Database.{Database};
+ghost use Rattle.proclang_types.specs.Syntax.{ProcSyntax};
 ghost use Rattle.meaning.specs.Entries.{EntryShape};
 ghost use Rattle.meaning.specs.Frame.{Agree, StaysInFootprint};
+ghost use Rattle.meaning.specs.Fitting.{HasTypes, IsCallOf, StandInNeverShows};
 
 /// The frame law. From databases that agree on what an entry may read, it has one outcome and does the same to what it may
 /// read, and it changes no row name that it may not write.
 #[tactic(auto, using(crate::proofs::Frame::stays))]
 pub fn stays_in_footprint()
     ensures { (entry : EntryShape) (one two : Database) → Agree entry one two → StaysInFootprint entry one two }
+{}
+
+/// What stands for a variable or a column that is not there, or has another type, never shows: a call of a procedure that fits
+/// its tables, with arguments of the parameters' types and on rows of the columns' types, has one meaning whatever stands
+/// for it. It leaves rows of the columns' types.
+pub fn stand_in_never_shows()
+    ensures { (proc : ProcSyntax) (entry : EntryShape) (db : Database) → IsCallOf proc entry → HasTypes entry.tables db → StandInNeverShows entry db }
 {}

@@ -5,5 +5,5 @@
 mod laws;
 mod outcome;
 
-pub use laws::stays_in_footprint;
+pub use laws::{stand_in_never_shows, stays_in_footprint};
 pub use outcome::{Ending, Outcome};

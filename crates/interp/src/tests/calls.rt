@@ -171,3 +171,38 @@ fn a_partition_covers_its_rows(rt: HostRuntime) -> Result<(), Fail> {
     }
     Ok(())
 }
+
+#[test]
+fn refused_memory_leaves_rows_and_entry(rt: HostRuntime) -> Result<(), Fail> {
+    let alloc = rt.alloc();
+    let bank = Bank::new(alloc)?;
+    let procs = procedures(alloc, &bank.catalogue)?;
+    let args = pay(alloc, [1, 2, 30])?;
+    let entry = entry_of(alloc, &bank.catalogue, &procs, "pay", args)?;
+    let want = commit(alloc, 70)?;
+    let effect = match run_entry(alloc, &bank, &entry) {
+        Ok(effect) => effect,
+        Err(NoMemory) => run_entry(alloc, &bank, &entry)?,
+    };
+    assert_eq!(rt; effect.outcome, want);
+    assert_eq!(rt; bank.number(ACCOUNTS, 1)?, 100);
+    assert_eq!(rt; bank.number(ACCOUNTS, 2)?, 100);
+    Ok(())
+}
+
+/// Takes what threads may share.
+fn share<T: Send + Sync>(_: &T) {}
+
+#[test]
+fn threads_may_share_handles(rt: HostRuntime) -> Result<(), Fail> {
+    let alloc = rt.alloc();
+    let bank = Bank::new(alloc)?;
+    let procs = procedures(alloc, &bank.catalogue)?;
+    let args = pay(alloc, [1, 2, 30])?;
+    let entry = entry_of(alloc, &bank.catalogue, &procs, "pay", args)?;
+    share(&bank.catalogue);
+    share(&procs);
+    share(entry.request());
+    share(&entry);
+    Ok(())
+}

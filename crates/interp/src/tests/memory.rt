@@ -3,12 +3,14 @@
 ghost use Rattle.std.specs.Prelude.{◌≡◌, ◌<◌, ◌^◌, option_copied};
 ghost use Rattle.std.specs.FinMap as map;
 
-use footprint::Footprint;
-use interp_expr::{RowView, part_of};
+use footprint::{Footprint, Right};
+use interp_expr::{Permit, RowView, part_of};
+use meaning::Ending;
 use std::collections::BTreeMap;
 use values::{Catalogue, Key, Row, RowName, TableNo};
 
-/// Rows in memory, of which the names that a footprint covers are shown. A place without a row counts as no row.
+/// Rows in memory, of which the names that a footprint covers are shown. It refuses any other name: it answers as if there
+/// were no row. A place without a row counts as no row.
 #[derive(Clone, Copy)]
 pub struct Shown<'a> {
     pub catalogue: &'a Catalogue,
@@ -45,6 +47,14 @@ impl RowView for Shown<'_> {
     ghost rows = { λ v. rows_in v.rows.now.entries };
 
     fn row(&self, table: TableNo, key: Key) -> Option<&Row> {
+        let permit = Permit {
+            catalogue: self.catalogue,
+            footprint: self.footprint,
+            uncovered: Ending::Stale,
+        };
+        if !permit.covers(&RowName::new(table, key), Right::Read) {
+            return None;
+        }
         self.at(table, key.number())
     }
 

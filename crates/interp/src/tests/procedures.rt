@@ -120,3 +120,22 @@ pub fn repeated_reply(alloc: Global, count: u32, values: u32) -> Result<Vec<Stmt
     }
     Ok(body)
 }
+
+/// So many replies without a value, and behind them so many statements `if`, each with so many such replies in the block that
+/// it chooses.
+pub fn replies_in_blocks(
+    alloc: Global,
+    replies: u32,
+    blocks: u32,
+    replies_in_each: u32,
+) -> Result<Vec<Stmt>, NoMemory> {
+    let mut body = repeated_reply(alloc, replies, 0)?;
+    for _ in 0..blocks {
+        body.push(Stmt::If {
+            test: BoolExpr::Less(IntExpr::Number(0), IntExpr::Number(1)),
+            first: repeated_reply(alloc, replies_in_each, 0)?,
+            second: Vec::new(alloc),
+        })?;
+    }
+    Ok(body)
+}

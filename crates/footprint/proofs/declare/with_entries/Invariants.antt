@@ -1,4 +1,4 @@
-use Rattle.std.proofs.Common.{◌≡◌, ◌≤◌, drop, map}
+use Rattle.std.proofs.Common.{◌≡◌, ◌≤◌, drop, map, pos}
 use Rattle.std.specs.List.{AllByRecursion}
 use Rattle.proclang_types.specs.Views.{entry_view}
 use Rattle.footprint.specs.Declaration.{with_entries, declared_footprint}
@@ -8,6 +8,6 @@ use Rattle.footprint.proofs.declare.with_entries.Given as goal
 -- what the rest adds to what stands so far is what all entries add
 abbrev pub invariant-loop-entry : goal.invariant-loop-entry
 invariant-loop-entry l =
-    (with_entries l.catalogue l.arguments l.count l.footprint (map entry_view (drop l.entry-index l.entries.items)) ≡ declared_footprint l.catalogue l.arguments (map entry_view l.entries.items))
+    (with_entries (pos 0) l.catalogue l.arguments l.count l.footprint (map entry_view (drop l.entry-index l.entries.items)) ≡ declared_footprint l.catalogue l.arguments (map entry_view l.entries.items))
     × AllByRecursion (HasTable l.catalogue) (map entry_view (drop l.entry-index l.entries.items))
     × (l.count ≤ 65536)

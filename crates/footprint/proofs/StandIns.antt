@@ -1,0 +1,69 @@
+-- In a declaration whose expressions fit, what stands for a missing parameter never shows.
+use Rattle.std.proofs.Common.{◌≡◌, ℕ, ◌+◌, ℤ, pos, ◌+ℤ◌, ◌-ℤ◌, List, [], ◌∷◌, map, refl, sym, ap, ◌∙◌, Option, Some, None, option_map, Result, Ok, Err}
+use Rattle.std.specs.Prelude.{slice_get, nat_lt, ⊤}
+use Rattle.std.specs.List.{AllByRecursion}
+use Rattle.std.specs.FinMap.{empty}
+use Rattle.std.proofs.lemmas.Option.{slice_get-map}
+use Rattle.documents.specs.Reading.{◌>>=◌, rule, formed}
+use Rattle.values.specs.declared.value.ColType.{ColType}
+use Rattle.values.specs.declared.value.ColType.TheVariants as types
+use Rattle.values.specs.declared.value.Value.{Value}
+use Rattle.values.specs.declared.value.Value.TheVariants as values
+use Rattle.values.specs.Shapes.{TableShape}
+use Rattle.values.specs.Rows.{type_of}
+use Rattle.values.specs.Keys.{key_of, partition_numbered}
+use Rattle.proclang_types.specs.declared.right.Right.{Right}
+use Rattle.proclang_types.specs.Syntax.{IntSyntax, number, variable, add, subtract, EntrySyntax, row_entry, part_entry, table_entry, db_entry, ProcSyntax}
+use Rattle.proclang_types.specs.Typing.{IntFits, EntryFits, kinds_of, ProcFits}
+use Rattle.footprint.specs.declared.abort_code.AbortCode.{AbortCode}
+use Rattle.footprint.specs.declared.abort_code.AbortCode.TheVariants.{BadKey, BadPart, TooLong}
+use Rattle.footprint.specs.declared.resource.Resource.{Resource}
+use Rattle.footprint.specs.declared.resource.Resource.TheVariants.{Table}
+use Rattle.footprint.specs.declared.resource.InTable.TheVariants.{Part}
+use Rattle.footprint.specs.declared.resource.InPart.TheVariants.{WholePart}
+use Rattle.footprint.specs.Tree.{row_resource}
+use Rattle.footprint.specs.Rights.{FootprintOf, with_right}
+use Rattle.footprint.specs.Declaration.{number_or, in_range, value_of, grant_of, with_entries, declared_with, declared_footprint}
+
+same_number : (o : Option Value) (x y : ℤ) → option_map type_of o ≡ Some types.Int → number_or y o ≡ number_or x o
+same_number None x y e = absurd (cc)
+same_number (Some (values.Int z)) x y e = refl
+same_number (Some (values.Text s)) x y e = absurd (cc)
+
+-- what goes on alike from each value comes to the same
+alike : {A B : Type 0} (g : Result A AbortCode) (r : Result ⊤ AbortCode) (f h : A → Result B AbortCode) → ((x : A) → f x ≡ h x) → (g >>= λ x. r >>= λ u. f x) ≡ (g >>= λ x. r >>= λ u. h x)
+alike (Ok x) (Ok u) f h same = same x
+alike (Ok x) (Err code) f h same = refl
+alike (Err code) r f h same = refl
+
+module _ (other : ℤ) (kinds : List ColType) (arguments : List Value) (args : map type_of arguments ≡ kinds) where
+  same_value : (e : IntSyntax) → IntFits kinds e → value_of other arguments e ≡ value_of (pos 0) arguments e
+  same_value (number z) fits = refl
+  same_value (variable place) fits =
+      let there : option_map type_of (slice_get arguments place) ≡ Some types.Int = sym (slice_get-map type_of arguments place) ∙ ap (λ (ks : List ColType). slice_get ks place) args ∙ fits in
+      ap (λ (z : ℤ). Ok z) (same_number (slice_get arguments place) (pos 0) other there)
+  same_value (add a b) fits =
+      ap (λ (r : Result ℤ AbortCode). r >>= λ x. value_of other arguments b >>= λ y. in_range (x +ℤ y)) (same_value a fits.0)
+      ∙ ap (λ (r : Result ℤ AbortCode). value_of (pos 0) arguments a >>= λ x. r >>= λ y. in_range (x +ℤ y)) (same_value b fits.1)
+  same_value (subtract a b) fits =
+      ap (λ (r : Result ℤ AbortCode). r >>= λ x. value_of other arguments b >>= λ y. in_range (x -ℤ y)) (same_value a fits.0)
+      ∙ ap (λ (r : Result ℤ AbortCode). value_of (pos 0) arguments a >>= λ x. r >>= λ y. in_range (x -ℤ y)) (same_value b fits.1)
+
+  same_grant : (tables : List TableShape) (entry : EntrySyntax) → EntryFits tables kinds entry → grant_of other tables arguments entry ≡ grant_of (pos 0) tables arguments entry
+  same_grant tables (row_entry right table key) fits =
+      ap (λ (r : Result ℤ AbortCode). r >>= λ z. formed BadKey (key_of z) >>= λ k. Ok (row_resource tables (record { table = table; key = k }), right)) (same_value key fits.1)
+  same_grant tables (part_entry right table part) fits =
+      ap (λ (r : Result ℤ AbortCode). r >>= λ z. formed BadPart (partition_numbered tables table z) >>= λ p. Ok (Table table (Part p WholePart), right)) (same_value part fits.1)
+  same_grant tables (table_entry right table) fits = refl
+  same_grant tables (db_entry right) fits = refl
+
+  same_entries : (tables : List TableShape) (count : ℕ) (footprint : FootprintOf) (entries : List EntrySyntax) → AllByRecursion (EntryFits tables kinds) entries
+      → with_entries other tables arguments count footprint entries ≡ with_entries (pos 0) tables arguments count footprint entries
+  same_entries tables count footprint [] fits = refl
+  same_entries tables count footprint (entry ∷ entries) fits =
+      ap (λ (r : Result (Resource × Right) AbortCode). r >>= λ grant. rule (nat_lt count 65536) TooLong >>= λ u. with_entries other tables arguments (count + 1) (with_right footprint grant.0 grant.1) entries) (same_grant tables entry fits.0)
+      ∙ alike (grant_of (pos 0) tables arguments entry) (rule (nat_lt count 65536) TooLong) _ _ (λ grant. same_entries tables (count + 1) (with_right footprint grant.0 grant.1) entries fits.1)
+
+pub never_shows : (tables : List TableShape) (proc : ProcSyntax) (arguments : List Value) (other : ℤ) → ProcFits tables proc → map type_of arguments ≡ kinds_of proc.params
+    → declared_with other tables arguments proc.footprint ≡ declared_footprint tables arguments proc.footprint
+never_shows tables proc arguments other fits args = same_entries other (kinds_of proc.params) arguments args tables 0 empty proc.footprint fits.footprint

@@ -1,0 +1,345 @@
+-- In a body that fits, over rows of the tables, what stands for a missing variable or column never shows.
+use Rattle.std.proofs.Common.{◌≡◌, ℕ, zero, suc, ◌+◌, Bool, true, false, cond, not, List, [], ◌∷◌, ◌++◌, map, refl, sym, ap, ◌∙◌, subst, Option, Some, None, option_map, option_and_then, unwrap_or, Result, Ok, Err, ℤ, pos, negsuc, inl, inr, append_assoc}
+use Rattle.std.specs.Prelude.{◌⊎◌, nat_lt, int_lt, length, take, slice_get, slice_set, if◌then◌else◌, ◌==◌}
+use Rattle.std.specs.List.{AllByRecursion}
+use Rattle.std.specs.FinMap.{get, get-insert}
+use Rattle.std.specs.Ordering.{eq_by_cmp}
+use Rattle.std.proofs.lemmas.Option.{slice_get-map}
+use Rattle.std.proofs.lemmas.List.{map-append, length-map, take-map, append-nil}
+use Rattle.std.proofs.Math.Seq.{take-append_seam}
+use Rattle.std.proofs.lemmas.Bool.{eqb-false}
+use Rattle.values.specs.declared.name.RowName.{RowName}
+use Rattle.values.specs.declared.value.ColType.{ColType}
+use Rattle.values.specs.declared.value.ColType.TheVariants as types
+use Rattle.values.specs.declared.value.Value.{Value}
+use Rattle.values.specs.declared.value.Value.TheVariants as values
+use Rattle.values.specs.Shapes.{TableShape}
+use Rattle.values.specs.Rows.{type_of}
+use Rattle.values.specs.Database.{Database, RowOf, name_cmp}
+use Rattle.proclang_types.specs.declared.right.Right.{Right}
+use Rattle.proclang_types.specs.declared.right.Right.TheVariants.{Read, Write}
+use Rattle.proclang_types.specs.Syntax.{IntSyntax, number, variable, add, subtract, TextSyntax, literal, text_variable, BoolSyntax, less, ValueSyntax, int_value, text_value, StmtSyntax, get as get_syntax, put, choose, abort as abort_syntax, reply, BlockSyntax, no_statements, followed, block_of, ProcSyntax}
+use Rattle.proclang_types.specs.Typing.{column_kind, IntFits, TextFits, BoolFits, ValueFits, kind_of, Takes, declared, after as kinds_after, StmtFits, BlockFits, kinds_of}
+use Rattle.footprint.specs.declared.abort_code.AbortCode.{AbortCode}
+use Rattle.footprint.specs.declared.abort_code.AbortCode.TheVariants.{BadKey, NoRow, Budget, TooLong, Own, Uncovered}
+use Rattle.footprint.specs.Tree.{row_resource}
+use Rattle.footprint.specs.Rights.{FootprintOf, covers}
+use Rattle.footprint.specs.Declaration.{number_or}
+use Rattle.meaning.specs.declared.outcome.Ending.{Ending}
+use Rattle.meaning.specs.declared.outcome.Ending.TheVariants as endings
+use Rattle.meaning.specs.Runs.{State, Ran, after, and_then, ok, ended, look, alter, provided, Gate, passing, covered, step, key_of, accessed, row_now, present, set_row, with_variable, set_variable, scoped, replying}
+use Rattle.meaning.specs.Meaning.{StandIn, text_or, int_of, text_of, bool_of, value_of, values_of, chosen, effect, in_order}
+use Rattle.meaning.specs.Entries.{EntryShape, Footing, declares, faults, finds, start, finished, run_of, nothing, meaning_by}
+use Rattle.meaning.specs.Fitting.{IsRowOf, HasTypes, IsCallOf, StandInNeverShows}
+use Rattle.meaning.proofs.Names.{names_total, exact_names}
+use Rattle.meaning.proofs.Frame.{is_equal}
+
+-- ---- values in place
+
+same_number : (o : Option Value) (x y : ℤ) → option_map type_of o ≡ Some types.Int → number_or y o ≡ number_or x o
+same_number None x y e = absurd (cc)
+same_number (Some (values.Int z)) x y e = refl
+same_number (Some (values.Text s)) x y e = absurd (cc)
+
+same_text : (o : Option Value) (x y : List ℕ) → option_map type_of o ≡ Some types.Text → text_or y o ≡ text_or x o
+same_text None x y e = absurd (cc)
+same_text (Some (values.Int z)) x y e = absurd (cc)
+same_text (Some (values.Text s)) x y e = refl
+
+same_value : (o : Option Value) (x y : Value) (kind : ColType) → option_map type_of o ≡ Some kind → (unwrap_or o y ≡ unwrap_or o x) × (type_of (unwrap_or o x) ≡ kind)
+same_value None x y kind e = absurd (cc)
+same_value (Some v) x y kind e = (refl, cc)
+
+-- the variable at a place has the type that is seen there
+in_place : (vs : List Value) (kinds : List ColType) (place : ℕ) (kind : ColType) → map type_of vs ≡ kinds → slice_get kinds place ≡ Some kind → option_map type_of (slice_get vs place) ≡ Some kind
+in_place vs kinds place kind e h = sym (slice_get-map type_of vs place) ∙ ap (λ (ks : List ColType). slice_get ks place) e ∙ h
+
+-- the value in a column of a row has the column's type
+column_in_place : (tables : List TableShape) (table : ℕ) (row : RowOf) (column : ℕ) (kind : ColType) → IsRowOf tables table row → column_kind tables table column ≡ Some kind → option_map type_of (slice_get row column) ≡ Some kind
+column_in_place tables table row column kind is there = by (slice_get tables table) is there
+  where
+    by : (o : Option TableShape) → option_map (λ t. map (λ c. c.kind) t.columns) o ≡ Some (map type_of row) → option_and_then (λ t. option_map (λ c. c.kind) (slice_get t.columns column)) o ≡ Some kind
+        → option_map type_of (slice_get row column) ≡ Some kind
+    by None e h = absurd (cc)
+    by (Some t) e h =
+        let same : map (λ c. c.kind) t.columns ≡ map type_of row = cc in
+        in_place row (map (λ c. c.kind) t.columns) column kind (sym same) (slice_get-map (λ c. c.kind) t.columns column ∙ h)
+
+-- another value of the same type leaves the types as they are
+kept_types : (vs : List Value) (place : ℕ) (v : Value) → option_map type_of (slice_get vs place) ≡ Some (type_of v) → map type_of (slice_set vs place v) ≡ map type_of vs
+kept_types [] place v e = absurd (cc)
+kept_types (x ∷ xs) zero v e = (let same : type_of v ≡ type_of x = cc in ap (λ (k : ColType). k ∷ map type_of xs) same)
+kept_types (x ∷ xs) (suc place) v e = ap (λ (ks : List ColType). type_of x ∷ ks) (kept_types xs place v e)
+
+-- a variable that gets a value of a type that its place takes
+set_types : (vs : List Value) (kinds : List ColType) (place : ℕ) (v : Value) (kind : ColType) → map type_of vs ≡ kinds → type_of v ≡ kind → Takes kinds place kind → map type_of (with_variable vs place v) ≡ declared kinds place kind
+set_types vs kinds place v kind e k takes =
+    subst (λ (n : ℕ). map type_of (with_variable vs place v) ≡ (if place == n then kinds ++ kind ∷ [] else kinds)) (sym (length-map vs type_of) ∙ ap length e) (by (place == length vs) refl)
+  where
+    at_end : (place n : ℕ) → place == n ≡ false → (place ≡ n) ⊎ (slice_get kinds place ≡ Some kind) → slice_get kinds place ≡ Some kind
+    at_end place n f (inl is) = absurd (eqb-false place n f is)
+    at_end place n f (inr there) = there
+
+    by : (b : Bool) → place == length vs ≡ b → map type_of (if b then vs ++ v ∷ [] else slice_set vs place v) ≡ (if b then kinds ++ kind ∷ [] else kinds)
+    by true is = map-append type_of vs (v ∷ []) ∙ ap (λ (ks : List ColType). ks ++ type_of v ∷ []) e ∙ ap (λ (q : ColType). kinds ++ q ∷ []) k
+    by false is =
+        let n : length kinds ≡ length vs = ap length (sym e) ∙ length-map vs type_of in
+        let there = at_end place (length kinds) (ap (λ (m : ℕ). place == m) n ∙ is) takes in
+        kept_types vs place v (in_place vs kinds place kind e there ∙ ap (λ (q : ColType). Some q) (sym k)) ∙ e
+
+-- ---- the types of the variables that are seen
+
+abbrev kinds_through : List TableShape → List ColType → BlockSyntax → List ColType
+kinds_through tables kinds no_statements = kinds
+kinds_through tables kinds (followed s rest) = kinds_through tables (kinds_after tables kinds s) rest
+
+-- variables are declared behind those that are seen
+abbrev Extends : List ColType → List ColType → Type 0
+Extends before later = (more : List ColType) × (later ≡ before ++ more)
+
+extends_take : (before later : List ColType) → Extends before later → take (length before) later ≡ before
+extends_take before later e = ap (λ (ks : List ColType). take (length before) ks) e.1 ∙ take-append_seam before e.0
+
+declared_extends : (kinds : List ColType) (place : ℕ) (kind : ColType) → Extends kinds (declared kinds place kind)
+declared_extends kinds place kind = by (place == length kinds)
+  where
+    by : (b : Bool) → Extends kinds (if b then kinds ++ kind ∷ [] else kinds)
+    by true = (kind ∷ [], refl)
+    by false = ([], sym (append-nil kinds))
+
+after_extends : (tables : List TableShape) (kinds : List ColType) (s : StmtSyntax) → Extends kinds (kinds_after tables kinds s)
+after_extends tables kinds (get_syntax place table key column) = declared_extends kinds place (unwrap_or (column_kind tables table column) types.Int)
+after_extends tables kinds (put table key column value) = ([], sym (append-nil kinds))
+after_extends tables kinds (choose test first second) = ([], sym (append-nil kinds))
+after_extends tables kinds (abort_syntax code) = ([], sym (append-nil kinds))
+after_extends tables kinds (reply es) = ([], sym (append-nil kinds))
+
+through_extends : (tables : List TableShape) (kinds : List ColType) (b : BlockSyntax) → Extends kinds (kinds_through tables kinds b)
+through_extends tables kinds no_statements = ([], sym (append-nil kinds))
+through_extends tables kinds (followed s rest) =
+    let first = after_extends tables kinds s in
+    let more = through_extends tables (kinds_after tables kinds s) rest in
+    (first.0 ++ more.0, more.1 ∙ ap (λ (ks : List ColType). ks ++ more.0) first.1 ∙ append_assoc kinds first.0 more.0)
+
+-- ---- runs
+
+module _ (tables : List TableShape) where
+  -- variables of these types, and rows of the tables
+  record Typed (kinds : List ColType) (st : State) : Type 0 where
+    variables : map type_of st.variables ≡ kinds
+    rows : HasTypes tables st.rows
+
+  abbrev After : {A : Type 0} → (A → Type 0) → List ColType → Result A Ending × State → Type 0
+  After Q kinds (Ok x, s) = Q x × Typed kinds s
+  After Q kinds (Err e, s) = Unit {0}
+
+  -- from a typed state both do the same, and where they go on they leave a typed state and a value of Q
+  abbrev Same : {A : Type 0} → (A → Type 0) → List ColType → List ColType → Ran A → Ran A → Type 0
+  Same Q kinds later f g = (s : State) → Typed kinds s → (g s ≡ f s) × After Q later (f s)
+
+  abbrev Any : {A : Type 0} → A → Type 0
+  Any x = Unit {0}
+
+  then_same : {A B : Type 0} (Q : A → Type 0) (P : B → Type 0) (kinds later : List ColType) (r : Result A Ending × State) (h k : A → Ran B) → After Q kinds r → ((v : A) → Q v → Same P kinds later (h v) (k v))
+      → (after r k ≡ after r h) × After P later (after r h)
+  then_same Q P kinds later (Ok x, s) h k a m = m x a.0 s a.1
+  then_same Q P kinds later (Err e, s) h k a m = (refl, tt)
+
+  bind : {A B : Type 0} (Q : A → Type 0) (P : B → Type 0) (kinds between later : List ColType) (f g : Ran A) (h k : A → Ran B)
+      → Same Q kinds between f g → ((v : A) → Q v → Same P between later (h v) (k v)) → Same P kinds later (and_then f h) (and_then g k)
+  unfolding and_then
+  bind Q P kinds between later f g h k a m s typed =
+      let both = then_same Q P between later (f s) h k (a s typed).1 m in
+      (ap (λ r. after r k) (a s typed).0 ∙ both.0, both.1)
+
+  s_ok : {A : Type 0} (Q : A → Type 0) (kinds : List ColType) (v : A) → Q v → Same Q kinds kinds (ok v) (ok v)
+  s_ok Q kinds v q s typed = (refl, (q, typed))
+
+  s_ended : {A : Type 0} (Q : A → Type 0) (kinds later : List ColType) (e : Ending) → Same Q kinds later (ended e) (ended e)
+  s_ended Q kinds later e s typed = (refl, tt)
+
+  s_provided : {A : Type 0} (kinds : List ColType) (b : Bool) (code : AbortCode) (v : A) → Same Any kinds kinds (provided b code v) (provided b code v)
+  s_provided kinds true code v s typed = (refl, (tt, typed))
+  s_provided kinds false code v s typed = (refl, tt)
+
+  s_look : {A : Type 0} (kinds : List ColType) (f : State → A) → Same Any kinds kinds (look f) (look f)
+  s_look kinds f s typed = (refl, (tt, typed))
+
+  -- a change of the steps or of the reply
+  s_alter : (kinds : List ColType) (f : State → State) → ((s : State) → (f s).variables ≡ s.variables) → ((s : State) → (f s).rows ≡ s.rows) → Same Any kinds kinds (alter f) (alter f)
+  s_alter kinds f v r s typed = (refl, (tt, record { variables = ap (map type_of) (v s) ∙ typed.variables; rows = subst (HasTypes tables) (sym (r s)) typed.rows }))
+
+  s_step : (kinds : List ColType) → Same Any kinds kinds step step
+  s_step kinds = bind Any Any kinds kinds kinds _ _ _ _ (s_look kinds (λ st. st.steps)) (λ n u.
+      bind Any Any kinds kinds kinds _ _ _ _ (s_provided kinds (nat_lt n 10000) Budget (n + 1)) (λ k w.
+      s_alter kinds (λ st. record st { steps = k }) (λ s. refl) (λ s. refl)))
+
+  s_key : (kinds : List ColType) (z : ℤ) → Same Any kinds kinds (key_of z) (key_of z)
+  s_key kinds (pos n) = s_ok Any kinds n tt
+  s_key kinds (negsuc n) = s_ended {A = ℕ} Any kinds kinds (endings.Abort BadKey)
+
+  -- a row that is found is one of its table
+  abbrev OfTable : ℕ → Option RowOf → Type 0
+  OfTable table found = (row : RowOf) → found ≡ Some row → IsRowOf tables table row
+
+  s_row : (kinds : List ColType) (table : ℕ) (name : RowName) → name.table ≡ table → Same (OfTable table) kinds kinds (row_now name) (row_now name)
+  s_row kinds table name is s typed = (refl, (λ row there. subst (λ (t : ℕ). IsRowOf tables t row) is (typed.rows name row there), typed))
+
+  s_present : (kinds : List ColType) (table : ℕ) (found : Option RowOf) → OfTable table found → Same (IsRowOf tables table) kinds kinds (present found) (present found)
+  s_present kinds table None of = s_ended {A = RowOf} (IsRowOf tables table) kinds kinds (endings.Abort NoRow)
+  s_present kinds table (Some row) of = s_ok (IsRowOf tables table) kinds row (of row refl)
+
+  s_write : (kinds : List ColType) (name : RowName) (row : RowOf) → IsRowOf tables name.table row → Same Any kinds kinds (set_row name row) (set_row name row)
+  s_write kinds name row is s typed = (
+    refl,
+    (
+      tt,
+      record {
+        variables = typed.variables;
+        rows = λ q r there.
+            elim (eq_by_cmp name_cmp q name) as (λ t. eq_by_cmp name_cmp q name ≡ t → cond t (Some row) (get s.rows q) ≡ Some r → IsRowOf tables q.table r) [
+              | true ↦ λ e h. subst (λ (n : RowName). IsRowOf tables n.table r) (sym (exact_names q name (is_equal (name_cmp q name) e))) (let same : row ≡ r = cc in subst (IsRowOf tables name.table) same is)
+              | false ↦ λ e h. typed.rows q r h
+            ] refl (sym (get-insert names_total s.rows name row q) ∙ there);
+      },
+    ),
+  )
+
+  s_variable : (kinds : List ColType) (place : ℕ) (v : Value) (kind : ColType) → type_of v ≡ kind → Takes kinds place kind → Same Any kinds (declared kinds place kind) (set_variable place v) (set_variable place v)
+  s_variable kinds place v kind is takes s typed = (refl, (tt, record { variables = set_types s.variables kinds place v kind typed.variables is takes; rows = typed.rows }))
+
+  abbrev Counts : List ColType → ℕ → Type 0
+  Counts kinds n = n ≡ length kinds
+
+  s_count : (kinds : List ColType) → Same (Counts kinds) kinds kinds (look (λ st. length st.variables)) (look (λ st. length st.variables))
+  s_count kinds s typed = (refl, (sym (length-map s.variables type_of) ∙ ap length typed.variables, typed))
+
+  -- the variables that were declared behind the others are no more
+  s_cut : (kinds later : List ColType) (n : ℕ) → Extends kinds later → Counts kinds n → Same Any later kinds (alter (λ st. record st { variables = take n st.variables })) (alter (λ st. record st { variables = take n st.variables }))
+  s_cut kinds later n more is s typed = (
+    refl,
+    (
+      tt,
+      record {
+        variables = sym (take-map type_of n s.variables) ∙ ap (λ (ks : List ColType). take n ks) typed.variables ∙ ap (λ (m : ℕ). take m later) is ∙ extends_take kinds later more;
+        rows = typed.rows;
+      },
+    ),
+  )
+
+  s_scoped : (kinds later : List ColType) (f g : Ran (Unit {0})) → Extends kinds later → Same Any kinds later f g → Same Any kinds kinds (scoped f) (scoped g)
+  s_scoped kinds later f g more h = bind (Counts kinds) Any kinds kinds kinds _ _ _ _ (s_count kinds) (λ n is. bind Any Any kinds later kinds _ _ _ _ h (λ u w. s_cut kinds later n more is))
+
+  s_replying : (kinds : List ColType) (vs : List Value) → Same Any kinds kinds (replying vs) (replying vs)
+  s_replying kinds vs = bind Any Any kinds kinds kinds _ _ _ _ (s_look kinds (λ st. st.reply)) (λ old u.
+      bind Any Any kinds kinds kinds _ _ _ _ (s_provided kinds (not (nat_lt 64 (length old + length vs))) TooLong (old ++ vs)) (λ new w.
+      s_alter kinds (λ st. record st { reply = new }) (λ s. refl) (λ s. refl)))
+
+  module _ (fo : FootprintOf) (uncovered : Ending) (d e : StandIn) where
+    abbrev gate : Gate
+    gate = covered tables fo uncovered
+
+    s_passing : (kinds : List ColType) (b : Bool) → Same Any kinds kinds (passing b uncovered) (passing b uncovered)
+    s_passing kinds true s typed = (refl, (tt, typed))
+    s_passing kinds false s typed = (refl, tt)
+
+    abbrev InTable : ℕ → RowName → Type 0
+    InTable table name = name.table ≡ table
+
+    s_access : (kinds : List ColType) (right : Right) (table : ℕ) (z : ℤ) → Same (InTable table) kinds kinds (accessed gate right table z) (accessed gate right table z)
+    s_access kinds right table z = bind Any (InTable table) kinds kinds kinds _ _ _ _ (s_key kinds z) (λ key w.
+        let name : RowName = record { table = table; key = key } in
+        bind Any (InTable table) kinds kinds kinds _ _ _ _ (s_passing kinds (covers fo (row_resource tables name) right)) (λ u c. s_ok (InTable table) kinds name refl))
+
+    s_int : (kinds : List ColType) (t : IntSyntax) → IntFits kinds t → Same Any kinds kinds (int_of d gate t) (int_of e gate t)
+    s_int kinds (number z) fits = s_ok Any kinds z tt
+    s_int kinds (variable place) fits = λ s typed. (ap (λ (z : ℤ). (Ok z, s)) (same_number (slice_get s.variables place) d.number e.number (in_place s.variables kinds place types.Int typed.variables fits)), (tt, typed))
+    s_int kinds (add a b) fits = bind Any Any kinds kinds kinds _ _ _ _ (s_int kinds a fits.0) (λ x u. bind Any Any kinds kinds kinds _ _ _ _ (s_int kinds b fits.1) (λ y w. s_provided kinds _ _ _))
+    s_int kinds (subtract a b) fits = bind Any Any kinds kinds kinds _ _ _ _ (s_int kinds a fits.0) (λ x u. bind Any Any kinds kinds kinds _ _ _ _ (s_int kinds b fits.1) (λ y w. s_provided kinds _ _ _))
+
+    s_text : (kinds : List ColType) (t : TextSyntax) → TextFits kinds t → Same Any kinds kinds (text_of d gate t) (text_of e gate t)
+    s_text kinds (literal s) fits = s_ok Any kinds s tt
+    s_text kinds (text_variable place) fits = λ s typed. (ap (λ (t : List ℕ). (Ok t, s)) (same_text (slice_get s.variables place) d.text e.text (in_place s.variables kinds place types.Text typed.variables fits)), (tt, typed))
+
+    s_bool : (kinds : List ColType) (t : BoolSyntax) → BoolFits kinds t → Same Any kinds kinds (bool_of d gate t) (bool_of e gate t)
+    s_bool kinds (less a b) fits = bind Any Any kinds kinds kinds _ _ _ _ (s_int kinds a fits.0) (λ x u. bind Any Any kinds kinds kinds _ _ _ _ (s_int kinds b fits.1) (λ y w. s_ok Any kinds (int_lt x y) tt))
+
+    abbrev OfKind : ColType → Value → Type 0
+    OfKind kind v = type_of v ≡ kind
+
+    s_value : (kinds : List ColType) (t : ValueSyntax) → ValueFits kinds t → Same (OfKind (kind_of t)) kinds kinds (value_of d gate t) (value_of e gate t)
+    s_value kinds (int_value t) fits = bind Any (OfKind types.Int) kinds kinds kinds _ _ _ _ (s_int kinds t fits) (λ z u. s_ok (OfKind types.Int) kinds (values.Int z) refl)
+    s_value kinds (text_value t) fits = bind Any (OfKind types.Text) kinds kinds kinds _ _ _ _ (s_text kinds t fits) (λ s u. s_ok (OfKind types.Text) kinds (values.Text s) refl)
+
+    s_values : (kinds : List ColType) (ts : List ValueSyntax) → AllByRecursion (ValueFits kinds) ts → Same Any kinds kinds (values_of d gate ts) (values_of e gate ts)
+    s_values kinds [] fits = s_ok Any kinds [] tt
+    s_values kinds (t ∷ ts) fits = bind (OfKind (kind_of t)) Any kinds kinds kinds _ _ _ _ (s_value kinds t fits.0) (λ v u. bind Any Any kinds kinds kinds _ _ _ _ (s_values kinds ts fits.1) (λ vs w. s_ok Any kinds (v ∷ vs) tt))
+
+    -- a variable gets a column's value
+    s_column : (kinds : List ColType) (place table column : ℕ) (kind : ColType) (row : RowOf) → column_kind tables table column ≡ Some kind → Takes kinds place kind → IsRowOf tables table row
+        → Same Any kinds (declared kinds place kind) (set_variable place (unwrap_or (slice_get row column) (values.Int d.number))) (set_variable place (unwrap_or (slice_get row column) (values.Int e.number)))
+    s_column kinds place table column kind row there takes is s typed =
+        let same = same_value (slice_get row column) (values.Int d.number) (values.Int e.number) kind (column_in_place tables table row column kind is there) in
+        (ap (λ (v : Value). set_variable place v s) same.0, (s_variable kinds place (unwrap_or (slice_get row column) (values.Int d.number)) kind same.1 takes s typed).1)
+
+    s_chosen : (kinds : List ColType) (b : Bool) (f g k l : Ran (Unit {0})) → Same Any kinds kinds (scoped f) (scoped k) → Same Any kinds kinds (scoped g) (scoped l) → Same Any kinds kinds (scoped (chosen b f g)) (scoped (chosen b k l))
+    s_chosen kinds true f g k l p q = p
+    s_chosen kinds false f g k l p q = q
+
+    s_get : (kinds : List ColType) (place table : ℕ) (key : IntSyntax) (column : ℕ) (kind : ColType) → IntFits kinds key → column_kind tables table column ≡ Some kind → Takes kinds place kind
+        → Same Any kinds (declared kinds place kind) (effect d gate (get_syntax place table key column)) (effect e gate (get_syntax place table key column))
+    s_get kinds place table key column kind fits there takes = bind Any Any kinds kinds _ _ _ _ _ (s_int kinds key fits) (λ k u.
+        bind (InTable table) Any kinds kinds _ _ _ _ _ (s_access kinds Read table k) (λ name is.
+        bind (OfTable table) Any kinds kinds _ _ _ _ _ (s_row kinds table name is) (λ found of.
+        bind (IsRowOf tables table) Any kinds kinds _ _ _ _ _ (s_present kinds table found of) (λ row its.
+        s_column kinds place table column kind row there takes its))))
+
+    mutual
+      s_effect : (kinds : List ColType) (t : StmtSyntax) → StmtFits tables kinds t → Same Any kinds (kinds_after tables kinds t) (effect d gate t) (effect e gate t)
+      s_effect kinds (get_syntax place table key column) fits =
+          subst (λ (o : Option ColType). Same Any kinds (declared kinds place (unwrap_or o types.Int)) (effect d gate (get_syntax place table key column)) (effect e gate (get_syntax place table key column)))
+          (sym fits.1.1) (s_get kinds place table key column fits.1.0 fits.0 fits.1.1 fits.1.2)
+      s_effect kinds (put table key column value) fits = bind Any Any kinds kinds kinds _ _ _ _ (s_int kinds key fits.0) (λ k u.
+          bind (OfKind (kind_of value)) Any kinds kinds kinds _ _ _ _ (s_value kinds value fits.1) (λ v is.
+          bind (InTable table) Any kinds kinds kinds _ _ _ _ (s_access kinds Write table k) (λ name at.
+          bind (OfTable table) Any kinds kinds kinds _ _ _ _ (s_row kinds table name at) (λ found of.
+          bind (IsRowOf tables table) Any kinds kinds kinds _ _ _ _ (s_present kinds table found of) (λ row its.
+          let same : map type_of (slice_set row column v) ≡ map type_of row = kept_types row column v (column_in_place tables table row column (kind_of value) its fits.2 ∙ ap (λ (q : ColType). Some q) (sym is)) in
+          s_write kinds name (slice_set row column v) (subst (λ (n : ℕ). IsRowOf tables n (slice_set row column v)) (sym at) (its ∙ ap (λ (ks : List ColType). Some ks) (sym same))))))))
+      s_effect kinds (choose test first second) fits = bind Any Any kinds kinds kinds _ _ _ _ (s_bool kinds test fits.0) (λ b u.
+          s_chosen kinds b (in_order d gate first) (in_order d gate second) (in_order e gate first) (in_order e gate second)
+          (s_scoped kinds (kinds_through tables kinds first) (in_order d gate first) (in_order e gate first) (through_extends tables kinds first) (s_order kinds first fits.1))
+          (s_scoped kinds (kinds_through tables kinds second) (in_order d gate second) (in_order e gate second) (through_extends tables kinds second) (s_order kinds second fits.2)))
+      s_effect kinds (abort_syntax code) fits = s_ended {A = Unit {0}} Any kinds kinds (endings.Abort (Own code))
+      s_effect kinds (reply es) fits = bind Any Any kinds kinds kinds _ _ _ _ (s_values kinds es fits) (λ vs u. s_replying kinds vs)
+
+      s_order : (kinds : List ColType) (b : BlockSyntax) → BlockFits tables kinds b → Same Any kinds (kinds_through tables kinds b) (in_order d gate b) (in_order e gate b)
+      s_order kinds no_statements fits = s_ok Any kinds tt tt
+      s_order kinds (followed t rest) fits = bind Any Any kinds kinds _ _ _ _ _ (s_step kinds) (λ u w.
+          bind Any Any kinds (kinds_after tables kinds t) _ _ _ _ _ (s_effect kinds t fits.0) (λ v x. s_order (kinds_after tables kinds t) rest fits.1))
+
+-- ---- entries
+
+left_typed : (tables : List TableShape) (kinds : List ColType) (db : Database) (r : Result (Unit {0}) Ending × State) → HasTypes tables db → After tables (λ u. Unit {0}) kinds r → HasTypes tables (finished db r).1
+left_typed tables kinds db (Ok x, s) h a = a.1.rows
+left_typed tables kinds db (Err e, s) h a = h
+
+run_same : (tables : List TableShape) (kinds : List ColType) (fo : FootprintOf) (uncovered : Ending) (body : List StmtSyntax) (arguments : List Value) (db : Database) (d : StandIn)
+    → BlockFits tables kinds (block_of body) → map type_of arguments ≡ kinds → HasTypes tables db
+    → (run_of d (covered tables fo uncovered) body arguments db ≡ run_of nothing (covered tables fo uncovered) body arguments db) × HasTypes tables (run_of nothing (covered tables fo uncovered) body arguments db).1
+run_same tables kinds fo uncovered body arguments db d fits args rows =
+    let both = s_order tables fo uncovered nothing d kinds (block_of body) fits (start arguments db) (record { variables = args; rows = rows }) in
+    (ap (finished db) both.0, left_typed tables (kinds_through tables kinds (block_of body)) db _ rows both.1)
+
+by_footing : (tables : List TableShape) (kinds : List ColType) (body : List StmtSyntax) (arguments : List Value) (footing : Footing) (db : Database) (d : StandIn)
+    → BlockFits tables kinds (block_of body) → map type_of arguments ≡ kinds → HasTypes tables db
+    → (meaning_by d tables body arguments footing db ≡ meaning_by nothing tables body arguments footing db) × HasTypes tables (meaning_by nothing tables body arguments footing db).1
+by_footing tables kinds body arguments (declares fo) db d fits args rows = run_same tables kinds fo (endings.Abort Uncovered) body arguments db d fits args rows
+by_footing tables kinds body arguments (faults code) db d fits args rows = (refl, rows)
+by_footing tables kinds body arguments (finds fo) db d fits args rows = run_same tables kinds fo endings.Stale body arguments db d fits args rows
+
+pub never_shows : (proc : ProcSyntax) (entry : EntryShape) (db : Database) → IsCallOf proc entry → HasTypes entry.tables db → StandInNeverShows entry db
+never_shows proc entry db call rows =
+    let fits : BlockFits entry.tables (kinds_of proc.params) (block_of entry.body) = subst (λ (body : List StmtSyntax). BlockFits entry.tables (kinds_of proc.params) (block_of body)) (sym call.body) call.fits.body in
+    let law = λ (d : StandIn). by_footing entry.tables (kinds_of proc.params) entry.body entry.arguments entry.footing db d fits call.arguments rows in
+    record { same = λ d. (law d).0; types = (law nothing).1 }
