@@ -1,0 +1,4 @@
+pub mod Fronts
+pub mod Apart
+pub mod Ranked
+pub mod Places

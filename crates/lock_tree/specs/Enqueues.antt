@@ -1,0 +1,8 @@
+-- A transaction that may come behind all others.
+use Rattle.std.specs.Prelude.{◌<◌, ℕ, List, [], ◌∷◌, ⊤}
+use Rattle.lock_tree.specs.Locks.{Waiting}
+
+-- each number is less
+abbrev pub AreBelow : ℕ → List Waiting → Type 0
+AreBelow number [] = ⊤
+AreBelow number (w ∷ ws) = (w.number < number) × AreBelow number ws

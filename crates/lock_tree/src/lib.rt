@@ -1,0 +1,12 @@
+//! The lock tree: plans in the order in which they were enqueued, and which transactions have all that they ask for.
+#![tactic(auto)]
+
+mod entry;
+mod grants;
+mod laws;
+#[cfg(test)]
+mod tests;
+mod tree;
+
+pub use laws::{first_ready, granted_is_longest_front, ready_apart};
+pub use tree::{EnqueueFault, LockTree};

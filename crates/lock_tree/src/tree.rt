@@ -1,0 +1,149 @@
+//! The lock tree.
+
+ghost use Rattle.std.specs.Prelude.{◌≡◌, ◌↔◌, ◌<◌, ◌+◌, [], ◌∷◌, ◌++◌, ◌&&◌, not, true, false, length, IsSome, IfOk, OnOk, OnErr, Err};
+ghost use Rattle.lock_tree.specs.Locks.{used, plan_of, without, with_mark};
+ghost use Rattle.lock_tree.specs.Ready.{ready, IsNextReady};
+ghost use Rattle.lock_tree.specs.Enqueues.{AreBelow};
+
+use crate::entry::{Entry, place_of, push};
+use crate::grants;
+use coarsen::Plan;
+use std::alloc::Global;
+use std::marker::Model;
+use values::NoMemory;
+
+/// Why a plan was not enqueued.
+#[derive(Clone, Copy, Debug, PartialEq, Eq)]
+pub enum EnqueueFault {
+    /// There is less room than the plan has requests.
+    Full,
+    NoMemory,
+}
+
+/// Transactions with their plans, in the order in which they were enqueued, and a mark on some of them. Contracts see the
+/// list of them.
+#[derive(Drop)]
+pub struct LockTree {
+    alloc: Global,
+    nodes: usize,
+    free: usize,
+    entries: Vec<Entry>,
+}
+
+impl Model for LockTree {
+    ghost use Rattle.std.specs.Prelude.{◌≡◌, ◌+◌};
+    ghost use Rattle.lock_tree.specs.Locks.{Locks, used, IsRising};
+
+    ghost Value = { Locks };
+
+    ghost use Rattle.lock_tree.specs.Views.{all_waiting, locks_code};
+
+    ghost coded = { locks_code };
+
+    ghost view = { λ t. record { nodes = t.nodes; waiting = all_waiting t.entries.items } };
+
+    ghost invariant = { λ t. (t.free + used (all_waiting t.entries.items) ≡ t.nodes) × IsRising (all_waiting t.entries.items) };
+}
+
+impl LockTree {
+    /// A tree with room for so many requests, and no transaction.
+    pub fn new(alloc: Global, nodes: usize) -> Result<LockTree, NoMemory>
+        ensures { IfOk result (λ tree. tree ≡ record { nodes = nodes; waiting = [] }) }
+    {
+        Ok(LockTree {
+            alloc,
+            nodes,
+            free: nodes,
+            entries: Vec::new(alloc),
+        })
+    }
+
+    /// Puts a transaction behind all others, without a mark. Full exactly where there is less room than the plan has
+    /// requests. On an error nothing has changed.
+    pub fn enqueue(&mut self, number: u64, plan: &Plan) -> Result<(), EnqueueFault>
+        requires { AreBelow number self.old.waiting }
+        ensures enqueued { OnOk result (self.new ≡ record self.old { waiting = self.old.waiting ++ record { number = number; plan = plan.now; marked = false } ∷ [] }) }
+        ensures full { (result ≡ Err EnqueueFault.Full) ↔ (self.old.nodes < used self.old.waiting + length plan.now) }
+        ensures err { OnErr result (self.new ≡ self.old) }
+    {
+        let size = plan.requests().len();
+        if size > self.free {
+            return Err(EnqueueFault::Full);
+        }
+        let entry = Entry::new(self.alloc, number, plan.requests())?;
+        push(&mut self.entries, entry)?;
+        self.free -= size;
+        Ok(())
+    }
+
+    /// Whether the transaction is there and each of its requests is granted.
+    pub fn is_ready(&self, number: u64) -> bool
+        ensures { result ≡ ready self.now.waiting number }
+    {
+        grants::is_ready(self.entries.as_slice(), number)
+    }
+
+    /// The least number of a transaction that is ready and has no mark, `None` exactly where there is none.
+    pub fn next_ready(&self) -> Option<u64>
+        ensures { IsNextReady self.now.waiting result }
+    {
+        for entry in &self.entries {
+            if self.is_open(entry) {
+                return Some(entry.number);
+            }
+        }
+        None
+    }
+
+    /// Whether a transaction is ready and not marked.
+    fn is_open(&self, entry: &Entry) -> bool
+        ensures { result ≡ (not entry.now.marked && ready self.now.waiting entry.now.number) }
+    {
+        !entry.marked && self.is_ready(entry.number)
+    }
+
+    /// Marks a transaction.
+    pub fn mark(&mut self, number: u64)
+        requires { IsSome (plan_of self.old.waiting number) }
+        ensures { self.new ≡ record self.old { waiting = with_mark number true self.old.waiting } }
+    {
+        self.set_mark(number, true);
+    }
+
+    /// Takes the mark off a transaction.
+    pub fn unmark(&mut self, number: u64)
+        requires { IsSome (plan_of self.old.waiting number) }
+        ensures { self.new ≡ record self.old { waiting = with_mark number false self.old.waiting } }
+    {
+        self.set_mark(number, false);
+    }
+
+    fn set_mark(&mut self, number: u64, mark: bool)
+        ensures { self.new ≡ record self.old { waiting = with_mark number mark self.old.waiting } }
+    {
+        if let Some(place) = place_of(self.entries.as_slice(), number) {
+            self.entries[place].marked = mark;
+        }
+    }
+
+    /// Takes a transaction out of the tree.
+    pub fn release(&mut self, number: u64)
+        requires { IsSome (plan_of self.old.waiting number) }
+        ensures { self.new ≡ record self.old { waiting = without number self.old.waiting } }
+    {
+        if let Some(place) = place_of(self.entries.as_slice(), number) {
+            let entry = self.entries.remove(place);
+            self.free += entry.plan.len();
+        }
+    }
+}
+
+impl From<NoMemory> for EnqueueFault {
+    ghost use Rattle.lock_tree.specs.declared.tree.EnqueueFault.TheVariants.{NoMemory as Memory};
+
+    ghost from_gives = { λ _ fault. fault ≡ Memory };
+
+    fn from(_: NoMemory) -> EnqueueFault {
+        EnqueueFault::NoMemory
+    }
+}
