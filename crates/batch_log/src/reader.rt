@@ -46,6 +46,14 @@ impl<'a, S: Source> LogReader<'a, S> {
         }
     }
 
+    /// Gives the source back. The bytes that came and were not taken are lost.
+    pub fn into_source(self) -> &'a mut S
+        ensures same { result.ghost_name ≡ source_name self.entry }
+        ensures source { result.now ≡ source_of self.entry }
+    {
+        self.lines.into_source()
+    }
+
     /// The number of the line last begun, or 0 where none is. A line begins when its first byte is
     /// taken.
     pub fn last_line(&self) -> u64

@@ -51,7 +51,7 @@ pub rows_are : (old new : Engine) (batch : Batch) (run : BatchDone) (requests : 
     rows_of new ≡ serial_end (map prepared requests) (rows_of old)
 rows_are old new batch run requests r e = r.rows ∙ ap (λ (es : List EntryShape). serial_end es (rows_of old)) (entries_in requests batch e)
 
-requests_count : (n : ℕ) (requests : List Call) → length (items_from n requests) ≡ length requests
+pub requests_count : (n : ℕ) (requests : List Call) → length (items_from n requests) ≡ length requests
 requests_count n [] = refl
 requests_count n (r ∷ rs) = let rest = requests_count (n + 1) rs in cc
 

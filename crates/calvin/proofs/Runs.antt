@@ -1,5 +1,5 @@
 -- The replies of a batch that was run.
-use Rattle.std.proofs.Common.{◌≡◌, ℕ, ◌+◌, List, [], ◌∷◌, length, map, refl, sym, ap, ◌∙◌}
+use Rattle.std.proofs.Common.{◌≡◌, ℕ, ◌+◌, ◌≤◌, ◌^◌, List, [], ◌∷◌, length, map, true, false, refl, sym, ap, arith, ◌∙◌}
 use Rattle.std.proofs.lemmas.List.{length-map}
 use Rattle.std.specs.List.{AllByRecursion}
 use Rattle.values.specs.Shapes.{TableShape}
@@ -17,8 +17,11 @@ use Rattle.calvin.specs.declared.engine.Engine.{Engine}
 use Rattle.calvin.specs.declared.replies.BatchDone.{BatchDone}
 use Rattle.calvin.specs.declared.replies.Reply.{Reply}
 use Rattle.calvin.specs.Batches.{entries_of}
-use Rattle.calvin.specs.Engines.{next_of, rows_of}
-use Rattle.calvin.specs.Executions.{AreOver, IsRunOf}
+use Rattle.calvin.specs.declared.engine.ExecFault.{ExecFault}
+use Rattle.calvin.specs.declared.engine.ExecFault.TheVariants.{Busy, LogFull, Spawn, NoMemory}
+use Rattle.calvin.specs.Engines.{is_busy, next_of, rows_of}
+use Rattle.calvin.specs.Executions.{AreOver, IsRefusal, IsRunOf}
+use Rattle.calvin.specs.Stops.{IsHeld}
 use Rattle.calvin.specs.Replies.{reply_of, sent_of, sent_from, settled, Sent}
 
 -- each entry has a reply
@@ -64,3 +67,10 @@ numbered_over tables n (r ∷ rs) h = (h.0, numbered_over tables (n + 1) rs h.1)
 -- a batch of requests over tables is over them
 pub batch_over : (tables : List TableShape) (requests : List Call) (batch : Batch) → items_of batch ≡ items_from 0 requests → AllByRecursion (λ r. r.proc.tables ≡ tables) requests → AreOver tables (items_of batch)
 batch_over tables requests batch e h = rw e (numbered_over tables 0 requests h)
+
+-- an idle engine with room for a batch gives none back
+pub held_fault : (old new : Engine) (batch : Batch) (fault : ExecFault) → IsRefusal old new batch fault → is_busy old ≡ false → next_of old + length (items_of batch) ≤ 2 ^ 48 → IsHeld fault
+held_fault old new batch (Busy back) h idle room = let bad : true ≡ false = sym h.1 ∙ idle in absurd cc
+held_fault old new batch (LogFull back) h idle room = omega (arith, h.1, room)
+held_fault old new batch Spawn h idle room = tt
+held_fault old new batch NoMemory h idle room = tt

@@ -1,13 +1,13 @@
 -- How far a run has come.
 use Rattle.std.proofs.Common.{◌≡◌, ℕ, ◌+◌, List, [], ◌∷◌, ◌++◌, append_assoc, append-nil, length, map, Option, Some, None, is_some, Result, Ok, Err, IfOk, OnOk, false, arith, refl, sym, ◌∙◌, ap}
 use Rattle.std.specs.Option.{IfSome}
-use Rattle.std.specs.Io.KnownBytes.{Appends}
+use Rattle.std.specs.Io.KnownBytes.{Appends, prepend_known}
 use Rattle.std.proofs.KnownBytes.{Appends-nil, Appends-trans}
 use Rattle.std.proofs.lemmas.List.{length-append, length-map}
 use Rattle.sha2.specs.Hashers.{Holds256}
 use Rattle.sha2.specs.declared.Sha256.{Sha256}
 use Rattle.devices.specs.Devices.{AppendsFront, Passes}
-use Rattle.devices.proofs.Passing.{Passes-refl, Passes-trans, Passes-first}
+use Rattle.devices.proofs.Passing.{left_at_end, Passes-refl, Passes-trans, Passes-first}
 use Rattle.values.specs.Shapes.{TableShape}
 use Rattle.values.specs.Database.{Database}
 use Rattle.proclang.specs.ProcLists.{ProcsParts}
@@ -18,7 +18,7 @@ use Rattle.sequencer.specs.Entries.{prepared}
 use Rattle.batch_log.specs.declared.fault.FaultKind.{FaultKind}
 use Rattle.batch_log.specs.declared.fault.LogFault.{LogFault}
 use Rattle.batch_log.specs.Lines.{Lines}
-use Rattle.batch_log.specs.Log.{batches_of, first_fault, log_said, IsEnd, IsNextBatch}
+use Rattle.batch_log.specs.Log.{batches_of, first_fault, log_said, IsEnd, IsFault, IsNextBatch}
 use Rattle.report_text.specs.Texts.{digest, end_line, row_text, reply_line}
 use Rattle.report_text.specs.Report.{batch_text, batch_texts, end_text, entries_of, next_batch, reply_lines, report}
 use Rattle.calvin.specs.Reports.{batches_in, fault_in, report_of}
@@ -211,6 +211,34 @@ SoFar-sound procs db b m total number rows said left now after taken gave s p =
     )) in (
       Passes-first _ _ left after joined (λ x y g. g.0),
       Passes-first _ _ left after joined (λ x y g. s.number_is ∙ ap length (sym g.1)),
+    )
+
+-- at the end the source has nothing left
+pub SoFar-read : (procs : ProcsParts) (db : Database) (b m total number : ℕ) (rows : Database) (said : Sha256) (left now taken gave last : Option (List ℕ)) (came : List ℕ) →
+    SoFar procs db b m total number rows said left now taken gave →
+    Passes (λ xs ys. IsEnd (log_said procs.procs m total xs) × (ys ≡ [])) now (prepend_known came last) → IfSome left (λ _. last ≡ Some [])
+SoFar-read procs db b m total number rows said left now taken gave last came s p =
+    let P : List ℕ → List ℕ → Type 0 = λ x y. y ≡ [] in
+    let joined : Passes P left (prepend_known came last) = Passes-trans _ _ _ _ _ _ s.gone p (λ x y z g h. h.1) in
+    left_at_end P left last came joined (λ x y e. e)
+
+-- ---- a fault of a line
+
+Gone-fault : (procs : ProcsParts) (db : Database) (b m total : ℕ) (es : List EntryShape) (front input rest : List ℕ) (fault : LogFault) → Gone procs db b m total es front input rest →
+    IsFault (log_said procs.procs m total rest) fault → report_of procs db input ≡ front
+Gone-fault procs db b m total es front input rest fault g h =
+    g.text ∙ ap (λ x. front ++ x) (ap (λ (bs : List (List Call)). to_write procs.tables db b es (map (map prepared) bs) (first_fault (log_said procs.procs m total rest))) h.batches
+    ∙ ap (to_write procs.tables db b es []) h.first) ∙ append-nil front
+
+-- it is the log's first, and the report up to it was written
+pub SoFar-fault : (procs : ProcsParts) (db : Database) (b m total number : ℕ) (rows : Database) (said : Sha256) (left now after taken gave : Option (List ℕ)) (fault : LogFault) →
+    SoFar procs db b m total number rows said left now taken gave → Passes (λ xs ys. IsFault (log_said procs.procs m total xs) fault) now after →
+    IfSome left (λ input. fault_in procs input ≡ Some fault) × IfSome left (λ input. Appends taken gave (report_of procs db input))
+SoFar-fault procs db b m total number rows said left now after taken gave fault s p =
+    let joined : Passes (λ x y. (fault_in procs x ≡ Some fault) × (report_of procs db x ≡ s.front)) left after =
+    Passes-trans _ _ _ _ _ _ s.gone p (λ x y z g h. (g.fault ∙ h.first, Gone-fault procs db b m total s.es s.front x y fault g h)) in (
+      Passes-first _ _ left after joined (λ x y g. g.0),
+      Passes-first _ _ left after joined (λ x y g. rw g.1 s.gave_is),
     )
 
 -- ---- answers of a call

@@ -5,3 +5,6 @@ pub mod Executions
 pub mod Reports
 pub mod Transcripts
 pub mod Hashers
+pub mod Stops
+pub mod Runs
+pub mod Comparisons

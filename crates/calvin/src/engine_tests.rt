@@ -6,7 +6,7 @@ ghost use Rattle.sequencer.specs.Batches.{items_of};
 ghost use Rattle.calvin.specs.Engines.{tables_of, is_busy};
 ghost use Rattle.calvin.specs.Executions.{AreOver};
 
-use crate::tests::{BANK, TWO_PAYS};
+use crate::test_world::{BANK, TWO_PAYS};
 use crate::{Batch, BatchDone, Engine, LogReader, OpenGate, ReadSource, Settings, read_setup};
 use meaning::Outcome;
 use proclang::Request;

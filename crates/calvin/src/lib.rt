@@ -2,6 +2,7 @@
 #![tactic(auto)]
 
 mod commands;
+mod comparison;
 mod engine;
 mod files;
 mod gate;
@@ -29,6 +30,12 @@ pub use sequencer::{Batch, BatchFault, Item};
 pub use setup::{Setup, SetupFault, read_setup};
 
 #[cfg(test)]
+mod device_tests;
+#[cfg(test)]
 mod engine_tests;
+#[cfg(test)]
+mod replicas_tests;
+#[cfg(test)]
+mod test_world;
 #[cfg(test)]
 mod tests;

@@ -1,5 +1,7 @@
 //! Why a log was not run to its end.
 
+ghost use Rattle.std.specs.Prelude.{◌≡◌};
+
 use batch_log::{FaultKind, LogFault};
 use std::fmt;
 
@@ -14,7 +16,9 @@ pub enum RunFault {
 
 impl RunFault {
     /// The fault of that kind at that line.
-    pub(crate) fn at(kind: FaultKind, line: u64) -> RunFault {
+    pub(crate) fn at(kind: FaultKind, line: u64) -> RunFault
+        ensures { result ≡ RunFault.Log (record { kind = kind; line = line }) }
+    {
         RunFault::Log(LogFault { kind, line })
     }
 }

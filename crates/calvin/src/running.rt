@@ -1,6 +1,6 @@
 //! Running a log: from its bytes to the bytes of its report.
 
-ghost use Rattle.std.specs.Prelude.{◌≡◌, ◌+◌, ◌++◌, ◌||◌, List, ℕ, [], Some, None, length, map, IfOk, IfSome, OnOk, false};
+ghost use Rattle.std.specs.Prelude.{◌≡◌, ◌+◌, ◌≤◌, ◌^◌, ◌++◌, ◌||◌, List, ℕ, [], Some, None, length, map, IfOk, IfErr, IfSome, OnOk, false};
 ghost use Rattle.std.specs.List.{AllByRecursion};
 ghost use Rattle.std.specs.FinMap as map_of;
 ghost use Rattle.std.specs.Io.KnownBytes.{Appends};
@@ -12,10 +12,13 @@ ghost use Rattle.sequencer.specs.Batches.{items_of};
 ghost use Rattle.sequencer.specs.Entries.{prepared};
 ghost use Rattle.report_text.specs.Texts.{digest, end_line, row_text};
 ghost use Rattle.report_text.specs.Report.{batch_text, next_batch, reply_lines, entries_of};
-ghost use Rattle.calvin.specs.Engines.{tables_of, rows_of, next_of, is_busy};
-ghost use Rattle.calvin.specs.Executions.{AreOver, IsRunOf, KeepsSetting};
+ghost use Rattle.batch_log.specs.Reader.{calls_read, fault_of, position_of, source_name, source_of, unread};
+ghost use Rattle.calvin.specs.Engines.{tables_of, procs_of, rows_of, next_of, is_busy};
+ghost use Rattle.calvin.specs.Executions.{AreOver, IsRefusal, IsRunOf, KeepsSetting};
 ghost use Rattle.calvin.specs.Hashers.{batch_of, said_of};
 ghost use Rattle.calvin.specs.Reports.{batches_in, fault_in, report_of};
+ghost use Rattle.calvin.specs.Runs.{IsRunOfLog};
+ghost use Rattle.calvin.specs.Stops.{ends_in_io, is_of_device, IfOfLine, IfOfMachine, IsHeld, IsLineOf, IsMachineFault};
 
 use crate::engine::{Engine, ExecFault};
 use crate::gate::Gate;
@@ -38,19 +41,16 @@ pub(crate) enum Execution {
     Alone,
 }
 
-/// The fault of a run whose batch was not executed.
-fn exec_fault(fault: &ExecFault, line: u64) -> RunFault {
+/// The fault of a run whose batch the engine holds.
+fn exec_fault(fault: &ExecFault, line: u64) -> RunFault
+    requires { IsHeld fault.now }
+    ensures stops { IsMachineFault line result }
+    ensures works { is_of_device result ≡ false }
+{
     match fault {
-        ExecFault::Busy(_) | ExecFault::LogFull(_) => RunFault::at(FaultKind::BatchTooLong, line),
+        ExecFault::Busy(_) | ExecFault::LogFull(_) => unreachable!(),
         ExecFault::Spawn => RunFault::Spawn { line },
         ExecFault::NoMemory => RunFault::at(FaultKind::Memory, line),
-    }
-}
-
-fn batch_fault(fault: BatchFault, line: u64) -> RunFault {
-    match fault {
-        BatchFault::TooLong => RunFault::at(FaultKind::BatchTooLong, line),
-        BatchFault::NoMemory => RunFault::at(FaultKind::Memory, line),
     }
 }
 
@@ -66,6 +66,7 @@ fn execute<G: Gate>(
     ensures same { KeepsSetting engine.old engine.new }
     ensures done { IfOk result (IsRunOf engine.old engine.new batch) }
     ensures idle { OnOk result (is_busy engine.new ≡ false) }
+    ensures refused { IfErr result (IsRefusal engine.old engine.new batch) }
 {
     match execution {
         Execution::Workers => engine.execute(alloc, batch, gate),
@@ -84,7 +85,10 @@ fn run_batch<G: Gate, K: Sink>(
     sink: &mut K,
     line: u64,
 ) -> Result<(), RunFault>
-    requires { AllByRecursion (λ request. request.proc.tables ≡ tables_of engine.old) requests.items }
+    requires tables { AllByRecursion (λ request. request.proc.tables ≡ tables_of engine.old) requests.items }
+    requires few { length requests.items ≤ 4096 }
+    requires idle { is_busy engine.old ≡ false }
+    requires room { next_of engine.old + length requests.items ≤ 2 ^ 48 }
     ensures same { KeepsSetting engine.old engine.new }
     ensures idle { OnOk result (is_busy engine.new ≡ false) }
     ensures rows { OnOk result (rows_of engine.new ≡ serial_end (map prepared requests.items) (rows_of engine.old)) }
@@ -96,10 +100,13 @@ fn run_batch<G: Gate, K: Sink>(
         (batch_text (tables_of engine.old) (batch_of transcript.old) (next_of engine.old) (rows_of engine.old) (map prepared requests.items))) }
     ensures front { AppendsFront (K.taken sink.old) (K.taken sink.new)
         (batch_text (tables_of engine.old) (batch_of transcript.old) (next_of engine.old) (rows_of engine.old) (map prepared requests.items)) }
+    ensures stops { IfErr result (IsMachineFault line) }
+    ensures fails { K.broken sink.new ≡ (K.broken sink.old || ends_in_io result) }
 {
     let batch = match Batch::of(alloc, requests) {
         Ok(batch) => batch,
-        Err(fault) => return Err(batch_fault(fault, line)),
+        Err(BatchFault::TooLong) => unreachable!(),
+        Err(BatchFault::NoMemory) => return Err(RunFault::at(FaultKind::Memory, line)),
     };
     let done = match execute(alloc, execution, engine, gate, batch) {
         Ok(done) => done,
@@ -125,6 +132,8 @@ fn finish<K: Sink>(
         (end_line (next_of engine.now) (digest (row_text (tables_of engine.now) (rows_of engine.now))) (digest m))) }
     ensures front { (m : List ℕ) → Holds256 (said_of transcript) m → AppendsFront (K.taken sink.old) (K.taken sink.new)
         (end_line (next_of engine.now) (digest (row_text (tables_of engine.now) (rows_of engine.now))) (digest m)) }
+    ensures stops { IfErr result (IsMachineFault line) }
+    ensures fails { K.broken sink.new ≡ (K.broken sink.old || ends_in_io result) }
 {
     let count = engine.transactions();
     match transcript.write_end(alloc, sink, engine.rows(), count) {
@@ -133,39 +142,37 @@ fn finish<K: Sink>(
     }
 }
 
-/// Reads a log from a source and writes its report into a sink.
-pub(crate) fn run_log<G: Gate, S: Source, K: Sink>(
+/// Runs the batches of a log, of which nothing was read, and writes its report into a sink.
+fn run_batches<G: Gate, S: Source, K: Sink>(
     alloc: Global,
     execution: Execution,
-    setup: Setup,
-    settings: Settings,
+    engine: &mut Engine,
     gate: &G,
-    source: &mut S,
+    reader: &mut LogReader<'_, S>,
     sink: &mut K,
 ) -> Result<u64, RunFault>
-    // `Ok`: the log has no fault, and its report was written.
-    ensures count { IfOk result (λ n. IfSome (S.left source.old) (λ log. n ≡ length (entries_of (batches_in setup.procs log)))) }
-    ensures sound { OnOk result (IfSome (S.left source.old) (λ log. fault_in setup.procs log ≡ None)) }
-    ensures ok { OnOk result (IfSome (S.left source.old) (λ log. Appends (K.taken sink.old) (K.taken sink.new) (report_of setup.procs (with_rows map_of.empty setup.rows.items) log))) }
-    // However it ends, what was written is a beginning of the report.
-    ensures front { IfSome (S.left source.old) (λ log. AppendsFront (K.taken sink.old) (K.taken sink.new) (report_of setup.procs (with_rows map_of.empty setup.rows.items) log)) }
+    requires idle { is_busy engine.old ≡ false }
+    requires unused { next_of engine.old ≡ 0 }
+    requires unread { (position_of reader.old ≡ record { newlines = 0; begun = 0 }) × (calls_read reader.old ≡ 0) × (fault_of reader.old ≡ None) }
+    ensures same { source_name reader.new ≡ source_name reader.old }
+    ensures run { IsRunOfLog (procs_of engine.old) (rows_of engine.old)
+        (record { bytes = unread S.left reader.old; failed = S.failed (source_of reader.old) })
+        (record { bytes = S.left (source_of reader.new); failed = S.failed (source_of reader.new) })
+        (record { bytes = K.taken sink.old; failed = K.broken sink.old })
+        (record { bytes = K.taken sink.new; failed = K.broken sink.new }) result }
 {
-    let Ok(mut engine) = Engine::new(alloc, setup, settings) else {
-        return Err(RunFault::at(FaultKind::Memory, 0));
-    };
-    let mut reader = LogReader::new(source);
     let mut transcript = Transcript::new();
     'batches: for _ in 0..u64::MAX {
         let requests = match reader.next_batch(alloc, engine.procs()) {
             Ok(Some(requests)) => requests,
-            Ok(None) => return finish(alloc, &engine, transcript, sink, reader.last_line()),
+            Ok(None) => return finish(alloc, engine, transcript, sink, reader.last_line()),
             Err(fault) => return Err(RunFault::Log(fault)),
         };
         let line = reader.last_line();
         match run_batch(
             alloc,
             execution,
-            &mut engine,
+            engine,
             gate,
             requests,
             &mut transcript,
@@ -177,6 +184,51 @@ pub(crate) fn run_log<G: Gate, S: Source, K: Sink>(
         }
     }
     Err(RunFault::at(FaultKind::Memory, reader.last_line()))
+}
+
+/// Runs the log that a source gives on an engine that has run none.
+fn run_on<G: Gate, S: Source, K: Sink>(
+    alloc: Global,
+    execution: Execution,
+    engine: &mut Engine,
+    gate: &G,
+    source: &mut S,
+    sink: &mut K,
+) -> Result<u64, RunFault>
+    requires idle { is_busy engine.old ≡ false }
+    requires unused { next_of engine.old ≡ 0 }
+    ensures { IsRunOfLog (procs_of engine.old) (rows_of engine.old)
+        (record { bytes = S.left source.old; failed = S.failed source.old })
+        (record { bytes = S.left source.new; failed = S.failed source.new })
+        (record { bytes = K.taken sink.old; failed = K.broken sink.old })
+        (record { bytes = K.taken sink.new; failed = K.broken sink.new }) result }
+{
+    let mut reader = LogReader::new(source);
+    let ended = run_batches(alloc, execution, engine, gate, &mut reader, sink);
+    let _source = reader.into_source();
+    ended
+}
+
+/// Runs the log that a source gives on a setup, and writes its report into a sink.
+pub(crate) fn run_log<G: Gate, S: Source, K: Sink>(
+    alloc: Global,
+    execution: Execution,
+    setup: Setup,
+    settings: Settings,
+    gate: &G,
+    source: &mut S,
+    sink: &mut K,
+) -> Result<u64, RunFault>
+    ensures { IsRunOfLog setup.procs (with_rows map_of.empty setup.rows.items)
+        (record { bytes = S.left source.old; failed = S.failed source.old })
+        (record { bytes = S.left source.new; failed = S.failed source.new })
+        (record { bytes = K.taken sink.old; failed = K.broken sink.old })
+        (record { bytes = K.taken sink.new; failed = K.broken sink.new }) result }
+{
+    match Engine::new(alloc, setup, settings) {
+        Ok(mut engine) => run_on(alloc, execution, &mut engine, gate, source, sink),
+        Err(_) => Err(RunFault::at(FaultKind::Memory, 0)),
+    }
 }
 
 /// Runs the log that a source gives on a setup, and writes its report into a sink: for each batch a reply line a call and a
@@ -193,12 +245,19 @@ pub fn run_text<G: Gate, S: Source, K: Sink>(
     source: &mut S,
     sink: &mut K,
 ) -> Result<u64, RunFault>
-    // `Ok`: the log has no fault, and its report was written.
+    // `Ok`: the log has no fault, all of it was read, and its report was written.
     ensures count { IfOk result (λ n. IfSome (S.left source.old) (λ log. n ≡ length (entries_of (batches_in setup.procs log)))) }
     ensures sound { OnOk result (IfSome (S.left source.old) (λ log. fault_in setup.procs log ≡ None)) }
+    ensures read { OnOk result (IfSome (S.left source.old) (λ _. S.left source.new ≡ Some [])) }
     ensures ok { OnOk result (IfSome (S.left source.old) (λ log. Appends (K.taken sink.old) (K.taken sink.new) (report_of setup.procs (with_rows map_of.empty setup.rows.items) log))) }
+    // A fault of a line is the log's first, and the report of the batches before it was written.
+    ensures fault { IfErr result (λ e. IfOfLine e (λ fault. IfSome (S.left source.old) (λ log. fault_in setup.procs log ≡ Some fault))) }
+    ensures until { IfErr result (λ e. IfOfLine e (λ fault. IfSome (S.left source.old) (λ log. Appends (K.taken sink.old) (K.taken sink.new) (report_of setup.procs (with_rows map_of.empty setup.rows.items) log)))) }
     // However it ends, what was written is a beginning of the report.
     ensures front { IfSome (S.left source.old) (λ log. AppendsFront (K.taken sink.old) (K.taken sink.new) (report_of setup.procs (with_rows map_of.empty setup.rows.items) log)) }
+    // The fault of a device comes only where one has failed meanwhile. Each fault names its line.
+    ensures devices { (S.failed source.new || K.broken sink.new) ≡ ((S.failed source.old || K.broken sink.old) || ends_in_io result) }
+    ensures line { S.failed source.old ≡ false → IfErr result (λ e. IfOfMachine e (IsLineOf (S.failed source.new) (S.left source.old) (S.left source.new))) }
 {
     run_log(
         alloc,

@@ -16,6 +16,8 @@ pub(crate) const COMMAND_LINE: u8 = 2;
 pub(crate) const MEMORY: u8 = 3;
 /// A device failed, a thread was refused, or a file can't be read.
 pub(crate) const DEVICE: u8 = 4;
+/// The reports differ.
+pub(crate) const DIFFERENT: u8 = 5;
 
 /// The status of a setup that was not read.
 pub(crate) fn setup_status(fault: &SetupFault) -> u8 {

@@ -1,8 +1,9 @@
 //! Reading a command line.
 
-ghost use Rattle.std.specs.Prelude.{◌≡◌, map, IfErr, IfOk, IfSome, IsNone, string_bytes};
+ghost use Rattle.std.specs.Prelude.{◌≡◌, codes, map, IfErr, IfOk, IfSome, IsNone, string_bytes};
 ghost use Rattle.clap.specs.Words.{found_of, kind_of, rows_of, subcommand_rows_of};
-ghost use Rattle.command_line.specs.CommandLine.{AreSettings, AsksFor, IsAskedFor, IsRefused};
+ghost use Rattle.command_line.specs.CommandLine.{AreSettings, AsksFor, IsAskedFor, IsCommand, IsRefused};
+ghost use Rattle.command_line.specs.declared.line.Command.{Command};
 ghost use Rattle.command_line.specs.declared.line.Line.{Line};
 ghost use Rattle.command_line.specs.declared.line.LineFault.TheVariants.{NoMemory};
 ghost use Rattle.command_line.specs.declared.settings.Settings.{Settings};
@@ -18,6 +19,8 @@ use std::alloc::{AllocError, Global};
 pub enum Command {
     /// Run the log on the setup at this path, with `alone` on one thread.
     Run { alone: bool, setup: String },
+    /// Run the log on the setup at this path, and compare the report with the file at that one.
+    Replicas { setup: String, report: String },
 }
 
 /// A command line that was read.
@@ -70,26 +73,66 @@ fn settings_of(matches: &ArgMatches<'_>) -> Option<Settings>
     Settings::new(workers, lanes, coarsen, arena).ok()
 }
 
+// The command `run`, by its arguments.
+fn run_of(alloc: Global, matches: &ArgMatches<'_>) -> Result<Option<Command>, AllocError>
+    ensures some { IfOk result (λ o. IfSome o (IsCommand (codes "run") (rows_of (found_of matches.now)))) }
+    ensures none { IfOk result (λ o. IsNone o → (command : Command) → ¬ IsCommand (codes "run") (rows_of (found_of matches.now)) command) }
+{
+    let Some(setup) = matches.get_str("setup") else {
+        return Ok(None);
+    };
+    let setup = String::from_str(alloc, setup)?;
+    let alone = matches.get_flag("alone");
+    Ok(Some(Command::Run { alone, setup }))
+}
+
+// The command `replicas`, by its arguments.
+fn replicas_of(alloc: Global, matches: &ArgMatches<'_>) -> Result<Option<Command>, AllocError>
+    ensures some { IfOk result (λ o. IfSome o (IsCommand (codes "replicas") (rows_of (found_of matches.now)))) }
+    ensures none { IfOk result (λ o. IsNone o → (command : Command) → ¬ IsCommand (codes "replicas") (rows_of (found_of matches.now)) command) }
+{
+    let Some(setup) = matches.get_str("setup") else {
+        return Ok(None);
+    };
+    let Some(report) = matches.get_str("report") else {
+        return Ok(None);
+    };
+    let setup = String::from_str(alloc, setup)?;
+    let report = String::from_str(alloc, report)?;
+    Ok(Some(Command::Replicas { setup, report }))
+}
+
+// The command of a name, by its arguments.
+fn command_of(
+    alloc: Global,
+    name: &str,
+    matches: &ArgMatches<'_>,
+) -> Result<Option<Command>, AllocError>
+    ensures some { IfOk result (λ o. IfSome o (IsCommand name.now (rows_of (found_of matches.now)))) }
+    ensures none { IfOk result (λ o. IsNone o → (command : Command) → ¬ IsCommand name.now (rows_of (found_of matches.now)) command) }
+{
+    match name {
+        "run" => run_of(alloc, matches),
+        "replicas" => replicas_of(alloc, matches),
+        _ => Ok(None),
+    }
+}
+
 // What a parse asks for.
 fn line_of(alloc: Global, matches: &ArgMatches<'_>) -> Result<Option<Line>, AllocError>
     ensures some { IfOk result (λ o. IfSome o (AsksFor (subcommand_rows_of matches.now))) }
     ensures none { IfOk result (λ o. IsNone o → (line : Line) → ¬ AsksFor (subcommand_rows_of matches.now) line) }
 {
-    let Some(run) = matches.subcommand_matches("run") else {
+    let Some((name, found)) = matches.subcommand() else {
         return Ok(None);
     };
-    let Some(settings) = settings_of(run) else {
+    let Some(settings) = settings_of(found) else {
         return Ok(None);
     };
-    let Some(setup) = run.get_str("setup") else {
+    let Some(command) = command_of(alloc, name, found)? else {
         return Ok(None);
     };
-    let setup = String::from_str(alloc, setup)?;
-    let alone = run.get_flag("alone");
-    Ok(Some(Line {
-        command: Command::Run { alone, setup },
-        settings,
-    }))
+    Ok(Some(Line { command, settings }))
 }
 
 /// Reads a command line, the words after the program's name. Where an option is left out, there

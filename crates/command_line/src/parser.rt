@@ -1,9 +1,9 @@
 //! The command line as `clap` parses it, with its help.
 
-ghost use Rattle.std.specs.Prelude.{◌≡◌, IfOk, false};
+ghost use Rattle.std.specs.Prelude.{◌≡◌, codes, IfOk, false};
 ghost use Rattle.clap.specs.Words.{app_of, rule_of};
 ghost use Rattle.clap.specs.declared.builder.command.Command.TheViews.{out-Command as fields_of};
-ghost use Rattle.command_line.specs.Words.{calvin_app, flag_rule, number_rule, run_app, word_rule};
+ghost use Rattle.command_line.specs.Words.{calvin_app, flag_rule, number_rule, replicas_app, run_app, word_rule};
 
 use clap::builder::ValueParser;
 use clap::{Arg, ArgAction, Command};
@@ -27,7 +27,19 @@ const RUN_EXAMPLE: &str = "Examples:
 
 The options change the speed of a run, and never its report.";
 
+const REPLICAS_ABOUT: &str =
+    "Runs the log on standard input and compares its report with another replica's";
+
+const REPLICAS_EXAMPLE: &str = "Example:
+  calvin replicas bank.json report.txt < calls.log
+
+prints `same`, or `differ at byte N` with the first place, from 0, where the two differ or one ends.";
+
+const REPORT_HELP: &str = "The file of the other replica's report";
+
 const SETUP_HELP: &str = "The file of tables, procedures and rows, in JSON";
+
+const WORKERS_HELP: &str = "Worker threads, 1 to 16";
 
 const LANES_HELP: &str = "Jobs that may be out to workers at a time, 1 to 64";
 
@@ -80,6 +92,34 @@ fn required_word<'a>(alloc: Global, name: &'a str, value_name: &'a str, help: &'
         .help(help)
 }
 
+fn workers_option<'a>(alloc: Global) -> Arg<'a>
+    ensures rule { rule_of result ≡ number_rule (codes "workers") 1 16 (codes "4") }
+    ensures local { result.global ≡ false }
+{
+    number_option(alloc, "workers", 1, 16, "4", WORKERS_HELP)
+}
+
+fn lanes_option<'a>(alloc: Global) -> Arg<'a>
+    ensures rule { rule_of result ≡ number_rule (codes "lanes") 1 64 (codes "8") }
+    ensures local { result.global ≡ false }
+{
+    number_option(alloc, "lanes", 1, 64, "8", LANES_HELP)
+}
+
+fn coarsen_option<'a>(alloc: Global) -> Arg<'a>
+    ensures rule { rule_of result ≡ number_rule (codes "coarsen") 0 65535 (codes "64") }
+    ensures local { result.global ≡ false }
+{
+    number_option(alloc, "coarsen", 0, 65_535, "64", COARSEN_HELP)
+}
+
+fn arena_option<'a>(alloc: Global) -> Arg<'a>
+    ensures rule { rule_of result ≡ number_rule (codes "arena") 1 1048576 (codes "65536") }
+    ensures local { result.global ≡ false }
+{
+    number_option(alloc, "arena", 1, 1_048_576, "65536", ARENA_HELP)
+}
+
 /// The command `run`.
 fn run_command<'a>(alloc: Global) -> Result<Command<'a>, AllocError>
     ensures app { IfOk result (λ r. app_of r ≡ run_app) }
@@ -91,10 +131,10 @@ fn run_command<'a>(alloc: Global) -> Result<Command<'a>, AllocError>
         "alone",
         "Run on one thread, without workers and lanes",
     );
-    let workers = number_option(alloc, "workers", 1, 16, "4", "Worker threads, 1 to 16");
-    let lanes = number_option(alloc, "lanes", 1, 64, "8", LANES_HELP);
-    let coarsen = number_option(alloc, "coarsen", 0, 65_535, "64", COARSEN_HELP);
-    let arena = number_option(alloc, "arena", 1, 1_048_576, "65536", ARENA_HELP);
+    let workers = workers_option(alloc);
+    let lanes = lanes_option(alloc);
+    let coarsen = coarsen_option(alloc);
+    let arena = arena_option(alloc);
     Command::new(alloc, "run")
         .about(RUN_ABOUT)
         .after_help(RUN_EXAMPLE)
@@ -106,11 +146,34 @@ fn run_command<'a>(alloc: Global) -> Result<Command<'a>, AllocError>
         .arg(arena)
 }
 
+/// The command `replicas`.
+fn replicas_command<'a>(alloc: Global) -> Result<Command<'a>, AllocError>
+    ensures app { IfOk result (λ r. app_of r ≡ replicas_app) }
+    ensures local { IfOk result (λ r. (fields_of r).has_globals ≡ false) }
+{
+    let setup = required_word(alloc, "setup", "SETUP", SETUP_HELP);
+    let report = required_word(alloc, "report", "REPORT", REPORT_HELP);
+    let workers = workers_option(alloc);
+    let lanes = lanes_option(alloc);
+    let coarsen = coarsen_option(alloc);
+    let arena = arena_option(alloc);
+    Command::new(alloc, "replicas")
+        .about(REPLICAS_ABOUT)
+        .after_help(REPLICAS_EXAMPLE)
+        .arg(setup)?
+        .arg(report)?
+        .arg(workers)?
+        .arg(lanes)?
+        .arg(coarsen)?
+        .arg(arena)
+}
+
 /// The whole command line, without the program's name.
 pub(crate) fn calvin_command<'a>(alloc: Global) -> Result<Command<'a>, AllocError>
     ensures { IfOk result (λ r. app_of r ≡ calvin_app) }
 {
     let run = run_command(alloc)?;
+    let replicas = replicas_command(alloc)?;
     Command::new(alloc, "calvin")
         .bin_name("calvin")?
         .about(ABOUT)
@@ -118,5 +181,6 @@ pub(crate) fn calvin_command<'a>(alloc: Global) -> Result<Command<'a>, AllocErro
         .no_binary_name(true)
         .subcommand_required(true)
         .arg_required_else_help(true)
-        .subcommand(run)
+        .subcommand(run)?
+        .subcommand(replicas)
 }

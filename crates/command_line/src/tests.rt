@@ -28,9 +28,13 @@ fn asks_for_run(
 ) {
     match line {
         Ok(line) => {
-            let Command::Run { alone, setup } = &line.command;
             let settings = line.settings;
-            assert_eq!(rt; (*alone, setup.as_str()), (flag, path));
+            match &line.command {
+                Command::Run { alone, setup } => {
+                    assert_eq!(rt; (*alone, setup.as_str()), (flag, path));
+                }
+                Command::Replicas { .. } => assert!(rt; false, "no run"),
+            }
             assert_eq!(rt; (settings.workers, settings.lanes), (numbers.0, numbers.1));
             assert_eq!(rt; (settings.coarsen, settings.arena), (numbers.2, numbers.3));
         }
@@ -53,6 +57,41 @@ fn reads_runs(rt: HostRuntime) -> Result<(), Fail> {
         ("run a --arena=2", false, "a", (4, 8, 64, 2)),
     ] {
         asks_for_run(&rt, read(alloc, line)?, (alone, setup), numbers);
+    }
+    Ok(())
+}
+
+#[test]
+fn reads_replicas(rt: HostRuntime) -> Result<(), Fail> {
+    let alloc = rt.alloc();
+    for (line, workers, coarsen) in [
+        ("replicas a.json b.txt", 4, 64),
+        ("replicas --workers 16 a.json b.txt --coarsen 0", 16, 0),
+    ] {
+        match read(alloc, line)? {
+            Ok(line) => {
+                let settings = line.settings;
+                assert_eq!(rt; (settings.workers, settings.coarsen), (workers, coarsen));
+                match &line.command {
+                    Command::Replicas { setup, report } => {
+                        assert_eq!(rt; (setup.as_str(), report.as_str()), ("a.json", "b.txt"));
+                    }
+                    Command::Run { .. } => assert!(rt; false, "no comparison"),
+                }
+            }
+            Err(_) => assert!(rt; false, "no line"),
+        }
+    }
+    for (line, text) in [
+        ("replicas", "  <SETUP>\n  <REPORT>\n"),
+        ("replicas a.json", "  <REPORT>\n"),
+        (
+            "replicas --alone a b",
+            "error: unexpected argument '--alone' found\n",
+        ),
+        ("replicas a b c", "error: unexpected argument 'c' found\n"),
+    ] {
+        assert!(rt; text_for(alloc, line)?.as_str().contains(text), "at {line}");
     }
     Ok(())
 }
@@ -142,7 +181,8 @@ fn answers_help(rt: HostRuntime) -> Result<(), Fail> {
         let text = text_for(alloc, line)?;
         for part in [
             "Usage: calvin <COMMAND>",
-            "  run   Runs the log on standard input and prints its report\n",
+            "  run       Runs the log on standard input and prints its report\n",
+            "  replicas  Runs the log on standard input and compares its report with another replica's\n",
             "  calvin run --workers 8 bank.json < calls.log\n",
         ] {
             assert!(rt; text.as_str().contains(part), "{part} at {line}");

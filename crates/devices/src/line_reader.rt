@@ -59,6 +59,14 @@ impl<'a, S: Source> LineReader<'a, S> {
         }
     }
 
+    /// Gives the source back. The bytes that came and were not taken are lost.
+    pub fn into_source(self) -> &'a mut S
+        ensures same { result.ghost_name ≡ source_name self.entry }
+        ensures source { result.now ≡ source_of self.entry }
+    {
+        self.source
+    }
+
     /// How many newline bytes were taken, up to 2^64 - 1.
     pub fn newlines(&self) -> u64
         ensures { result ≡ newlines_taken self.now }

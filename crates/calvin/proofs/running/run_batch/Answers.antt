@@ -1,16 +1,16 @@
-use Rattle.std.proofs.Common.{◌≡◌, ◌∙◌, List, ℕ, ap, map}
+use Rattle.std.proofs.Common.{◌≡◌, ◌∙◌, List, ℕ, ap, length, map}
 use Rattle.meaning.specs.Serial.{serial_replies}
 use Rattle.sequencer.specs.Entries.{prepared}
 use Rattle.report_text.specs.Report.{batch_text, reply_lines}
 use Rattle.calvin.specs.Engines.{tables_of, rows_of, next_of}
 use Rattle.calvin.specs.Hashers.{batch_of}
 use Rattle.calvin.specs.Transcripts.{said_lines, with_batch_line}
-use Rattle.calvin.proofs.Runs.{batch_over}
-use Rattle.calvin.proofs.Lines.{lines_are, next_is, rows_are, text_is}
+use Rattle.calvin.proofs.Runs.{batch_over, held_fault}
+use Rattle.calvin.proofs.Lines.{lines_are, next_is, requests_count, rows_are, text_is}
 use Rattle.calvin.proofs.running.run_batch.Goals as goal
 
 pub execute-requires-after_bounds : goal.execute-requires-after_bounds
-execute-requires-after_bounds g c κs within = batch_over (tables_of c.args.engine.now) c.args.requests.items c.in-Ok.batch c.in-Ok.ensures.items c.requires
+execute-requires-after_bounds g c κs within = batch_over (tables_of c.args.engine.now) c.args.requests.items c.in-Ok.batch c.in-Ok.ensures.items c.requires.tables
 
 pub returns-in-Ok-write_batch-clause-rows : goal.returns-in-Ok-write_batch-clause-rows
 returns-in-Ok-write_batch-clause-rows g c = rows_are _ _ c.in-Ok.batch c.in-Ok-execute.done c.args.requests.items c.in-Ok-execute.ensures.done c.in-Ok.ensures.items
@@ -53,3 +53,8 @@ returns-clause-front g c =
     text_is _ _ _ _ _ _ _ _ (c.rows.ensures.tables ∙ c.in-Ok-execute.ensures.same.tables)
     (c.rows.ensures.rows ∙ rows_are _ _ c.in-Ok.batch c.in-Ok-execute.done c.args.requests.items c.in-Ok-execute.ensures.done c.in-Ok.ensures.items) lines in
     rw (← text) c.write_batch.ensures.front
+
+pub exec_fault-requires : goal.exec_fault-requires
+exec_fault-requires g c =
+    held_fault c.args.engine.now c.execute.new.engine c.in-Ok.batch c.in-Err.fault c.in-Err.ensures.refused c.requires.idle
+    (rw (ap length c.in-Ok.ensures.items ∙ requests_count 0 c.args.requests.items) c.requires.room)

@@ -14,10 +14,10 @@ returns-clause-app c =
     let named : app_of c.after_help.result ≡ new_app (codes "run") = ap app_of_fields c.after_help.ensures ∙ ap app_of_fields c.about.ensures ∙ c.new.ensures.app in
     let first = c.in_ok-arg.ensures.shape c.required_word-setup.ensures.local ∙ ap₂ with_rule named c.required_word-setup.ensures.rule in
     let second = c.in_ok-arg-2.ensures.shape c.flag_option-alone.ensures.local ∙ ap₂ with_rule first c.flag_option-alone.ensures.rule in
-    let third = c.in_ok-arg-3.ensures.shape c.number_option-workers.ensures.local ∙ ap₂ with_rule second c.number_option-workers.ensures.rule in
-    let fourth = c.in_ok-arg-4.ensures.shape c.number_option-lanes.ensures.local ∙ ap₂ with_rule third c.number_option-lanes.ensures.rule in
-    let fifth = c.in_ok-arg-5.ensures.shape c.number_option-coarsen.ensures.local ∙ ap₂ with_rule fourth c.number_option-coarsen.ensures.rule in
-    IfOk-weaker c.arg-6.result _ _ (λ r h. h.shape c.number_option-arena.ensures.local ∙ ap₂ with_rule fifth c.number_option-arena.ensures.rule) c.arg-6.ensures
+    let third = c.in_ok-arg-3.ensures.shape c.workers_option-workers.ensures.local ∙ ap₂ with_rule second c.workers_option-workers.ensures.rule in
+    let fourth = c.in_ok-arg-4.ensures.shape c.lanes_option-lanes.ensures.local ∙ ap₂ with_rule third c.lanes_option-lanes.ensures.rule in
+    let fifth = c.in_ok-arg-5.ensures.shape c.coarsen_option-coarsen.ensures.local ∙ ap₂ with_rule fourth c.coarsen_option-coarsen.ensures.rule in
+    IfOk-weaker c.arg-6.result _ _ (λ r h. h.shape c.arena_option-arena.ensures.local ∙ ap₂ with_rule fifth c.arena_option-arena.ensures.rule) c.arg-6.ensures
 
 -- an argument that isn't global leaves a command without such an argument
 stays_local : (old new : Command) (arg : Arg) → (fields_of old).has_globals ≡ false → arg.global ≡ false → AddsArg old arg new → (fields_of new).has_globals ≡ false
@@ -28,7 +28,7 @@ returns-clause-local c =
     let named : (fields_of c.after_help.result).has_globals ≡ false = ap (λ f. f.has_globals) c.after_help.ensures ∙ ap (λ f. f.has_globals) c.about.ensures ∙ c.new.ensures.local in
     let first = stays_local _ _ _ named c.required_word-setup.ensures.local c.in_ok-arg.ensures in
     let second = stays_local _ _ _ first c.flag_option-alone.ensures.local c.in_ok-arg-2.ensures in
-    let third = stays_local _ _ _ second c.number_option-workers.ensures.local c.in_ok-arg-3.ensures in
-    let fourth = stays_local _ _ _ third c.number_option-lanes.ensures.local c.in_ok-arg-4.ensures in
-    let fifth = stays_local _ _ _ fourth c.number_option-coarsen.ensures.local c.in_ok-arg-5.ensures in
-    IfOk-weaker c.arg-6.result _ _ (λ r h. stays_local _ r _ fifth c.number_option-arena.ensures.local h) c.arg-6.ensures
+    let third = stays_local _ _ _ second c.workers_option-workers.ensures.local c.in_ok-arg-3.ensures in
+    let fourth = stays_local _ _ _ third c.lanes_option-lanes.ensures.local c.in_ok-arg-4.ensures in
+    let fifth = stays_local _ _ _ fourth c.coarsen_option-coarsen.ensures.local c.in_ok-arg-5.ensures in
+    IfOk-weaker c.arg-6.result _ _ (λ r h. stays_local _ r _ fifth c.arena_option-arena.ensures.local h) c.arg-6.ensures

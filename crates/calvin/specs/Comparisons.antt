@@ -1,0 +1,17 @@
+-- Comparing two reports.
+use Rattle.std.specs.Prelude.{◌≡◌, ℕ, ◌≤◌, List, Bool, length, take, slice_get, Option, Some, None}
+use Rattle.calvin.specs.declared.comparison.KeptReport.{KeptReport}
+
+-- what was written
+abbrev pub bytes_of : KeptReport → List ℕ
+bytes_of kept = kept.bytes.items
+
+-- memory was refused for it
+abbrev pub is_full : KeptReport → Bool
+is_full kept = kept.is_full
+
+-- the first place, from 0, where two texts differ or one has ended; none where they are the same
+abbrev pub IsFirstDifference : Option ℕ → List ℕ → List ℕ → Type 0
+IsFirstDifference None text other = text ≡ other
+IsFirstDifference (Some place) text other =
+    (take place text ≡ take place other) × (place ≤ length text) × (place ≤ length other) × (slice_get text place ≡ slice_get other place → ⊥)
