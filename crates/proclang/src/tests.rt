@@ -218,6 +218,43 @@ fn wrong_types(rt: HostRuntime) -> Result<(), Fail> {
     assert_faults(&rt, rt.alloc(), table.as_slice())
 }
 
+#[test]
+fn the_first_of_two_faults(rt: HostRuntime) -> Result<(), Fail> {
+    let table = [
+        (
+            r#"["p",[],["declared"],[["reply","x"],["put","nope",1,"bal",1]]]"#,
+            "fault 14 at /2/0/3/0/1",
+        ),
+        (
+            r#"["p",[],["declared"],[["put","nope",1,"bal",1],["reply","x"]]]"#,
+            "fault 12 at /2/0/3/0/1",
+        ),
+        // Types come after all parts of a statement.
+        (
+            r#"["p",[],["declared"],[["put","acct",["<",1,2],"bal","x"]]]"#,
+            "fault 14 at /2/0/3/0/4",
+        ),
+        (
+            r#"["p",[],["declared"],[["put","acct",["<",1,2],"nope","x"]]]"#,
+            "fault 13 at /2/0/3/0/3",
+        ),
+        // The type of a condition comes after both blocks.
+        (
+            r#"["p",[],["declared"],[["if",1,[["abort",1]],[["reply","x"]]]]]"#,
+            "fault 17 at /2/0/3/0/2/0/1",
+        ),
+        (
+            r#"["p",[],["declared"],[["if",1,[["abort",100]],[["reply","x"]]]]]"#,
+            "fault 14 at /2/0/3/0/3/0/1",
+        ),
+        (
+            r#"["p",[],["declared"],[["if",1,[["abort",100]],[]]]]"#,
+            "fault 15 at /2/0/3/0/1",
+        ),
+    ];
+    assert_faults(&rt, rt.alloc(), table.as_slice())
+}
+
 /// So many copies of a text between two others.
 fn copies(
     alloc: Global,

@@ -182,6 +182,17 @@ fn wrong_columns(rt: HostRuntime) -> Result<(), Fail> {
     assert_faults(&rt, rt.alloc(), table.as_slice())
 }
 
+#[test]
+fn the_first_of_two_faults(rt: HostRuntime) -> Result<(), Fail> {
+    let table = [
+        (r#"["A",1,[["x","int"]]],["b",0,[["x","int"]]]"#, "fault 3"),
+        (r#"["b",0,[["x","int"]]],["A",1,[["x","int"]]]"#, "fault 5"),
+        (r#"["b",1,[]],["b",1,[["x","int"],["x","int"]]]"#, "fault 4"),
+        (r#"["b",1,[["x","int"],["x","int"]]],["b",1,[]]"#, "fault 2"),
+    ];
+    assert_faults(&rt, rt.alloc(), table.as_slice())
+}
+
 /// So many elements `["X0",REST]`, `["X1",REST]` and on.
 fn numbered(alloc: Global, letter: &str, rest: &str, count: u32) -> Result<String, Fail> {
     let mut text = String::new(alloc);
