@@ -4,3 +4,4 @@ pub mod CutLaws
 pub mod Lines
 pub mod Moves
 pub mod Taken
+pub mod LineLaws

@@ -6,3 +6,4 @@ pub mod Log
 pub mod Moves
 pub mod Reader
 pub mod Taken
+pub mod LineRules

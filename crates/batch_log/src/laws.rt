@@ -1,6 +1,9 @@
-//! What the definition of a log's batches amounts to.
+//! What the definitions of a log's lines and batches amount to.
 
+ghost use Rattle.std.specs.Prelude.{List, ℕ};
+ghost use Rattle.proclang_types.specs.Procedures.{ProcParts};
 ghost use Rattle.batch_log.specs.CutLaws.{BatchesAreReadBack, EndIsACut, FaultIsNoCut};
+ghost use Rattle.batch_log.specs.LineRules.{LineIsExact};
 
 /// Does nothing. Its contract says of the batches of a log that batches with a cut behind each are
 /// read back, that calls behind the last cut are a batch where the log ends with them, and that
@@ -9,4 +12,10 @@ pub fn batches_end_at_cuts()
     ensures back { BatchesAreReadBack }
     ensures end { EndIsACut }
     ensures fault { FaultIsNoCut }
+{}
+
+/// Does nothing. Its contract says of each line of a log that what is read of it is what it says,
+/// that what it says is read, and that its fault is the first rule that it breaks.
+pub fn lines_are_exact()
+    ensures { (procs : List ProcParts) (line : List ℕ) → LineIsExact procs line }
 {}

@@ -10,7 +10,7 @@ mod reader;
 
 pub use devices::{DeviceFailed, ReadSource, Sink, Source, WriteSink, write_all};
 pub use fault::{FaultKind, LogFault};
-pub use laws::batches_end_at_cuts;
+pub use laws::{batches_end_at_cuts, lines_are_exact};
 pub use reader::LogReader;
 
 #[cfg(test)]
