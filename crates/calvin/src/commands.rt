@@ -3,6 +3,7 @@
 use crate::comparison::{KeptReport, first_difference};
 use crate::files::{FileFault, Files};
 use crate::gate::OpenGate;
+use crate::locks::plans_of;
 use crate::run_fault::RunFault;
 use crate::running::{Execution, run_log};
 use crate::status::{DEVICE, DIFFERENT, DONE, MEMORY, run_status, setup_status};
@@ -102,6 +103,27 @@ fn run<F: Files, S: Source, K: Sink, E: Sink>(
     }
 }
 
+/// Prints the plans of the log's first batch on the setup at a path.
+fn locks<F: Files, S: Source, K: Sink, E: Sink>(
+    alloc: Global,
+    settings: Settings,
+    path: &str,
+    files: &F,
+    source: &mut S,
+    out: &mut K,
+    err: &mut E,
+) -> Result<u8, u8> {
+    let setup = setup_at(alloc, files, path, err)?;
+    let lines = match plans_of(alloc, setup, settings, source) {
+        Ok(lines) => lines,
+        Err(fault) => return Err(refused(alloc, err, fault)),
+    };
+    match write_all(out, lines.as_bytes()) {
+        Ok(()) => Ok(DONE),
+        Err(_) => Err(refused(alloc, err, RunFault::at(FaultKind::Io, 0))),
+    }
+}
+
 /// Compares the report of the log on the setup at a path with the file at another, which is read first.
 fn replicas<F: Files, S: Source, K: Sink, E: Sink>(
     alloc: Global,
@@ -154,6 +176,7 @@ pub fn command<F: Files, S: Source, K: Sink, E: Sink>(
             };
             run(alloc, execution, settings, setup, files, source, out, err)
         }
+        Command::Locks { setup } => locks(alloc, settings, setup, files, source, out, err),
         Command::Replicas { setup, report } => replicas(
             alloc,
             settings,

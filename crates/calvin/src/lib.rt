@@ -6,6 +6,7 @@ mod comparison;
 mod engine;
 mod files;
 mod gate;
+mod locks;
 mod programs;
 mod replies;
 mod run_fault;
@@ -33,6 +34,8 @@ pub use setup::{Setup, SetupFault, read_setup};
 mod device_tests;
 #[cfg(test)]
 mod engine_tests;
+#[cfg(test)]
+mod locks_tests;
 #[cfg(test)]
 mod replicas_tests;
 #[cfg(test)]

@@ -19,6 +19,8 @@ use std::alloc::{AllocError, Global};
 pub enum Command {
     /// Run the log on the setup at this path, with `alone` on one thread.
     Run { alone: bool, setup: String },
+    /// Print the plans of the log's first batch on the setup at this path.
+    Locks { setup: String },
     /// Run the log on the setup at this path, and compare the report with the file at that one.
     Replicas { setup: String, report: String },
 }
@@ -102,6 +104,18 @@ fn replicas_of(alloc: Global, matches: &ArgMatches<'_>) -> Result<Option<Command
     Ok(Some(Command::Replicas { setup, report }))
 }
 
+// The command `locks`, by its arguments.
+fn locks_of(alloc: Global, matches: &ArgMatches<'_>) -> Result<Option<Command>, AllocError>
+    ensures some { IfOk result (λ o. IfSome o (IsCommand (codes "locks") (rows_of (found_of matches.now)))) }
+    ensures none { IfOk result (λ o. IsNone o → (command : Command) → ¬ IsCommand (codes "locks") (rows_of (found_of matches.now)) command) }
+{
+    let Some(setup) = matches.get_str("setup") else {
+        return Ok(None);
+    };
+    let setup = String::from_str(alloc, setup)?;
+    Ok(Some(Command::Locks { setup }))
+}
+
 // The command of a name, by its arguments.
 fn command_of(
     alloc: Global,
@@ -113,6 +127,7 @@ fn command_of(
 {
     match name {
         "run" => run_of(alloc, matches),
+        "locks" => locks_of(alloc, matches),
         "replicas" => replicas_of(alloc, matches),
         _ => Ok(None),
     }

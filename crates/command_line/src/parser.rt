@@ -3,7 +3,7 @@
 ghost use Rattle.std.specs.Prelude.{◌≡◌, codes, IfOk, false};
 ghost use Rattle.clap.specs.Words.{app_of, rule_of};
 ghost use Rattle.clap.specs.declared.builder.command.Command.TheViews.{out-Command as fields_of};
-ghost use Rattle.command_line.specs.Words.{calvin_app, flag_rule, number_rule, replicas_app, run_app, word_rule};
+ghost use Rattle.command_line.specs.Words.{calvin_app, flag_rule, locks_app, number_rule, replicas_app, run_app, word_rule};
 
 use clap::builder::ValueParser;
 use clap::{Arg, ArgAction, Command};
@@ -34,6 +34,14 @@ const REPLICAS_EXAMPLE: &str = "Example:
   calvin replicas bank.json report.txt < calls.log
 
 prints `same`, or `differ at byte N` with the first place, from 0, where the two differ or one ends.";
+
+const LOCKS_ABOUT: &str =
+    "Prints the lock requests of the first batch of the log on standard input";
+
+const LOCKS_EXAMPLE: &str = "Example:
+  calvin locks bank.json < calls.log
+
+prints a line `NO MODE RESOURCE` for each request, and runs nothing.";
 
 const REPORT_HELP: &str = "The file of the other replica's report";
 
@@ -146,6 +154,26 @@ fn run_command<'a>(alloc: Global) -> Result<Command<'a>, AllocError>
         .arg(arena)
 }
 
+/// The command `locks`.
+fn locks_command<'a>(alloc: Global) -> Result<Command<'a>, AllocError>
+    ensures app { IfOk result (λ r. app_of r ≡ locks_app) }
+    ensures local { IfOk result (λ r. (fields_of r).has_globals ≡ false) }
+{
+    let setup = required_word(alloc, "setup", "SETUP", SETUP_HELP);
+    let workers = workers_option(alloc);
+    let lanes = lanes_option(alloc);
+    let coarsen = coarsen_option(alloc);
+    let arena = arena_option(alloc);
+    Command::new(alloc, "locks")
+        .about(LOCKS_ABOUT)
+        .after_help(LOCKS_EXAMPLE)
+        .arg(setup)?
+        .arg(workers)?
+        .arg(lanes)?
+        .arg(coarsen)?
+        .arg(arena)
+}
+
 /// The command `replicas`.
 fn replicas_command<'a>(alloc: Global) -> Result<Command<'a>, AllocError>
     ensures app { IfOk result (λ r. app_of r ≡ replicas_app) }
@@ -174,6 +202,7 @@ pub(crate) fn calvin_command<'a>(alloc: Global) -> Result<Command<'a>, AllocErro
 {
     let run = run_command(alloc)?;
     let replicas = replicas_command(alloc)?;
+    let locks = locks_command(alloc)?;
     Command::new(alloc, "calvin")
         .bin_name("calvin")?
         .about(ABOUT)
@@ -182,5 +211,6 @@ pub(crate) fn calvin_command<'a>(alloc: Global) -> Result<Command<'a>, AllocErro
         .subcommand_required(true)
         .arg_required_else_help(true)
         .subcommand(run)?
-        .subcommand(replicas)
+        .subcommand(replicas)?
+        .subcommand(locks)
 }

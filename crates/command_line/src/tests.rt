@@ -33,7 +33,7 @@ fn asks_for_run(
                 Command::Run { alone, setup } => {
                     assert_eq!(rt; (*alone, setup.as_str()), (flag, path));
                 }
-                Command::Replicas { .. } => assert!(rt; false, "no run"),
+                _ => assert!(rt; false, "no run"),
             }
             assert_eq!(rt; (settings.workers, settings.lanes), (numbers.0, numbers.1));
             assert_eq!(rt; (settings.coarsen, settings.arena), (numbers.2, numbers.3));
@@ -76,7 +76,7 @@ fn reads_replicas(rt: HostRuntime) -> Result<(), Fail> {
                     Command::Replicas { setup, report } => {
                         assert_eq!(rt; (setup.as_str(), report.as_str()), ("a.json", "b.txt"));
                     }
-                    Command::Run { .. } => assert!(rt; false, "no comparison"),
+                    _ => assert!(rt; false, "no comparison"),
                 }
             }
             Err(_) => assert!(rt; false, "no line"),
@@ -90,6 +90,37 @@ fn reads_replicas(rt: HostRuntime) -> Result<(), Fail> {
             "error: unexpected argument '--alone' found\n",
         ),
         ("replicas a b c", "error: unexpected argument 'c' found\n"),
+    ] {
+        assert!(rt; text_for(alloc, line)?.as_str().contains(text), "at {line}");
+    }
+    Ok(())
+}
+
+#[test]
+fn reads_locks(rt: HostRuntime) -> Result<(), Fail> {
+    let alloc = rt.alloc();
+    for (line, coarsen, arena) in [
+        ("locks a.json", 64, 65_536),
+        ("locks --coarsen 0 a.json --arena 3", 0, 3),
+    ] {
+        match read(alloc, line)? {
+            Ok(line) => {
+                let settings = line.settings;
+                assert_eq!(rt; (settings.coarsen, settings.arena), (coarsen, arena));
+                match &line.command {
+                    Command::Locks { setup } => assert_eq!(rt; setup.as_str(), "a.json"),
+                    _ => assert!(rt; false, "no plans"),
+                }
+            }
+            Err(_) => assert!(rt; false, "no line"),
+        }
+    }
+    for (line, text) in [
+        ("locks", "  <SETUP>\n"),
+        (
+            "locks --alone a",
+            "error: unexpected argument '--alone' found\n",
+        ),
     ] {
         assert!(rt; text_for(alloc, line)?.as_str().contains(text), "at {line}");
     }
