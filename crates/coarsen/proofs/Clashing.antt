@@ -1,5 +1,5 @@
 -- Plans that clash have requests that are not compatible, and the other way round.
-use Rattle.std.proofs.Common.{◌≡◌, ℕ, ◌<◌, ◌≤◌, nat_lt, Bool, true, false, not, ◌&&◌, ◌||◌, ◌==◌, List, refl, ap, ◌∙◌, arith, ◌⊎◌, inl, inr}
+use Rattle.std.proofs.Common.{◌≡◌, ℕ, ◌<◌, ◌≤◌, nat_lt, nat_le, Bool, true, false, not, ◌&&◌, ◌||◌, ◌==◌, List, refl, ap, ◌∙◌, arith, ◌⊎◌, inl, inr}
 use Rattle.std.proofs.lemmas.Bool.Decides.{nat_tests}
 use Rattle.std.specs.List.{Contains}
 use Rattle.values.specs.Shapes.{TableShape}
@@ -13,6 +13,7 @@ use Rattle.modes.specs.Modes.{own, subtree, are_compatible}
 use Rattle.coarsen.specs.Subtrees.{Requests, holds, own_over}
 use Rattle.coarsen.specs.Plans.{IsSound, IsPlanOver, serves}
 use Rattle.coarsen.specs.Clashes.{Clash, Conflict}
+use Rattle.coarsen.specs.Laws.{LockedRowsConflict}
 use Rattle.coarsen.proofs.Tree.{both, and, holds_on, holds_chain}
 use Rattle.coarsen.proofs.Greatest.{has_greatest, some_greatest, greatest_least}
 use Rattle.coarsen.proofs.OfTables.{has_name}
@@ -107,9 +108,8 @@ meet b s x y h e l f i j over =
     let w = serves_subtree n.0 f.1 n.2 in
     (n.0, n.1, clash_more x y (own e.1) (subtree n.0) h l (own_small e.1) (omega (arith, j, w)) (subtree_small n.0))
 
-pub conflict_from_clash : (tables : List TableShape) (a b : Requests) → IsSound a → IsSound b → Clash tables a b → Conflict a b
-conflict_from_clash tables a b s t (name, is, h) =
-    let n = row_resource tables name in
+pub conflict_over : (a b : Requests) → IsSound a → IsSound b → (n : Resource) → ranks_clash (own_over a n) (own_over b n) ≡ true → Conflict a b
+conflict_over a b s t n h =
     let p = clash_parts (own_over a n) (own_over b n) h in
     let e = some_greatest own (λ q. holds q n) a (own_over a n) p.0 (omega arith) in
     let f = some_greatest own (λ q. holds q n) b (own_over b n) p.1 (omega arith) in
@@ -121,6 +121,12 @@ conflict_from_clash tables a b s t (name, is, h) =
           let m = meet a s (own_over b n) (own_over a n) (clash_turned (own_over a n) (own_over b n) h) f.0 f.3 e.0 e.1 e.3 i in
           (f.0.0, m.0, f.0.1, m.1, f.1, apart_second m.0 f.0.1 m.2)
     ]
+
+pub conflict_from_clash : (tables : List TableShape) (a b : Requests) → IsSound a → IsSound b → Clash tables a b → Conflict a b
+conflict_from_clash tables a b s t (name, is, h) = conflict_over a b s t (row_resource tables name) h
+
+le_of : (x y : ℕ) → nat_le x y ≡ true → x ≤ y
+le_of x y h = grind (arith, nat_tests)
 
 over_small : (a : Requests) (n : Resource) → own_over a n ≤ 2
 over_small a n = greatest_least own (λ q. holds q n) a 2 (λ e k t. own_small e.1)
@@ -146,3 +152,11 @@ clash_from_conflict tables is a b s t u v (r, m, n, i, j, h) = elim (apart_parts
   | inl c ↦ name_under tables is a b t v r m n i j c
   | inr c ↦ clash_either tables b a (name_under tables is b a s u r n m j i c)
 ]
+
+-- a plan that locks a row name to write is in conflict with each that locks it
+pub locked_rows : LockedRowsConflict
+locked_rows tables a b s t name w r =
+    let n = row_resource tables name in
+    let x = le_of 2 (own_over a n) w in
+    let y = le_of 1 (own_over b n) r in
+    conflict_over a b s t n (clash_more 2 1 (own_over a n) (own_over b n) refl x (over_small a n) y (over_small b n))

@@ -5,6 +5,7 @@ use Rattle.std.specs.FinMap.{entries, get, empty}
 use Rattle.values.specs.declared.name.RowName.{RowName}
 use Rattle.values.specs.Shapes.{TableShape}
 use Rattle.proclang_types.specs.declared.right.Right.{Right}
+use Rattle.proclang_types.specs.declared.right.Right.TheVariants.{Read, Write}
 use Rattle.footprint.specs.declared.resource.Resource.{Resource}
 use Rattle.footprint.specs.Tree.{ancestors_of, row_resource}
 use Rattle.footprint.specs.Rights.{FootprintOf, is_at_least, with_right}
@@ -15,8 +16,8 @@ use Rattle.modes.specs.Modes.{own, subtree}
 use Rattle.coarsen.specs.declared.level.Level.{Level}
 use Rattle.coarsen.specs.Subtrees.{Requests, holds, greatest, right_on, right_under}
 use Rattle.coarsen.specs.Coarsening.{needed, lifted, children, parent_at, is_parent}
-use Rattle.coarsen.specs.Plans.{IsPlanOf}
-use Rattle.coarsen.specs.Clashes.{Clash, Conflict}
+use Rattle.coarsen.specs.Plans.{IsPlanOf, IsSound}
+use Rattle.coarsen.specs.Clashes.{locks_row, Clash, Conflict}
 
 -- a resource holds itself and what it is an ancestor of, and nothing else
 pub record HoldsDescendants : Type 0 where
@@ -56,3 +57,9 @@ pub record FootprintsAreOf : Type 0 where
   pub nothing : (tables : List TableShape) → IsFootprintOf tables empty
   pub more : (tables : List TableShape) (f : FootprintOf) (r : Resource) (x : Right) → IsFootprintOf tables f → IsResourceOf tables r → IsFootprintOf tables (with_right f r x)
   pub row : (tables : List TableShape) (name : RowName) → IsRowName tables name → IsResourceOf tables (row_resource tables name)
+
+-- two plans of which one locks a row name to write and the other locks it at all are in conflict, whatever the name
+abbrev pub LockedRowsConflict : Type 0
+LockedRowsConflict =
+    (tables : List TableShape) (a b : Requests) → IsSound a → IsSound b → (name : RowName)
+    → locks_row tables a name Write ≡ true → locks_row tables b name Read ≡ true → Conflict a b

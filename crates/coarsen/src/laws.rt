@@ -1,6 +1,6 @@
 //! Laws of the definitions, as contracts of functions that do nothing.
 
-ghost use Rattle.coarsen.specs.Laws.{HoldsDescendants, DropsCovered, ReplacesMany, PlansAreExact, ClashEitherWay, FootprintsAreOf};
+ghost use Rattle.coarsen.specs.Laws.{HoldsDescendants, DropsCovered, ReplacesMany, PlansAreExact, ClashEitherWay, LockedRowsConflict, FootprintsAreOf};
 
 /// The subtree of a resource is the resource and what has it as an ancestor.
 pub fn subtrees_are_of_ancestors()
@@ -25,6 +25,11 @@ pub fn plans_are_exact()
 /// If one plan clashes with another, the other clashes with it.
 pub fn clashes_are_either_way()
     ensures { ClashEitherWay }
+{}
+
+/// Plans that lock a row name, one of them to write, are in conflict.
+pub fn locked_rows_conflict()
+    ensures { LockedRowsConflict }
 {}
 
 /// How a footprint comes to be of a catalogue.
