@@ -1,0 +1,54 @@
+-- Which events are enabled, and what each does. (Calvin, SIGMOD 2012: one thread makes the lock requests in log order.)
+use Rattle.std.specs.Prelude.{◌≡◌, ℕ, suc, ◌+◌, nat_le, ◌&&◌, if◌then◌else◌, Bool, true, false, List, [], ◌∷◌, ◌++◌, length, Option, Some, None, slice_get}
+use Rattle.lock_tree.specs.Locks.{Waiting, used}
+use Rattle.lock_tree.specs.Ready.{ready}
+use Rattle.scheduler_core.specs.declared.event.Event.{Event}
+use Rattle.scheduler_core.specs.declared.event.Event.TheVariants.{Admit, Lend, Run, Settle}
+use Rattle.scheduler_core.specs.declared.event.StepAnswer.{StepAnswer}
+use Rattle.scheduler_core.specs.declared.event.StepAnswer.TheVariants.{Made, Refused, NoMemory}
+use Rattle.scheduler_core.specs.declared.phase.Phase.{Phase}
+use Rattle.scheduler_core.specs.declared.phase.Phase.TheVariants.{Idle, Out, Ran, Settled}
+use Rattle.scheduler_core.specs.Transactions.{Transaction}
+use Rattle.scheduler_core.specs.Phases.{is_idle, is_lent, was_run, is_out, is_settled, phase_of, with_number}
+
+-- the admitted and unsettled transactions in log order, each with its plan, and marked where it is out
+abbrev pub waiting : ℕ → List Transaction → List Phase → List Waiting
+waiting first [] phases = []
+waiting first (t ∷ log) [] = []
+waiting first (t ∷ log) (p ∷ phases) =
+    if is_settled (Some p) then waiting (suc first) log phases
+    else record { number = first; plan = t.plan; marked = is_out (Some p) } ∷ waiting (suc first) log phases
+
+-- there is a next transaction, and room for its plan beside those that wait
+abbrev pub has_room : ℕ → List Waiting → Option Transaction → Bool
+has_room nodes waits None = false
+has_room nodes waits (Some t) = nat_le (used waits + length t.plan) nodes
+
+-- Admit: not all are admitted, and there is room for the next one's plan. Lend: admitted, unsettled, not out, and ready.
+-- Run: out and not run. Settle: run and not settled
+abbrev pub enabled : ℕ → ℕ → List Transaction → List Phase → Event → Bool
+enabled nodes first log phases Admit = has_room nodes (waiting first log phases) (slice_get log (length phases))
+enabled nodes first log phases (Lend number) = is_idle (phase_of first phases number) && ready (waiting first log phases) number
+enabled nodes first log phases (Run number) = is_lent (phase_of first phases number)
+enabled nodes first log phases (Settle number) = was_run (phase_of first phases number)
+
+-- what an event does
+abbrev pub step : ℕ → List Phase → Event → List Phase
+step first phases Admit = phases ++ Idle ∷ []
+step first phases (Lend number) = with_number first phases number Out
+step first phases (Run number) = with_number first phases number Ran
+step first phases (Settle number) = with_number first phases number Settled
+
+-- what an answer to one event says
+abbrev pub Answers : ℕ → ℕ → List Transaction → List Phase → Event → StepAnswer → List Phase → Type 0
+Answers nodes first log old event Made new = (enabled nodes first log old event ≡ true) × (new ≡ step first old event)
+Answers nodes first log old event Refused new = (enabled nodes first log old event ≡ false) × (new ≡ old)
+Answers nodes first log old event NoMemory new = new ≡ old
+
+-- one answer an event
+abbrev pub Played : ℕ → ℕ → List Transaction → List Phase → List Event → List StepAnswer → List Phase → Type 0
+Played nodes first log old [] [] new = new ≡ old
+Played nodes first log old (event ∷ events) (answer ∷ answers) new =
+    (mid : List Phase) × Answers nodes first log old event answer mid × Played nodes first log mid events answers new
+Played nodes first log old [] (answer ∷ answers) new = ⊥
+Played nodes first log old (event ∷ events) [] new = ⊥

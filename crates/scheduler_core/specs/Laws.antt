@@ -1,0 +1,159 @@
+-- The laws of the core.
+use Rattle.std.specs.Prelude.{◌≡◌, ◌≢◌, ◌↔◌, ◌<◌, ◌≤◌, ℕ, ◌+◌, ◌*◌, true, false, List, [], ◌∷◌, ◌++◌, length, map, Option, Some, None, slice_get, slice_set, count_by}
+use Rattle.std.specs.FinMap.{get}
+use Rattle.values.specs.declared.name.RowName.{RowName}
+use Rattle.values.specs.Shapes.{TableShape}
+use Rattle.values.specs.Database.{Database}
+use Rattle.proclang_types.specs.declared.right.Right.TheVariants.{Write}
+use Rattle.coarsen.specs.Subtrees.{Requests}
+use Rattle.coarsen.specs.Clashes.{Conflict, locks_row}
+use Rattle.meaning.specs.Entries.{Reply}
+use Rattle.meaning.specs.Serial.{serial_end, serial_replies}
+use Rattle.lock_tree.specs.Locks.{Waiting, plan_of, without, with_mark, IsRising}
+use Rattle.lock_tree.specs.Ready.{ready, IsNextReady}
+use Rattle.lock_tree.specs.Enqueues.{AreBelow}
+use Rattle.scheduler_core.specs.declared.event.Event.{Event}
+use Rattle.scheduler_core.specs.declared.event.StepAnswer.{StepAnswer}
+use Rattle.scheduler_core.specs.declared.phase.Phase.{Phase}
+use Rattle.scheduler_core.specs.declared.phase.Phase.TheVariants.{Idle, Out, Ran, Settled}
+use Rattle.scheduler_core.specs.Transactions.{Transaction, entries_of, ArePlanned, AgreeOnLocked}
+use Rattle.scheduler_core.specs.Serial.{serial_rows, serial_reply, IsByPlaces}
+use Rattle.scheduler_core.specs.Phases.{is_out, is_settled, is_done, progress, is_made}
+use Rattle.scheduler_core.specs.Events.{waiting, enabled, Played}
+use Rattle.scheduler_core.specs.Choices.{enabled_events, chosen, next_event, ListsEnabled, IsNextEvent, IsLeastLend}
+use Rattle.scheduler_core.specs.Sound.{IsSound, IsLent, IsRun, IsRunOf}
+use Rattle.scheduler_core.specs.Machine.{Stage, Machine, Move, lent, settled, phases_of, at_start, Runs}
+
+-- the serial run by places is the serial run
+abbrev pub SerialRunByPlaces : Type 0
+SerialRunByPlaces = (log : List Transaction) (start : Database) → IsByPlaces log start
+
+-- ---- every order of events
+
+pub record IsSerial (tables : List TableShape) (log : List Transaction) (start : Database) (now : Machine) : Type 0 where
+  -- each reply that is kept is the serial run's
+  pub replies : (place : ℕ) (reply : Reply) → slice_get now.stages place ≡ Some (settled reply) → serial_reply log start place ≡ Some reply
+  -- each job shows, as it is lent, the rows of the serial run on the row names that its plan locks
+  pub jobs : (place : ℕ) (shown : Database) → slice_get now.stages place ≡ Some (lent shown) → IsLent tables log start place shown
+  -- no two plans that are out are in conflict
+  pub apart : (i k : ℕ) (t u : Transaction) → i ≢ k → slice_get log i ≡ Some t → slice_get log k ≡ Some u
+      → is_out (slice_get (phases_of now.stages) i) ≡ true → is_out (slice_get (phases_of now.stages) k) ≡ true → Conflict t.plan u.plan → ⊥
+  -- once all are settled, the rows and the replies, in log order, are the serial run's
+  pub end : is_done log (phases_of now.stages) ≡ true → now.rows ≡ serial_end (entries_of log) start
+  pub all_replies : is_done log (phases_of now.stages) ≡ true → now.stages ≡ map settled (serial_replies (entries_of log) start)
+
+abbrev pub EveryRunIsSerial : Type 0
+EveryRunIsSerial =
+    (tables : List TableShape) (nodes first : ℕ) (log : List Transaction) (start : Database) (moves : List Move) (now : Machine)
+    → ArePlanned tables log → Runs tables nodes first log (at_start start) moves now → IsSerial tables log start now
+
+-- ---- one event after the other, on rows that stand for others
+
+pub record StaysSound (tables : List TableShape) (first : ℕ) (log : List Transaction) (start : Database) : Type 0 where
+  pub starts : IsSound tables log start [] start
+  pub admits : (phases : List Phase) (rows : Database) → IsSound tables log start phases rows
+      → length phases < length log → IsSound tables log start (phases ++ Idle ∷ []) rows
+  pub lends : (phases : List Phase) (rows : Database) (place : ℕ) → IsSound tables log start phases rows
+      → slice_get phases place ≡ Some Idle → ready (waiting first log phases) (first + place) ≡ true
+      → IsSound tables log start (slice_set phases place Out) rows
+  -- the rows on what a ready transaction's plan locks are those of the serial run
+  pub lent_rows : (phases : List Phase) (rows : Database) (place : ℕ) (t : Transaction) (shown : Database) → IsSound tables log start phases rows
+      → slice_get phases place ≡ Some Idle → ready (waiting first log phases) (first + place) ≡ true
+      → slice_get log place ≡ Some t → AgreeOnLocked tables t.plan shown rows → IsLent tables log start place shown
+  -- of a ready transaction, and one that is out: their plans are not in conflict
+  pub lends_apart : (phases : List Phase) (rows : Database) (place other : ℕ) (t u : Transaction) → IsSound tables log start phases rows
+      → slice_get phases place ≡ Some Idle → ready (waiting first log phases) (first + place) ≡ true → is_out (slice_get phases other) ≡ true
+      → slice_get log place ≡ Some t → slice_get log other ≡ Some u → Conflict t.plan u.plan → ⊥
+  pub runs : (phases : List Phase) (rows : Database) (place : ℕ) → IsSound tables log start phases rows
+      → slice_get phases place ≡ Some Out → IsSound tables log start (slice_set phases place Ran) rows
+  -- the run of a job that shows the rows of the serial run is what the serial run has there
+  pub run_rows : (place : ℕ) (t : Transaction) (shown : Database) (reply : Reply) (after : Database) → slice_get log place ≡ Some t
+      → IsLent tables log start place shown → IsRunOf tables t shown reply after → IsRun tables log start place reply after
+  pub takes_back : (phases : List Phase) (rows : Database) (place : ℕ) → IsSound tables log start phases rows
+      → is_out (slice_get phases place) ≡ true → IsSound tables log start (slice_set phases place Idle) rows
+  pub settles : (phases : List Phase) (rows new : Database) (place : ℕ) (t : Transaction) (reply : Reply) (after : Database)
+      → IsSound tables log start phases rows → is_out (slice_get phases place) ≡ true → slice_get log place ≡ Some t → IsRun tables log start place reply after
+      → ((name : RowName) → locks_row tables t.plan name Write ≡ true → get new name ≡ get after name)
+      → ((name : RowName) → locks_row tables t.plan name Write ≡ false → get new name ≡ get rows name)
+      → IsSound tables log start (slice_set phases place Settled) new
+  -- only what the rows are counts
+  pub same_rows : (phases : List Phase) (rows new : Database) → IsSound tables log start phases rows
+      → ((name : RowName) → get new name ≡ get rows name) → IsSound tables log start phases new
+  pub outs_apart : (phases : List Phase) (rows : Database) (i k : ℕ) (t u : Transaction) → IsSound tables log start phases rows → i ≢ k
+      → is_out (slice_get phases i) ≡ true → is_out (slice_get phases k) ≡ true
+      → slice_get log i ≡ Some t → slice_get log k ≡ Some u → Conflict t.plan u.plan → ⊥
+  pub ends : (phases : List Phase) (rows : Database) → IsSound tables log start phases rows → is_done log phases ≡ true
+      → rows ≡ serial_end (entries_of log) start
+
+abbrev pub RowsAreSerial : Type 0
+RowsAreSerial =
+    (tables : List TableShape) (first : ℕ) (log : List Transaction) (start : Database) → ArePlanned tables log
+    → StaysSound tables first log start
+
+-- ---- the transactions in the lock tree
+
+pub record FollowsPhases (first : ℕ) (log : List Transaction) : Type 0 where
+  pub starts : waiting first log [] ≡ []
+  pub admits : (phases : List Phase) (t : Transaction) → slice_get log (length phases) ≡ Some t
+      → waiting first log (phases ++ Idle ∷ []) ≡ waiting first log phases ++ record { number = first + length phases; plan = t.plan; marked = false } ∷ []
+  pub lends : (phases : List Phase) (place : ℕ) → slice_get phases place ≡ Some Idle
+      → waiting first log (slice_set phases place Out) ≡ with_mark (first + place) true (waiting first log phases)
+  pub runs : (phases : List Phase) (place : ℕ) → slice_get phases place ≡ Some Out
+      → waiting first log (slice_set phases place Ran) ≡ waiting first log phases
+  pub takes_back : (phases : List Phase) (place : ℕ) → is_out (slice_get phases place) ≡ true
+      → waiting first log (slice_set phases place Idle) ≡ with_mark (first + place) false (waiting first log phases)
+  pub settles : (phases : List Phase) (place : ℕ) → is_out (slice_get phases place) ≡ true
+      → waiting first log (slice_set phases place Settled) ≡ without (first + place) (waiting first log phases)
+  -- each that is admitted and unsettled is there with its plan
+  pub there : (phases : List Phase) (place : ℕ) (t : Transaction) (p : Phase) → slice_get log place ≡ Some t → slice_get phases place ≡ Some p
+      → is_settled (Some p) ≡ false → plan_of (waiting first log phases) (first + place) ≡ Some t.plan
+  -- and no other
+  pub only : (phases : List Phase) (number : ℕ) (plan : Requests) → plan_of (waiting first log phases) number ≡ Some plan
+      → (place : ℕ) × (t : Transaction) × (p : Phase) × (number ≡ first + place) × (slice_get log place ≡ Some t)
+      × (slice_get phases place ≡ Some p) × (is_settled (Some p) ≡ false) × (plan ≡ t.plan)
+  pub below : (phases : List Phase) → AreBelow (first + length phases) (waiting first log phases)
+  pub rising : (phases : List Phase) → IsRising (waiting first log phases)
+  -- the least ready number without a mark is the least to which rows may be lent
+  pub next_ready : (nodes : ℕ) (phases : List Phase) (found : Option ℕ) → length phases ≤ length log → IsNextReady (waiting first log phases) found
+      → IsLeastLend nodes first log phases found
+
+abbrev pub AdmittedAndUnsettledWait : Type 0
+AdmittedAndUnsettledWait = (first : ℕ) (log : List Transaction) → FollowsPhases first log
+
+-- ---- no stuck state
+
+abbrev pub FitIn : ℕ → List Transaction → Type 0
+FitIn nodes log = (place : ℕ) (t : Transaction) → slice_get log place ≡ Some t → length t.plan ≤ nodes
+
+-- where no plan is larger than the room, some event is enabled in every state that isn't done
+abbrev pub NoStuckState : Type 0
+NoStuckState =
+    (nodes first : ℕ) (log : List Transaction) (phases : List Phase) → length phases ≤ length log → FitIn nodes log
+    → is_done log phases ≡ false → (event : Event) × (enabled nodes first log phases event ≡ true)
+
+abbrev pub NextEventIsEnabled : Type 0
+NextEventIsEnabled =
+    (nodes first : ℕ) (log : List Transaction) (phases : List Phase) → length phases ≤ length log → FitIn nodes log
+    → IsNextEvent nodes first log phases (next_event first log phases)
+
+pub record EnabledEventsAreListed : Type 0 where
+  pub exact : (nodes first : ℕ) (log : List Transaction) (phases : List Phase) → ListsEnabled nodes first log phases (enabled_events nodes first log phases)
+  pub one : (nodes first : ℕ) (log : List Transaction) (phases : List Phase) (events : List Event) → ListsEnabled nodes first log phases events
+      → events ≡ enabled_events nodes first log phases
+  -- none is enabled exactly where all is done
+  pub none : (nodes first : ℕ) (log : List Transaction) (phases : List Phase) → length phases ≤ length log → FitIn nodes log
+      → (enabled_events nodes first log phases ≡ []) ↔ (is_done log phases ≡ true)
+  -- what is chosen is enabled, and nothing is chosen exactly where all is done
+  pub choice : (nodes first : ℕ) (log : List Transaction) (phases : List Phase) (n : ℕ) (event : Event)
+      → chosen n (enabled_events nodes first log phases) ≡ Some event → enabled nodes first log phases event ≡ true
+  pub no_choice : (nodes first : ℕ) (log : List Transaction) (phases : List Phase) (n : ℕ) → length phases ≤ length log → FitIn nodes log
+      → (chosen n (enabled_events nodes first log phases) ≡ None) ↔ (is_done log phases ≡ true)
+
+-- ---- four steps a transaction
+
+pub record FourStepsEach : Type 0 where
+  -- as many answers are Made as the state got further
+  pub counted : (nodes first : ℕ) (log : List Transaction) (old new : List Phase) (events : List Event) (answers : List StepAnswer)
+      → Played nodes first log old events answers new → progress new ≡ progress old + count_by is_made answers
+  pub four : (nodes first : ℕ) (log : List Transaction) (new : List Phase) (events : List Event) (answers : List StepAnswer)
+      → Played nodes first log [] events answers new → is_done log new ≡ true → count_by is_made answers ≡ 4 * length log

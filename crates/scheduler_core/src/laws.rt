@@ -1,0 +1,46 @@
+//! Laws of the core, as contracts of functions that do nothing.
+
+ghost use Rattle.scheduler_core.specs.Laws.{SerialRunByPlaces, EveryRunIsSerial, RowsAreSerial, AdmittedAndUnsettledWait, NoStuckState, NextEventIsEnabled, EnabledEventsAreListed, FourStepsEach};
+
+/// The serial run by places is the serial run: each transaction is run on the rows that the one before it left.
+pub fn serial_run_by_places()
+    ensures { SerialRunByPlaces }
+{}
+
+/// Whatever the order of admitting, lending, running, giving back and settling: each reply that is kept is the serial run's,
+/// each job shows as it is lent the rows of the serial run on the row names that its plan locks, no two plans that are out are
+/// in conflict, and once all are settled the rows are the serial run's.
+pub fn every_run_is_serial()
+    ensures { EveryRunIsSerial }
+{}
+
+/// What holds of the rows at every moment, event by event.
+pub fn rows_are_serial()
+    ensures { RowsAreSerial }
+{}
+
+/// How the transactions that wait follow from the phases, event by event.
+pub fn admitted_and_unsettled_wait()
+    ensures { AdmittedAndUnsettledWait }
+{}
+
+/// In every state that isn't done some event is enabled, if no plan is larger than the room.
+pub fn no_stuck_state()
+    ensures { NoStuckState }
+{}
+
+/// The next step of the transaction with the least number that is admitted and unsettled is enabled, and if there is no such
+/// transaction the next one of the log can be admitted, or all is done.
+pub fn next_event_is_enabled()
+    ensures { NextEventIsEnabled }
+{}
+
+/// The list of the enabled events has each of them, and no other.
+pub fn enabled_events_are_listed()
+    ensures { EnabledEventsAreListed }
+{}
+
+/// From the start to the end there are four steps a transaction, if none is taken back.
+pub fn four_steps_each()
+    ensures { FourStepsEach }
+{}

@@ -1,0 +1,15 @@
+//! The core of a scheduler: which events are enabled in it, what each does, and that every order of them gives the serial
+//! run. The definitions stand in `specs/`; here are the types that they speak of, and the laws that follow from them, each as
+//! the contract of a function.
+#![tactic(auto)]
+
+mod event;
+mod laws;
+mod phase;
+
+pub use event::{Event, StepAnswer};
+pub use laws::{
+    admitted_and_unsettled_wait, enabled_events_are_listed, every_run_is_serial, four_steps_each,
+    next_event_is_enabled, no_stuck_state, rows_are_serial, serial_run_by_places,
+};
+pub use phase::Phase;
