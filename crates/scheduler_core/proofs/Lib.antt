@@ -1,0 +1,17 @@
+pub mod Lists
+pub mod Orders
+pub mod SerialRun
+pub mod Numbers
+pub mod PhaseTests
+pub mod Waits
+pub mod WaitChanges
+pub mod Readies
+pub mod Follows
+pub mod LowerLaws
+pub mod Soundness
+pub mod Rows
+pub mod MachineRuns
+pub mod EventLists
+pub mod NextSteps
+pub mod Listed
+pub mod Progress

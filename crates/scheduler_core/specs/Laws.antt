@@ -9,7 +9,7 @@ use Rattle.coarsen.specs.Subtrees.{Requests}
 use Rattle.coarsen.specs.Clashes.{Conflict, locks_row}
 use Rattle.meaning.specs.Entries.{Reply}
 use Rattle.meaning.specs.Serial.{serial_end, serial_replies}
-use Rattle.lock_tree.specs.Locks.{Waiting, plan_of, without, with_mark, IsRising}
+use Rattle.lock_tree.specs.Locks.{plan_of, without, with_mark, IsRising}
 use Rattle.lock_tree.specs.Ready.{ready, IsNextReady}
 use Rattle.lock_tree.specs.Enqueues.{AreBelow}
 use Rattle.scheduler_core.specs.declared.event.Event.{Event}
@@ -17,12 +17,12 @@ use Rattle.scheduler_core.specs.declared.event.StepAnswer.{StepAnswer}
 use Rattle.scheduler_core.specs.declared.phase.Phase.{Phase}
 use Rattle.scheduler_core.specs.declared.phase.Phase.TheVariants.{Idle, Out, Ran, Settled}
 use Rattle.scheduler_core.specs.Transactions.{Transaction, entries_of, ArePlanned, AgreeOnLocked}
-use Rattle.scheduler_core.specs.Serial.{serial_rows, serial_reply, IsByPlaces}
+use Rattle.scheduler_core.specs.Serial.{serial_reply, IsByPlaces}
 use Rattle.scheduler_core.specs.Phases.{is_out, is_settled, is_done, progress, is_made}
 use Rattle.scheduler_core.specs.Events.{waiting, enabled, Played}
 use Rattle.scheduler_core.specs.Choices.{enabled_events, chosen, next_event, ListsEnabled, IsNextEvent, IsLeastLend}
 use Rattle.scheduler_core.specs.Sound.{IsSound, IsLent, IsRun, IsRunOf}
-use Rattle.scheduler_core.specs.Machine.{Stage, Machine, Move, lent, settled, phases_of, at_start, Runs}
+use Rattle.scheduler_core.specs.Machine.{Machine, Move, lent, settled, phases_of, at_start, Runs}
 
 -- the serial run by places is the serial run
 abbrev pub SerialRunByPlaces : Type 0

@@ -2,6 +2,10 @@
 
 ghost use Rattle.scheduler_core.specs.Laws.{SerialRunByPlaces, EveryRunIsSerial, RowsAreSerial, AdmittedAndUnsettledWait, NoStuckState, NextEventIsEnabled, EnabledEventsAreListed, FourStepsEach};
 
+use coarsen::{clashes_are_either_way, locked_rows_conflict};
+use lock_tree::{first_ready, ready_apart};
+use meaning::stays_in_footprint;
+
 /// The serial run by places is the serial run: each transaction is run on the rows that the one before it left.
 pub fn serial_run_by_places()
     ensures { SerialRunByPlaces }
@@ -12,12 +16,22 @@ pub fn serial_run_by_places()
 /// in conflict, and once all are settled the rows are the serial run's.
 pub fn every_run_is_serial()
     ensures { EveryRunIsSerial }
-{}
+{
+    stays_in_footprint();
+    locked_rows_conflict();
+    clashes_are_either_way();
+    ready_apart();
+}
 
 /// What holds of the rows at every moment, event by event.
 pub fn rows_are_serial()
     ensures { RowsAreSerial }
-{}
+{
+    stays_in_footprint();
+    locked_rows_conflict();
+    clashes_are_either_way();
+    ready_apart();
+}
 
 /// How the transactions that wait follow from the phases, event by event.
 pub fn admitted_and_unsettled_wait()
@@ -27,18 +41,24 @@ pub fn admitted_and_unsettled_wait()
 /// In every state that isn't done some event is enabled, if no plan is larger than the room.
 pub fn no_stuck_state()
     ensures { NoStuckState }
-{}
+{
+    first_ready();
+}
 
 /// The next step of the transaction with the least number that is admitted and unsettled is enabled, and if there is no such
 /// transaction the next one of the log can be admitted, or all is done.
 pub fn next_event_is_enabled()
     ensures { NextEventIsEnabled }
-{}
+{
+    first_ready();
+}
 
 /// The list of the enabled events has each of them, and no other.
 pub fn enabled_events_are_listed()
     ensures { EnabledEventsAreListed }
-{}
+{
+    first_ready();
+}
 
 /// From the start to the end there are four steps a transaction, if none is taken back.
 pub fn four_steps_each()
