@@ -15,3 +15,8 @@ pub mod EventLists
 pub mod NextSteps
 pub mod Listed
 pub mod Progress
+pub mod Places
+pub mod Room
+pub mod RunOnShown
+pub mod CanBeMade
+pub mod OnePlay

@@ -20,8 +20,11 @@ use Rattle.scheduler_core.proofs.Lists.{cases, split, true_false, get_at}
 use Rattle.scheduler_core.proofs.Orders.{IsLog}
 use Rattle.scheduler_core.proofs.SerialRun.{next_rows, past_rows}
 
+abbrev pub FrameLaw : Type 0
+FrameLaw = (entry : EntryShape) (one two : Database) → Agree entry one two → StaysInFootprint entry one two
+
 pub record LowerLaws : Type 0 where
-  pub frame : (entry : EntryShape) (one two : Database) → Agree entry one two → StaysInFootprint entry one two
+  pub frame : FrameLaw
   pub locked : LockedRowsConflict
   pub turned : ClashEitherWay
   pub ready : ReadyApart

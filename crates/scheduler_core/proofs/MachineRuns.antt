@@ -37,16 +37,16 @@ settled_stage (settled reply) h = (reply, refl)
 
 module _ (tables : List TableShape) (log : List Transaction) (start : Database) where
   -- what is in hand is what the serial run has there
-  abbrev Fits : ℕ → Stage → Type 0
+  abbrev pub Fits : ℕ → Stage → Type 0
   Fits place idle = Unit {0}
   Fits place (lent shown) = IsLent tables log start place shown
   Fits place (ran reply after) = IsRun tables log start place reply after
   Fits place (settled reply) = serial_reply log start place ≡ Some reply
 
-  abbrev AllFit : List Stage → Type 0
+  abbrev pub AllFit : List Stage → Type 0
   AllFit stages = (place : ℕ) (x : Stage) → slice_get stages place ≡ Some x → Fits place x
 
-  record IsKept (now : Machine) : Type 0 where
+  pub record IsKept (now : Machine) : Type 0 where
     pub sound : IsSound tables log start (phases_of now.stages) now.rows
     pub fits : AllFit now.stages
 
@@ -179,8 +179,11 @@ module _ (tables : List TableShape) (log : List Transaction) (start : Database) 
       all_replies = all_settled now k;
     }
 
+    pub kept_to : (moves : List Move) (now : Machine) → Runs tables nodes first log (at_start start) moves now → IsKept now
+    kept_to moves now runs = kept_runs moves (at_start start) now kept_at_start runs
+
     pub run_is_serial : (moves : List Move) (now : Machine) → Runs tables nodes first log (at_start start) moves now → IsSerial tables log start now
-    run_is_serial moves now runs = kept_serial now (kept_runs moves (at_start start) now kept_at_start runs)
+    run_is_serial moves now runs = kept_serial now (kept_to moves now runs)
 
 pub every_run : LowerLaws → EveryRunIsSerial
 every_run laws tables nodes first log start moves now planned runs = run_is_serial tables log start laws planned nodes first moves now runs

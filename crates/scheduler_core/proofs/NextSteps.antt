@@ -103,13 +103,13 @@ admit_first first phases =
 
 -- ---- the first of them
 
-first_appended : (number : ℕ) (p : Phase) (rest : List Event) → is_settled (Some p) ≡ false → first_step (next_step number p ++ rest) ≡ step_of number p
+pub first_appended : (number : ℕ) (p : Phase) (rest : List Event) → is_settled (Some p) ≡ false → first_step (next_step number p ++ rest) ≡ step_of number p
 first_appended number Idle rest unsettled = refl
 first_appended number Out rest unsettled = refl
 first_appended number Ran rest unsettled = refl
 first_appended number Settled rest unsettled = absurd (cc)
 
-settled_no_step : (number : ℕ) (p : Phase) → is_settled (Some p) ≡ true → next_step number p ≡ []
+pub settled_no_step : (number : ℕ) (p : Phase) → is_settled (Some p) ≡ true → next_step number p ≡ []
 settled_no_step number Idle gone = absurd (cc)
 settled_no_step number Out gone = absurd (cc)
 settled_no_step number Ran gone = absurd (cc)

@@ -29,10 +29,10 @@ use Rattle.scheduler_core.proofs.SerialRun.{next_rows, next_reply, last_rows}
 use Rattle.scheduler_core.proofs.Orders.{IsLog, Closed, finds, current_more, current_first, current_last}
 use Rattle.scheduler_core.proofs.LowerLaws.{LowerLaws, InConflict, is_log, locks_there, write_locks}
 
-names_total : IsTotalOrder name_cmp
+pub names_total : IsTotalOrder name_cmp
 names_total = laws.lawful.total
 
-exact_names : CmpEqualImpliesEq name_cmp
+pub exact_names : CmpEqualImpliesEq name_cmp
 exact_names a b h = ap (λ (p : ℕ × ℕ). record { table = p.0; key = p.1 }) (exact_pairs nat_cmp nat_cmp exact_unsigned exact_unsigned (a.table, a.key) (b.table, b.key) h)
 
 module _ (tables : List TableShape) (log : List Transaction) (start : Database) where

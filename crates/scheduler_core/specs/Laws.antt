@@ -1,5 +1,6 @@
 -- The laws of the core.
-use Rattle.std.specs.Prelude.{◌≡◌, ◌≢◌, ◌↔◌, ◌<◌, ◌≤◌, ℕ, ◌+◌, ◌*◌, true, false, List, [], ◌∷◌, ◌++◌, length, map, Option, Some, None, slice_get, slice_set, count_by}
+use Rattle.std.specs.Prelude.{◌≡◌, ◌≢◌, ◌↔◌, ◌<◌, ◌≤◌, ℕ, suc, ◌+◌, ◌*◌, ◌==◌, ◌&&◌, if◌then◌else◌, true, false, List, [], ◌∷◌, ◌++◌, length, map, take, Option, Some, None, slice_get, slice_set, count_by}
+use Rattle.std.specs.List.{Contains}
 use Rattle.std.specs.FinMap.{get}
 use Rattle.values.specs.declared.name.RowName.{RowName}
 use Rattle.values.specs.Shapes.{TableShape}
@@ -7,22 +8,24 @@ use Rattle.values.specs.Database.{Database}
 use Rattle.proclang_types.specs.declared.right.Right.TheVariants.{Write}
 use Rattle.coarsen.specs.Subtrees.{Requests}
 use Rattle.coarsen.specs.Clashes.{Conflict, locks_row}
-use Rattle.meaning.specs.Entries.{Reply}
+use Rattle.meaning.specs.Entries.{Reply, meaning}
 use Rattle.meaning.specs.Serial.{serial_end, serial_replies}
-use Rattle.lock_tree.specs.Locks.{plan_of, without, with_mark, IsRising}
+use Rattle.lock_tree.specs.Locks.{plan_of, used, without, with_mark, IsRising}
 use Rattle.lock_tree.specs.Ready.{ready, IsNextReady}
 use Rattle.lock_tree.specs.Enqueues.{AreBelow}
 use Rattle.scheduler_core.specs.declared.event.Event.{Event}
+use Rattle.scheduler_core.specs.declared.event.Event.TheVariants.{Admit, Lend, Run, Settle}
 use Rattle.scheduler_core.specs.declared.event.StepAnswer.{StepAnswer}
+use Rattle.scheduler_core.specs.declared.event.StepAnswer.TheVariants.{NoMemory}
 use Rattle.scheduler_core.specs.declared.phase.Phase.{Phase}
 use Rattle.scheduler_core.specs.declared.phase.Phase.TheVariants.{Idle, Out, Ran, Settled}
-use Rattle.scheduler_core.specs.Transactions.{Transaction, entries_of, ArePlanned, AgreeOnLocked}
+use Rattle.scheduler_core.specs.Transactions.{Transaction, entries_of, IsPlanned, ArePlanned, AgreeOnLocked}
 use Rattle.scheduler_core.specs.Serial.{serial_reply, IsByPlaces}
-use Rattle.scheduler_core.specs.Phases.{is_out, is_settled, is_done, progress, is_made}
-use Rattle.scheduler_core.specs.Events.{waiting, enabled, Played}
-use Rattle.scheduler_core.specs.Choices.{enabled_events, chosen, next_event, ListsEnabled, IsNextEvent, IsLeastLend}
+use Rattle.scheduler_core.specs.Phases.{is_idle, is_lent, was_run, is_out, is_settled, phase_of, is_done, progress, is_made}
+use Rattle.scheduler_core.specs.Events.{waiting, enabled, step, Played}
+use Rattle.scheduler_core.specs.Choices.{next_step, next_steps, first_step, enabled_events, chosen, next_event, ListsEnabled, IsNextEvent, IsLeastLend}
 use Rattle.scheduler_core.specs.Sound.{IsSound, IsLent, IsRun, IsRunOf}
-use Rattle.scheduler_core.specs.Machine.{Machine, Move, lent, settled, phases_of, at_start, Runs}
+use Rattle.scheduler_core.specs.Machine.{Machine, Move, lent, settled, phases_of, at_start, Does, Runs}
 
 -- the serial run by places is the serial run
 abbrev pub SerialRunByPlaces : Type 0
@@ -46,6 +49,19 @@ abbrev pub EveryRunIsSerial : Type 0
 EveryRunIsSerial =
     (tables : List TableShape) (nodes first : ℕ) (log : List Transaction) (start : Database) (moves : List Move) (now : Machine)
     → ArePlanned tables log → Runs tables nodes first log (at_start start) moves now → IsSerial tables log start now
+
+-- in each machine that a run reaches, every enabled event can be made
+abbrev pub EnabledCanBeMade : Type 0
+EnabledCanBeMade =
+    (tables : List TableShape) (nodes first : ℕ) (log : List Transaction) (start : Database) (moves : List Move) (now : Machine)
+    → ArePlanned tables log → Runs tables nodes first log (at_start start) moves now
+    → (event : Event) → enabled nodes first log (phases_of now.stages) event ≡ true → (new : Machine) × Does tables first log now event new
+
+-- the run on the rows that a job shows, as if there were no others, is the run of the job
+abbrev pub RunOnShownRows : Type 0
+RunOnShownRows =
+    (tables : List TableShape) (t : Transaction) (shown after : Database) → IsPlanned tables t
+    → AgreeOnLocked tables t.plan after (meaning t.entry shown).1 → IsRunOf tables t shown (meaning t.entry shown).0 after
 
 -- ---- one event after the other, on rows that stand for others
 
@@ -119,6 +135,48 @@ pub record FollowsPhases (first : ℕ) (log : List Transaction) : Type 0 where
 
 abbrev pub AdmittedAndUnsettledWait : Type 0
 AdmittedAndUnsettledWait = (first : ℕ) (log : List Transaction) → FollowsPhases first log
+
+-- ---- answers
+
+-- but for want of memory, the events determine what is answered and what comes of them
+abbrev pub OnePlay : Type 0
+OnePlay =
+    (nodes first : ℕ) (log : List Transaction) (old new other : List Phase) (events : List Event) (answers others : List StepAnswer)
+    → Played nodes first log old events answers new → Played nodes first log old events others other
+    → (Contains answers NoMemory → ⊥) → (Contains others NoMemory → ⊥) → (answers ≡ others) × (new ≡ other)
+
+-- ---- room
+
+-- the plans of those that wait never take more room than there is
+abbrev pub RoomIsKept : Type 0
+RoomIsKept =
+    (nodes first : ℕ) (log : List Transaction) (old new : List Phase) (events : List Event) (answers : List StepAnswer)
+    → used (waiting first log old) ≤ nodes → Played nodes first log old events answers new → used (waiting first log new) ≤ nodes
+
+-- ---- places
+
+-- the events of the transaction at a place, whose number is `first` and its place
+pub record AreByPlaces (nodes first : ℕ) (log : List Transaction) (phases : List Phase) : Type 0 where
+  pub phase : (place : ℕ) → phase_of first phases (first + place) ≡ slice_get phases place
+  pub no_phase : (number : ℕ) → number < first → phase_of first phases number ≡ None
+  pub lend : (place : ℕ) → enabled nodes first log phases (Lend (first + place)) ≡ (is_idle (slice_get phases place) && ready (waiting first log phases) (first + place))
+  pub run : (place : ℕ) → enabled nodes first log phases (Run (first + place)) ≡ is_lent (slice_get phases place)
+  pub settle : (place : ℕ) → enabled nodes first log phases (Settle (first + place)) ≡ was_run (slice_get phases place)
+  pub after_lend : (place : ℕ) → step first phases (Lend (first + place)) ≡ slice_set phases place Out
+  pub after_run : (place : ℕ) → step first phases (Run (first + place)) ≡ slice_set phases place Ran
+  pub after_settle : (place : ℕ) → step first phases (Settle (first + place)) ≡ slice_set phases place Settled
+  -- the next steps of the transactions before a place, and of one more
+  pub steps_before : (place : ℕ) (p : Phase) → slice_get phases place ≡ Some p
+      → next_steps first (take (suc place) phases) ≡ next_steps first (take place phases) ++ next_step (first + place) p
+  -- where all before a place are settled and that one isn't, its step is the next event
+  pub first_open : (place : ℕ) (p : Phase) → slice_get phases place ≡ Some p → is_settled (Some p) ≡ false
+      → ((i : ℕ) → i < place → is_settled (slice_get phases i) ≡ true) → next_event first log phases ≡ Some (first_step (next_step (first + place) p))
+  -- where all are settled, it is Admit, if there is one more
+  pub none_open : ((i : ℕ) → i < length phases → is_settled (slice_get phases i) ≡ true)
+      → next_event first log phases ≡ (if length phases == length log then None else Some Admit)
+
+abbrev pub EventsByPlaces : Type 0
+EventsByPlaces = (nodes first : ℕ) (log : List Transaction) (phases : List Phase) → AreByPlaces nodes first log phases
 
 -- ---- no stuck state
 

@@ -1,6 +1,6 @@
 //! Laws of the core, as contracts of functions that do nothing.
 
-ghost use Rattle.scheduler_core.specs.Laws.{SerialRunByPlaces, EveryRunIsSerial, RowsAreSerial, AdmittedAndUnsettledWait, NoStuckState, NextEventIsEnabled, EnabledEventsAreListed, FourStepsEach};
+ghost use Rattle.scheduler_core.specs.Laws.{SerialRunByPlaces, EveryRunIsSerial, EnabledCanBeMade, RunOnShownRows, RowsAreSerial, AdmittedAndUnsettledWait, EventsByPlaces, OnePlay, RoomIsKept, NoStuckState, NextEventIsEnabled, EnabledEventsAreListed, FourStepsEach};
 
 use coarsen::{clashes_are_either_way, locked_rows_conflict};
 use lock_tree::{first_ready, ready_apart};
@@ -23,6 +23,23 @@ pub fn every_run_is_serial()
     ready_apart();
 }
 
+/// In every state that such an order reaches, each enabled event can be made.
+pub fn enabled_events_can_be_made()
+    ensures { EnabledCanBeMade }
+{
+    stays_in_footprint();
+    locked_rows_conflict();
+    clashes_are_either_way();
+    ready_apart();
+}
+
+/// A job is run by running its entry on the rows that it shows, as if there were no others.
+pub fn run_on_shown_rows_is_run()
+    ensures { RunOnShownRows }
+{
+    stays_in_footprint();
+}
+
 /// What holds of the rows at every moment, event by event.
 pub fn rows_are_serial()
     ensures { RowsAreSerial }
@@ -36,6 +53,21 @@ pub fn rows_are_serial()
 /// How the transactions that wait follow from the phases, event by event.
 pub fn admitted_and_unsettled_wait()
     ensures { AdmittedAndUnsettledWait }
+{}
+
+/// The events of a transaction by its place in the log, which its number is counted from the first.
+pub fn events_by_places()
+    ensures { EventsByPlaces }
+{}
+
+/// But for want of memory, a list of events has one list of answers.
+pub fn answers_are_determined()
+    ensures { OnePlay }
+{}
+
+/// The plans of those that are admitted and unsettled never take more room than there is.
+pub fn room_is_kept()
+    ensures { RoomIsKept }
 {}
 
 /// In every state that isn't done some event is enabled, if no plan is larger than the room.
