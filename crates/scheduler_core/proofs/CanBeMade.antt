@@ -23,7 +23,7 @@ use Rattle.scheduler_core.proofs.Numbers.{at_place, placed}
 use Rattle.scheduler_core.proofs.PhaseTests.{lent_is, ran_is}
 use Rattle.scheduler_core.proofs.Readies.{lend_from}
 use Rattle.scheduler_core.proofs.LowerLaws.{LowerLaws}
-use Rattle.scheduler_core.proofs.Soundness.{names_total, exact_names}
+use Rattle.scheduler_core.proofs.Names.{names_total, exact_names}
 use Rattle.scheduler_core.proofs.RunOnShown.{shown_run}
 use Rattle.scheduler_core.proofs.MachineRuns.{IsKept, kept_to}
 

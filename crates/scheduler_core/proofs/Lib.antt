@@ -1,6 +1,7 @@
 pub mod Lists
 pub mod Orders
 pub mod SerialRun
+pub mod Names
 pub mod Numbers
 pub mod PhaseTests
 pub mod Waits
@@ -20,3 +21,4 @@ pub mod Room
 pub mod RunOnShown
 pub mod CanBeMade
 pub mod OnePlay
+pub mod MachineSteps

@@ -1,5 +1,5 @@
 -- What the core takes from the crates below it, and what it makes of a log.
-use Rattle.std.proofs.Common.{◌≡◌, ℕ, suc, inl, inr, nat_le, true, false, List, length, Option, None, Some, refl, sym, ◌∙◌, ap, arith, slice_get}
+use Rattle.std.proofs.Common.{◌≡◌, ℕ, suc, inl, inr, nat_le, Bool, true, false, List, length, Option, None, Some, refl, sym, ◌∙◌, ap, arith, slice_get}
 use Rattle.std.specs.FinMap.{get}
 use Rattle.std.proofs.lemmas.Bool.Decides.{nat_tests}
 use Rattle.values.specs.declared.name.RowName.{RowName}
@@ -28,6 +28,13 @@ pub record LowerLaws : Type 0 where
   pub locked : LockedRowsConflict
   pub turned : ClashEitherWay
   pub ready : ReadyApart
+
+-- the names that the transaction at a place covers and writes, by its plan
+abbrev pub reads : List TableShape → List Transaction → ℕ → RowName → Bool
+reads tables log place name = locks_at tables log place name Read
+
+abbrev pub writes : List TableShape → List Transaction → ℕ → RowName → Bool
+writes tables log place name = locks_at tables log place name Write
 
 module _ (tables : List TableShape) (log : List Transaction) where
   -- the transactions at two places are in conflict
@@ -78,19 +85,19 @@ module _ (tables : List TableShape) (log : List Transaction) where
     ]
 
     first_writes : (i k : ℕ) (name : RowName) → locks_at tables log i name Write ≡ true → locks_at tables log k name Read ≡ true → InConflict i k
-    first_writes i k name writes reads =
-        let a = locked_by (slice_get log i) name Write writes in
-        let b = locked_by (slice_get log k) name Read reads in
+    first_writes i k name written covered =
+        let a = locked_by (slice_get log i) name Write written in
+        let b = locked_by (slice_get log k) name Read covered in
         let t = a.transaction in
         let u = b.transaction in
         (t, u, a.is, b.is, laws.locked tables t.plan u.plan (planned i t a.is).sound (planned k u b.is).sound name a.locks b.locks)
 
     second_writes : (i k : ℕ) (name : RowName) → locks_at tables log i name Read ≡ true → locks_at tables log k name Write ≡ true → InConflict i k
-    second_writes i k name reads writes =
-        let (u, t, at_u, at_t, conflicts) = first_writes k i name writes reads in
+    second_writes i k name covered written =
+        let (u, t, at_u, at_t, conflicts) = first_writes k i name written covered in
         (t, u, at_t, at_u, laws.turned.requests u.plan t.plan conflicts)
 
-    pub is_log : IsLog get (λ k name. locks_at tables log k name Read) (λ k name. locks_at tables log k name Write) InConflict (serial_rows log start)
+    pub is_log : IsLog get (reads tables log) (writes tables log) InConflict (serial_rows log start)
     is_log = record {
       covered = λ k name h. written_locked (slice_get log k) name h;
       others = stays;

@@ -2,13 +2,9 @@
 use Rattle.std.proofs.Common.{◌≡◌, ◌≢◌, ℕ, ◌+◌, ◌<◌, ◌≤◌, inl, inr, ◌==◌, Bool, true, false, List, [], ◌∷◌, ◌++◌, length, Option, Some, refl, sym, ◌∙◌, ap, subst, arith, slice_get, slice_set}
 use Rattle.std.specs.List.{list_all}
 use Rattle.std.specs.FinMap.{get, same_map}
-use Rattle.std.specs.Cmp.{IsTotalOrder}
-use Rattle.std.specs.Ordering.{nat_cmp}
-use Rattle.std.proofs.lemmas.Map.Lookups.{CmpEqualImpliesEq, exact_pairs, exact_unsigned}
-use Rattle.values.specs.contracts.name.RowNameOrd.TheImpl.Laws as laws
 use Rattle.values.specs.declared.name.RowName.{RowName}
 use Rattle.values.specs.Shapes.{TableShape}
-use Rattle.values.specs.Database.{Database, name_cmp}
+use Rattle.values.specs.Database.{Database}
 use Rattle.proclang_types.specs.declared.right.Right.TheVariants.{Read, Write}
 use Rattle.coarsen.specs.Clashes.{locks_row, Conflict}
 use Rattle.lock_tree.specs.Ready.{ready}
@@ -22,18 +18,13 @@ use Rattle.scheduler_core.specs.Phases.{is_out, is_settled, has_begun, is_done}
 use Rattle.scheduler_core.specs.Events.{waiting}
 use Rattle.scheduler_core.specs.Sound.{IsSound, IsLent, IsRun, IsRunOf}
 use Rattle.scheduler_core.proofs.Lists.{cases, both, split, some_is, true_false, get_at, get_past, get_within, get_set_same, get_set_other, length_push, length_set, push_test, set_test, each_passes}
+use Rattle.scheduler_core.proofs.Names.{names_total, exact_names}
 use Rattle.scheduler_core.proofs.Numbers.{numbers_same}
 use Rattle.scheduler_core.proofs.PhaseTests.{out_is, out_begun, settled_begun, out_unsettled}
 use Rattle.scheduler_core.proofs.Waits.{plan_there, waits_rising}
 use Rattle.scheduler_core.proofs.SerialRun.{next_rows, next_reply, last_rows}
 use Rattle.scheduler_core.proofs.Orders.{IsLog, Closed, finds, current_more, current_first, current_last}
-use Rattle.scheduler_core.proofs.LowerLaws.{LowerLaws, InConflict, is_log, locks_there, write_locks}
-
-pub names_total : IsTotalOrder name_cmp
-names_total = laws.lawful.total
-
-pub exact_names : CmpEqualImpliesEq name_cmp
-exact_names a b h = ap (λ (p : ℕ × ℕ). record { table = p.0; key = p.1 }) (exact_pairs nat_cmp nat_cmp exact_unsigned exact_unsigned (a.table, a.key) (b.table, b.key) h)
+use Rattle.scheduler_core.proofs.LowerLaws.{LowerLaws, InConflict, reads, writes, is_log, locks_there, write_locks}
 
 module _ (tables : List TableShape) (log : List Transaction) (start : Database) where
   abbrev pub Sound : List Phase → Database → Type 0
@@ -53,7 +44,7 @@ module _ (tables : List TableShape) (log : List Transaction) (start : Database) 
   same_settled phases new rows within same begun s = record {
     within = within;
     behind = λ i k t u less at_i at_k has conflicts. same i ∙ begun k has i t u less at_i at_k conflicts;
-    current = λ name place below above. s.current name place (λ i less writes. sym (same i) ∙ below i less writes) (λ i more writes. sym (same i) ∙ above i more writes);
+    current = λ name place below above. s.current name place (λ i less written. sym (same i) ∙ below i less written) (λ i more written. sym (same i) ∙ above i more written);
   }
 
   begun_free : (phases : List Phase) (rows : Database) (k : ℕ) → Sound phases rows → has_begun (slice_get phases k) ≡ true → IsFree phases k
@@ -94,18 +85,18 @@ module _ (tables : List TableShape) (log : List Transaction) (start : Database) 
   same_rows phases rows new s same = record { within = s.within; behind = s.behind; current = λ name place below above. same name ∙ s.current name place below above }
 
   module _ (laws : LowerLaws) (planned : ArePlanned tables log) where
-    known : IsLog get (λ k name. locks_at tables log k name Read) (λ k name. locks_at tables log k name Write) (InConflict tables log) (serial_rows log start)
+    known : IsLog get (reads tables log) (writes tables log) (InConflict tables log) (serial_rows log start)
     known = is_log tables log laws start planned
 
     pub sound_start : Sound [] start
     sound_start = record {
       within = omega arith;
       behind = λ i k t u less at_i at_k has conflicts. absurd (cc);
-      current = current_first get (λ k name. locks_at tables log k name Read) (λ k name. locks_at tables log k name Write) (InConflict tables log) (serial_rows log start) known (settled_in []) (λ i. refl);
+      current = current_first get (reads tables log) (writes tables log) (InConflict tables log) (serial_rows log start) known (settled_in []) (λ i. refl);
     }
 
     closed : (phases : List Phase) (rows : Database) → Sound phases rows
-        → Closed get (λ k name. locks_at tables log k name Read) (λ k name. locks_at tables log k name Write) (InConflict tables log) (serial_rows log start) (settled_in phases)
+        → Closed get (reads tables log) (writes tables log) (InConflict tables log) (serial_rows log start) (settled_in phases)
     closed phases rows s i j less has (t, u, at_i, at_j, conflicts) = s.behind i j t u less at_i at_j (settled_begun (slice_get phases j) has) conflicts
 
     -- what is ready is free
@@ -131,7 +122,7 @@ module _ (tables : List TableShape) (log : List Transaction) (start : Database) 
     pub finds_serial : (phases : List Phase) (rows : Database) (place : ℕ) → Sound phases rows → is_settled (slice_get phases place) ≡ false → IsFree phases place
         → (name : RowName) → locks_at tables log place name Read ≡ true → get rows name ≡ get (serial_rows log start place) name
     finds_serial phases rows place s unsettled free name locks =
-        finds get (λ k name. locks_at tables log k name Read) (λ k name. locks_at tables log k name Write) (InConflict tables log) (serial_rows log start) known
+        finds get (reads tables log) (writes tables log) (InConflict tables log) (serial_rows log start) known
         (settled_in phases) rows (closed phases rows s) s.current place unsettled
         (λ i less (t, u, at_i, at_place, conflicts). free i t u less at_i at_place conflicts) name locks
 
@@ -169,7 +160,7 @@ module _ (tables : List TableShape) (log : List Transaction) (start : Database) 
         record {
           within = (let e = length_set phases place Settled in let w = s.within in omega (arith, e, w));
           behind = λ i k a b less at_i at_k has conflicts. grows i (s.behind i k a b less at_i at_k (sym (begun k) ∙ has) conflicts);
-          current = current_more get (λ k name. locks_at tables log k name Read) (λ k name. locks_at tables log k name Write) (InConflict tables log) (serial_rows log start) known
+          current = current_more get (reads tables log) (writes tables log) (InConflict tables log) (serial_rows log start) known
               (settled_in phases) (settled_in (slice_set phases place Settled)) rows new place (closed phases rows s) s.current (out_unsettled (slice_get phases place) out)
               (λ name locks. written name (sym (locks_there tables log place t name Write at) ∙ locks) ∙ run.written t at name (sym (locks_there tables log place t name Write at) ∙ locks))
               (λ name free. kept name (sym (locks_there tables log place t name Write at) ∙ free))
@@ -212,6 +203,6 @@ module _ (tables : List TableShape) (log : List Transaction) (start : Database) 
         (let (p, is) = get_at phases i (omega (arith, same, less)) in ap is_settled is ∙ each_passes (λ q. is_settled (Some q)) phases i p parts.1 is) in
         let past : (i : ℕ) (name : RowName) → length log ≤ i → locks_at tables log i name Write ≡ false = λ i name more. ap (λ (o : Option Transaction). locks_of tables o name Write) (get_past log i more) in
         same_map names_total exact_names rows (serial_rows log start (length log))
-        (current_last get (λ k name. locks_at tables log k name Read) (λ k name. locks_at tables log k name Write) (InConflict tables log) (serial_rows log start) known
+        (current_last get (reads tables log) (writes tables log) (InConflict tables log) (serial_rows log start) known
         (settled_in phases) rows (length log) s.current all past)
         ∙ last_rows log start

@@ -57,6 +57,12 @@ EnabledCanBeMade =
     → ArePlanned tables log → Runs tables nodes first log (at_start start) moves now
     → (event : Event) → enabled nodes first log (phases_of now.stages) event ≡ true → (new : Machine) × Does tables first log now event new
 
+-- an event does in the machine to the phases what its step says
+abbrev pub MachineFollowsSteps : Type 0
+MachineFollowsSteps =
+    (tables : List TableShape) (first : ℕ) (log : List Transaction) (old new : Machine) (event : Event)
+    → Does tables first log old event new → phases_of new.stages ≡ step first (phases_of old.stages) event
+
 -- the run on the rows that a job shows, as if there were no others, is the run of the job
 abbrev pub RunOnShownRows : Type 0
 RunOnShownRows =

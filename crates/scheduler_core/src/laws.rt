@@ -1,6 +1,6 @@
 //! Laws of the core, as contracts of functions that do nothing.
 
-ghost use Rattle.scheduler_core.specs.Laws.{SerialRunByPlaces, EveryRunIsSerial, EnabledCanBeMade, RunOnShownRows, RowsAreSerial, AdmittedAndUnsettledWait, EventsByPlaces, OnePlay, RoomIsKept, NoStuckState, NextEventIsEnabled, EnabledEventsAreListed, FourStepsEach};
+ghost use Rattle.scheduler_core.specs.Laws.{SerialRunByPlaces, EveryRunIsSerial, EnabledCanBeMade, MachineFollowsSteps, RunOnShownRows, RowsAreSerial, AdmittedAndUnsettledWait, EventsByPlaces, OnePlay, RoomIsKept, NoStuckState, NextEventIsEnabled, EnabledEventsAreListed, FourStepsEach};
 
 use coarsen::{clashes_are_either_way, locked_rows_conflict};
 use lock_tree::{first_ready, ready_apart};
@@ -32,6 +32,11 @@ pub fn enabled_events_can_be_made()
     clashes_are_either_way();
     ready_apart();
 }
+
+/// What an event does to rows and jobs, it does to phases as its step says.
+pub fn machine_follows_steps()
+    ensures { MachineFollowsSteps }
+{}
 
 /// A job is run by running its entry on the rows that it shows, as if there were no others.
 pub fn run_on_shown_rows_is_run()
