@@ -1,5 +1,5 @@
 -- The first difference of two texts.
-use Rattle.std.proofs.Common.{◌≡◌, ℕ, ◌+◌, ◌<◌, ◌≤◌, ◌⊎◌, suc, List, ◌∷◌, [], ◌++◌, length, take, get_or, slice_get, Option, Some, None, inl, inr, refl, sym, ◌∙◌, ap, add-one, arith}
+use Rattle.std.proofs.Common.{◌≡◌, ℕ, ◌+◌, ◌<◌, ◌≤◌, suc, List, ◌∷◌, [], ◌++◌, length, take, get_or, slice_get, Some, None, sym, ◌∙◌, ap, add-one}
 use Rattle.std.proofs.Math.Seq.{take-suc}
 use Rattle.std.proofs.lemmas.List.{take_all}
 use Rattle.std.proofs.lemmas.Option.{slice_get-get_or, slice_get_past}

@@ -1,5 +1,5 @@
 -- How a run ends, and what came of it.
-use Rattle.std.proofs.Common.{◌≡◌, ℕ, ◌||◌, List, [], ◌++◌, Bool, true, false, Option, Some, None, Result, Ok, Err, IfOk, IfErr, OnOk, refl, sym, ◌∙◌, ap, subst}
+use Rattle.std.proofs.Common.{◌≡◌, ℕ, ◌||◌, List, [], Bool, true, false, Option, Some, None, Result, Ok, Err, IfOk, IfErr, OnOk, refl, ◌∙◌, ap}
 use Rattle.std.specs.Option.{IfSome}
 use Rattle.std.specs.Io.KnownBytes.{prepend_known, Appends}
 use Rattle.std.proofs.KnownBytes.{Appends-nil}
@@ -10,7 +10,6 @@ use Rattle.values.specs.Shapes.{TableShape}
 use Rattle.values.specs.Database.{Database}
 use Rattle.proclang.specs.ProcLists.{ProcsParts}
 use Rattle.meaning.specs.Serial.{serial_replies}
-use Rattle.batch_log.specs.declared.fault.FaultKind.{FaultKind}
 use Rattle.batch_log.specs.declared.fault.FaultKind.TheVariants.{Memory}
 use Rattle.batch_log.specs.declared.fault.LogFault.{LogFault}
 use Rattle.batch_log.specs.Faults.{is_io, place_of, IsOfLine}

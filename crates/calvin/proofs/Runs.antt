@@ -15,7 +15,6 @@ use Rattle.sequencer.specs.Batches.{items_of, items_from}
 use Rattle.sequencer.specs.Entries.{prepared}
 use Rattle.calvin.specs.declared.engine.Engine.{Engine}
 use Rattle.calvin.specs.declared.replies.BatchDone.{BatchDone}
-use Rattle.calvin.specs.declared.replies.Reply.{Reply}
 use Rattle.calvin.specs.Batches.{entries_of}
 use Rattle.calvin.specs.declared.engine.ExecFault.{ExecFault}
 use Rattle.calvin.specs.declared.engine.ExecFault.TheVariants.{Busy, LogFull, Spawn, NoMemory}

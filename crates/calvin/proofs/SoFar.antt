@@ -15,11 +15,10 @@ use Rattle.proclang.specs.Requests.{Call}
 use Rattle.meaning.specs.Entries.{EntryShape, Reply, meaning}
 use Rattle.meaning.specs.Serial.{serial_end, serial_replies}
 use Rattle.sequencer.specs.Entries.{prepared}
-use Rattle.batch_log.specs.declared.fault.FaultKind.{FaultKind}
 use Rattle.batch_log.specs.declared.fault.LogFault.{LogFault}
 use Rattle.batch_log.specs.Lines.{Lines}
 use Rattle.batch_log.specs.Log.{batches_of, first_fault, log_said, IsEnd, IsFault, IsNextBatch}
-use Rattle.report_text.specs.Texts.{digest, end_line, row_text, reply_line}
+use Rattle.report_text.specs.Texts.{digest, end_line, row_text}
 use Rattle.report_text.specs.Report.{batch_text, batch_texts, end_text, entries_of, next_batch, reply_lines, report}
 use Rattle.calvin.specs.Reports.{batches_in, fault_in, report_of}
 

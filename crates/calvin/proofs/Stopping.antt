@@ -1,5 +1,5 @@
 -- Which line a fault names.
-use Rattle.std.proofs.Common.{◌≡◌, ℕ, ◌+◌, ◌||◌, List, [], ◌∷◌, ◌++◌, append_assoc, length, Bool, true, false, cond, Option, Some, None, Result, Ok, Err, refl, sym, ◌∙◌, ap, subst, arith}
+use Rattle.std.proofs.Common.{◌≡◌, ℕ, ◌+◌, ◌||◌, List, [], ◌∷◌, ◌++◌, append_assoc, length, Bool, true, false, cond, Option, Some, None, refl, sym, ◌∙◌, ap, subst, arith}
 use Rattle.std.specs.Io.KnownBytes.{Consumes, prepend_known}
 use Rattle.devices.specs.Lines.{line_number, lines_of, newlines_in, next_number}
 use Rattle.devices.specs.LineReader.{Position, position_after}
@@ -11,7 +11,7 @@ use Rattle.batch_log.specs.Moves.{Moves}
 use Rattle.calvin.specs.declared.run_fault.RunFault.{RunFault}
 use Rattle.calvin.specs.declared.run_fault.RunFault.TheVariants as runs
 use Rattle.calvin.specs.Transcripts.{IsOfMachine}
-use Rattle.calvin.specs.Stops.{IfOfLine, IfOfMachine, IsLineOf, IsMachineFault, last_line, line_of_read}
+use Rattle.calvin.specs.Stops.{IfOfLine, IfOfMachine, IsLineOf, IsMachineFault, last_line}
 
 -- ---- a fault of a line, or of a machine
 

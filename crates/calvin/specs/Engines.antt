@@ -1,13 +1,11 @@
 -- What a clause sees of an engine.
-use Rattle.std.specs.Prelude.{◌≡◌, ℕ, List, Bool, Option, is_some, Result, Ok, Err, ⊤}
+use Rattle.std.specs.Prelude.{ℕ, List, Bool, Option, is_some}
 use Rattle.values.specs.Shapes.{TableShape}
 use Rattle.values.specs.Database.{Database}
 use Rattle.proclang.specs.ProcLists.{ProcsParts}
 use Rattle.command_line.specs.declared.settings.Settings.{Settings}
 use Rattle.sequencer.specs.declared.batch.Batch.{Batch}
 use Rattle.calvin.specs.declared.engine.Engine.{Engine}
-use Rattle.calvin.specs.declared.engine.ExecFault.{ExecFault}
-use Rattle.calvin.specs.declared.engine.ExecFault.TheVariants.{Busy, LogFull, Spawn, NoMemory}
 
 abbrev pub tables_of : Engine → List TableShape
 tables_of engine = engine.store.tables

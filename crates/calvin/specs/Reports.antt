@@ -1,6 +1,5 @@
 -- The report of a log on a setup.
 use Rattle.std.specs.Prelude.{ℕ, List, map, is_some, Option}
-use Rattle.values.specs.Shapes.{TableShape}
 use Rattle.values.specs.Database.{Database}
 use Rattle.proclang.specs.ProcLists.{ProcsParts}
 use Rattle.sequencer.specs.Entries.{prepared}

@@ -1,5 +1,5 @@
 -- What is written of a batch, and how a write ends.
-use Rattle.std.specs.Prelude.{◌≡◌, ℕ, List, [], ◌∷◌, ◌++◌, Bool, true, false, Result, Ok, Err, ⊤}
+use Rattle.std.specs.Prelude.{ℕ, List, [], ◌∷◌, ◌++◌, Bool, false, Result, Ok, Err, ⊤}
 use Rattle.values.specs.Shapes.{TableShape}
 use Rattle.values.specs.Database.{Database}
 use Rattle.batch_log.specs.declared.fault.FaultKind.{FaultKind}

@@ -10,10 +10,9 @@ ghost use Rattle.calvin.specs.Transcripts.{said_lines, with_batch_line, write_fa
 
 use crate::replies::Reply;
 use batch_log::{FaultKind, Sink, write_all};
-use report_text::{
-    digest_of, digest_text, push_batch_line, push_end_line, push_reply_line, rows_digest,
-};
+use report_text::{digest_of, digest_text, push_batch_line, push_end_line, push_reply_line};
 use row_store::RowStore;
+use row_text::rows_digest;
 use sha2::{Digest, Sha256};
 use std::alloc::{AllocError, Global};
 
@@ -42,7 +41,7 @@ fn reply_lines(alloc: Global, replies: &[Reply]) -> Result<String, AllocError>
 fn batch_text(alloc: Global, batch: u64, rows: &RowStore, lines: &str) -> Result<String, AllocError>
     ensures { IfOk result (λ text. string_bytes text ≡ with_batch_line batch rows.now.tables rows.now.rows lines.now) }
 {
-    let rows = rows_digest(alloc, rows.catalogue(), rows.iter())?;
+    let rows = rows_digest(alloc, rows.catalogue(), rows)?;
     let replies = digest_text(alloc, lines.as_bytes())?;
     let mut text = String::from_str(alloc, lines)?;
     push_batch_line(&mut text, batch, &rows, &replies)?;
@@ -53,7 +52,7 @@ fn batch_text(alloc: Global, batch: u64, rows: &RowStore, lines: &str) -> Result
 fn end_text(alloc: Global, count: u64, rows: &RowStore, said: Sha256) -> Result<String, AllocError>
     ensures { (m : List ℕ) → Holds256 said m → IfOk result (λ text. string_bytes text ≡ end_line count (digest (row_text rows.now.tables rows.now.rows)) (digest m)) }
 {
-    let rows = rows_digest(alloc, rows.catalogue(), rows.iter())?;
+    let rows = rows_digest(alloc, rows.catalogue(), rows)?;
     let replies = digest_of(alloc, said)?;
     let mut text = String::new(alloc);
     push_end_line(&mut text, count, &rows, &replies)?;

@@ -1,5 +1,5 @@
 -- The lines of a report. Words are separated by one space, and each line ends with a newline byte.
-use Rattle.std.specs.Prelude.{ℕ, List, [], ◌∷◌, ◌++◌, codes, option_map, unwrap_or, slice_get}
+use Rattle.std.specs.Prelude.{ℕ, nat_lt, List, [], ◌∷◌, ◌++◌, length, filter, codes, option_map, unwrap_or, slice_get}
 use Rattle.std.specs.Fmt.{decimal, signed_decimal}
 use Rattle.std.specs.FinMap.{entries}
 use Rattle.sha2.specs.Sha256.{sha256}
@@ -36,9 +36,13 @@ abbrev pub row_lines : List TableShape → List (RowName × RowOf) → List ℕ
 row_lines tables [] = []
 row_lines tables (e ∷ es) = row_line tables e.0 e.1 ++ row_lines tables es
 
--- all rows, tables in declared order and keys ascending
+-- the rows of these tables, tables in declared order and keys ascending
+abbrev pub rows_in_order : List TableShape → Database → List (RowName × RowOf)
+rows_in_order tables db = filter (λ e. nat_lt e.0.table (length tables)) (entries db)
+
+-- the row lines of a database
 abbrev pub row_text : List TableShape → Database → List ℕ
-row_text tables db = row_lines tables (entries db)
+row_text tables db = row_lines tables (rows_in_order tables db)
 
 -- what stands behind a transaction's number: `commit V1 .. Vn`, `abort CODE` or `stale`
 unfoldable pub reply_words : Reply → List ℕ

@@ -4,12 +4,11 @@ ghost use Rattle.std.specs.Prelude.{◌≡◌, ◌++◌, [], List, ℕ, IfOk, On
 ghost use Rattle.sha2.specs.Hashers.{Holds256};
 ghost use Rattle.hex.specs.Hex.{encode_lower};
 ghost use Rattle.sha2.specs.Sha256.{sha256};
-ghost use Rattle.report_text.specs.Texts.{digest, row_line, row_lines, table_name, values_text};
+ghost use Rattle.report_text.specs.Texts.{digest, row_line, table_name, values_text};
 
 use crate::values_text::push_values;
 use sha2::{Digest, Sha256};
 use std::alloc::{AllocError, Global};
-use std::collections::btree_map::Iter;
 use values::{Catalogue, Row, RowName, TableNo};
 
 /// The SHA-256 digest of a text, in 64 lower-case hexadecimal digits. (FIPS 180-4.)
@@ -52,22 +51,6 @@ pub fn row_line(
     push_values(alloc, &mut text, row.values())?;
     text.push_str("\n")?;
     Ok(text)
-}
-
-/// The digest of row lines, fed line by line.
-pub fn rows_digest(
-    alloc: Global,
-    catalogue: &Catalogue,
-    rows: Iter<'_, RowName, Row>,
-) -> Result<String, AllocError>
-    ensures { IfOk result (λ t. string_bytes t ≡ digest (row_lines catalogue.now rows.entry)) }
-{
-    let mut hasher = Sha256::new();
-    for (name, row) in rows {
-        let line = row_line(alloc, catalogue, name, row)?;
-        hasher.update(line.as_bytes());
-    }
-    digest_of(alloc, hasher)
 }
 
 /// The digest of what a hasher was fed.

@@ -1,6 +1,6 @@
 //! The catalogue: tables in declared order, each with its partitions and columns.
 
-ghost use Rattle.std.specs.Prelude.{◌≡◌, ◌⊎◌, ◌<◌, [], false, IfErr, IsOkUnless, ℕ, length, option_map, IfOk, Ok, List, slice_get, Some, IfSome, map};
+ghost use Rattle.std.specs.Prelude.{◌≡◌, ◌⊎◌, ◌<◌, ◌≤◌, [], false, IfErr, IsOkUnless, ℕ, length, option_map, IfOk, Ok, List, slice_get, Some, IfSome, map};
 ghost use Rattle.values.specs.Shapes.{tables_shape, columns_shape, table_shape, TableShape};
 ghost use Rattle.values.specs.Keys.{table_named, column_named, partition_of, partition_numbered};
 ghost use Rattle.values.specs.Tables.{IsTableAt};
@@ -133,6 +133,16 @@ impl Catalogue {
         ensures { Some result ≡ option_map (λ t. kinds_match (map (λ c. c.kind) t.columns) values.now) (slice_get self.now table) }
     {
         columns_take(&table_at(&self.tables, table).columns, values)
+    }
+
+    /// How many partitions a table has, 1 to 1,024.
+    pub fn partitions(&self, table: TableNo) -> u32
+        requires { table < length self.now }
+        ensures count { Some result ≡ option_map (λ t. t.partitions) (slice_get self.now table) }
+        ensures some { 1 ≤ result }
+        ensures few { result ≤ 1024 }
+    {
+        table_at(&self.tables, table).partitions
     }
 
     /// The partition of a table that has a key: key k of a table of P partitions is in partition k mod P.

@@ -71,6 +71,8 @@ fn partitions_have_numbers(rt: HostRuntime) -> Result<(), Fail> {
         (i64::MIN, None, None),
         (i64::MAX, None, None),
     ];
+    assert_eq!(rt; catalogue.partitions(TableNo::new(0)), 2);
+    assert_eq!(rt; catalogue.partitions(TableNo::new(1)), 1);
     for (number, of_accounts, of_references) in table {
         assert_eq!(rt;
             catalogue.part(TableNo::new(0), number),

@@ -1,4 +1,3 @@
-use Rattle.std.proofs.Common.{◌≡◌}
 use Rattle.calvin.specs.Engines.{tables_of}
 use Rattle.calvin.proofs.Runs.{batch_over}
 use Rattle.calvin.proofs.engine_tests.batch_over.Goals as goal

@@ -1,11 +1,11 @@
-use Rattle.std.proofs.Common.{◌≡◌, ◌∙◌, ◌+◌, Bool, List, ℕ, length, rules, refl, sym, ap}
+use Rattle.std.proofs.Common.{◌≡◌, ◌∙◌, ◌+◌, List, ℕ, length, rules, refl, sym, ap}
 use Rattle.devices.specs.LineReader.{Position}
 use Rattle.proclang.specs.ProcLists.{ProcsParts}
 use Rattle.meaning.specs.Serial.{serial_replies}
-use Rattle.batch_log.specs.Reader.{came, position_of, source_of}
+use Rattle.batch_log.specs.Reader.{came, position_of}
 use Rattle.batch_log.proofs.Moves.{Moves-none, Moves-trans}
 use Rattle.report_text.specs.Report.{reply_lines}
-use Rattle.calvin.specs.Engines.{next_of, procs_of, rows_of, tables_of}
+use Rattle.calvin.specs.Engines.{procs_of, rows_of, tables_of}
 use Rattle.calvin.proofs.SoFar.{SoFar-start, SoFar-next, SoFar-front, SoFar-front_in_batch}
 use Rattle.calvin.proofs.Stopping.{start}
 use Rattle.calvin.proofs.RunEnds.{or_nothing, run_ends, run_faults, run_stops}

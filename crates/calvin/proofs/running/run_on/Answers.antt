@@ -1,4 +1,4 @@
-use Rattle.std.proofs.Common.{◌≡◌, rules}
+use Rattle.std.proofs.Common.{rules}
 use Rattle.batch_log.specs.Reader.{source_of}
 use Rattle.calvin.proofs.RunEnds.{run_through}
 use Rattle.calvin.proofs.running.run_on.Goals as goal

@@ -1,4 +1,4 @@
-use Rattle.std.proofs.Common.{◌≡◌, map, refl, ap, ◌∙◌}
+use Rattle.std.proofs.Common.{map, refl, ap, ◌∙◌}
 use Rattle.interp.specs.Entries.{entry_shape}
 use Rattle.calvin.proofs.Runs.{run_gives}
 use Rattle.calvin.proofs.engine.Engine.run_batch.Goals as goal

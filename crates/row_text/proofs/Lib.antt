@@ -1,0 +1,3 @@
+pub mod Popping
+pub mod Rows
+pub mod Merging

@@ -1,0 +1,10 @@
+//! The rows of a database as the report sees them: from any view that shows every name, in the order of tables and then of
+//! keys.
+#![tactic(auto)]
+
+mod digest;
+mod heads;
+#[cfg(test)]
+mod tests;
+
+pub use digest::rows_digest;
