@@ -18,8 +18,8 @@ pub(crate) struct Case {
 
 /// The one file that there is: the setup.
 #[derive(Drop)]
-struct SetupFile<'a> {
-    bytes: &'a [u8],
+pub(crate) struct SetupFile<'a> {
+    pub(crate) bytes: &'a [u8],
 }
 
 impl Files for SetupFile<'_> {
@@ -103,7 +103,8 @@ impl Case {
     }
 }
 
-fn owned(alloc: Global, words: &[&str]) -> Result<Vec<String>, AllocError> {
+/// Words that are owned.
+pub(crate) fn owned(alloc: Global, words: &[&str]) -> Result<Vec<String>, AllocError> {
     let mut owned = Vec::new(alloc);
     for word in words {
         owned.push(String::from_str(alloc, word)?)?;

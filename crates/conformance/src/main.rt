@@ -7,6 +7,8 @@
 
 mod case;
 mod outputs;
+#[cfg(test)]
+mod settings_tests;
 mod stored;
 
 use case::Case;
