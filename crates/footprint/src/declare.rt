@@ -6,6 +6,7 @@ ghost use Rattle.proclang_types.specs.Views.{int_view, entry_view};
 ghost use Rattle.proclang_types.specs.Procedures.{proc_syntax};
 ghost use Rattle.footprint.specs.Declaration.{value_of, number_or, in_range, grant_of, declared_footprint};
 ghost use Rattle.footprint.specs.Tables.{HasTable};
+ghost use Rattle.footprint.specs.OfCatalogue.{IsResourceOf, IsFootprintOf};
 ghost use Rattle.footprint.specs.Stops.{Gives};
 
 use crate::abort_code::AbortCode;
@@ -97,7 +98,8 @@ fn grant_of(
     entry: &FootprintEntry,
 ) -> Result<(Resource, Right), AbortCode>
     requires { HasTable catalogue.now (entry_view entry.now) }
-    ensures { result ≡ grant_of (pos 0) catalogue.now arguments.now (entry_view entry.now) }
+    ensures exact { result ≡ grant_of (pos 0) catalogue.now arguments.now (entry_view entry.now) }
+    ensures of_catalogue { IfOk result (λ grant. IsResourceOf catalogue.now grant.0) }
 {
     match entry {
         FootprintEntry::Row { right, table, key } => {
@@ -125,6 +127,7 @@ fn grant_of(
 }
 
 /// The footprint of the entries, in order.
+#[tactic(auto, using(crate::proofs::OfCatalogue::nothing_of_catalogue))]
 fn with_entries(
     alloc: Global,
     catalogue: &Catalogue,
@@ -132,7 +135,8 @@ fn with_entries(
     entries: &Vec<FootprintEntry>,
 ) -> Result<Footprint, Stop>
     requires { AllByRecursion (HasTable catalogue.now) (map entry_view entries.now.items) }
-    ensures { Gives result (declared_footprint catalogue.now arguments.now (map entry_view entries.now.items)) }
+    ensures exact { Gives result (declared_footprint catalogue.now arguments.now (map entry_view entries.now.items)) }
+    ensures of_catalogue { IfOk result (λ footprint. IsFootprintOf catalogue.now footprint) }
 {
     let mut footprint = Footprint::new(alloc);
     let mut count = 0u32;
@@ -157,7 +161,9 @@ pub fn declared(
     arguments: &[Value],
 ) -> Result<Result<Footprint, AbortCode>, NoMemory>
     requires { proc.now.tables ≡ catalogue.now }
-    ensures { IfOk result (λ declared. declared ≡ declared_footprint catalogue.now arguments.now (proc_syntax proc.now).footprint) }
+    ensures exact { IfOk result (λ declared. declared ≡ declared_footprint catalogue.now arguments.now (proc_syntax proc.now).footprint) }
+    // Each resource that it gives a right on is of the catalogue.
+    ensures of_catalogue { IfOk result (λ declared. IfOk declared (λ footprint. IsFootprintOf catalogue.now footprint)) }
 {
     match with_entries(alloc, catalogue, arguments, proc.footprint()) {
         Ok(footprint) => Ok(Ok(footprint)),

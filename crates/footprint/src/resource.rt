@@ -27,11 +27,13 @@ pub enum Resource {
 impl Resource {
     ghost use Rattle.std.specs.Prelude.{◌≡◌, ◌<◌, length};
     ghost use Rattle.footprint.specs.Tree.{parent_of, row_resource};
+    ghost use Rattle.footprint.specs.OfCatalogue.{IsResourceOf};
 
     /// The resource of a row name.
     pub fn row(catalogue: &Catalogue, name: RowName) -> Resource
         requires { name.table < length catalogue.now }
-        ensures { result ≡ row_resource catalogue.now name }
+        ensures exact { result ≡ row_resource catalogue.now name }
+        ensures of_catalogue { IsResourceOf catalogue.now result }
     {
         let part = catalogue.part_of(name.table, name.key);
         Resource::Table(

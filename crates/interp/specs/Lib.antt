@@ -2,3 +2,4 @@ pub mod Entries
 pub mod Endings
 pub mod Touched
 pub mod Memory
+pub mod Over

@@ -2,7 +2,10 @@
 
 ghost use Rattle.std.specs.Prelude.{◌≡◌, IfOk, map};
 ghost use Rattle.std.specs.List.{AllByRecursion};
+ghost use Rattle.footprint.specs.OfCatalogue.{IsFootprintOf};
+ghost use Rattle.meaning.specs.Entries.{footprint_of};
 ghost use Rattle.interp.specs.Entries.{entry_shape, footing_shape};
+ghost use Rattle.interp.specs.Over.{locked_for, IsEntryOver, AreEntriesOver};
 ghost use Rattle.sequencer.specs.Batches.{items_of};
 ghost use Rattle.sequencer.specs.Entries.{prepared};
 
@@ -15,9 +18,11 @@ use std::alloc::Global;
 use values::{Catalogue, NoMemory};
 
 /// The footing of a request: the footprint that its procedure declares for its values, or the abort of the first fault.
+#[tactic(auto, using(crate::proofs::Nothing::nothing_of_catalogue))]
 fn footing_of(alloc: Global, catalogue: &Catalogue, request: &Request) -> Result<Footing, NoMemory>
     requires { request.now.proc.tables ≡ catalogue.now }
-    ensures { IfOk result (λ footing. footing_shape footing ≡ (prepared request.now).footing) }
+    ensures exact { IfOk result (λ footing. footing_shape footing ≡ (prepared request.now).footing) }
+    ensures of_catalogue { IfOk result (λ footing. IsFootprintOf catalogue.now (locked_for (footprint_of (footing_shape footing)))) }
 {
     match declared(alloc, catalogue, request.proc(), request.args())? {
         Ok(footprint) => Ok(Footing::Declared(footprint)),
@@ -28,7 +33,7 @@ fn footing_of(alloc: Global, catalogue: &Catalogue, request: &Request) -> Result
 fn entry_of(alloc: Global, catalogue: &Catalogue, request: &Request) -> Result<Entry, NoMemory>
     requires { request.now.proc.tables ≡ catalogue.now }
     ensures shape { IfOk result (λ entry. entry_shape entry ≡ prepared request.now) }
-    ensures tables { IfOk result (λ entry. entry.request.proc.tables ≡ catalogue.now) }
+    ensures of_catalogue { IfOk result (λ entry. IsEntryOver catalogue.now entry) }
 {
     let footing = footing_of(alloc, catalogue, request)?;
     let request = request.clone()?;
@@ -47,6 +52,8 @@ pub fn prepare<V: RowView>(
     requires { AllByRecursion (λ item. item.request.proc.tables ≡ catalogue.now) (items_of batch.now) }
     // Each entry is over the tables of the catalogue.
     ensures tables { IfOk result (λ entries. AllByRecursion (λ entry. entry.request.proc.tables ≡ catalogue.now) entries.items) }
+    // And so is its footprint.
+    ensures of_catalogue { IfOk result (λ entries. AreEntriesOver catalogue.now entries.items) }
     ensures exact { IfOk result (λ entries. map entry_shape entries.items ≡ map (λ item. prepared item.request) (items_of batch.now)) }
 {
     let mut entries = Vec::new(alloc);

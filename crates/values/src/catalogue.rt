@@ -78,9 +78,10 @@ impl Catalogue {
         }
     }
 
-    /// How many tables there are, 1 to 64.
+    /// How many tables there are, 1 to 64. They keep the rules of catalogues.
     pub fn len(&self) -> usize
-        ensures { result ≡ length self.now }
+        ensures len { result ≡ length self.now }
+        ensures sound { IsCatalogue self.now }
     {
         self.tables.len()
     }

@@ -1,11 +1,14 @@
 use Rattle.std.proofs.Common.{◌≡◌, map, take}
 use Rattle.std.specs.List.{AllByRecursion}
 use Rattle.interp.specs.Entries.{entry_shape}
+use Rattle.interp.specs.Over.{AreEntriesOver}
 use Rattle.sequencer.specs.Entries.{prepared}
 use Rattle.sequencer.proofs.preparing.prepare.Given as goal
 
--- the entries so far are those of the requests so far, over the tables
+-- the entries so far are those of the requests so far, over the tables of the catalogue
 abbrev pub invariant-loop-item : goal.invariant-loop-item
-invariant-loop-item g l =
-    (map entry_shape l.entries.items ≡ map (λ item. prepared item.request) (take l.item-index l.batch.items.items))
-    × AllByRecursion (λ entry. entry.request.proc.tables ≡ l.catalogue) l.entries.items
+invariant-loop-item g l = record {
+  exact : map entry_shape l.entries.items ≡ map (λ item. prepared item.request) (take l.item-index l.batch.items.items);
+  tables : AllByRecursion (λ entry. entry.request.proc.tables ≡ l.catalogue) l.entries.items;
+  of_catalogue : AreEntriesOver l.catalogue l.entries.items;
+}
