@@ -4,6 +4,7 @@
 mod entry;
 mod grants;
 mod laws;
+mod room;
 #[cfg(test)]
 mod tests;
 mod tree;

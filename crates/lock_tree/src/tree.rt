@@ -26,7 +26,7 @@ pub enum EnqueueFault {
 pub struct LockTree {
     alloc: Global,
     nodes: usize,
-    free: usize,
+    pub(crate) free: usize,
     entries: Vec<Entry>,
 }
 

@@ -1,7 +1,7 @@
 -- The rows at every moment.
 use Rattle.scheduler_core.specs.Laws.{RowsAreSerial}
 use Rattle.scheduler_core.proofs.LowerLaws.{LowerLaws}
-use Rattle.scheduler_core.proofs.Soundness.{sound_start, sound_admit, sound_lend, lent_serial, lends_are_apart, sound_run, run_serial, sound_take_back, sound_settle, same_rows, outs_are_apart, ends_serially}
+use Rattle.scheduler_core.proofs.Soundness.{sound_start, sound_admit, sound_lend, lent_serial, out_serial, lends_are_apart, sound_run, run_serial, sound_take_back, sound_settle, same_rows, outs_are_apart, ends_serially}
 
 pub stays_sound : LowerLaws → RowsAreSerial
 stays_sound laws tables first log start planned = record {
@@ -10,6 +10,7 @@ stays_sound laws tables first log start planned = record {
   lends = sound_lend tables log start laws planned first;
   lent_rows = lent_serial tables log start laws planned first;
   lends_apart = lends_are_apart tables log start laws planned first;
+  out_rows = out_serial tables log start laws planned;
   runs = sound_run tables log start;
   run_rows = run_serial tables log start laws planned;
   takes_back = sound_take_back tables log start;

@@ -134,6 +134,11 @@ module _ (tables : List TableShape) (log : List Transaction) (start : Database) 
         shows name (sym (ap (λ (x : Transaction). locks_row tables x.plan name Read) same) ∙ locks)
         ∙ finds_serial phases rows place s (ap is_settled idle) (ready_free first phases rows place s idle is_ready) name (locks_there tables log place u name Read at_u ∙ locks)
 
+    pub out_serial : (phases : List Phase) (rows : Database) (place : ℕ) (t : Transaction) → Sound phases rows → is_out (slice_get phases place) ≡ true
+        → slice_get log place ≡ Some t → AgreeOnLocked tables t.plan rows (serial_rows log start place)
+    out_serial phases rows place t s out at name locks =
+        finds_serial phases rows place s (out_unsettled (slice_get phases place) out) (out_free phases rows place s out) name (locks_there tables log place t name Read at ∙ locks)
+
     pub run_serial : (place : ℕ) (t : Transaction) (shown : Database) (reply : Reply) (after : Database) → slice_get log place ≡ Some t
         → IsLent tables log start place shown → IsRunOf tables t shown reply after → IsRun tables log start place reply after
     run_serial place t shown reply after at is_lent is_run = record {

@@ -20,7 +20,7 @@ use Rattle.scheduler_core.specs.declared.event.StepAnswer.TheVariants.{NoMemory}
 use Rattle.scheduler_core.specs.declared.phase.Phase.{Phase}
 use Rattle.scheduler_core.specs.declared.phase.Phase.TheVariants.{Idle, Out, Ran, Settled}
 use Rattle.scheduler_core.specs.Transactions.{Transaction, entries_of, IsPlanned, ArePlanned, AgreeOnLocked}
-use Rattle.scheduler_core.specs.Serial.{serial_reply, IsByPlaces}
+use Rattle.scheduler_core.specs.Serial.{serial_rows, serial_reply, IsByPlaces}
 use Rattle.scheduler_core.specs.Phases.{is_idle, is_lent, was_run, is_out, is_settled, phase_of, is_done, progress, is_made}
 use Rattle.scheduler_core.specs.Events.{waiting, enabled, step, Played}
 use Rattle.scheduler_core.specs.Choices.{next_step, next_steps, first_step, enabled_events, chosen, next_event, ListsEnabled, IsNextEvent, IsLeastLend}
@@ -86,6 +86,9 @@ pub record StaysSound (tables : List TableShape) (first : ℕ) (log : List Trans
   pub lends_apart : (phases : List Phase) (rows : Database) (place other : ℕ) (t u : Transaction) → IsSound tables log start phases rows
       → slice_get phases place ≡ Some Idle → ready (waiting first log phases) (first + place) ≡ true → is_out (slice_get phases other) ≡ true
       → slice_get log place ≡ Some t → slice_get log other ≡ Some u → Conflict t.plan u.plan → ⊥
+  -- while a transaction is out, the rows on what its plan locks stay so
+  pub out_rows : (phases : List Phase) (rows : Database) (place : ℕ) (t : Transaction) → IsSound tables log start phases rows
+      → is_out (slice_get phases place) ≡ true → slice_get log place ≡ Some t → AgreeOnLocked tables t.plan rows (serial_rows log start place)
   pub runs : (phases : List Phase) (rows : Database) (place : ℕ) → IsSound tables log start phases rows
       → slice_get phases place ≡ Some Out → IsSound tables log start (slice_set phases place Ran) rows
   -- the run of a job that shows the rows of the serial run is what the serial run has there
