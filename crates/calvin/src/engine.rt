@@ -2,7 +2,8 @@
 
 ghost use Rattle.std.specs.Prelude.{◌≡◌, ◌+◌, ◌<◌, ◌≤◌, ◌^◌, IfOk, IfErr, OnOk, OnErr, Err, length, map, false, true};
 ghost use Rattle.std.specs.FinMap as map_of;
-ghost use Rattle.row_store.specs.Stock.{with_rows};
+ghost use Rattle.std.specs.Coded.{Coded-set};
+ghost use Rattle.row_store.specs.Stock.{plans_code, with_rows};
 ghost use Rattle.sequencer.specs.Batches.{items_of};
 
 use crate::gate::{Gate, OpenGate};
@@ -43,6 +44,7 @@ pub struct Engine {
     // A batch that is unfinished.
     held: Option<Batch>,
     ghost over: { procs.tables ≡ store.tables },
+    ghost unlent: { store.lent ≡ map_of.empty } by { Coded-set plans_code store.lent map_of.empty },
     ghost few: { next ≤ 2 ^ 48 },
 }
 
@@ -99,6 +101,7 @@ impl Engine {
         requires { is_busy self.now ≡ false }
         ensures tables { result.now.tables ≡ tables_of self.now }
         ensures rows { result.now.rows ≡ rows_of self.now }
+        ensures unlent { result.now.lent ≡ map_of.empty }
     {
         &self.store
     }

@@ -8,12 +8,14 @@ ghost use Rattle.calvin.specs.Executions.{AreOver};
 
 use crate::test_world::{BANK, TWO_PAYS};
 use crate::{Batch, BatchDone, Engine, LogReader, OpenGate, ReadSource, Settings, read_setup};
+use interp_expr::RowView;
 use meaning::Outcome;
 use proclang::Request;
+use row_store::all_is_free_with_nothing_lent;
 use std::alloc::Global;
 use std::process::Abort;
 use std::test::Fail;
-use values::Value;
+use values::{Key, TableNo, Value};
 
 /// The batch of requests over an engine's tables.
 fn batch_over(alloc: Global, _engine: &Engine, requests: Vec<Request>) -> Result<Batch, Fail>
@@ -73,20 +75,25 @@ fn replies_are(
     Ok(())
 }
 
-/// The rows are these; of each the place of its table, its key, and its one value.
-fn rows_are(rt: &impl Abort, engine: &Engine, rows: &[(usize, u64, i64)])
+/// The rows with these names have these values, and no row has the key 7; of each row the place of its table, its key, and
+/// its one value.
+fn rows_are(rt: &impl Abort, engine: &Engine, rows: &[(usize, i64, i64)]) -> Result<(), Fail>
     requires { is_busy engine.now ≡ false }
 {
-    let mut count: usize = 0;
-    for ((name, row), (table, key, value)) in engine.rows().iter().zip(rows) {
-        assert_eq!(rt; (name.table.place(), name.key.number()), (*table, *key));
-        assert!(rt; row.values() == [Value::Int(*value)].as_slice());
-        count = count.saturating_add(1);
+    all_is_free_with_nothing_lent();
+    let store = engine.rows();
+    let absent = Key::new(7).ok_or("a key")?;
+    for (table, number, value) in rows {
+        let table = TableNo::new(*table);
+        let key = Key::new(*number).ok_or("a key")?;
+        assert!(rt; store.row(table, absent).is_none());
+        let want = Value::Int(*value);
+        match store.row(table, key) {
+            Some(row) => assert!(rt; row.values() == [want].as_slice()),
+            None => assert!(rt; false, "no row"),
+        }
     }
-    assert_eq!(rt;
-        (count, engine.rows().iter().count()),
-        (rows.len(), rows.len())
-    );
+    Ok(())
 }
 
 #[test]
@@ -99,13 +106,13 @@ fn an_engine_executes_batches(rt: HostRuntime) -> Result<(), Fail> {
         assert!(rt; !engine.is_busy());
         assert_eq!(rt; engine.settings(), settings);
         assert!(rt; engine.procs().has("pay") && !engine.procs().has("set"));
-        rows_are(&rt, &engine, &[(0, 1, 100), (0, 2, 100), (1, 1, 2)]);
+        rows_are(&rt, &engine, &[(0, 1, 100), (0, 2, 100), (1, 1, 2)])?;
 
         let batch = batch_of(alloc, &engine, TWO_PAYS)?;
         let done = executed(alloc, &mut engine, is_alone, batch)?;
         assert_eq!(rt; done.first, 0);
         replies_are(&rt, alloc, &done, &[(0, 0, 70), (1, 1, 40)])?;
-        rows_are(&rt, &engine, &[(0, 1, 40), (0, 2, 160), (1, 1, 2)]);
+        rows_are(&rt, &engine, &[(0, 1, 40), (0, 2, 160), (1, 1, 2)])?;
 
         let empty = Batch::of(alloc, Vec::new(alloc))?;
         let done = executed(alloc, &mut engine, is_alone, empty)?;
@@ -120,7 +127,7 @@ fn an_engine_executes_batches(rt: HostRuntime) -> Result<(), Fail> {
         let done = executed(alloc, &mut engine, is_alone, batch)?;
         assert_eq!(rt; done.first, 2);
         replies_are(&rt, alloc, &done, &[(2, 0, 160), (3, 1, 100)])?;
-        rows_are(&rt, &engine, &[(0, 1, 100), (0, 2, 100), (1, 1, 2)]);
+        rows_are(&rt, &engine, &[(0, 1, 100), (0, 2, 100), (1, 1, 2)])?;
         assert!(rt; !engine.is_busy());
     }
     Ok(())

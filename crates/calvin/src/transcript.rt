@@ -1,6 +1,7 @@
 //! The report of a run, as it is written.
 
 ghost use Rattle.std.specs.Prelude.{◌≡◌, ◌++◌, ◌||◌, List, ℕ, [], IfOk, IfErr, OnOk, string_bytes};
+ghost use Rattle.std.specs.FinMap as map_of;
 ghost use Rattle.std.specs.Io.KnownBytes.{Appends};
 ghost use Rattle.sha2.specs.Hashers.{Holds256};
 ghost use Rattle.devices.specs.Devices.{AppendsFront};
@@ -11,7 +12,7 @@ ghost use Rattle.calvin.specs.Transcripts.{said_lines, with_batch_line, write_fa
 use crate::replies::Reply;
 use batch_log::{FaultKind, Sink, write_all};
 use report_text::{digest_of, digest_text, push_batch_line, push_end_line, push_reply_line};
-use row_store::RowStore;
+use row_store::{RowStore, all_is_free_with_nothing_lent};
 use row_text::rows_digest;
 use sha2::{Digest, Sha256};
 use std::alloc::{AllocError, Global};
@@ -39,8 +40,10 @@ fn reply_lines(alloc: Global, replies: &[Reply]) -> Result<String, AllocError>
 /// Reply lines, and behind them the batch line.
 #[tactic(auto, unfolding(crate::specs::Transcripts::with_batch_line))]
 fn batch_text(alloc: Global, batch: u64, rows: &RowStore, lines: &str) -> Result<String, AllocError>
+    requires { rows.now.lent ≡ map_of.empty }
     ensures { IfOk result (λ text. string_bytes text ≡ with_batch_line batch rows.now.tables rows.now.rows lines.now) }
 {
+    all_is_free_with_nothing_lent();
     let rows = rows_digest(alloc, rows.catalogue(), rows)?;
     let replies = digest_text(alloc, lines.as_bytes())?;
     let mut text = String::from_str(alloc, lines)?;
@@ -50,8 +53,10 @@ fn batch_text(alloc: Global, batch: u64, rows: &RowStore, lines: &str) -> Result
 
 /// The end line, from the reply lines by their hasher.
 fn end_text(alloc: Global, count: u64, rows: &RowStore, said: Sha256) -> Result<String, AllocError>
+    requires { rows.now.lent ≡ map_of.empty }
     ensures { (m : List ℕ) → Holds256 said m → IfOk result (λ text. string_bytes text ≡ end_line count (digest (row_text rows.now.tables rows.now.rows)) (digest m)) }
 {
+    all_is_free_with_nothing_lent();
     let rows = rows_digest(alloc, rows.catalogue(), rows)?;
     let replies = digest_of(alloc, said)?;
     let mut text = String::new(alloc);
@@ -94,6 +99,7 @@ impl Transcript {
         rows: &RowStore,
         replies: &[Reply],
     ) -> Result<(), FaultKind>
+        requires { rows.now.lent ≡ map_of.empty }
         ensures batch { OnOk result (batch_of self.new ≡ next_batch (batch_of self.old)) }
         ensures said { OnOk result ((m : List ℕ) → Holds256 (said_of self.old) m → Holds256 (said_of self.new) (m ++ said_lines replies.now)) }
         ensures text { OnOk result (Appends (K.taken sink.old) (K.taken sink.new) (with_batch_line (batch_of self.old) rows.now.tables rows.now.rows (said_lines replies.now))) }
@@ -124,6 +130,7 @@ impl Transcript {
         rows: &RowStore,
         count: u64,
     ) -> Result<(), FaultKind>
+        requires { rows.now.lent ≡ map_of.empty }
         ensures text { (m : List ℕ) → Holds256 (said_of self) m → OnOk result (Appends (K.taken sink.old) (K.taken sink.new) (end_line count (digest (row_text rows.now.tables rows.now.rows)) (digest m))) }
         ensures front { (m : List ℕ) → Holds256 (said_of self) m → AppendsFront (K.taken sink.old) (K.taken sink.new) (end_line count (digest (row_text rows.now.tables rows.now.rows)) (digest m)) }
         ensures kind { IfErr result IsOfMachine }

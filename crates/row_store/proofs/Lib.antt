@@ -1,2 +1,12 @@
+pub mod Copies
+pub mod Exact
+pub mod Kept
+pub mod Locks
+pub mod Numbers
 pub mod Rows
 pub mod Scans
+pub mod Sessions
+pub mod Sharing
+pub mod Shelved
+pub mod Shown
+pub mod Steps

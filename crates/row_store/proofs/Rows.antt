@@ -1,83 +1,123 @@
--- A map of the code and the database that it stands for.
-use Rattle.std.proofs.Common.{◌≡◌, cond, List, [], ◌∷◌, ◌++◌, map, Ordering, Less, refl, sym, ap, ◌∙◌, Option, Some, None, ℕ, length, arith}
-use Rattle.std.specs.Cmp.{IsTotalOrder, eq_by_cmp_equiv}
-use Rattle.std.specs.Ordering.{eq_by_cmp, nat_cmp}
-use Rattle.std.specs.BTreeMap.{is_at}
+-- The rows that shelves stand for.
+use Rattle.std.proofs.Common.{◌≡◌, Bool, true, false, ◌||◌, ◌&&◌, cond, if◌then◌else◌, List, [], ◌∷◌, ◌++◌, map, refl, sym, ap, ◌∙◌, Option, Some, None, option_map}
+use Rattle.std.specs.Cmp.{eq_by_cmp_equiv}
+use Rattle.std.specs.Ordering.{eq_by_cmp}
+use Rattle.std.specs.BTreeMap.{BTreeMap, is_at, keys}
+use Rattle.std.specs.BTreeMap as tree
 use Rattle.std.specs.Map.{lookup}
-use Rattle.std.specs.List.{AllByRecursion}
-use Rattle.std.specs.List.Sorted.{IsStrictlySortedBy}
-use Rattle.std.specs.FinMap.Entries.{by_order, put}
-use Rattle.std.specs.FinMap.{entries, entries-insert, len-empty, len-entries, get, insert, remove, find, get-insert, get-remove, get-from_entries, same_map}
-use Rattle.std.proofs.lemmas.Map.Lookups.{CmpEqualImpliesEq, exact_pairs, exact_unsigned}
+use Rattle.std.specs.FinMap.{get, insert, get-empty, get-insert, get-remove, same_map}
 use Rattle.values.specs.declared.name.RowName.{RowName}
-use Rattle.values.specs.contracts.name.RowNameOrd.TheImpl.Laws as laws
+use Rattle.values.specs.Shapes.{TableShape}
 use Rattle.values.specs.Database.{Database, RowOf, name_cmp}
+use Rattle.footprint.specs.declared.resource.Resource.{Resource}
+use Rattle.footprint.specs.Tree.{resource_cmp}
 use Rattle.interp_expr.specs.Overlay.{applied, with_write}
-use Rattle.row_store.specs.Stock.{database_of}
+use Rattle.row_store.specs.declared.place.Place.{Place}
+use Rattle.row_store.specs.Places.{Shelf, Shelves, PlaceOf, place_of, place_on, place_at, made, full, seen, written, is_name, is_shelf}
+use Rattle.row_store.specs.Shelving.{shelf_of}
+use Rattle.row_store.specs.Locked.{is_named}
+use Rattle.row_store.specs.Views.{found, names_of, rows_at, rows_of}
+use Rattle.row_store.proofs.Exact.{names_total, exact_names, same_name, own_place}
 
-pub names_total : IsTotalOrder name_cmp
-names_total = laws.lawful.total
+turned : (n q : RowName) → eq_by_cmp name_cmp q n ≡ is_name n q
+turned n q = (eq_by_cmp_equiv names_total).symm q n
 
--- names that compare alike are one
-pub exact_names : CmpEqualImpliesEq name_cmp
-exact_names a b h = ap (λ (p : ℕ × ℕ). record { table = p.0; key = p.1 }) (exact_pairs nat_cmp nat_cmp exact_unsigned exact_unsigned (a.table, a.key) (b.table, b.key) h)
+get-with_write : (db : Database) (name : RowName) (row : Option RowOf) (q : RowName) → get (with_write db (name, row)) q ≡ (if is_name name q then row else get db q)
+get-with_write db name None q = get-remove names_total db name q ∙ ap (λ b. cond b None (get db q)) (turned name q)
+get-with_write db name (Some row) q = get-insert names_total db name row q ∙ ap (λ b. cond b (Some row) (get db q)) (turned name q)
 
-find_lookup : (es : List (RowName × RowOf)) (q : RowName) → find name_cmp q es ≡ lookup (is_at (name_cmp q)) es
-find_lookup [] q = refl
-find_lookup (e ∷ es) q = ap (cond (eq_by_cmp name_cmp q e.0) (Some e.1)) (find_lookup es q)
+one_more : (a b : Bool) (n m : Option RowOf) → (a ≡ true → n ≡ m) → (if a then n else (if b then m else None)) ≡ (if a || b then m else None)
+one_more true b n m h = h refl
+one_more false b n m h = refl
 
-pub get_entries : (es : List (RowName × RowOf)) (q : RowName) → lookup (is_at (name_cmp q)) es ≡ get (database_of es) q
-get_entries es q = sym (get-from_entries names_total es q ∙ find_lookup es q)
+get-rows_at : (row : RowName → Option RowOf) (names : List RowName) (q : RowName) → get (rows_at row names) q ≡ (if is_named names q then row q else None)
+get-rows_at row [] q = get-empty name_cmp q
+get-rows_at row (n ∷ ns) q =
+    get-with_write (rows_at row ns) n (row n) q
+    ∙ ap (λ o. if is_name n q then row n else o) (get-rows_at row ns q)
+    ∙ one_more (is_name n q) (is_named ns q) (row n) (row q) (λ h. ap row (same_name n q h))
 
--- maps that differ at one name
-pub inserted : (old new : List (RowName × RowOf)) (name : RowName) (row : RowOf)
-    → ((q : RowName) → lookup (is_at (name_cmp q)) new ≡ cond (is_at (name_cmp name) q) (Some row) (lookup (is_at (name_cmp q)) old))
-    → database_of new ≡ insert (database_of old) name row
-inserted old new name row h = same_map names_total exact_names _ _ (λ q.
-    sym (get_entries new q) ∙ h q
-    ∙ ap (λ b. cond b (Some row) (lookup (is_at (name_cmp q)) old)) ((eq_by_cmp_equiv names_total).symm name q)
-    ∙ ap (cond (eq_by_cmp name_cmp q name) (Some row)) (get_entries old q)
-    ∙ sym (get-insert names_total (database_of old) name row q))
+or_assoc : (a b c : Bool) → a || (b || c) ≡ (a || b) || c
+or_assoc true b c = refl
+or_assoc false b c = refl
 
-pub removed : (old new : List (RowName × RowOf)) (name : RowName)
-    → ((q : RowName) → lookup (is_at (name_cmp q)) new ≡ cond (is_at (name_cmp name) q) None (lookup (is_at (name_cmp q)) old))
-    → database_of new ≡ remove (database_of old) name
-removed old new name h = same_map names_total exact_names _ _ (λ q.
-    sym (get_entries new q) ∙ h q
-    ∙ ap (λ b. cond b None (lookup (is_at (name_cmp q)) old)) ((eq_by_cmp_equiv names_total).symm name q)
-    ∙ ap (cond (eq_by_cmp name_cmp q name) None) (get_entries old q)
-    ∙ sym (get-remove names_total (database_of old) name q))
+or_true : (b : Bool) → b || true ≡ true
+or_true true = refl
+or_true false = refl
 
--- ---- in order
+-- a place has its name among the names
+named_append : (ms ns : List RowName) (q : RowName) → is_named (ms ++ ns) q ≡ (is_named ms q || is_named ns q)
+named_append [] ns q = refl
+named_append (m ∷ ms) ns q = ap (λ b. is_name m q || b) (named_append ms ns q) ∙ or_assoc (is_name m q) (is_named ms q) (is_named ns q)
 
-none_of_len : {A : Type 0} (xs : List A) → length xs ≡ 0 → xs ≡ []
-none_of_len [] e = refl
-none_of_len (x ∷ xs) e = absurd (omega arith)
+named_place : (es : List (RowName × Place)) (q : RowName) (p : Place) → lookup (is_at (name_cmp q)) es ≡ Some p → is_named (map (λ e. e.0) es) q ≡ true
+named_place [] q p h = absurd (cc)
+named_place (e ∷ es) q p h = elim (is_at (name_cmp q) e.0) as (λ (b : Bool). is_at (name_cmp q) e.0 ≡ b → cond b (Some e.1) (lookup (is_at (name_cmp q)) es) ≡ Some p → is_named (map (λ e. e.0) (e ∷ es)) q ≡ true) [
+  | true ↦ λ is g. ap (λ b. b || is_named (map (λ e. e.0) es) q) (sym (turned e.0 q) ∙ is)
+  | false ↦ λ is g. ap (λ b. is_name e.0 q || b) (named_place es q p g) ∙ or_true (is_name e.0 q)
+] refl h
 
-no_entries : entries (database_of []) ≡ []
-no_entries = none_of_len (entries (database_of [])) (sym (len-entries (database_of [])) ∙ len-empty name_cmp RowOf)
+place_there : (o : Option Place) (p : PlaceOf) → option_map place_of o ≡ Some p → (x : Place) × (o ≡ Some x)
+place_there None p h = absurd (cc)
+place_there (Some x) p h = (x, refl)
 
-put_first : (e : RowName × RowOf) (es : List (RowName × RowOf)) → AllByRecursion (λ y. name_cmp e.0 y ≡ Less) (map (λ e. e.0) es) → put name_cmp e.0 e.1 es ≡ e ∷ es
-put_first e [] h = refl
-put_first e (f ∷ es) h = ap (λ (o : Ordering). by_order o (e ∷ f ∷ es) ((f.0, e.1) ∷ es) (f ∷ put name_cmp e.0 e.1 es)) h.0
+named_in : (es : List (Resource × Shelf)) (d : Resource) (q : RowName) (p : PlaceOf) → place_on (lookup (is_at (resource_cmp d)) es) q ≡ Some p → is_named (names_of es) q ≡ true
+named_in [] d q p h = absurd (cc)
+named_in (e ∷ es) d q p h = named_append (keys e.1) (names_of es) q ∙ elim (is_at (resource_cmp d) e.0) as (λ (b : Bool). place_on (cond b (Some e.1) (lookup (is_at (resource_cmp d)) es)) q ≡ Some p → (is_named (keys e.1) q || is_named (names_of es) q) ≡ true) [
+  | true ↦ λ g. let x = place_there (tree.get name_cmp e.1 q) p g in ap (λ b. b || is_named (names_of es) q) (named_place e.1.entries q x.0 x.1)
+  | false ↦ λ g. ap (λ b. is_named (keys e.1) q || b) (named_in es d q p g) ∙ or_true (is_named (keys e.1) q)
+] h
 
--- the entries of a map whose keys ascend are the database's in order
-pub entries-database_of : (es : List (RowName × RowOf)) → IsStrictlySortedBy name_cmp (map (λ e. e.0) es) → entries (database_of es) ≡ es
-unfolding IsStrictlySortedBy
-entries-database_of [] s = no_entries
-entries-database_of (e ∷ es) s =
-    entries-insert names_total (database_of es) e.0 e.1
-    ∙ ap (put name_cmp e.0 e.1) (entries-database_of es s.1)
-    ∙ put_first e es s.0
+unnamed : (shelves : Shelves) (d : Resource) (q : RowName) (o : Option PlaceOf) → place_at shelves d q ≡ o → is_named (names_of shelves.entries) q ≡ false → (made o).counts_as ≡ None
+unnamed shelves d q None h none = refl
+unnamed shelves d q (Some p) h none = let clash : true ≡ false = sym (named_in shelves.entries d q p h) ∙ none in absurd (cc)
 
--- ---- writes
+pub get-rows_of : (tables : List TableShape) (shelves : Shelves) (q : RowName) → get (rows_of tables shelves) q ≡ (found tables shelves q).counts_as
+get-rows_of tables shelves q =
+    let row : RowName → Option RowOf = λ name. (found tables shelves name).counts_as in
+    get-rows_at row (names_of shelves.entries) q
+    ∙ elim (is_named (names_of shelves.entries) q) as (λ (b : Bool). is_named (names_of shelves.entries) q ≡ b → (if b then row q else None) ≡ row q) [
+      | true ↦ λ is. refl
+      | false ↦ λ is. sym (unnamed shelves (shelf_of tables q) q (place_at shelves (shelf_of tables q) q) refl is)
+    ] refl
 
--- the last of the writes may be made first
-pub applied-last : (ws : List (RowName × Option RowOf)) (w : RowName × Option RowOf) (db : Database) → applied (ws ++ w ∷ []) db ≡ applied ws (with_write db w)
-applied-last [] w db = refl
-applied-last (x ∷ ws) w db = ap (λ (d : Database). with_write d x) (applied-last ws w db)
+pub same_database : (a b : Database) → ((q : RowName) → get a q ≡ get b q) → a ≡ b
+same_database = same_map names_total exact_names
 
-pub one_made : (rest before : List (RowName × Option RowOf)) (w : RowName × Option RowOf) (db made total : Database)
-    → before ≡ rest ++ w ∷ [] → made ≡ with_write db w → applied before db ≡ total → applied rest made ≡ total
-one_made rest before w db made total is now so_far =
-    ap (applied rest) now ∙ sym (applied-last rest w db) ∙ ap (λ ws. applied ws db) (sym is) ∙ so_far
+-- shelves where the same rows count stand for the same rows
+pub same_rows : (tables : List TableShape) (old new : Shelves) → ((q : RowName) → (found tables new q).counts_as ≡ (found tables old q).counts_as) → rows_of tables new ≡ rows_of tables old
+same_rows tables old new h = same_database _ _ (λ q. get-rows_of tables new q ∙ h q ∙ sym (get-rows_of tables old q))
+
+-- a row that is put at a name
+put_place : (b : Bool) (row : RowOf) (o : Option PlaceOf) → (made (if b then Some (full (Some row)) else o)).counts_as ≡ (if b then Some row else (made o).counts_as)
+put_place true row o = refl
+put_place false row o = refl
+
+pub row_put : (tables : List TableShape) (old new : Shelves) (name : RowName) (row : RowOf)
+    → ((d : Resource) (q : RowName) → place_at new d q ≡ (if is_shelf (shelf_of tables name) d && is_name name q then Some (full (Some row)) else place_at old d q))
+    → rows_of tables new ≡ insert (rows_of tables old) name row
+row_put tables old new name row h = same_database _ _ (λ q.
+    get-rows_of tables new q
+    ∙ ap (λ p. (made p).counts_as) (h (shelf_of tables q) q ∙ ap (λ b. if b then Some (full (Some row)) else place_at old (shelf_of tables q) q) (own_place tables name q))
+    ∙ put_place (is_name name q) row (place_at old (shelf_of tables q) q)
+    ∙ ap (λ o. if is_name name q then Some row else o) (sym (get-rows_of tables old q))
+    ∙ sym (get-with_write (rows_of tables old) name (Some row) q))
+
+-- writes that are made
+get-applied : (writes : List (RowName × Option RowOf)) (db : Database) (q : RowName) (p : PlaceOf) → get db q ≡ p.counts_as
+    → get (applied writes db) q ≡ (written (lookup (is_at (name_cmp q)) writes) p).counts_as
+get-applied [] db q p h = h
+get-applied (w ∷ ws) db q p h =
+    get-with_write (applied ws db) w.0 w.1 q
+    ∙ ap (λ b. if b then w.1 else get (applied ws db) q) (sym (turned w.0 q))
+    ∙ elim (is_at (name_cmp q) w.0) as (λ (b : Bool). (if b then w.1 else get (applied ws db) q) ≡ (written (cond b (Some w.1) (lookup (is_at (name_cmp q)) ws)) p).counts_as) [
+      | true ↦ refl
+      | false ↦ get-applied ws db q p h
+    ]
+
+pub rows_written : (tables : List TableShape) (old new : Shelves) (writes : BTreeMap RowName (Option RowOf))
+    → ((q : RowName) → seen new (shelf_of tables q) q ≡ written (tree.get name_cmp writes q) (seen old (shelf_of tables q) q))
+    → rows_of tables new ≡ applied writes.entries (rows_of tables old)
+rows_written tables old new writes h = same_database _ _ (λ q.
+    get-rows_of tables new q ∙ ap (λ p. p.counts_as) (h q)
+    ∙ sym (get-applied writes.entries (rows_of tables old) q (found tables old q) (get-rows_of tables old q)))

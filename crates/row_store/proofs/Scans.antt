@@ -1,62 +1,57 @@
--- A walk over the rows in order comes to the next row of a partition.
-use Rattle.std.proofs.Common.{◌≡◌, ℕ, Bool, true, false, cond, ◌&&◌, ◌==◌, List, [], ◌∷◌, refl, sym, ap, ◌∙◌, Option, Some, None, Ordering, Less, Equal, Greater, arith, map}
+-- A walk over the places of a shelf in order comes to the next row of a partition.
+use Rattle.std.proofs.Common.{◌≡◌, ℕ, Bool, true, false, cond, if◌then◌else◌, ◌&&◌, ◌==◌, List, [], ◌∷◌, refl, sym, ap, subst, ◌∙◌, Option, Some, None, option_map, unwrap_or, Ordering, Less, Equal, Greater, arith, map}
 use Rattle.std.specs.Prelude.{nat_lt}
-use Rattle.std.specs.List.{AllByRecursion}
+use Rattle.std.specs.List.{AllByRecursion, filter}
 use Rattle.std.specs.List.Sorted.{IsStrictlySortedBy}
-use Rattle.std.specs.Ordering.{is_eq}
+use Rattle.std.specs.Ordering.{is_eq, is_lt}
 use Rattle.std.specs.BTreeMap.{is_at}
+use Rattle.std.specs.BTreeMap.Range.{range_contains, entries_between}
+use Rattle.std.specs.declared.ops.Bound.TheVariants.{Unbounded}
 use Rattle.std.specs.Map.{lookup}
 use Rattle.std.specs.FinMap.{get}
 use Rattle.std.proofs.lemmas.Bool.Decides.{nat_tests}
+use Rattle.std.proofs.lemmas.Map.Entries.{lookup-filter-keys}
 use Rattle.values.specs.declared.name.RowName.{RowName}
 use Rattle.values.specs.Shapes.{TableShape}
-use Rattle.values.specs.Database.{RowOf, name_cmp}
-use Rattle.interp_expr.specs.Scan.{is_ahead, IsNext, IsNextRow}
-use Rattle.row_store.specs.Stock.{database_of}
-use Rattle.row_store.proofs.Rows.{names_total, exact_names, get_entries}
+use Rattle.values.specs.Database.{Database, RowOf, name_cmp}
+use Rattle.interp_expr.specs.Scan.{is_ahead, is_in_part, is_after, IsNext, IsNextRow}
+use Rattle.row_store.specs.declared.place.Place.{Place}
+use Rattle.std.specs.BTreeMap as tree
+use Rattle.values.specs.Keys.{partition_of}
+use Rattle.footprint.specs.Tree.{resource_cmp}
+use Rattle.row_store.specs.Places.{Shelf, Shelves, place_of, place_in, place_on, made, seen, standing}
+use Rattle.row_store.specs.Shelving.{shelf_of, shelf_at}
+use Rattle.row_store.specs.Views.{found}
+use Rattle.row_store.proofs.Shown.{standing_seen}
+use Rattle.row_store.specs.Scans.{start_of}
+use Rattle.row_store.proofs.Exact.{names_total, exact_names}
 
-abbrev at : RowName → List (RowName × RowOf) → Option RowOf
+abbrev at : RowName → List (RowName × Place) → Option Place
 at q es = lookup (is_at (name_cmp q)) es
 
-pub record IsLeft (tables : List TableShape) (table part : ℕ) (after : Option ℕ) (all rest : List (RowName × RowOf)) : Type 0 where
-  pub left : (q : RowName) → is_ahead tables table part after q ≡ true → at q all ≡ at q rest
-  pub sorted : IsStrictlySortedBy name_cmp (map (λ e. e.0) rest)
+-- the row that stands there
+abbrev pub stands : Option Place → Option RowOf
+stands o = standing (option_map place_of o)
 
-pub left_start : (tables : List TableShape) (table part : ℕ) (after : Option ℕ) (all : List (RowName × RowOf)) → IsStrictlySortedBy name_cmp (map (λ e. e.0) all) → IsLeft tables table part after all all
-left_start tables table part after all s = record { left = λ q a. refl; sorted = s }
+pub record IsLeft (tables : List TableShape) (table part : ℕ) (after : Option ℕ) (all rest : List (RowName × Place)) : Type 0 where
+  pub left : (q : RowName) → is_ahead tables table part after q ≡ true → stands (lookup (is_at (name_cmp q)) all) ≡ stands (lookup (is_at (name_cmp q)) rest)
+  pub sorted : IsStrictlySortedBy name_cmp (map (λ e. e.0) rest)
 
 is_equal : (o : Ordering) → is_eq o ≡ true → o ≡ Equal
 is_equal Less e = absurd (cc)
 is_equal Equal e = refl
 is_equal Greater e = absurd (cc)
 
-passed : (tables : List TableShape) (table part : ℕ) (after : Option ℕ) (e : RowName × RowOf) (rest : List (RowName × RowOf)) (q : RowName)
-    → is_ahead tables table part after e.0 ≡ false → is_ahead tables table part after q ≡ true → at q (e ∷ rest) ≡ at q rest
-passed tables table part after e rest q miss a = elim (is_at (name_cmp q) e.0) as (λ b. is_at (name_cmp q) e.0 ≡ b → cond b (Some e.1) (at q rest) ≡ at q rest) [
-  | true ↦ λ is.
-      let same : q ≡ e.0 = exact_names q e.0 (is_equal (name_cmp q e.0) is) in
-      let clash : true ≡ false = sym a ∙ ap (is_ahead tables table part after) same ∙ miss in
-      absurd (cc)
-  | false ↦ λ is. refl
-] refl
-
-tail_sorted : (e : RowName × RowOf) (rest : List (RowName × RowOf)) → IsStrictlySortedBy name_cmp (map (λ e. e.0) (e ∷ rest)) → IsStrictlySortedBy name_cmp (map (λ e. e.0) rest)
+tail_sorted : (e : RowName × Place) (rest : List (RowName × Place)) → IsStrictlySortedBy name_cmp (map (λ e. e.0) (e ∷ rest)) → IsStrictlySortedBy name_cmp (map (λ e. e.0) rest)
 unfolding IsStrictlySortedBy
 tail_sorted e rest s = s.1
 
-pub left_on : (tables : List TableShape) (table part : ℕ) (after : Option ℕ) (all : List (RowName × RowOf)) (e : RowName × RowOf) (rest : List (RowName × RowOf))
-    → IsLeft tables table part after all (e ∷ rest) → is_ahead tables table part after e.0 ≡ false → IsLeft tables table part after all rest
-left_on tables table part after all e rest l miss = record {
-  left = λ q a. l.left q a ∙ passed tables table part after e rest q miss a;
-  sorted = tail_sorted e rest l.sorted;
-}
+head_sorted : (e : RowName × Place) (rest : List (RowName × Place)) → IsStrictlySortedBy name_cmp (map (λ e. e.0) (e ∷ rest)) → AllByRecursion (λ y. name_cmp e.0 y ≡ Less) (map (λ e. e.0) rest)
+unfolding IsStrictlySortedBy
+head_sorted e rest s = s.0
 
-pub left_none : (tables : List TableShape) (table part : ℕ) (after : Option ℕ) (all : List (RowName × RowOf))
-    → IsLeft tables table part after all [] → IsNext tables (database_of all) table part after None
-left_none tables table part after all l = λ q a. sym (get_entries all q) ∙ l.left q a
-
--- a name below all has no row among them
-below_all : (q : RowName) (es : List (RowName × RowOf)) → AllByRecursion (λ y. name_cmp q y ≡ Less) (map (λ e. e.0) es) → at q es ≡ None
+-- a name below all has no place among them
+below_all : (q : RowName) (es : List (RowName × Place)) → AllByRecursion (λ y. name_cmp q y ≡ Less) (map (λ e. e.0) es) → at q es ≡ None
 below_all q [] h = refl
 below_all q (e ∷ es) h = ap (λ (o : Ordering). cond (is_eq o) (Some e.1) (at q es)) h.0 ∙ below_all q es h.1
 
@@ -67,7 +62,7 @@ both_true false b e = absurd (cc)
 table_is : (n m : ℕ) → (n == m) ≡ true → n ≡ m
 table_is n m e = grind (arith, nat_tests)
 
-of_table : (tables : List TableShape) (table part : ℕ) (after : Option ℕ) (q : RowName) → is_ahead tables table part after q ≡ true → q.table ≡ table
+pub of_table : (tables : List TableShape) (table part : ℕ) (after : Option ℕ) (q : RowName) → is_ahead tables table part after q ≡ true → q.table ≡ table
 of_table tables table part after q a = table_is q.table table (both_true (q.table == table) _ (both_true _ _ a).0).0
 
 lesser : (q r : RowName) → q.table ≡ r.table → nat_lt q.key r.key ≡ true → name_cmp q r ≡ Less
@@ -76,26 +71,117 @@ lesser q r t l = grind (arith, nat_tests)
 itself : (q : RowName) → is_at (name_cmp q) q ≡ true
 itself q = grind (arith, nat_tests)
 
-below_more : (q r : RowName) (es : List (RowName × RowOf)) → name_cmp q r ≡ Less → AllByRecursion (λ y. name_cmp r y ≡ Less) (map (λ e. e.0) es) → AllByRecursion (λ y. name_cmp q y ≡ Less) (map (λ e. e.0) es)
+below_more : (q r : RowName) (es : List (RowName × Place)) → name_cmp q r ≡ Less → AllByRecursion (λ y. name_cmp r y ≡ Less) (map (λ e. e.0) es) → AllByRecursion (λ y. name_cmp q y ≡ Less) (map (λ e. e.0) es)
 below_more q r [] l h = tt
 below_more q r (e ∷ es) l h = (names_total.trans q r e.0 l h.0, below_more q r es l h.1)
 
-head_sorted : (e : RowName × RowOf) (rest : List (RowName × RowOf)) → IsStrictlySortedBy name_cmp (map (λ e. e.0) (e ∷ rest)) → AllByRecursion (λ y. name_cmp e.0 y ≡ Less) (map (λ e. e.0) rest)
-unfolding IsStrictlySortedBy
-head_sorted e rest s = s.0
+if_true : (b : Bool) (x o : Option RowOf) → (if b then x else None) ≡ o → b ≡ true → x ≡ o
+if_true true x o h e = h
+if_true false x o h e = absurd (cc)
 
-pub left_found : (tables : List TableShape) (table part : ℕ) (after : Option ℕ) (all : List (RowName × RowOf)) (e : RowName × RowOf) (rest : List (RowName × RowOf))
-    → IsLeft tables table part after all (e ∷ rest) → is_ahead tables table part after e.0 ≡ true → IsNextRow tables (database_of all) table part after (e.0.key, e.1)
-left_found tables table part after all e rest l a =
-    let here : e.0.table ≡ table = of_table tables table part after e.0 a in
+-- the place that is passed has no row, or is not ahead
+pub left_on : (tables : List TableShape) (table part : ℕ) (after : Option ℕ) (all : List (RowName × Place)) (e : RowName × Place) (rest : List (RowName × Place))
+    → IsLeft tables table part after all (e ∷ rest) → (if is_ahead tables table part after e.0 then (place_of e.1).row else None) ≡ None → IsLeft tables table part after all rest
+left_on tables table part after all e rest l miss = record {
+  left = λ q a. l.left q a ∙ elim (is_at (name_cmp q) e.0) as (λ (b : Bool). is_at (name_cmp q) e.0 ≡ b → stands (cond b (Some e.1) (at q rest)) ≡ stands (at q rest)) [
+    | true ↦ λ is.
+        let same : q ≡ e.0 = exact_names q e.0 (is_equal (name_cmp q e.0) is) in
+        if_true (is_ahead tables table part after e.0) (place_of e.1).row None miss (ap (is_ahead tables table part after) (sym same) ∙ a)
+        ∙ ap stands (sym (ap (λ x. at x rest) same ∙ below_all e.0 rest (head_sorted e rest l.sorted)))
+    | false ↦ λ is. refl
+  ] refl;
+  sorted = tail_sorted e rest l.sorted;
+}
+
+pub left_none : (tables : List TableShape) (table part : ℕ) (after : Option ℕ) (all : List (RowName × Place)) (db : Database)
+    → ((q : RowName) → is_in_part tables table part q ≡ true → get db q ≡ stands (lookup (is_at (name_cmp q)) all))
+    → IsLeft tables table part after all [] → IsNext tables db table part after None
+left_none tables table part after all db shown l = λ q a. shown q (both_true (is_in_part tables table part q) (is_after after q.key) a).0 ∙ l.left q a
+
+ahead_if : (b : Bool) (x : Option RowOf) (row : RowOf) → (if b then x else None) ≡ Some row → (b ≡ true) × (x ≡ Some row)
+ahead_if true x row h = (refl, h)
+ahead_if false x row h = absurd (cc)
+
+pub left_found : (tables : List TableShape) (table part : ℕ) (after : Option ℕ) (all : List (RowName × Place)) (e : RowName × Place) (rest : List (RowName × Place)) (row : RowOf) (db : Database)
+    → ((q : RowName) → is_in_part tables table part q ≡ true → get db q ≡ stands (lookup (is_at (name_cmp q)) all))
+    → IsLeft tables table part after all (e ∷ rest) → (if is_ahead tables table part after e.0 then (place_of e.1).row else None) ≡ Some row
+    → IsNextRow tables db table part after (e.0.key, row)
+left_found tables table part after all e rest row db shown l hit =
+    let is = ahead_if (is_ahead tables table part after e.0) (place_of e.1).row row hit in
+    let here : e.0.table ≡ table = of_table tables table part after e.0 is.0 in
     let name : ◌≡◌ {A = RowName} (record { table = table; key = e.0.key }) e.0 = λ i. record { table = sym here i; key = e.0.key } in
     record {
-      ahead = ap (is_ahead tables table part after) name ∙ a;
+      ahead = ap (is_ahead tables table part after) name ∙ is.0;
       row =
-          ap (get (database_of all)) name ∙ sym (get_entries all e.0) ∙ l.left e.0 a
-          ∙ ap (λ b. cond b (Some e.1) (at e.0 rest)) (itself e.0);
+          ap (get db) name ∙ shown e.0 (both_true (is_in_part tables table part e.0) (is_after after e.0.key) is.0).0 ∙ l.left e.0 is.0
+          ∙ ap (λ b. stands (cond b (Some e.1) (at e.0 rest))) (itself e.0) ∙ is.1;
       least = λ q b less.
           let below : name_cmp q e.0 ≡ Less = lesser q e.0 (of_table tables table part after q b ∙ sym here) less in
-          sym (get_entries all q) ∙ l.left q b
-          ∙ below_all q (e ∷ rest) (below, below_more q e.0 rest below (head_sorted e rest l.sorted));
+          shown q (both_true (is_in_part tables table part q) (is_after after q.key) b).0 ∙ l.left q b
+          ∙ ap stands (below_all q (e ∷ rest) (below, below_more q e.0 rest below (head_sorted e rest l.sorted)));
     }
+
+-- ---- the start
+
+all_kept : (P : RowName → Type 0) (keep : RowName × Place → Bool) (es : List (RowName × Place)) → AllByRecursion P (map (λ e. e.0) es) → AllByRecursion P (map (λ e. e.0) (filter keep es))
+all_kept P keep [] h = tt
+all_kept P keep (e ∷ es) h = elim (keep e) as (λ (b : Bool). AllByRecursion P (map (λ e. e.0) (cond b (e ∷ filter keep es) (filter keep es)))) [
+  | true ↦ (h.0, all_kept P keep es h.1)
+  | false ↦ all_kept P keep es h.1
+]
+
+kept_sorted : (keep : RowName × Place → Bool) (es : List (RowName × Place)) → IsStrictlySortedBy name_cmp (map (λ e. e.0) es) → IsStrictlySortedBy name_cmp (map (λ e. e.0) (filter keep es))
+unfolding IsStrictlySortedBy
+kept_sorted keep [] s = tt
+kept_sorted keep (e ∷ es) s = elim (keep e) as (λ (b : Bool). IsStrictlySortedBy name_cmp (map (λ e. e.0) (cond b (e ∷ filter keep es) (filter keep es)))) [
+  | true ↦ (all_kept (λ y. name_cmp e.0 y ≡ Less) keep es s.0, kept_sorted keep es s.1)
+  | false ↦ kept_sorted keep es s.1
+]
+
+-- what is ahead is in the range
+in_range : (tables : List TableShape) (table part : ℕ) (after : Option ℕ) (q : RowName) → is_ahead tables table part after q ≡ true
+    → range_contains name_cmp (start_of table after) Unbounded q ≡ true
+in_range tables table part None q a = refl
+in_range tables table part (Some key) q a =
+    let less : name_cmp (record { table = table; key = key }) q ≡ Less =
+    lesser (record { table = table; key = key }) q (sym (of_table tables table part (Some key) q a)) (both_true (is_in_part tables table part q) (nat_lt key q.key) a).1 in
+    ap (λ (o : Ordering). is_lt o && true) less
+
+pub left_start : (tables : List TableShape) (table part : ℕ) (after : Option ℕ) (all rest : List (RowName × Place)) → IsStrictlySortedBy name_cmp (map (λ e. e.0) all)
+    → rest ≡ entries_between name_cmp (start_of table after) Unbounded all → IsLeft tables table part after all rest
+left_start tables table part after all rest s is = record {
+  left = λ q a.
+      ap stands (sym
+      (ap (at q) is
+      ∙ lookup-filter-keys (is_at (name_cmp q)) (range_contains name_cmp (start_of table after) Unbounded) (range_contains name_cmp (start_of table after) Unbounded q)
+      (λ k h. ap (range_contains name_cmp (start_of table after) Unbounded) (sym (exact_names q k (is_equal (name_cmp q k) h)))) all
+      ∙ ap (λ b. cond b (at q all) None) (in_range tables table part after q a)));
+  sorted = subst (λ es. IsStrictlySortedBy name_cmp (map (λ e. e.0) es)) (sym is) (kept_sorted (λ e. range_contains name_cmp (start_of table after) Unbounded e.0) all s);
+}
+
+-- ---- the shelf of a partition
+
+pub part_shelf : (tables : List TableShape) (table part : ℕ) (q : RowName) → is_in_part tables table part q ≡ true → shelf_of tables q ≡ shelf_at tables table part
+unfolding shelf_of
+part_shelf tables table part q h =
+    let both = both_true (q.table == table) (unwrap_or (partition_of tables table q.key) 0 == part) h in
+    ap (λ t. shelf_at tables t (unwrap_or (partition_of tables t q.key) 0)) (table_is q.table table both.0)
+    ∙ ap (shelf_at tables table) (table_is (unwrap_or (partition_of tables table q.key) 0) part both.1)
+
+on_shelf : (o : Option Shelf) (s : Shelf) (q : RowName) → o ≡ Some s → (made (place_on o q)).row ≡ standing (place_in s q)
+on_shelf o s q is = ap (λ x. (made (place_on x q)).row) is ∙ sym (standing_seen (place_in s q))
+
+pub shelf_found : (tables : List TableShape) (shelves : Shelves) (shelf : Shelf) (table part : ℕ) (q : RowName) → is_in_part tables table part q ≡ true
+    → tree.get resource_cmp shelves (shelf_at tables table part) ≡ Some shelf → (found tables shelves q).row ≡ standing (place_in shelf q)
+shelf_found tables shelves shelf table part q h is =
+    ap (λ d. (seen shelves d q).row) (part_shelf tables table part q h) ∙ on_shelf (tree.get resource_cmp shelves (shelf_at tables table part)) shelf q is
+
+no_shelf : (o : Option Shelf) (q : RowName) → o ≡ None → (made (place_on o q)).row ≡ None
+no_shelf o q is = ap (λ x. (made (place_on x q)).row) is
+
+pub nothing_found : (tables : List TableShape) (shelves : Shelves) (table part : ℕ) (after : Option ℕ) (db : Database)
+    → tree.get resource_cmp shelves (shelf_at tables table part) ≡ None
+    → ((q : RowName) → is_in_part tables table part q ≡ true → get db q ≡ (found tables shelves q).row) → IsNext tables db table part after None
+nothing_found tables shelves table part after db is shown = λ q a.
+    let h = (both_true (is_in_part tables table part q) (is_after after q.key) a).0 in
+    shown q h ∙ ap (λ d. (seen shelves d q).row) (part_shelf tables table part q h) ∙ no_shelf (tree.get resource_cmp shelves (shelf_at tables table part)) q is

@@ -1,23 +1,20 @@
 //! Going through the rows of a partition.
 
-ghost use Rattle.std.specs.Prelude.{◌≡◌, option_map, unwrap_or};
-ghost use Rattle.values.specs.Keys.{partition_of};
-ghost use Rattle.interp_expr.specs.Scan.{IsNext, is_after, is_ahead};
-ghost use Rattle.row_store.specs.Stock.{database_of};
+ghost use Rattle.std.specs.Prelude.{◌≡◌, true, None, if◌then◌else◌, option_map};
+ghost use Rattle.std.specs.FinMap as map;
+ghost use Rattle.values.specs.declared.name.RowName.{RowName as AnyName};
+ghost use Rattle.values.specs.Database.{Database};
+ghost use Rattle.interp_expr.specs.Scan.{IsNext, is_after, is_ahead, is_in_part};
+ghost use Rattle.row_store.specs.Places.{place_of, place_in, standing};
+ghost use Rattle.row_store.specs.Scans.{start_of};
+ghost use Rattle.row_store.specs.Views.{found};
 
-use std::collections::BTreeMap;
+use crate::place::Place;
+use crate::shelf::Shelf;
+use crate::shelves::Shelves;
+use crate::shelving::{part_of, shelf_at};
+use std::ops::Bound;
 use values::{Catalogue, Key, Row, RowName, TableNo};
-
-/// The partition of a row name, 0 of a name whose table is not the catalogue's.
-fn part_of(catalogue: &Catalogue, name: &RowName) -> u32
-    ensures { result ≡ unwrap_or (partition_of catalogue.now name.now.table name.now.key) 0 }
-{
-    if name.table.place() < catalogue.len() {
-        catalogue.part_of(name.table, name.key)
-    } else {
-        0
-    }
-}
 
 fn is_after(after: &Option<Key>, key: Key) -> bool
     ensures { result ≡ is_after after.now key }
@@ -40,20 +37,67 @@ fn is_ahead(
     name.table == table && part_of(catalogue, name) == part && is_after(after, name.key)
 }
 
-/// The first row of a partition behind a key, or from the partition's start.
-pub(crate) fn next_row<'a>(
+/// The row that stands at a place whose name is ahead.
+fn row_ahead<'a>(
     catalogue: &Catalogue,
-    rows: &'a BTreeMap<RowName, Row>,
+    table: TableNo,
+    part: u32,
+    after: &Option<Key>,
+    name: &RowName,
+    place: &'a Place,
+) -> Option<&'a Row>
+    ensures { option_map (λ row. row.now) result ≡ (if is_ahead catalogue.now table part after.now name.now then (place_of place.now).row else None) }
+{
+    if !is_ahead(catalogue, table, part, after, name) {
+        return None;
+    }
+    match &place.row {
+        Some(row) => Some(row),
+        None => None,
+    }
+}
+
+/// Where the names of a table behind a key start.
+fn start_of(table: TableNo, after: &Option<Key>) -> Bound<RowName>
+    ensures { result ≡ start_of table after.now }
+{
+    match after {
+        Some(key) => Bound::Excluded(RowName::new(table, *key)),
+        None => Bound::Unbounded,
+    }
+}
+
+/// The first row of a partition that stands on a shelf, behind a key or from the partition's start. Places without a row are
+/// passed over.
+fn next_on<'a>(
+    catalogue: &Catalogue,
+    shelf: &'a Shelf,
     table: TableNo,
     part: u32,
     after: &Option<Key>,
 ) -> Option<(Key, &'a Row)>
-    ensures { IsNext catalogue.now (database_of rows.now.entries) table part after.now (option_map (λ found. (found.0, found.1.now)) result) }
+    ensures { (db : Database) → ((q : AnyName) → is_in_part catalogue.now table part q ≡ true → map.get db q ≡ standing (place_in shelf.now q)) → IsNext catalogue.now db table part after.now (option_map (λ found. (found.0, found.1.now)) result) }
 {
-    for (name, row) in rows {
-        if is_ahead(catalogue, table, part, after, name) {
+    for (name, place) in shelf.range((start_of(table, after), Bound::Unbounded)) {
+        if let Some(row) = row_ahead(catalogue, table, part, after, name, place) {
             return Some((name.key, row));
         }
     }
     None
+}
+
+/// The first row of a partition that stands, behind a key or from the partition's start.
+pub(crate) fn next_row<'a>(
+    catalogue: &Catalogue,
+    shelves: &'a Shelves,
+    table: TableNo,
+    part: u32,
+    after: &Option<Key>,
+) -> Option<(Key, &'a Row)>
+    ensures { (db : Database) → ((q : AnyName) → is_in_part catalogue.now table part q ≡ true → map.get db q ≡ (found catalogue.now shelves.now q).row) → IsNext catalogue.now db table part after.now (option_map (λ found. (found.0, found.1.now)) result) }
+{
+    match shelves.get(&shelf_at(catalogue, table, part)) {
+        Some(shelf) => next_on(catalogue, shelf, table, part, after),
+        None => None,
+    }
 }

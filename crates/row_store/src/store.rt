@@ -1,35 +1,53 @@
 //! The row store.
 
-ghost use Rattle.std.specs.Prelude.{◌≡◌, ◌++◌, IfOk, OnOk, OnErr};
+ghost use Rattle.std.specs.Prelude.{◌≡◌, ℕ, true, Some, None, if◌then◌else◌, IfOk, OnOk, OnErr};
 ghost use Rattle.std.specs.FinMap as map;
-ghost use Rattle.interp_expr.specs.Overlay.{applied, with_write};
-ghost use Rattle.row_store.specs.Stock.{database_of, with_rows};
+ghost use Rattle.values.specs.declared.name.RowName.{RowName as AnyName};
+ghost use Rattle.proclang_types.specs.declared.right.Right.TheVariants.{Read, Write};
+ghost use Rattle.coarsen.specs.Subtrees.{Requests};
+ghost use Rattle.coarsen.specs.Plans.{IsPlanOver};
+ghost use Rattle.coarsen.specs.Clashes.{locks_row, Conflict};
+ghost use Rattle.interp_expr.specs.Overlay.{applied};
+ghost use Rattle.row_store.specs.Stock.{with_rows};
 
+use crate::filling::filled;
+use crate::lending::{hold, put_back};
+use crate::loan::Loan;
+use crate::moving::empty_places;
+use crate::shelves::Shelves;
+use crate::writing::write;
+use coarsen::{Plan, clashes_are_either_way, locked_rows_conflict};
 use std::alloc::Global;
 use std::collections::BTreeMap;
-use std::collections::btree_map::Iter;
 use std::marker::Model;
+use std::snapshot::Snapshot;
 use values::{Catalogue, Key, NoMemory, Row, RowName, TableNo};
 
-/// The rows of a database over the tables of a catalogue.
+/// The rows of a database over the tables of a catalogue, and the plans for which rows are lent, by numbers. Rows that are
+/// lent count as they were lent.
 #[derive(Drop)]
 pub struct RowStore {
+    pub(crate) alloc: Global,
     pub(crate) catalogue: Catalogue,
-    pub(crate) rows: BTreeMap<RowName, Row>,
+    pub(crate) shelves: Shelves,
+    lent: BTreeMap<u64, Snapshot<Plan>>,
 }
 
 impl Model for RowStore {
-    ghost use Rattle.row_store.specs.Stock.{Stock, database_of, stock_code};
+    ghost use Rattle.row_store.specs.Stock.{Stock, stock_code};
+    ghost use Rattle.row_store.specs.Views.{rows_of, lent_of, IsKept};
 
     ghost Value = { Stock };
 
     ghost coded = { stock_code };
 
-    ghost view = { λ s. record { tables = s.catalogue; rows = database_of s.rows.entries } };
+    ghost view = { λ s. record { tables = s.catalogue; rows = rows_of s.catalogue s.shelves; lent = lent_of s.lent } };
+
+    ghost invariant = { λ s. IsKept s.catalogue s.shelves s.lent };
 }
 
 impl RowStore {
-    /// A store with these rows. Of two rows with one name the later one stays.
+    /// A store with these rows. Of two rows with one name the later one stays. Nothing is lent.
     pub fn new(
         alloc: Global,
         catalogue: &Catalogue,
@@ -37,26 +55,77 @@ impl RowStore {
     ) -> Result<RowStore, NoMemory>
         ensures tables { IfOk result (λ store. store.tables ≡ catalogue.now) }
         ensures rows { IfOk result (λ store. store.rows ≡ with_rows map.empty rows.items) }
+        ensures lent { IfOk result (λ store. store.lent ≡ map.empty) }
     {
-        let rows = map_of(alloc, rows)?;
+        let shelves = filled(alloc, catalogue, rows)?;
         let catalogue = catalogue.clone()?;
-        Ok(RowStore { catalogue, rows })
+        let lent = BTreeMap::new(alloc);
+        Ok(RowStore {
+            alloc,
+            catalogue,
+            shelves,
+            lent,
+        })
+    }
+
+    /// Lends the rows that a plan locks under a number. No loan is out under that number, and none is out whose plan is in
+    /// conflict with the plan. An `Err` leaves the store as it was.
+    pub fn lend(&mut self, number: u64, plan: &Plan) -> Result<Loan, NoMemory>
+        requires over { IsPlanOver self.old.tables plan.now }
+        requires unlent { map.get self.old.lent number ≡ None }
+        requires apart { (other : ℕ) (requests : Requests) → map.get self.old.lent other ≡ Some requests → Conflict requests plan.now → ⊥ }
+        ensures tables { self.new.tables ≡ self.old.tables }
+        ensures rows { self.new.rows ≡ self.old.rows }
+        ensures lent { OnOk result (self.new.lent ≡ map.insert self.old.lent number plan.now) }
+        ensures err { OnErr result (self.new ≡ self.old) }
+        ensures loan_tables { IfOk result (λ loan. loan.tables ≡ self.old.tables) }
+        ensures loan_plan { IfOk result (λ loan. loan.plan ≡ plan.now) }
+        ensures loan_rows { IfOk result (λ loan. (name : AnyName) → locks_row self.old.tables plan.now name Read ≡ true → map.get loan.rows name ≡ map.get self.old.rows name) }
+    {
+        locked_rows_conflict();
+        clashes_are_either_way();
+        let held = hold(self.alloc, &self.catalogue, &mut self.shelves, plan)?;
+        let catalogue = self.catalogue.clone()?;
+        self.lent.insert(number, Snapshot::of(plan))?;
+        empty_places(&self.catalogue, &mut self.shelves, &held.written_names);
+        Ok(Loan {
+            alloc: self.alloc,
+            catalogue,
+            plan: Snapshot::of(plan),
+            held,
+        })
+    }
+
+    /// Takes back what was lent under a number: the loan's rows at the names that its plan locks to write; every other name
+    /// keeps its row. It takes no memory.
+    pub fn give_back(&mut self, number: u64, loan: Loan)
+        requires lent { map.get self.old.lent number ≡ Some loan.plan }
+        requires tables { loan.tables ≡ self.old.tables }
+        ensures tables { self.new.tables ≡ self.old.tables }
+        ensures rows { (name : AnyName) → map.get self.new.rows name ≡ (if locks_row loan.tables loan.plan name Write then map.get loan.rows name else map.get self.old.rows name) }
+        ensures lent { self.new.lent ≡ map.remove self.old.lent number }
+    {
+        locked_rows_conflict();
+        let Loan {
+            alloc: _,
+            catalogue: _,
+            plan: _,
+            held,
+        } = loan;
+        put_back(&self.catalogue, &mut self.shelves, held);
+        self.lent.remove(&number);
     }
 
     /// Makes the writes of a transaction: puts each row in place of what has its name, and takes away the row of each name
-    /// without one. An `Err` leaves some of the writes made.
+    /// without one. An `Err` leaves the store as it was.
     pub fn apply(&mut self, writes: BTreeMap<RowName, Option<Row>>) -> Result<(), NoMemory>
         ensures tables { self.new.tables ≡ self.old.tables }
         ensures rows { OnOk result (self.new.rows ≡ applied writes.entries self.old.rows) }
+        ensures lent { self.new.lent ≡ self.old.lent }
+        ensures err { OnErr result (self.new ≡ self.old) }
     {
-        apply(&mut self.rows, writes)
-    }
-
-    /// The rows in order: by table in declared order, and by ascending key.
-    pub fn iter(&self) -> Iter<'_, RowName, Row>
-        ensures { result ≡ map.entries self.now.rows }
-    {
-        self.rows.iter()
+        write(self.alloc, &self.catalogue, &mut self.shelves, writes)?;
+        Ok(())
     }
 
     /// The catalogue.
@@ -65,61 +134,4 @@ impl RowStore {
     {
         &self.catalogue
     }
-}
-
-/// The rows by their names.
-fn map_of(alloc: Global, rows: Vec<(TableNo, Key, Row)>) -> Result<BTreeMap<RowName, Row>, NoMemory>
-    ensures { IfOk result (λ m. database_of m.entries ≡ with_rows map.empty rows.items) }
-{
-    let mut map = BTreeMap::new(alloc);
-    for (table, key, row) in rows {
-        put(&mut map, RowName::new(table, key), row)?;
-    }
-    Ok(map)
-}
-
-/// Puts a row in place of what has its name.
-fn put(rows: &mut BTreeMap<RowName, Row>, name: RowName, row: Row) -> Result<(), NoMemory>
-    ensures put { OnOk result (database_of rows.new.entries ≡ map.insert (database_of rows.old.entries) name row) }
-    ensures err { OnErr result (rows.new.entries ≡ rows.old.entries) }
-{
-    rows.insert(name, row)?;
-    Ok(())
-}
-
-/// Takes away the row of a name, if there is one.
-fn take_away(rows: &mut BTreeMap<RowName, Row>, name: RowName)
-    ensures { database_of rows.new.entries ≡ map.remove (database_of rows.old.entries) name }
-{
-    rows.remove(&name);
-}
-
-/// Makes one write.
-fn make(
-    rows: &mut BTreeMap<RowName, Row>,
-    name: RowName,
-    write: Option<Row>,
-) -> Result<(), NoMemory>
-    ensures { OnOk result (database_of rows.new.entries ≡ with_write (database_of rows.old.entries) (name, write)) }
-{
-    match write {
-        Some(row) => put(rows, name, row),
-        None => {
-            take_away(rows, name);
-            Ok(())
-        }
-    }
-}
-
-fn apply(
-    rows: &mut BTreeMap<RowName, Row>,
-    writes: BTreeMap<RowName, Option<Row>>,
-) -> Result<(), NoMemory>
-    ensures { OnOk result (database_of rows.new.entries ≡ applied writes.entries (database_of rows.old.entries)) }
-{
-    let mut writes = writes;
-    while let Some((name, write)) = writes.pop_last() {
-        make(rows, name, write)?;
-    }
-    Ok(())
 }

@@ -1,24 +1,48 @@
-//! A row store as a view of every name.
+//! What is shown: by a store the rows that are not lent to be written, by a loan the names that its plan locks.
 
+use crate::loan::Loan;
 use crate::scan::next_row;
+use crate::shelves::row_at;
+use crate::shelving::shelf_of;
 use crate::store::RowStore;
 use interp_expr::RowView;
 use values::{Key, Row, RowName, TableNo};
 
 impl RowView for RowStore {
-    ghost use Rattle.std.specs.Prelude.{true};
+    ghost use Rattle.row_store.specs.Stock.{is_free};
 
     ghost tables = { λ s. s.tables };
 
-    ghost shows = { λ _ _. true };
+    ghost shows = { λ s name. is_free s.tables s.lent name };
 
     ghost rows = { λ s. s.rows };
 
     fn row(&self, table: TableNo, key: Key) -> Option<&Row> {
-        self.rows.get(&RowName::new(table, key))
+        let name = RowName::new(table, key);
+        row_at(&self.shelves, &shelf_of(&self.catalogue, name), &name)
     }
 
     fn next_row(&self, table: TableNo, part: u32, after: Option<Key>) -> Option<(Key, &Row)> {
-        next_row(&self.catalogue, &self.rows, table, part, &after)
+        next_row(&self.catalogue, &self.shelves, table, part, &after)
+    }
+}
+
+impl RowView for Loan {
+    ghost use Rattle.proclang_types.specs.declared.right.Right.TheVariants.{Read};
+    ghost use Rattle.coarsen.specs.Clashes.{locks_row};
+
+    ghost tables = { λ l. l.tables };
+
+    ghost shows = { λ l name. locks_row l.tables l.plan name Read };
+
+    ghost rows = { λ l. l.rows };
+
+    fn row(&self, table: TableNo, key: Key) -> Option<&Row> {
+        let name = RowName::new(table, key);
+        row_at(&self.held.shelves, &shelf_of(&self.catalogue, name), &name)
+    }
+
+    fn next_row(&self, table: TableNo, part: u32, after: Option<Key>) -> Option<(Key, &Row)> {
+        next_row(&self.catalogue, &self.held.shelves, table, part, &after)
     }
 }

@@ -1,7 +1,7 @@
 //! Digests of rows that lie in several partitions.
 
 use crate::rows_digest;
-use row_store::RowStore;
+use row_store::{RowStore, all_is_free_with_nothing_lent};
 use serde_json::Value as Json;
 use std::alloc::Global;
 use std::test::Fail;
@@ -26,6 +26,7 @@ fn digest(alloc: Global, catalogue: &str, given: &[Given]) -> Result<String, Fai
         rows.push((TableNo::new(*table), key, row))?;
     }
     let store = RowStore::new(alloc, &catalogue, rows)?;
+    all_is_free_with_nothing_lent();
     Ok(rows_digest(alloc, store.catalogue(), &store)?)
 }
 

@@ -8,6 +8,7 @@ use Rattle.calvin.proofs.serial.run_serially.Given as goal
 abbrev pub invariant-loop-entry : goal.invariant-loop-entry
 invariant-loop-entry g l =
     (l.store.tables ≡ l.fn.store.tables)
+    × (l.store.lent ≡ l.fn.store.lent)
     × (l.no ≡ l.first + l.entry-index)
     × (serial_end (map entry_shape (drop l.entry-index l.entries)) l.store.rows ≡ serial_end (map entry_shape l.entries) l.fn.store.rows)
     × (map as_reply l.outcomes.items ++ serial_replies (map entry_shape (drop l.entry-index l.entries)) l.store.rows ≡ serial_replies (map entry_shape l.entries) l.fn.store.rows)

@@ -1,16 +1,18 @@
-use Rattle.std.proofs.Common.{◌≡◌, ◌∷◌, subst, sym, ◌∙◌}
-use Rattle.row_store.proofs.Scans.{IsLeft, left_on, left_found, left_none}
+use Rattle.std.proofs.Common.{◌≡◌, Some, ap, sym, ◌∙◌}
+use Rattle.std.specs.BTreeMap as tree
+use Rattle.footprint.specs.declared.resource.Resource.{Resource}
+use Rattle.footprint.specs.Tree.{resource_cmp}
+use Rattle.row_store.specs.Shelving.{shelf_at}
+use Rattle.row_store.proofs.Scans.{shelf_found, nothing_found}
 use Rattle.row_store.proofs.scan.next_row.Goals as goal
 
-pub returns-then-is_ahead : goal.returns-then-is_ahead
-returns-then-is_ahead c =
-    let is : c.loop-name.name-iterator ≡ (c.in-Some.name.now, c.in-Some.row.now) ∷ c.next.new.self = c.in-Some.ensures.steps in
-    left_found _ _ _ _ c.args.rows.now.entries (c.in-Some.name.now, c.in-Some.row.now) c.next.new.self (subst (IsLeft _ _ _ _ c.args.rows.now.entries) is c.loop-name.invariant) (sym c.is_ahead.ensures ∙ c.if-is_ahead.true)
+pub returns-in-Some : goal.returns-in-Some
+returns-in-Some c = λ db shown.
+    let is : tree.get resource_cmp c.args.shelves.now (shelf_at c.args.catalogue.now c.args.table c.args.part) ≡ Some c.in-Some.shelf.now =
+    ap (λ (d : Resource). tree.get resource_cmp c.args.shelves.now d) (sym c.shelf_at.ensures) ∙ sym c.in-Some.ensures.value in
+    c.next_on.ensures db (λ q h. shown q h ∙ shelf_found c.args.catalogue.now c.args.shelves.now c.in-Some.shelf.now c.args.table c.args.part q h is)
 
-pub loop-name-preserved : goal.loop-name-preserved
-loop-name-preserved c =
-    let is : c.loop-name.name-iterator ≡ (c.in-Some.name.now, c.in-Some.row.now) ∷ c.next.new.self = c.in-Some.ensures.steps in
-    left_on _ _ _ _ c.args.rows.now.entries (c.in-Some.name.now, c.in-Some.row.now) c.next.new.self (subst (IsLeft _ _ _ _ c.args.rows.now.entries) is c.loop-name.invariant) (sym c.is_ahead.ensures ∙ c.if-is_ahead.false)
-
-pub returns : goal.returns
-returns c = left_none _ _ _ _ c.args.rows.now.entries (subst (IsLeft _ _ _ _ c.args.rows.now.entries) c.in-None.ensures.steps.0 c.loop-name.invariant)
+pub returns-in-None : goal.returns-in-None
+returns-in-None c = λ db shown.
+    nothing_found c.args.catalogue.now c.args.shelves.now c.args.table c.args.part c.args.after.now db
+    (ap (λ (d : Resource). tree.get resource_cmp c.args.shelves.now d) (sym c.shelf_at.ensures) ∙ sym c.in-None.ensures.value) shown

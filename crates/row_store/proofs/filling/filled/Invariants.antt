@@ -1,0 +1,13 @@
+use Rattle.std.proofs.Common.{◌≡◌}
+use Rattle.std.specs.FinMap.{empty}
+use Rattle.std.specs.Vec.Iter.{into_iter_items}
+use Rattle.values.specs.declared.name.RowName.{RowName}
+use Rattle.row_store.specs.Stock.{with_rows}
+use Rattle.row_store.specs.Views.{rows_of, found}
+use Rattle.row_store.proofs.filling.filled.Given as goal
+
+-- with the rows that are left they are the shelves with all rows
+abbrev pub invariant-loop-table : goal.invariant-loop-table
+invariant-loop-table l =
+    (with_rows (rows_of l.catalogue l.shelves) (into_iter_items l.table-iterator) ≡ with_rows empty l.fn.rows.items)
+    × ((q : RowName) → (found l.catalogue l.shelves q).row ≡ (found l.catalogue l.shelves q).counts_as)

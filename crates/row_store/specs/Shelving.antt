@@ -1,0 +1,26 @@
+-- Where the place of a row name stands.
+use Rattle.std.specs.Prelude.{ℕ, pos, List, Option, Some, None, unwrap_or, slice_get}
+use Rattle.values.specs.declared.name.RowName.{RowName}
+use Rattle.values.specs.Shapes.{TableShape}
+use Rattle.values.specs.Keys.{partition_of, partition_numbered}
+use Rattle.footprint.specs.declared.resource.Resource.{Resource}
+use Rattle.footprint.specs.declared.resource.Resource.TheVariants.{Db, Table}
+use Rattle.footprint.specs.declared.resource.InTable.TheVariants.{WholeTable, Part}
+use Rattle.footprint.specs.declared.resource.InPart.TheVariants.{WholePart}
+
+abbrev pub numbered : ℕ → Option ℕ → Resource
+numbered table None = Table table WholeTable
+numbered table (Some part) = Table table (Part part WholePart)
+
+abbrev pub shelf_in : List TableShape → ℕ → ℕ → Option TableShape → Resource
+shelf_in tables table part None = Db
+shelf_in tables table part (Some shape) = numbered table (partition_numbered tables table (pos part))
+
+-- the shelf of a partition stands at the partition; what is of no partition of the tables stands at its table, and what is
+-- of no table at the database
+unfoldable pub shelf_at : List TableShape → ℕ → ℕ → Resource
+shelf_at tables table part = shelf_in tables table part (slice_get tables table)
+
+-- the place of a row name stands on the shelf of its partition
+unfoldable pub shelf_of : List TableShape → RowName → Resource
+shelf_of tables name = shelf_at tables name.table (unwrap_or (partition_of tables name.table name.key) 0)

@@ -1,0 +1,65 @@
+-- What the shelves of a store and of a loan stand for, and what holds of them.
+use Rattle.std.specs.Prelude.{◌≡◌, ℕ, true, false, List, [], ◌∷◌, ◌++◌, map, Option, Some, option_map}
+use Rattle.std.specs.Ordering.{nat_cmp}
+use Rattle.std.specs.BTreeMap.{BTreeMap, get, keys}
+use Rattle.std.specs.FinMap.{FinMap, empty, from_entries}
+use Rattle.std.specs.declared.snapshot.Snapshot.{Snapshot}
+use Rattle.values.specs.declared.name.RowName.{RowName}
+use Rattle.values.specs.Shapes.{TableShape}
+use Rattle.values.specs.Database.{Database, RowOf}
+use Rattle.proclang_types.specs.declared.right.Right.TheVariants.{Write}
+use Rattle.footprint.specs.declared.resource.Resource.{Resource}
+use Rattle.coarsen.specs.Subtrees.{Requests}
+use Rattle.coarsen.specs.Plans.{IsSound, IsPlanOver}
+use Rattle.coarsen.specs.Clashes.{locks_row, Conflict}
+use Rattle.interp_expr.specs.Overlay.{with_write}
+use Rattle.row_store.specs.Places.{Shelf, Shelves, PlaceOf, seen, has_shelf, has_place}
+use Rattle.row_store.specs.Shelving.{shelf_of}
+use Rattle.row_store.specs.Locked.{among, is_named, locks_shelf, locks_itself}
+
+-- what stands at a row name
+abbrev pub found : List TableShape → Shelves → RowName → PlaceOf
+found tables shelves name = seen shelves (shelf_of tables name) name
+
+abbrev pub names_of : List (Resource × Shelf) → List RowName
+names_of [] = []
+names_of (e ∷ es) = keys e.1 ++ names_of es
+
+abbrev pub rows_at : (RowName → Option RowOf) → List RowName → Database
+rows_at row [] = empty
+rows_at row (name ∷ names) = with_write (rows_at row names) (name, row name)
+
+-- the rows that count, by their names
+abbrev pub rows_of : List TableShape → Shelves → Database
+rows_of tables shelves = rows_at (λ name. (found tables shelves name).counts_as) (names_of shelves.entries)
+
+-- the plans that are lent, by their numbers
+abbrev pub lent_at : BTreeMap ℕ (Snapshot Requests) → ℕ → Option Requests
+lent_at lent number = option_map (λ (plan : Snapshot Requests). plan.value) (get nat_cmp lent number)
+
+abbrev pub lent_of : BTreeMap ℕ (Snapshot Requests) → FinMap nat_cmp Requests
+lent_of lent = from_entries (map {B = ℕ × Requests} (λ e. (e.0, e.1.value)) lent.entries)
+
+-- What holds of a store: a row that isn't lent to be written is here; what is lent to be written has its shelf or its place;
+-- and no two plans that are lent are in conflict.
+pub record IsKept (tables : List TableShape) (shelves : Shelves) (lent : BTreeMap ℕ (Snapshot Requests)) : Type 0 where
+  pub here : (name : RowName) → ((number : ℕ) (plan : Requests) → lent_at lent number ≡ Some plan → locks_row tables plan name Write ≡ false)
+      → (found tables shelves name).row ≡ (found tables shelves name).counts_as
+  pub with_shelf : (number : ℕ) (plan : Requests) → lent_at lent number ≡ Some plan → (name : RowName)
+      → locks_shelf plan Write (shelf_of tables name) ≡ true → has_shelf shelves (shelf_of tables name) ≡ true
+  pub with_place : (number : ℕ) (plan : Requests) → lent_at lent number ≡ Some plan → (name : RowName)
+      → locks_itself plan Write name ≡ true → has_place shelves (shelf_of tables name) name ≡ true
+  pub sound : (number : ℕ) (plan : Requests) → lent_at lent number ≡ Some plan → IsSound plan
+  pub over : (number : ℕ) (plan : Requests) → lent_at lent number ≡ Some plan → IsPlanOver tables plan
+  pub apart : (number other : ℕ) (plan others : Requests) → lent_at lent number ≡ Some plan → lent_at lent other ≡ Some others
+      → (number ≡ other → ⊥) → Conflict plan others → ⊥
+
+-- What holds of a loan of a plan: what it gives back are the shelves and the row names that the plan locks to write, all of
+-- them have their place in it, and all its rows are here.
+pub record IsLoan (tables : List TableShape) (plan : Requests) (shelves : Shelves) (at : List Resource) (names : List RowName) : Type 0 where
+  pub over : IsPlanOver tables plan
+  pub written_shelves : (name : RowName) → among at (shelf_of tables name) ≡ locks_shelf plan Write (shelf_of tables name)
+  pub written_names : (name : RowName) → is_named names name ≡ locks_itself plan Write name
+  pub with_shelf : (name : RowName) → among at (shelf_of tables name) ≡ true → has_shelf shelves (shelf_of tables name) ≡ true
+  pub with_place : (name : RowName) → is_named names name ≡ true → has_place shelves (shelf_of tables name) name ≡ true
+  pub here : (name : RowName) → (found tables shelves name).row ≡ (found tables shelves name).counts_as

@@ -1,0 +1,36 @@
+//! Places: what stands at row names.
+
+ghost use Rattle.std.specs.Prelude.{◌≡◌};
+ghost use Rattle.row_store.specs.Places.{place_of, full, settled, value_of};
+
+use std::alloc::AllocError;
+use std::snapshot::Snapshot;
+use std::sync::Arc;
+use values::Row;
+
+/// A place: a row name with a row or with none. While its row is lent to be written the row is away, and counts as it was
+/// lent.
+#[derive(Drop)]
+pub(crate) struct Place {
+    pub(crate) row: Option<Arc<Row>>,
+    pub(crate) counts_as: Snapshot<Option<Arc<Row>>>,
+}
+
+impl Place {
+    pub(crate) fn new(row: Option<Arc<Row>>) -> Place
+        ensures { place_of result ≡ full (value_of row) }
+    {
+        let counts_as = Snapshot::of(&row);
+        Place { row, counts_as }
+    }
+}
+
+impl Clone for Place {
+    // The copy's row is there, the one that stands at the place.
+    ghost is_clone = { λ place copy. place_of copy ≡ settled (place_of place) };
+
+    fn clone(&self) -> Result<Place, AllocError> {
+        let row = self.row.clone()?;
+        Ok(Place::new(row))
+    }
+}

@@ -1,0 +1,41 @@
+//! Where the place of a row name stands.
+
+ghost use Rattle.std.specs.Prelude.{◌≡◌, unwrap_or};
+ghost use Rattle.values.specs.Keys.{partition_of};
+ghost use Rattle.row_store.specs.Shelving.{shelf_of, shelf_at};
+
+use footprint::{InPart, InTable, Resource};
+use values::{Catalogue, RowName, TableNo};
+
+/// The partition of a row name, 0 of a name whose table is not the catalogue's.
+pub(crate) fn part_of(catalogue: &Catalogue, name: &RowName) -> u32
+    ensures { result ≡ unwrap_or (partition_of catalogue.now name.now.table name.now.key) 0 }
+{
+    if name.table.place() < catalogue.len() {
+        catalogue.part_of(name.table, name.key)
+    } else {
+        0
+    }
+}
+
+/// The resource at which the shelf of a partition stands: the partition itself, if the catalogue has it.
+#[tactic(auto, unfolding(crate::specs::Shelving::shelf_at))]
+pub(crate) fn shelf_at(catalogue: &Catalogue, table: TableNo, part: u32) -> Resource
+    ensures { result ≡ shelf_at catalogue.now table part }
+{
+    if table.place() >= catalogue.len() {
+        return Resource::Db;
+    }
+    match catalogue.part(table, i64::from(part)) {
+        Some(part) => Resource::Table(table, InTable::Part(part, InPart::WholePart)),
+        None => Resource::Table(table, InTable::WholeTable),
+    }
+}
+
+/// The resource at which the place of a row name stands: its partition.
+#[tactic(auto, unfolding(crate::specs::Shelving::shelf_of))]
+pub(crate) fn shelf_of(catalogue: &Catalogue, name: RowName) -> Resource
+    ensures { result ≡ shelf_of catalogue.now name }
+{
+    shelf_at(catalogue, name.table, part_of(catalogue, &name))
+}
