@@ -16,7 +16,7 @@ use Rattle.coarsen.specs.Subtrees.{Requests, own_over, holds}
 use Rattle.coarsen.specs.Plans.{IsSound, IsPlanOver}
 use Rattle.coarsen.specs.Clashes.{locks_row, Conflict}
 use Rattle.coarsen.specs.Laws.{LockedRowsConflict, ClashEitherWay}
-use Rattle.row_store.specs.Places.{Shelves, PlaceOf, place_at, has_shelf, has_place, seen, made, settled, emptied, written}
+use Rattle.row_store.specs.Places.{Shelves, PlaceOf, place_at, has_shelf, has_place, seen, made, settled, emptied, full, written, placed}
 use Rattle.row_store.specs.Shelving.{shelf_of}
 use Rattle.row_store.specs.Locked.{gives, name_of, is_of, among, is_named, locks_shelf, locks_itself}
 use Rattle.row_store.specs.Views.{found, rows_of, lent_at, IsKept, IsLoan}
@@ -175,25 +175,24 @@ or_turn false false = refl
 settled_back : (p : PlaceOf) → p.row ≡ p.counts_as → p ≡ settled p
 settled_back p h i = record { row = p.row; counts_as = sym h i }
 
+placed_made : (row : Option RowOf) → made (placed row) ≡ full row
+placed_made None = refl
+placed_made (Some row) = refl
+
 back_place : (a n : Bool) (h s : Option PlaceOf) → (made h).row ≡ (made h).counts_as → a || n ≡ true
-    → made (if a then h else (if n then Some (settled (made h)) else s)) ≡ settled (made h)
+    → made (if a then h else (if n then placed (made h).row else s)) ≡ settled (made h)
 back_place true n h s here on = settled_back (made h) here
-back_place false true h s here on = refl
+back_place false true h s here on = placed_made (made h).row
 back_place false false h s here on = absurd (cc)
 
-other_place : (a n : Bool) (h s : Option PlaceOf) → a || n ≡ false → (if a then h else (if n then Some (settled (made h)) else s)) ≡ s
+other_place : (a n : Bool) (h s : Option PlaceOf) → a || n ≡ false → (if a then h else (if n then placed (made h).row else s)) ≡ s
 other_place true n h s off = absurd (cc)
 other_place false true h s off = absurd (cc)
 other_place false false h s off = refl
 
-still_there : (a n : Bool) (h s : Option PlaceOf) → a ≡ false → is_some s ≡ true → is_some (if a then h else (if n then Some (settled (made h)) else s)) ≡ true
-still_there true n h s off there = absurd (cc)
-still_there false true h s off there = refl
-still_there false false h s off there = there
-
 pub record IsBack (tables : List TableShape) (old new held : Shelves) (at : List Resource) (ns : List RowName) : Type 0 where
   pub places : (q : RowName) → place_at new (shelf_of tables q) q
-      ≡ (if among at (shelf_of tables q) then place_at held (shelf_of tables q) q else (if is_named ns q then Some (settled (found tables held q)) else place_at old (shelf_of tables q) q))
+      ≡ (if among at (shelf_of tables q) then place_at held (shelf_of tables q) q else (if is_named ns q then placed (found tables held q).row else place_at old (shelf_of tables q) q))
 
 -- what the plan locks to write are its shelves and its names
 loan_locks : (tables : List TableShape) (plan : Requests) (held : Shelves) (at : List Resource) (ns : List RowName) → IsLoan tables plan held at ns
@@ -222,7 +221,7 @@ pub out_and_back : (tables : List TableShape) (plan : Requests) (old new held : 
     → IsLoan tables plan held at ns → lent_at lent number ≡ Some plan → IsKept tables old lent
     → ((q : RowName) → (among at (shelf_of tables q) ≡ true → has_shelf old (shelf_of tables q) ≡ true) → (among at (shelf_of tables q) ≡ true → has_shelf held (shelf_of tables q) ≡ true)
     → (is_named ns q ≡ true → has_place old (shelf_of tables q) q ≡ true) → (is_named ns q ≡ true → has_place held (shelf_of tables q) q ≡ true)
-    → place_at new (shelf_of tables q) q ≡ (if among at (shelf_of tables q) then place_at held (shelf_of tables q) q else (if is_named ns q then Some (settled (found tables held q)) else place_at old (shelf_of tables q) q)))
+    → place_at new (shelf_of tables q) q ≡ (if among at (shelf_of tables q) then place_at held (shelf_of tables q) q else (if is_named ns q then placed (found tables held q).row else place_at old (shelf_of tables q) q)))
     → IsBack tables old new held at ns
 out_and_back tables plan old new held at ns lent number loan out kept places = record {
   places = λ q. places q
@@ -248,13 +247,14 @@ settled_here : (b : Bool) (h s : PlaceOf) → (b ≡ false → s.row ≡ s.count
 settled_here true h s here = refl
 settled_here false h s here = here refl
 
--- no other plan that is lent has its place on a shelf that is given back
+-- what another plan that is lent locks to write is not given back
 apart_from : (tables : List TableShape) (plan : Requests) (old held : Shelves) (at : List Resource) (ns : List RowName) (lent : BTreeMap ℕ (Snapshot Requests)) (number : ℕ)
     → LockedRowsConflict → IsLoan tables plan held at ns → lent_at lent number ≡ Some plan → IsKept tables old lent
-    → (i : ℕ) (p : Requests) → lent_at lent i ≡ Some p → (number ≡ i → ⊥) → (q : RowName) → locks_itself p Write q ≡ true → among at (shelf_of tables q) ≡ false
-apart_from tables plan old held at ns lent number law loan out kept i p e ne q locks = elim (cases (among at (shelf_of tables q))) [
+    → (i : ℕ) (p : Requests) → lent_at lent i ≡ Some p → (number ≡ i → ⊥) → (q : RowName) → locks_itself p Write q ≡ true
+    → among at (shelf_of tables q) || is_named ns q ≡ false
+apart_from tables plan old held at ns lent number law loan out kept i p e ne q locks = elim (cases (among at (shelf_of tables q) || is_named ns q)) [
   | inl on ↦
-      let mine : locks_row tables plan q Write ≡ true = loan_locks tables plan held at ns loan q ∙ or_left (among at (shelf_of tables q)) (is_named ns q) on in
+      let mine : locks_row tables plan q Write ≡ true = loan_locks tables plan held at ns loan q ∙ on in
       let theirs : locks_row tables p q Write ≡ true = locks_either tables p (kept.over i p e) Write q ∙ or_left (locks_itself p Write q) (locks_shelf p Write (shelf_of tables q)) locks in
       absurd (kept.apart number i plan p out e ne (law tables plan p (kept.sound number plan out) (kept.sound i p e) q mine (write_reads tables p q theirs)))
   | inr off ↦ off
@@ -283,9 +283,9 @@ kept_back tables plan old new held at ns lent then_lent number back shelves loan
   with_place = λ i p e q h.
       let was = lent_left lent then_lent number taken i p e in
       ap is_some (back.places q)
-      ∙ still_there (among at (shelf_of tables q)) (is_named ns q) (place_at held (shelf_of tables q) q) (place_at old (shelf_of tables q) q)
-      (apart_from tables plan old held at ns lent number law loan out kept i p was.1 was.0 q h)
-      (kept.with_place i p was.1 q h);
+      ∙ ap is_some (other_place (among at (shelf_of tables q)) (is_named ns q) (place_at held (shelf_of tables q) q) (place_at old (shelf_of tables q) q)
+      (apart_from tables plan old held at ns lent number law loan out kept i p was.1 was.0 q h))
+      ∙ kept.with_place i p was.1 q h;
   sound = λ i p e. kept.sound i p (lent_left lent then_lent number taken i p e).1;
   over = λ i p e. kept.over i p (lent_left lent then_lent number taken i p e).1;
   apart = λ i j a b ea eb. kept.apart i j a b (lent_left lent then_lent number taken i a ea).1 (lent_left lent then_lent number taken j b eb).1;

@@ -4,7 +4,7 @@ use Rattle.values.specs.declared.name.RowName.{RowName}
 use Rattle.values.specs.Shapes.{TableShape}
 use Rattle.footprint.specs.declared.resource.Resource.{Resource}
 use Rattle.values.specs.Database.{RowOf}
-use Rattle.row_store.specs.Places.{Shelves, PlaceOf, full, written, settled, emptied, made, standing, place_at, is_shelf, is_name}
+use Rattle.row_store.specs.Places.{Shelves, PlaceOf, full, written, settled, emptied, placed, made, standing, place_at, is_shelf, is_name}
 use Rattle.row_store.specs.Shelving.{shelf_of}
 use Rattle.row_store.proofs.Exact.{same_name, same_shelf, own_place}
 
@@ -68,32 +68,33 @@ name_step tables n q b f x again =
 
 -- a row is moved, where both have its place
 pub put_some : (a b : Bool) (o f : Option PlaceOf) (p : PlaceOf) → ((a && b) ≡ true → f ≡ Some p)
-    → (if a && b then option_map (λ (_ : PlaceOf). settled p) o else o) ≡ (if a && (b && (is_some o && is_some f)) then Some (settled (made f)) else o)
+    → (if a && b then (if is_some o then placed p.row else None) else o) ≡ (if a && (b && (is_some o && is_some f)) then placed (made f).row else o)
 put_some true true None f p h = refl
-put_some true true (Some x) f p h = ap (λ (z : Option PlaceOf). if is_some z then Some (settled (made z)) else Some x) (sym (h refl))
+put_some true true (Some x) f p h = ap (λ (z : Option PlaceOf). if is_some z then placed (made z).row else Some x) (sym (h refl))
 put_some true false o f p h = refl
 put_some false b o f p h = refl
 
 pub put_none : (a b : Bool) (o f : Option PlaceOf) → ((a && b) ≡ true → f ≡ None)
-    → o ≡ (if a && (b && (is_some o && is_some f)) then Some (settled (made f)) else o)
+    → o ≡ (if a && (b && (is_some o && is_some f)) then placed (made f).row else o)
 put_none true true None f h = refl
-put_none true true (Some x) f h = ap (λ (z : Option PlaceOf). if is_some z then Some (settled (made z)) else Some x) (sym (h refl))
+put_none true true (Some x) f h = ap (λ (z : Option PlaceOf). if is_some z then placed (made z).row else Some x) (sym (h refl))
 put_none true false o f h = refl
 put_none false b o f h = refl
 
+no_more : {A : Type 0} (x n m : Bool) (p o : A) → (if x && (n && (m && false)) then p else o) ≡ o
+no_more true true true p o = refl
+no_more true true false p o = refl
+no_more true false m p o = refl
+no_more false n m p o = refl
+
 -- a row is moved once
-pub row_step : (b x n s : Bool) (o f : Option PlaceOf) → (x && n) ≡ n
-    → (if x && (n && (s && is_some (if b then None else f))) then Some (settled (made (if b then None else f))) else (if b && (s && is_some f) then Some (settled (made f)) else o))
-    ≡ (if (b || n) && (s && is_some f) then Some (settled (made f)) else o)
-row_step true true true true o f h = refl
-row_step true true true false o f h = refl
-row_step true true false s o f h = refl
-row_step true false n s o f h = refl
-row_step false true true true o f h = refl
-row_step false true true false o f h = refl
-row_step false true false s o f h = refl
-row_step false false true s o f h = absurd (cc)
-row_step false false false s o f h = refl
+pub row_step : (b x n : Bool) (o f : Option PlaceOf) → (x && n) ≡ n
+    → (if x && (n && (is_some (if b && (is_some o && is_some f) then placed (made f).row else o) && is_some (if b then None else f))) then placed (made (if b then None else f)).row else (if b && (is_some o && is_some f) then placed (made f).row else o))
+    ≡ (if (b || n) && (is_some o && is_some f) then placed (made f).row else o)
+row_step true x n o f h = no_more x n (is_some (if is_some o && is_some f then placed (made f).row else o)) None (if is_some o && is_some f then placed (made f).row else o)
+row_step false true n o f h = refl
+row_step false false true o f h = absurd (cc)
+row_step false false false o f h = refl
 
 -- a write is put in place once
 pub write_step : (x n : Bool) (w : Option (Option RowOf)) (r : Option RowOf) (s : PlaceOf) → x && n ≡ n → (n ≡ true → w ≡ Some r)

@@ -29,6 +29,11 @@ full row = record { row = row; counts_as = row }
 abbrev pub settled : PlaceOf → PlaceOf
 settled place = full place.row
 
+-- what is left of a place that a row, or none, is given back to
+abbrev pub placed : Option RowOf → Option PlaceOf
+placed None = None
+placed (Some row) = Some (full (Some row))
+
 -- a place whose row is away
 abbrev pub emptied : PlaceOf → PlaceOf
 emptied place = record { row = None; counts_as = place.counts_as }

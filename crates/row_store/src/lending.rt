@@ -1,12 +1,12 @@
 //! What a loan holds, taken from a store's shelves and put back.
 
-ghost use Rattle.std.specs.Prelude.{◌≡◌, true, Some, if◌then◌else◌, IfOk};
+ghost use Rattle.std.specs.Prelude.{◌≡◌, true, if◌then◌else◌, IfOk};
 ghost use Rattle.values.specs.declared.name.RowName.{RowName as AnyName};
 ghost use Rattle.proclang_types.specs.declared.right.Right.TheVariants.{Read, Write};
 ghost use Rattle.footprint.specs.declared.resource.Resource.{Resource as AnyResource};
 ghost use Rattle.coarsen.specs.Plans.{IsPlanOver, IsSound};
 ghost use Rattle.coarsen.specs.Clashes.{locks_row};
-ghost use Rattle.row_store.specs.Places.{place_at, seen, settled, has_shelf, has_place};
+ghost use Rattle.row_store.specs.Places.{place_at, placed, seen, settled, has_shelf, has_place};
 ghost use Rattle.row_store.specs.Shelving.{shelf_of};
 ghost use Rattle.row_store.specs.Locked.{among, is_named, locks_shelf, locks_itself};
 ghost use Rattle.row_store.specs.Views.{found};
@@ -91,7 +91,7 @@ pub(crate) fn hold(
 pub(crate) fn put_back(catalogue: &Catalogue, shelves: &mut Shelves, held: Holdings)
     ensures places { (q : AnyName) → (among held.written_shelves.items (shelf_of catalogue.now q) ≡ true → has_shelf shelves.old (shelf_of catalogue.now q) ≡ true) → (among held.written_shelves.items (shelf_of catalogue.now q) ≡ true → has_shelf held.shelves (shelf_of catalogue.now q) ≡ true)
         → (is_named held.written_names.items q ≡ true → has_place shelves.old (shelf_of catalogue.now q) q ≡ true) → (is_named held.written_names.items q ≡ true → has_place held.shelves (shelf_of catalogue.now q) q ≡ true)
-        → place_at shelves.new (shelf_of catalogue.now q) q ≡ (if among held.written_shelves.items (shelf_of catalogue.now q) then place_at held.shelves (shelf_of catalogue.now q) q else (if is_named held.written_names.items q then Some (settled (found catalogue.now held.shelves q)) else place_at shelves.old (shelf_of catalogue.now q) q)) }
+        → place_at shelves.new (shelf_of catalogue.now q) q ≡ (if among held.written_shelves.items (shelf_of catalogue.now q) then place_at held.shelves (shelf_of catalogue.now q) q else (if is_named held.written_names.items q then placed (found catalogue.now held.shelves q).row else place_at shelves.old (shelf_of catalogue.now q) q)) }
     ensures shelves { (d : AnyResource) → has_shelf shelves.new d ≡ has_shelf shelves.old d }
 {
     let Holdings {

@@ -3,12 +3,12 @@
 ghost use Rattle.std.specs.Prelude.{◌≡◌, Some, None, true, false, ◌&&◌, ◌||◌, if◌then◌else◌, option_map, IfOk, OnOk};
 ghost use Rattle.values.specs.declared.name.RowName.{RowName as AnyName};
 ghost use Rattle.footprint.specs.declared.resource.Resource.{Resource as AnyResource};
-ghost use Rattle.row_store.specs.Places.{place_at, has_shelf, has_place, seen, emptied, settled, full, is_shelf, is_name};
+ghost use Rattle.row_store.specs.Places.{place_at, has_shelf, has_place, seen, emptied, placed, settled, full, is_shelf, is_name};
 ghost use Rattle.row_store.specs.Shelving.{shelf_of};
 ghost use Rattle.row_store.specs.Locked.{among, is_named};
 
 use crate::shelves::{
-    Shelves, add_row, add_shelf, copy_shelf, empty_place, fill_place, make_place, make_shelf,
+    Shelves, add_row, add_shelf, copy_shelf, empty_place, make_place, make_shelf, put_row,
     put_shelf, share_row, take_place,
 };
 use crate::shelving::shelf_of;
@@ -148,15 +148,15 @@ pub(crate) fn put_shelves(shelves: &mut Shelves, from: &mut Shelves, at: &[Resou
     }
 }
 
-/// Moves the row of a name from a loan into the place in the store, if both have a place of that name.
+/// Moves the row of a name from a loan into the place in the store, if both have a place of that name. Without a row the
+/// place goes.
 fn put_one_row(shelves: &mut Shelves, from: &mut Shelves, at: &Resource, name: &RowName)
-    ensures places { (d : AnyResource) (q : AnyName) → place_at shelves.new d q ≡ (if is_shelf at.now d && (is_name name.now q && (has_place shelves.old d q && has_place from.old d q)) then Some (settled (seen from.old d q)) else place_at shelves.old d q) }
-    ensures kept { (d : AnyResource) (q : AnyName) → has_place shelves.new d q ≡ has_place shelves.old d q }
+    ensures places { (d : AnyResource) (q : AnyName) → place_at shelves.new d q ≡ (if is_shelf at.now d && (is_name name.now q && (has_place shelves.old d q && has_place from.old d q)) then placed (seen from.old d q).row else place_at shelves.old d q) }
     ensures shelves { (d : AnyResource) → has_shelf shelves.new d ≡ has_shelf shelves.old d }
     ensures left { (d : AnyResource) (q : AnyName) → place_at from.new d q ≡ (if is_shelf at.now d && is_name name.now q then None else place_at from.old d q) }
 {
     if let Some(place) = take_place(from, at, name) {
-        fill_place(shelves, at, name, place.row);
+        put_row(shelves, at, name, place.row);
     }
 }
 
@@ -167,8 +167,7 @@ pub(crate) fn put_rows(
     from: &mut Shelves,
     names: &[RowName],
 )
-    ensures places { (q : AnyName) → place_at shelves.new (shelf_of catalogue.now q) q ≡ (if is_named names.now q && (has_place shelves.old (shelf_of catalogue.now q) q && has_place from.old (shelf_of catalogue.now q) q) then Some (settled (seen from.old (shelf_of catalogue.now q) q)) else place_at shelves.old (shelf_of catalogue.now q) q) }
-    ensures kept { (d : AnyResource) (q : AnyName) → has_place shelves.new d q ≡ has_place shelves.old d q }
+    ensures places { (q : AnyName) → place_at shelves.new (shelf_of catalogue.now q) q ≡ (if is_named names.now q && (has_place shelves.old (shelf_of catalogue.now q) q && has_place from.old (shelf_of catalogue.now q) q) then placed (seen from.old (shelf_of catalogue.now q) q).row else place_at shelves.old (shelf_of catalogue.now q) q) }
     ensures shelves { (d : AnyResource) → has_shelf shelves.new d ≡ has_shelf shelves.old d }
 {
     for name in names {

@@ -2,7 +2,7 @@
 
 ghost use Rattle.std.specs.Prelude.{◌≡◌, Some, None, true, if◌then◌else◌, is_some, option_map, IfOk, OnOk, OnErr};
 ghost use Rattle.values.specs.declared.name.RowName.{RowName as AnyName};
-ghost use Rattle.row_store.specs.Places.{place_in, standing, made, full, emptied, value_of, is_name, place_of};
+ghost use Rattle.row_store.specs.Places.{place_in, standing, made, full, placed, emptied, value_of, is_name, place_of};
 
 use crate::place::Place;
 use std::collections::BTreeMap;
@@ -46,6 +46,19 @@ pub(crate) fn fill_place(shelf: &mut Shelf, name: &RowName, row: Option<Arc<Row>
     if let Some(place) = shelf.get_mut(name) {
         place.counts_as = Snapshot::of(&row);
         place.row = row;
+    }
+}
+
+/// Puts a row in the place of a name that has one; without a row the place goes.
+#[tactic(auto, using(crate::proofs::Exact::place_same))]
+pub(crate) fn put_row(shelf: &mut Shelf, name: &RowName, row: Option<Arc<Row>>)
+    ensures { (q : AnyName) → place_in shelf.new q ≡ (if is_name name.now q then (if is_some (place_in shelf.old q) then placed (value_of row) else None) else place_in shelf.old q) }
+{
+    match row {
+        Some(row) => fill_place(shelf, name, Some(row)),
+        None => {
+            shelf.remove(name);
+        }
     }
 }
 

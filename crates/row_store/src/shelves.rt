@@ -3,7 +3,7 @@
 ghost use Rattle.std.specs.Prelude.{◌≡◌, Some, None, true, ◌&&◌, if◌then◌else◌, is_some, option_map, IfOk, OnOk, OnErr};
 ghost use Rattle.values.specs.declared.name.RowName.{RowName as AnyName};
 ghost use Rattle.footprint.specs.declared.resource.Resource.{Resource as AnyResource};
-ghost use Rattle.row_store.specs.Places.{place_in, place_at, has_shelf, has_place, seen, standing, made, full, emptied, settled, value_of, is_name, is_shelf, place_of};
+ghost use Rattle.row_store.specs.Places.{place_in, place_at, has_shelf, has_place, seen, standing, made, full, emptied, placed, settled, value_of, is_name, is_shelf, place_of};
 
 use crate::place::Place;
 use crate::shelf::{self, Shelf};
@@ -109,6 +109,17 @@ pub(crate) fn fill_place(
 {
     if let Some(shelf) = shelves.get_mut(at) {
         shelf::fill_place(shelf, name, row);
+    }
+}
+
+/// Puts a row in the place of a name that has one; without a row the place goes.
+#[tactic(auto, using(crate::proofs::Exact::get_same))]
+pub(crate) fn put_row(shelves: &mut Shelves, at: &Resource, name: &RowName, row: Option<Arc<Row>>)
+    ensures places { (d : AnyResource) (q : AnyName) → place_at shelves.new d q ≡ (if is_shelf at.now d && is_name name.now q then (if has_place shelves.old d q then placed (value_of row) else None) else place_at shelves.old d q) }
+    ensures shelves { (d : AnyResource) → has_shelf shelves.new d ≡ has_shelf shelves.old d }
+{
+    if let Some(shelf) = shelves.get_mut(at) {
+        shelf::put_row(shelf, name, row);
     }
 }
 

@@ -5,7 +5,7 @@ use Rattle.row_store.proofs.moving.put_one_row.Goals as goal
 
 pub returns-in-Some-clause-places : goal.returns-in-Some-clause-places
 returns-in-Some-clause-places c = λ d q.
-    c.fill_place.ensures.places d q
+    c.put_row.ensures.places d q
     ∙ put_some (is_shelf c.args.at.now d) (is_name c.args.name.now q) (place_at c.args.shelves.now d q) (place_at c.args.from.now d q) (place_of c.in-Some.place)
     (λ h. sym (same_place c.args.from.now c.args.at.now d c.args.name.now q h) ∙ sym c.in-Some.ensures.taken)
 
