@@ -8,3 +8,4 @@ pub mod Hashers
 pub mod Stops
 pub mod Runs
 pub mod Comparisons
+pub mod CommandEnds

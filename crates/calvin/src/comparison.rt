@@ -17,6 +17,7 @@ pub(crate) struct KeptReport {
 
 impl KeptReport {
     ghost use Rattle.calvin.specs.Comparisons.{bytes_of, is_full};
+    ghost use Rattle.calvin.specs.CommandEnds.{fault_status, kept_status};
 
     /// Nothing is written yet.
     pub(crate) fn new(alloc: Global) -> KeptReport
@@ -37,7 +38,9 @@ impl KeptReport {
     }
 
     /// What a fault of a run that wrote here comes of: a write that was refused was refused for want of memory.
-    pub(crate) fn fault_of(&self, fault: RunFault) -> RunFault {
+    pub(crate) fn fault_of(&self, fault: RunFault) -> RunFault
+        ensures { fault_status result ≡ kept_status (is_full self.now) fault }
+    {
         match fault {
             RunFault::Log(
                 LogFault {

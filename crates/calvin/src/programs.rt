@@ -1,7 +1,11 @@
 //! The whole program, but for the world that it is given.
 
-use crate::commands::{command, say};
+ghost use Rattle.std.specs.Prelude.{map, string_bytes};
+ghost use Rattle.calvin.specs.CommandEnds.{IsProgram};
+
+use crate::commands::command;
 use crate::files::Files;
+use crate::inputs::say;
 use crate::status::{COMMAND_LINE, MEMORY};
 use batch_log::{Sink, Source, write_all};
 use command_line::{LineFault, read_line};
@@ -17,7 +21,13 @@ pub fn program<F: Files, S: Source, K: Sink, E: Sink>(
     source: &mut S,
     out: &mut K,
     err: &mut E,
-) -> u8 {
+) -> u8
+    ensures { IsProgram (F.holds files.now) (map string_bytes words.now)
+        (record { bytes = S.left source.old; failed = S.failed source.old })
+        (record { bytes = S.left source.new; failed = S.failed source.new })
+        (record { bytes = K.taken out.old; failed = K.broken out.old })
+        (record { bytes = K.taken out.new; failed = K.broken out.new }) result }
+{
     match read_line(alloc, words) {
         Ok(line) => command(alloc, &line, files, source, out, err),
         Err(LineFault::Refused(text)) => {

@@ -1,5 +1,8 @@
 //! The exit statuses of the program.
 
+ghost use Rattle.std.specs.Prelude.{◌≡◌};
+ghost use Rattle.calvin.specs.CommandEnds.{fault_status, setup_status};
+
 use crate::run_fault::RunFault;
 use batch_log::FaultKind;
 use proclang::ProcFault;
@@ -20,7 +23,9 @@ pub(crate) const DEVICE: u8 = 4;
 pub(crate) const DIFFERENT: u8 = 5;
 
 /// The status of a setup that was not read.
-pub(crate) fn setup_status(fault: &SetupFault) -> u8 {
+pub(crate) fn setup_status(fault: &SetupFault) -> u8
+    ensures { result ≡ setup_status fault.now }
+{
     match fault {
         SetupFault::Memory
         | SetupFault::Catalogue(CatalogueFault::Memory)
@@ -30,7 +35,9 @@ pub(crate) fn setup_status(fault: &SetupFault) -> u8 {
 }
 
 /// The status of a run that did not come to its end.
-pub(crate) fn run_status(fault: RunFault) -> u8 {
+pub(crate) fn run_status(fault: RunFault) -> u8
+    ensures { result ≡ fault_status fault }
+{
     match fault {
         RunFault::Log(fault) => match fault.kind {
             FaultKind::Io => DEVICE,

@@ -1,6 +1,6 @@
 //! What the tests run: the bank, its logs and reports, files and devices in memory, and whole programs over them.
 
-ghost use Rattle.std.specs.Prelude.{None};
+ghost use Rattle.std.specs.Prelude.{None, ⊤};
 
 use crate::{DeviceFailed, FileFault, Files, ReadSource, Sink, Source, WriteSink, program};
 use std::alloc::Global;
@@ -77,6 +77,8 @@ pub(crate) struct Folder<'a> {
 }
 
 impl Files for Folder<'_> {
+    ghost holds = { λ _ _ _. ⊤ };
+
     fn read(&self, alloc: Global, path: &str) -> Result<Vec<u8>, FileFault> {
         let text = match path {
             "bank.json" => self.setup,

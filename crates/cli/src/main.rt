@@ -1,6 +1,8 @@
 //! The program `calvin`: hands the library the words behind its name, the files of the machine, and the standard streams.
 #![tactic(auto)]
 
+ghost use Rattle.std.specs.Prelude.{⊤};
+
 use calvin::{FileFault, Files, ReadSource, WriteSink, program};
 use std::alloc::Global;
 use std::io::{self, ErrorKind};
@@ -14,6 +16,8 @@ struct Machine<'a, R> {
 }
 
 impl<R: rt::Files + AllocGlobal> Files for Machine<'_, R> {
+    ghost holds = { λ _ _ _. ⊤ };
+
     fn read(&self, _alloc: Global, path: &str) -> Result<Vec<u8>, FileFault> {
         match fs::read(self.rt, path) {
             Ok(bytes) => Ok(bytes),

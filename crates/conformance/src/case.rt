@@ -1,5 +1,7 @@
 //! A case: what the program is given, and what it must write.
 
+ghost use Rattle.std.specs.Prelude.{⊤};
+
 use crate::outputs::Output;
 use crate::stored::CaseFiles;
 use calvin::{FileFault, Files, ReadSource, program};
@@ -23,6 +25,8 @@ pub(crate) struct SetupFile<'a> {
 }
 
 impl Files for SetupFile<'_> {
+    ghost holds = { λ _ _ _. ⊤ };
+
     fn read(&self, alloc: Global, path: &str) -> Result<Vec<u8>, FileFault> {
         if path != "setup.json" {
             return Err(FileFault::Unreadable);

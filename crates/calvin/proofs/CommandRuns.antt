@@ -1,0 +1,54 @@
+-- How the commands end.
+use Rattle.std.proofs.Common.{◌≡◌, ℕ, List, [], Bool, true, false, Option, Some, Result, Ok, Err, refl, sym, ap, ◌∙◌, subst, inl, inr, if◌then◌else◌}
+use Rattle.std.specs.FinMap as map_of
+use Rattle.row_store.specs.Stock.{with_rows}
+use Rattle.setup.specs.declared.fault.SetupFault.{SetupFault}
+use Rattle.setup.specs.declared.setup.Setup.{Setup}
+use Rattle.setup.specs.Faults.{is_memory}
+use Rattle.setup.specs.FirstFault.{BreaksFirst}
+use Rattle.calvin.specs.declared.run_fault.RunFault.{RunFault}
+use Rattle.calvin.specs.CommandEnds.{AreReplicas, IsAnswered, IsCompared, IsRunAt, IsSetupAt, IsWithoutSetup, kept_status, run_status, setup_status}
+use Rattle.calvin.specs.Runs.{Device, IsRunOfLog}
+
+-- a text that is no setup, or memory was refused
+pub without_setup : (holds : Option (List ℕ) → Type 0) (text : List ℕ) (fault : SetupFault) (status : ℕ) → holds (Some text) → (is_memory fault ≡ false → BreaksFirst text fault) → status ≡ setup_status fault →
+    IsWithoutSetup holds status
+without_setup holds text fault status held first is = elim (is_memory fault) as (λ b. is_memory fault ≡ b → IsWithoutSetup holds status) [
+  | true ↦ λ m. inr (inr (is ∙ ap (λ b. if b then 3 else 1) m))
+  | false ↦ λ m. inr (inl (is ∙ ap (λ b. if b then 3 else 1) m, text, held, fault, first m))
+] refl
+
+pub run_at : (holds : Option (List ℕ) → Type 0) (source spent sink filled : Device) (status : ℕ) (setup : Setup) (result : Result ℕ RunFault) → IsSetupAt holds setup →
+    IsRunOfLog setup.procs (with_rows map_of.empty setup.rows.items) source spent sink filled result → status ≡ run_status result → IsRunAt holds source spent sink filled status
+run_at holds source spent sink filled status setup result is run ends = record { setup = setup; is_setup = is; result = result; run = run; ends = ends }
+
+pub compared : (result : Result ℕ RunFault) (count : ℕ) (full : Bool) (report other : List ℕ) (sink filled : Device) (status : ℕ) → result ≡ Ok count → IsAnswered report other sink filled status →
+    IsCompared result full report other sink filled status
+compared result count full report other sink filled status is answered = subst (λ r. IsCompared r full report other sink filled status) (sym is) answered
+
+pub not_compared : (result : Result ℕ RunFault) (fault : RunFault) (full : Bool) (report other : List ℕ) (sink : Device) (status : ℕ) → result ≡ Err fault → status ≡ kept_status full fault →
+    IsCompared result full report other sink sink status
+not_compared result fault full report other sink status is ends = subst (λ r. IsCompared r full report other sink sink status) (sym is) (ends, refl)
+
+abbrev kept : List ℕ → Bool → Device
+kept report full = record { bytes = Some report; failed = full }
+
+pub replicas_at : (holds holds_other : Option (List ℕ) → Type 0) (source spent sink filled : Device) (status : ℕ) (other : List ℕ) (setup : Setup) (result : Result ℕ RunFault) (before report : List ℕ) (was full : Bool) →
+    holds_other (Some other) → IsSetupAt holds setup → before ≡ [] → was ≡ false →
+    IsRunOfLog setup.procs (with_rows map_of.empty setup.rows.items) source spent (kept before was) (kept report full) result →
+    IsCompared result full report other sink filled status → AreReplicas holds holds_other source spent sink filled status
+replicas_at holds holds_other source spent sink filled status other setup result before report was full held is nothing room run ends =
+    let from : IsRunOfLog setup.procs (with_rows map_of.empty setup.rows.items) source spent (kept [] false) (kept report full) result =
+    subst (λ (d : Device). IsRunOfLog setup.procs (with_rows map_of.empty setup.rows.items) source spent d (kept report full) result) (λ i. kept (nothing i) (room i)) run in
+    record {
+      other = other;
+      held = held;
+      setup = setup;
+      is_setup = is;
+      result = result;
+      report = report;
+      is_full = full;
+      run = from;
+      whole = from.ok;
+      ends = ends;
+    }

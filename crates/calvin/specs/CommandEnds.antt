@@ -1,0 +1,156 @@
+-- How a command ends: its exit status, and what it wrote.
+use Rattle.std.specs.Prelude.{◌≡◌, ℕ, ◌⊎◌, List, [], ◌++◌, Bool, true, false, ◌&&◌, Option, Some, None, IfSome, OnOk, Result, Ok, Err, codes, if◌then◌else◌, string_bytes, ⊤}
+use Rattle.std.specs.Fmt.{decimal}
+use Rattle.std.specs.FinMap as map_of
+use Rattle.std.specs.Io.KnownBytes.{Appends}
+use Rattle.devices.specs.Devices.{AppendsFront}
+use Rattle.row_store.specs.Stock.{with_rows}
+use Rattle.setup.specs.declared.fault.SetupFault.{SetupFault}
+use Rattle.setup.specs.declared.setup.Setup.{Setup}
+use Rattle.setup.specs.Faults.{is_memory}
+use Rattle.setup.specs.FirstFault.{BreaksFirst}
+use Rattle.setup.specs.Says.{SaysSetup}
+use Rattle.setup.specs.Setups.{setup_view}
+use Rattle.batch_log.specs.declared.fault.FaultKind.{FaultKind}
+use Rattle.batch_log.specs.declared.fault.FaultKind.TheVariants.{Io, Memory}
+use Rattle.command_line.specs.CommandLine.{IsAskedFor}
+use Rattle.command_line.specs.declared.line.Command.{Command}
+use Rattle.command_line.specs.declared.line.Command.TheVariants.{Run, Replicas}
+use Rattle.command_line.specs.declared.line.Line.{Line}
+use Rattle.calvin.specs.declared.run_fault.RunFault.{RunFault}
+use Rattle.calvin.specs.declared.run_fault.RunFault.TheVariants as runs
+use Rattle.calvin.specs.Comparisons.{IsFirstDifference}
+use Rattle.calvin.specs.Reports.{report_of}
+use Rattle.calvin.specs.Runs.{Device, IsRunOfLog}
+use Rattle.calvin.specs.Stops.{is_of_device}
+
+-- what a machine may hold at a path: a text, or nothing that can be read
+abbrev pub Holding : Type 1
+Holding = Option (List ℕ) → Type 0
+
+-- ---- exit statuses
+
+-- 1 for a line of the log, 3 for memory, 4 for a device
+abbrev pub kind_status : FaultKind → ℕ
+kind_status Io = 4
+kind_status Memory = 3
+kind_status kind = 1
+
+-- a refused thread counts as a device
+abbrev pub fault_status : RunFault → ℕ
+fault_status (runs.Log fault) = kind_status fault.kind
+fault_status (runs.Spawn line) = 4
+
+abbrev pub run_status : Result ℕ RunFault → ℕ
+run_status (Ok count) = 0
+run_status (Err fault) = fault_status fault
+
+abbrev pub setup_status : SetupFault → ℕ
+setup_status fault = if is_memory fault then 3 else 1
+
+-- ---- setups
+
+-- No setup was read: nothing can be read at its path, or the text there breaks a rule, or memory was refused.
+abbrev pub IsWithoutSetup : Holding → ℕ → Type 0
+IsWithoutSetup holds status =
+    ((status ≡ 4) × holds None)
+    ⊎ (((status ≡ 1) × (text : List ℕ) × holds (Some text) × (fault : SetupFault) × BreaksFirst text fault)
+    ⊎ (status ≡ 3))
+
+-- the setup is what the text at its path says
+pub record IsSetupAt (holds : Holding) (setup : Setup) : Type 0 where
+  pub text : List ℕ
+  pub held : holds (Some text)
+  pub says : SaysSetup text (setup_view setup)
+
+-- ---- the command `run`
+
+-- The log was run on the setup at a path.
+pub record IsRunAt (holds : Holding) (source spent sink filled : Device) (status : ℕ) : Type 0 where
+  pub setup : Setup
+  pub is_setup : IsSetupAt holds setup
+  pub result : Result ℕ RunFault
+  pub run : IsRunOfLog setup.procs (with_rows map_of.empty setup.rows.items) source spent sink filled result
+  pub ends : status ≡ run_status result
+
+-- Without a setup nothing is read of the log, and nothing is written.
+abbrev pub IsRunCommand : Holding → Device → Device → Device → Device → ℕ → Type 0
+IsRunCommand holds source spent sink filled status =
+    (IsWithoutSetup holds status × (spent ≡ source) × (filled ≡ sink)) ⊎ IsRunAt holds source spent sink filled status
+
+-- ---- the command `replicas`
+
+-- the line that says where two reports differ
+abbrev pub answer_text : Option ℕ → List ℕ
+answer_text None = codes "same\n"
+answer_text (Some place) = codes "differ at byte " ++ decimal place ++ codes "\n"
+
+abbrev pub answer_status : Option ℕ → ℕ
+answer_status None = 0
+answer_status (Some place) = 5
+
+-- A text was written and the command ended as it should; or its write failed; or memory was refused, and nothing was written.
+abbrev pub IsWritten : List ℕ → Device → Device → ℕ → ℕ → Type 0
+IsWritten text sink filled done status =
+    ((status ≡ done) × Appends sink.bytes filled.bytes text)
+    ⊎ (((status ≡ 4) × AppendsFront sink.bytes filled.bytes text × (filled.failed ≡ true))
+    ⊎ ((status ≡ 3) × (filled ≡ sink)))
+
+-- The status of a fault of a run whose report was kept in memory: a write was refused for want of memory alone.
+abbrev pub kept_status : Bool → RunFault → ℕ
+kept_status full fault = if full && is_of_device fault then 3 else fault_status fault
+
+-- the first difference of a report and another was written
+abbrev pub IsAnswered : List ℕ → List ℕ → Device → Device → ℕ → Type 0
+IsAnswered report other sink filled status =
+    (difference : Option ℕ) × IsFirstDifference difference report other × IsWritten (answer_text difference) sink filled (answer_status difference) status
+
+-- after a fault nothing is compared
+abbrev pub IsCompared : Result ℕ RunFault → Bool → List ℕ → List ℕ → Device → Device → ℕ → Type 0
+IsCompared (Err fault) full report other sink filled status = (status ≡ kept_status full fault) × (filled ≡ sink)
+IsCompared (Ok count) full report other sink filled status = IsAnswered report other sink filled status
+
+-- The log was run on the setup at a path, and its report compared with the text at another.
+pub record AreReplicas (holds holds_other : Holding) (source spent sink filled : Device) (status : ℕ) : Type 0 where
+  pub other : List ℕ
+  pub held : holds_other (Some other)
+  pub setup : Setup
+  pub is_setup : IsSetupAt holds setup
+  pub result : Result ℕ RunFault
+  -- what was kept of the report, and whether memory was refused for it
+  pub report : List ℕ
+  pub is_full : Bool
+  pub run : IsRunOfLog setup.procs (with_rows map_of.empty setup.rows.items) source spent (record { bytes = Some []; failed = false }) (record { bytes = Some report; failed = is_full }) result
+  pub whole : OnOk result (IfSome source.bytes (λ log. report ≡ report_of setup.procs (with_rows map_of.empty setup.rows.items) log))
+  pub ends : IsCompared result is_full report other sink filled status
+
+-- Without a setup, or without the other report, nothing is read of the log, and nothing is written.
+abbrev pub IsReplicasCommand : Holding → Holding → Device → Device → Device → Device → ℕ → Type 0
+IsReplicasCommand holds holds_other source spent sink filled status =
+    ((IsWithoutSetup holds status ⊎ ((status ≡ 4) × holds_other None)) × (spent ≡ source) × (filled ≡ sink))
+    ⊎ AreReplicas holds holds_other source spent sink filled status
+
+-- ---- which command
+
+-- what holds of the setup's path of `run`
+abbrev pub IfRun : Command → (List ℕ → Type 0) → Type 0
+IfRun (Run alone setup) P = P (string_bytes setup)
+IfRun command P = ⊤
+
+-- what holds of the paths of the setup and of the other report of `replicas`
+abbrev pub IfReplicas : Command → (List ℕ → List ℕ → Type 0) → Type 0
+IfReplicas (Replicas setup report) P = P (string_bytes setup) (string_bytes report)
+IfReplicas command P = ⊤
+
+-- What comes of a command line, by its command: `run` writes the report of the log on the setup at its path, and `replicas`
+-- compares that report with the text at another. Nothing is said of `locks` here.
+pub record Does (holds : List ℕ → Option (List ℕ) → Type 0) (line : Line) (source spent sink filled : Device) (status : ℕ) : Type 0 where
+  pub run : IfRun line.command (λ path. IsRunCommand (holds path) source spent sink filled status)
+  pub replicas : IfReplicas line.command (λ path report. IsReplicasCommand (holds path) (holds report) source spent sink filled status)
+
+-- What comes of the words behind the program's name: they ask for a line, which is done; or they ask for none, or memory was
+-- refused, and nothing is read of the log, and nothing is written.
+abbrev pub IsProgram : (List ℕ → Option (List ℕ) → Type 0) → List (List ℕ) → Device → Device → Device → Device → ℕ → Type 0
+IsProgram holds words source spent sink filled status =
+    ((line : Line) × IsAskedFor words line × Does holds line source spent sink filled status)
+    ⊎ ((((status ≡ 2) × ((line : Line) → ¬ (IsAskedFor words line))) ⊎ (status ≡ 3)) × (spent ≡ source) × (filled ≡ sink))

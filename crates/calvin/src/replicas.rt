@@ -1,0 +1,93 @@
+//! The command `replicas`: a report compared with one that was made elsewhere.
+
+ghost use Rattle.std.specs.Prelude.{◌≡◌, IfOk, string_bytes};
+ghost use Rattle.calvin.specs.CommandEnds.{answer_status, answer_text, IsAnswered, IsReplicasCommand};
+
+use crate::comparison::{KeptReport, first_difference};
+use crate::files::Files;
+use crate::gate::OpenGate;
+use crate::inputs::{file_at, print, refused, setup_at};
+use crate::run_fault::RunFault;
+use crate::running::{Execution, run_log};
+use crate::status::{DIFFERENT, DONE};
+use batch_log::{FaultKind, Sink, Source};
+use command_line::Settings;
+use std::alloc::{AllocError, Global};
+
+/// The line that says where two reports differ.
+fn answer_text(alloc: Global, difference: Option<usize>) -> Result<String, AllocError>
+    ensures { IfOk result (λ text. string_bytes text ≡ answer_text difference) }
+{
+    let mut text = String::new(alloc);
+    match difference {
+        None => text.push_str("same\n")?,
+        Some(place) => writeln!(text, "differ at byte {place}")?,
+    }
+    Ok(text)
+}
+
+fn answer_status(difference: Option<usize>) -> u8
+    ensures { result ≡ answer_status difference }
+{
+    match difference {
+        None => DONE,
+        Some(_) => DIFFERENT,
+    }
+}
+
+/// Prints where a report and another differ, and gives the exit status.
+fn answer<K: Sink, E: Sink>(
+    alloc: Global,
+    report: &[u8],
+    other: &[u8],
+    out: &mut K,
+    err: &mut E,
+) -> u8
+    ensures { IsAnswered report.now other.now
+        (record { bytes = K.taken out.old; failed = K.broken out.old })
+        (record { bytes = K.taken out.new; failed = K.broken out.new }) result }
+{
+    let difference = first_difference(report, other);
+    let Ok(text) = answer_text(alloc, difference) else {
+        return refused(alloc, err, RunFault::at(FaultKind::Memory, 0));
+    };
+    match print(alloc, out, err, &text) {
+        Ok(()) => answer_status(difference),
+        Err(status) => status,
+    }
+}
+
+/// Compares the report of the log on the setup at a path with the file at another, which is read first.
+pub(crate) fn replicas<F: Files, S: Source, K: Sink, E: Sink>(
+    alloc: Global,
+    settings: Settings,
+    path: &str,
+    report: &str,
+    files: &F,
+    source: &mut S,
+    out: &mut K,
+    err: &mut E,
+) -> u8
+    ensures { IsReplicasCommand (F.holds files.now path.now) (F.holds files.now report.now)
+        (record { bytes = S.left source.old; failed = S.failed source.old })
+        (record { bytes = S.left source.new; failed = S.failed source.new })
+        (record { bytes = K.taken out.old; failed = K.broken out.old })
+        (record { bytes = K.taken out.new; failed = K.broken out.new }) result }
+{
+    let other = match file_at(alloc, files, report, err) {
+        Ok(other) => other,
+        Err(status) => return status,
+    };
+    let setup = match setup_at(alloc, files, path, err) {
+        Ok(setup) => setup,
+        Err(status) => return status,
+    };
+    let mut kept = KeptReport::new(alloc);
+    let execution = Execution::Workers;
+    match run_log(
+        alloc, execution, setup, settings, &OpenGate, source, &mut kept,
+    ) {
+        Ok(_) => answer(alloc, kept.bytes(), &other, out, err),
+        Err(fault) => refused(alloc, err, kept.fault_of(fault)),
+    }
+}
