@@ -2,3 +2,9 @@ pub mod Fronts
 pub mod Apart
 pub mod Ranked
 pub mod Places
+pub mod Lines
+pub mod Leaving
+pub mod Knowing
+pub mod Dropping
+pub mod Queueing
+pub mod Trees

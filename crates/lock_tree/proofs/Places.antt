@@ -8,24 +8,24 @@ use Rattle.lock_tree.specs.Enqueues.{AreBelow}
 use Rattle.lock_tree.specs.Ranks.{place_of}
 use Rattle.lock_tree.specs.Views.{waiting_of, all_waiting}
 
-same_numbers : (i k : ℕ) → (i == k) ≡ true → i ≡ k
+pub same_numbers : (i k : ℕ) → (i == k) ≡ true → i ≡ k
 same_numbers i k h = grind (arith, nat_tests)
 
 other_numbers : (i k : ℕ) → i < k → (k == i) ≡ false
 other_numbers i k h = grind (arith, nat_tests)
 
-some_one : (i j : ℕ) → Some i ≡ Some j → i ≡ j
+pub some_one : (i j : ℕ) → Some i ≡ Some j → i ≡ j
 some_one i j e = cc
 
-none_some : (i : ℕ) → None ≡ Some i → ⊥
+pub none_some : (i : ℕ) → None ≡ Some i → ⊥
 none_some i e = absurd (cc)
 
 -- a place behind the first
-later_place : (o : Option ℕ) (i : ℕ) → option_map (λ n. n + 1) o ≡ Some i → (j : ℕ) × (o ≡ Some j) × (i ≡ suc j)
+pub later_place : (o : Option ℕ) (i : ℕ) → option_map (λ n. n + 1) o ≡ Some i → (j : ℕ) × (o ≡ Some j) × (i ≡ suc j)
 later_place None i h = absurd (cc)
 later_place (Some j) i h = let e : j + 1 ≡ i = cc in (j, refl, omega (arith, e))
 
-no_later_place : (o : Option ℕ) → option_map (λ n. n + 1) o ≡ None → o ≡ None
+pub no_later_place : (o : Option ℕ) → option_map (λ n. n + 1) o ≡ None → o ≡ None
 no_later_place None h = refl
 no_later_place (Some j) h = absurd (cc)
 
@@ -84,11 +84,11 @@ rising_without k (w ∷ ws) h = elim (w.number == k) as (λ v. IsRising (cond v 
   | false ↦ (above_without w.number k ws h.0, rising_without k ws h.1)
 ]
 
-number_kept : (v : Bool) (w : Waiting) (m : Bool) → (cond v (record w { marked = m }) w).number ≡ w.number
+pub number_kept : (v : Bool) (w : Waiting) (m : Bool) → (cond v (record w { marked = m }) w).number ≡ w.number
 number_kept true w m = refl
 number_kept false w m = refl
 
-plan_kept : (v : Bool) (w : Waiting) (m : Bool) → (cond v (record w { marked = m }) w).plan ≡ w.plan
+pub plan_kept : (v : Bool) (w : Waiting) (m : Bool) → (cond v (record w { marked = m }) w).plan ≡ w.plan
 plan_kept true w m = refl
 plan_kept false w m = refl
 

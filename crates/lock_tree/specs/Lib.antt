@@ -5,3 +5,6 @@ pub mod Laws
 pub mod Views
 pub mod Ranks
 pub mod Enqueues
+pub mod Lines
+pub mod Known
+pub mod Sound

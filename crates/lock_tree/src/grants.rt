@@ -1,15 +1,14 @@
 //! What is granted.
 
-ghost use Rattle.std.specs.Prelude.{◌≡◌, max};
-ghost use Rattle.std.specs.List.{list_all};
+ghost use Rattle.std.specs.Prelude.{◌≡◌, ◌≤◌, length, drop, max};
 ghost use Rattle.modes.specs.Modes.{own, subtree};
 ghost use Rattle.coarsen.specs.Requests.{value_of};
-ghost use Rattle.lock_tree.specs.Queues.{queue, granted, has_number};
-ghost use Rattle.lock_tree.specs.Ready.{ready};
+ghost use Rattle.lock_tree.specs.Queues.{granted, has_number};
 ghost use Rattle.lock_tree.specs.Ranks.{fits_beside};
-ghost use Rattle.lock_tree.specs.Views.{all_waiting};
+ghost use Rattle.lock_tree.specs.Lines.{line, others};
+ghost use Rattle.lock_tree.specs.Known.{granted_in};
 
-use crate::entry::{Entry, mode_on, plan_of};
+use crate::queues::{Queues, line};
 use footprint::Resource;
 use modes::{Mode, compatible, join};
 
@@ -34,44 +33,58 @@ fn joined(held: Option<Mode>, mode: Mode) -> Mode
     }
 }
 
-/// Whether a transaction's request on a resource is granted: it is in the longest front of the resource's queue whose
-/// members are pairwise compatible.
-fn is_granted(entries: &[Entry], resource: &Resource, number: u64) -> bool
-    ensures { result ≡ has_number number (granted (queue resource.now (all_waiting entries.now))) }
+/// How many requests of a queue are granted.
+fn front_len(queue: &[(u64, Mode)]) -> usize
+    ensures { result ≡ length (granted queue.now) }
 {
     let mut held = None;
-    for entry in entries {
-        if let Some(mode) = mode_on(entry.plan.as_slice(), resource) {
-            if !fits(held, mode) {
-                return false;
-            }
-            if entry.number == number {
-                return true;
-            }
-            held = Some(joined(held, mode));
+    for (place, (_, mode)) in queue.iter().enumerate() {
+        if !fits(held, *mode) {
+            return place;
         }
+        held = Some(joined(held, *mode));
     }
-    false
+    queue.len()
+}
+
+/// The requests of a queue that are granted: the longest front whose members are pairwise compatible.
+pub(crate) fn front(queue: &[(u64, Mode)]) -> &[(u64, Mode)]
+    ensures { result.now ≡ granted queue.now }
+{
+    &queue[..front_len(queue)]
+}
+
+/// The requests of a queue that are granted, behind the first ones.
+pub(crate) fn granted_behind(queue: &[(u64, Mode)], first: usize) -> &[(u64, Mode)]
+    requires { first ≤ length (granted queue.now) }
+    ensures { result.now ≡ drop first (granted queue.now) }
+{
+    let granted = front(queue);
+    &granted[first..]
+}
+
+/// How many requests are of others than a transaction.
+pub(crate) fn count_others(queue: &[(u64, Mode)], number: u64) -> usize
+    ensures { result ≡ length (others number queue.now) }
+{
+    queue.iter().filter(|request| request.0 != number).count()
+}
+
+/// Whether a transaction has one of these requests.
+fn has_number(queue: &[(u64, Mode)], number: u64) -> bool
+    ensures { result ≡ has_number number queue.now }
+{
+    queue.iter().any(|request| request.0 == number)
 }
 
 /// Whether each request of a plan is granted to the transaction.
-fn are_granted(entries: &[Entry], plan: &[(Resource, Mode)], number: u64) -> bool
-    ensures { result ≡ list_all (λ e. has_number number (granted (queue e.0 (all_waiting entries.now)))) plan.now }
+pub(crate) fn are_granted(queues: &Queues, plan: &[(Resource, Mode)], number: u64) -> bool
+    ensures { result ≡ granted_in (line queues.now) number plan.now }
 {
     for (resource, _) in plan {
-        if !is_granted(entries, resource, number) {
+        if !has_number(front(line(queues, resource)), number) {
             return false;
         }
     }
     true
-}
-
-/// Whether the transaction is there and each of its requests is granted.
-pub(crate) fn is_ready(entries: &[Entry], number: u64) -> bool
-    ensures { result ≡ ready (all_waiting entries.now) number }
-{
-    match plan_of(entries, number) {
-        Some(plan) => are_granted(entries, plan, number),
-        None => false,
-    }
 }

@@ -3,7 +3,10 @@
 
 mod entry;
 mod grants;
+mod joining;
 mod laws;
+mod noting;
+mod queues;
 mod room;
 #[cfg(test)]
 mod tests;

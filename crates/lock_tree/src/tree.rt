@@ -5,8 +5,10 @@ ghost use Rattle.lock_tree.specs.Locks.{used, plan_of, without, with_mark};
 ghost use Rattle.lock_tree.specs.Ready.{ready, IsNextReady};
 ghost use Rattle.lock_tree.specs.Enqueues.{AreBelow};
 
-use crate::entry::{Entry, place_of, push};
-use crate::grants;
+use crate::entry::{Entry, place_of};
+use crate::joining::{join, make_place, make_room_for};
+use crate::noting::leave;
+use crate::queues::Queues;
 use coarsen::Plan;
 use std::alloc::Global;
 use std::marker::Model;
@@ -28,6 +30,7 @@ pub struct LockTree {
     nodes: usize,
     pub(crate) free: usize,
     entries: Vec<Entry>,
+    queues: Queues,
 }
 
 impl Model for LockTree {
@@ -42,7 +45,9 @@ impl Model for LockTree {
 
     ghost view = { λ t. record { nodes = t.nodes; waiting = all_waiting t.entries.items } };
 
-    ghost invariant = { λ t. (t.free + used (all_waiting t.entries.items) ≡ t.nodes) × IsRising (all_waiting t.entries.items) };
+    ghost use Rattle.lock_tree.specs.Sound.{IsTree};
+
+    ghost invariant = { λ t. IsTree t.nodes t.free t.entries.items t.queues };
 }
 
 impl LockTree {
@@ -55,6 +60,7 @@ impl LockTree {
             nodes,
             free: nodes,
             entries: Vec::new(alloc),
+            queues: Queues::new(alloc),
         })
     }
 
@@ -71,7 +77,9 @@ impl LockTree {
             return Err(EnqueueFault::Full);
         }
         let entry = Entry::new(self.alloc, number, plan.requests())?;
-        push(&mut self.entries, entry)?;
+        make_place(&mut self.entries)?;
+        make_room_for(self.alloc, &mut self.queues, plan.requests())?;
+        join(&mut self.queues, &mut self.entries, entry);
         self.free -= size;
         Ok(())
     }
@@ -80,7 +88,10 @@ impl LockTree {
     pub fn is_ready(&self, number: u64) -> bool
         ensures { result ≡ ready self.now.waiting number }
     {
-        grants::is_ready(self.entries.as_slice(), number)
+        match place_of(self.entries.as_slice(), number) {
+            Some(place) => self.entries[place].ready,
+            None => false,
+        }
     }
 
     /// The least number of a transaction that is ready and has no mark, `None` exactly where there is none.
@@ -97,9 +108,10 @@ impl LockTree {
 
     /// Whether a transaction is ready and not marked.
     fn is_open(&self, entry: &Entry) -> bool
+        requires { entry.now.ready ≡ ready self.now.waiting entry.now.number }
         ensures { result ≡ (not entry.now.marked && ready self.now.waiting entry.now.number) }
     {
-        !entry.marked && self.is_ready(entry.number)
+        !entry.marked && entry.ready
     }
 
     /// Marks a transaction.
@@ -134,6 +146,12 @@ impl LockTree {
         if let Some(place) = place_of(self.entries.as_slice(), number) {
             let entry = self.entries.remove(place);
             self.free += entry.plan.len();
+            leave(
+                &mut self.queues,
+                &mut self.entries,
+                entry.plan.as_slice(),
+                number,
+            );
         }
     }
 }

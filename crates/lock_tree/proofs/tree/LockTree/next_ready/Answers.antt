@@ -5,6 +5,7 @@ use Rattle.lock_tree.specs.Locks.{Locks, Waiting}
 use Rattle.lock_tree.specs.Ready.{ready}
 use Rattle.lock_tree.specs.Views.{waiting_of, all_waiting}
 use Rattle.lock_tree.proofs.Places.{at, entry_there, first_least}
+use Rattle.lock_tree.proofs.Trees.{item_flag}
 use Rattle.lock_tree.proofs.tree.LockTree.next_ready.Goals as goal
 
 both : (a b : Bool) → (a && b) ≡ true → (a ≡ true) × (b ≡ true)
@@ -40,3 +41,8 @@ returns-then-is_open c =
       λ v is_open. first_least (all_waiting (drop c.loop-entry.entry-index es)) (all_waiting (drop (suc c.loop-entry.entry-index) es)) w v
           (before es c.loop-entry.entry-index c.entry-item.result c.loop-entry-test.true c.entry-item.is) c.loop-entry.invariant.rising (c.loop-entry.invariant.left v is_open),
     )
+
+pub is_open-requires : goal.is_open-requires
+is_open-requires c =
+    item_flag c.self.inside.queues c.deref-entry-items.result.now c.self.inside.entries.items c.args.self.now.waiting c.loop-entry.entry-index c.entry-item.result c.deref-entry-items.ensures.value
+    (ap (λ (l : Locks). l.waiting) c.self.view_is) c.self.invariant.rising c.self.invariant.lines c.self.invariant.known c.loop-entry-test.true c.entry-item.is

@@ -1,17 +1,15 @@
-use Rattle.std.proofs.Common.{◌≡◌, ℕ, ◌+◌, List, Some, sym, ap, ◌∙◌, subst, arith, length}
-use Rattle.std.specs.List.{remove}
+use Rattle.std.proofs.Common.{◌≡◌, ℕ, ◌+◌, ◌==◌, false, List, [], Some, sym, ap, ◌∙◌, subst, arith, length}
+use Rattle.std.specs.List.{AllByRecursion, remove}
 use Rattle.lock_tree.specs.declared.entry.Entry.{Entry}
-use Rattle.lock_tree.specs.Locks.{Locks, Waiting, used, without, IsRising}
+use Rattle.lock_tree.specs.Locks.{Locks, Waiting, used, plan_of, without, IsRising}
 use Rattle.lock_tree.specs.Ranks.{place_of}
 use Rattle.lock_tree.specs.Views.{all_waiting}
-use Rattle.lock_tree.proofs.Places.{at, place_within, removed_at, no_without, used_at, rising_without}
+use Rattle.lock_tree.specs.Lines.{line, others}
+use Rattle.lock_tree.specs.Known.{AreKnown}
+use Rattle.lock_tree.specs.Queues.{mode_on}
+use Rattle.lock_tree.proofs.Places.{at, plan_at, removed_at, no_without, used_at, rising_without}
+use Rattle.lock_tree.proofs.Trees.{queue_elsewhere, others_without, known_removed, left_tree}
 use Rattle.lock_tree.proofs.tree.LockTree.release.Goals as goal
-
-pub remove-entry-requires : goal.remove-entry-requires
-remove-entry-requires c =
-    let l = place_within c.args.number c.as_slice.result.now c.in-Some.place (sym c.place_of.ensures ∙ c.in-Some.is) in
-    let n = c.as_slice.ensures.len in
-    omega (arith, l, n)
 
 -- the entries without the one that is released
 left : (k i : ℕ) (es seen new : List Entry) → seen ≡ es → IsRising (all_waiting es) → place_of k (all_waiting seen) ≡ Some i → new ≡ remove es i
@@ -26,31 +24,57 @@ freed k i es seen d same r h is =
     let p : length d.plan.items ≡ length (at es i d).plan.items = ap (λ (x : Entry). length x.plan.items) is in
     omega (arith, u, p)
 
+plan_taken : (k i : ℕ) (es seen : List Entry) (d : Entry) → seen ≡ es → place_of k (all_waiting seen) ≡ Some i → d ≡ at es i d → plan_of (all_waiting es) k ≡ Some d.plan.items
+plan_taken k i es seen d same h is =
+    plan_at k es i d (ap (λ (xs : List Entry). place_of k (all_waiting xs)) (sym same) ∙ h) ∙ ap (λ (x : Entry). Some x.plan.items) (sym is)
+
 pub overflow_add-self : goal.overflow_add-self
 overflow_add-self c =
-    let u = freed c.args.number c.in-Some.place c.self.inside.entries.items c.as_slice.result.now c.remove-entry.result c.as_slice.ensures.value c.self.invariant.1 (sym c.place_of.ensures ∙ c.in-Some.is) c.remove-entry.ensures.value in
+    let u = freed c.args.number c.in-Some.place c.self.inside.entries.items c.as_slice.result.now c.remove-entry.result c.as_slice.ensures.value c.self.invariant.rising (sym c.in-Some.ensures.exact) c.remove-entry.ensures.value in
     let n : c.len.result ≡ length c.remove-entry.result.plan.items = c.len.ensures ∙ c.remove-entry.result.plan.ok.0 in
-    let all = c.self.invariant.0 in
+    let all = c.self.invariant.room in
     omega (arith, u, n, all, c.self.ranges)
+
+pub leave-requires-clause-rising : goal.leave-requires-clause-rising
+leave-requires-clause-rising c =
+    let same = left c.args.number c.in-Some.place c.self.inside.entries.items c.as_slice.result.now c.remove-entry.new.self.items c.as_slice.ensures.value c.self.invariant.rising (sym c.in-Some.ensures.exact) c.remove-entry.ensures.items in
+    subst IsRising (sym same) (rising_without c.args.number (all_waiting c.self.inside.entries.items) c.self.invariant.rising)
+
+pub leave-requires-clause-others : goal.leave-requires-clause-others
+leave-requires-clause-others c =
+    let same = left c.args.number c.in-Some.place c.self.inside.entries.items c.as_slice.result.now c.remove-entry.new.self.items c.as_slice.ensures.value c.self.invariant.rising (sym c.in-Some.ensures.exact) c.remove-entry.ensures.items in
+    subst (AllByRecursion (λ (w : Waiting). (w.number == c.args.number) ≡ false)) (sym same) (others_without c.args.number (all_waiting c.self.inside.entries.items))
+
+pub leave-requires-clause-known : goal.leave-requires-clause-known
+leave-requires-clause-known c =
+    subst (AreKnown (line c.self.inside.queues) []) (sym c.remove-entry.ensures.items) (known_removed (line c.self.inside.queues) c.self.inside.entries.items c.in-Some.place c.self.invariant.known)
+
+pub leave-requires-clause-elsewhere : goal.leave-requires-clause-elsewhere
+leave-requires-clause-elsewhere c = λ other none.
+    let k = c.args.number in
+    let ws = all_waiting c.self.inside.entries.items in
+    let plan = plan_taken k c.in-Some.place c.self.inside.entries.items c.as_slice.result.now c.remove-entry.result c.as_slice.ensures.value (sym c.in-Some.ensures.exact) c.remove-entry.ensures.value in
+    ap (others k) (c.self.invariant.lines other)
+    ∙ queue_elsewhere other k ws c.remove-entry.result.plan.items c.self.invariant.rising plan (ap (mode_on other) (sym c.as_slice-in-Some.ensures.value) ∙ none)
+    ∙ sym (c.self.invariant.lines other)
 
 pub invariant_of-self : goal.invariant_of-self
 invariant_of-self c =
-    let u = freed c.args.number c.in-Some.place c.self.inside.entries.items c.as_slice.result.now c.remove-entry.result c.as_slice.ensures.value c.self.invariant.1 (sym c.place_of.ensures ∙ c.in-Some.is) c.remove-entry.ensures.value in
-    let same = left c.args.number c.in-Some.place c.self.inside.entries.items c.as_slice.result.now c.remove-entry.new.self.items c.as_slice.ensures.value c.self.invariant.1 (sym c.place_of.ensures ∙ c.in-Some.is) c.remove-entry.ensures.items in
-    let e : used (all_waiting c.remove-entry.new.self.items) ≡ used (without c.args.number (all_waiting c.self.inside.entries.items)) = ap used same in
+    let same = left c.args.number c.in-Some.place c.self.inside.entries.items c.as_slice.result.now c.remove-entry.new.self.items c.as_slice.ensures.value c.self.invariant.rising (sym c.in-Some.ensures.exact) c.remove-entry.ensures.items in
+    let u = freed c.args.number c.in-Some.place c.self.inside.entries.items c.as_slice.result.now c.remove-entry.result c.as_slice.ensures.value c.self.invariant.rising (sym c.in-Some.ensures.exact) c.remove-entry.ensures.value in
     let n : c.len.result ≡ length c.remove-entry.result.plan.items = c.len.ensures ∙ c.remove-entry.result.plan.ok.0 in
-    let all = c.self.invariant.0 in
-    (omega (arith, u, e, n, all), subst IsRising (sym same) (rising_without c.args.number (all_waiting c.self.inside.entries.items) c.self.invariant.1))
+    left_tree c.self.inside.nodes c.self.inside.free c.len.result c.args.number c.self.inside.entries.items c.leave.new.entries.items c.self.inside.queues c.leave.new.queues c.self.invariant
+    (omega (arith, u, n)) (c.leave.ensures.same ∙ same) c.leave.ensures.left c.leave.ensures.known
 
 pub returns-in-Some : goal.returns-in-Some
 returns-in-Some c =
     ap (λ (ws : List Waiting). record { nodes = c.self.inside.nodes; waiting = ws })
-    (left c.args.number c.in-Some.place c.self.inside.entries.items c.as_slice.result.now c.remove-entry.new.self.items c.as_slice.ensures.value c.self.invariant.1 (sym c.place_of.ensures ∙ c.in-Some.is) c.remove-entry.ensures.items)
+    (c.leave.ensures.same ∙ left c.args.number c.in-Some.place c.self.inside.entries.items c.as_slice.result.now c.remove-entry.new.self.items c.as_slice.ensures.value c.self.invariant.rising (sym c.in-Some.ensures.exact) c.remove-entry.ensures.items)
     ∙ ap (λ (l : Locks). record { nodes = l.nodes; waiting = without c.args.number l.waiting }) c.self.view_is
 
 pub returns-in_default : goal.returns-in_default
 returns-in_default c =
     sym c.self.view_is
     ∙ ap (λ (ws : List Waiting). record { nodes = c.self.inside.nodes; waiting = ws })
-    (sym (no_without c.args.number (all_waiting c.self.inside.entries.items) (ap (λ (xs : List Entry). place_of c.args.number (all_waiting xs)) (sym c.as_slice.ensures.value) ∙ sym c.place_of.ensures ∙ c.in_default.is)))
+    (sym (no_without c.args.number (all_waiting c.self.inside.entries.items) (ap (λ (xs : List Entry). place_of c.args.number (all_waiting xs)) (sym c.as_slice.ensures.value) ∙ sym c.place_of.ensures.exact ∙ c.in_default.is)))
     ∙ ap (λ (l : Locks). record { nodes = l.nodes; waiting = without c.args.number l.waiting }) c.self.view_is

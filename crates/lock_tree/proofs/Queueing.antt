@@ -1,0 +1,130 @@
+-- What one more transaction at the end of its queues changes.
+use Rattle.std.proofs.Common.{◌≡◌, ℕ, ◌<◌, ◌==◌, inl, Bool, true, false, cond, ◌&&◌, ◌||◌, List, [], ◌∷◌, ◌++◌, Option, None, Some, refl, sym, ◌∙◌, ap, subst, arith, Less}
+use Rattle.std.specs.List.{list_all, AllByRecursion}
+use Rattle.std.specs.Map.{keys_of}
+use Rattle.std.specs.List.Sorted.{IsStrictlySortedBy}
+use Rattle.std.specs.Ordering.{is_eq, ordering_reverse}
+use Rattle.std.proofs.lemmas.Bool.Decides.{nat_tests}
+use Rattle.footprint.specs.declared.resource.Resource.{Resource}
+use Rattle.footprint.specs.Tree.{resource_cmp}
+use Rattle.modes.specs.declared.mode.Mode.{Mode}
+use Rattle.modes.specs.Modes.{are_compatible}
+use Rattle.coarsen.specs.Subtrees.{Requests}
+use Rattle.lock_tree.specs.declared.entry.Entry.{Entry}
+use Rattle.lock_tree.specs.Queues.{Queue, mode_on, asks, granted_beside, granted, has_number}
+use Rattle.lock_tree.specs.Enqueues.{AreBelow}
+use Rattle.lock_tree.specs.Lines.{Lines, HasRoom, is_same}
+use Rattle.lock_tree.specs.Known.{granted_in, Knows, AreKnown}
+use Rattle.lock_tree.specs.Views.{all_waiting}
+use Rattle.lock_tree.proofs.Lines.{same_resource, resources_total}
+
+-- ---- the resources of a plan stand once each
+
+other_later : (r x : Resource) → resource_cmp r x ≡ Less → is_same x r ≡ false
+other_later r x h = ap is_eq (resources_total.antisymm x r ∙ ap ordering_reverse h)
+
+-- none of the later ones is the first
+none_later : (r other : Resource) (plan : Requests) → is_same other r ≡ true → AllByRecursion (λ x. resource_cmp r x ≡ Less) (keys_of plan) → mode_on other plan ≡ None
+none_later r other [] same later = refl
+none_later r other (e ∷ plan) same later =
+    let at : other ≡ r = same_resource other r same in
+    let turned : is_same other e.0 ≡ false = ap (λ x. is_same x e.0) at ∙ ap is_eq later.0 in
+    ap (λ v. cond v (Some e.1) (mode_on other plan)) turned ∙ none_later r other plan same later.1
+
+nothing_behind : (q : Queue) → q ++ [] ≡ q
+nothing_behind [] = refl
+nothing_behind (x ∷ q) = ap (λ xs. x ∷ xs) (nothing_behind q)
+
+one_joined : (number : ℕ) (mode : Mode) (v : Bool) (now new target : Queue) (found : Option Mode) → new ≡ cond v (now ++ (number, mode) ∷ []) now
+    → (v ≡ true → found ≡ None) → now ++ asks number (cond v (Some mode) found) [] ≡ target → new ++ asks number found [] ≡ target
+one_joined number mode true now new target found is none before =
+    ap (λ o. new ++ asks number o []) (none refl) ∙ nothing_behind new ∙ is ∙ before
+one_joined number mode false now new target found is none before = ap (λ xs. xs ++ asks number found []) is ∙ before
+
+sorted_first : (e : Resource × Mode) (plan : Requests) → IsStrictlySortedBy resource_cmp (keys_of (e ∷ plan)) → AllByRecursion (λ x. resource_cmp e.0 x ≡ Less) (keys_of plan)
+unfolding IsStrictlySortedBy
+sorted_first e plan h = h.0
+
+sorted_rest : (e : Resource × Mode) (plan : Requests) → IsStrictlySortedBy resource_cmp (keys_of (e ∷ plan)) → IsStrictlySortedBy resource_cmp (keys_of plan)
+unfolding IsStrictlySortedBy
+sorted_rest e plan h = h.1
+
+-- a request joined, and the others are still to join
+pub more_joined : (number : ℕ) (other : Resource) (e : Resource × Mode) (this rest : Requests) (now new target : Queue) → this ≡ e ∷ rest → IsStrictlySortedBy resource_cmp (keys_of this)
+    → new ≡ cond (is_same other e.0) (now ++ (number, e.1) ∷ []) now → now ++ asks number (mode_on other this) [] ≡ target → new ++ asks number (mode_on other rest) [] ≡ target
+more_joined number other e this rest now new target front sorted is before =
+    let later = sorted_first e rest (subst (λ (p : Requests). IsStrictlySortedBy resource_cmp (keys_of p)) front sorted) in
+    one_joined number e.1 (is_same other e.0) now new target (mode_on other rest) is (λ same. none_later e.0 other rest same later)
+    (sym (ap (λ (p : Requests). now ++ asks number (mode_on other p) []) front) ∙ before)
+
+pub still_apart : (e : Resource × Mode) (this rest : Requests) → this ≡ e ∷ rest → IsStrictlySortedBy resource_cmp (keys_of this) → IsStrictlySortedBy resource_cmp (keys_of rest)
+still_apart e this rest front sorted = sorted_rest e rest (subst (λ (p : Requests). IsStrictlySortedBy resource_cmp (keys_of p)) front sorted)
+
+abbrev Rooms : Lines → Requests → Type 0
+Rooms lines plan = AllByRecursion (λ request. HasRoom lines request.0) plan
+
+rooms_kept : (r : Resource) (now new : Lines) (plan : Requests) → AllByRecursion (λ x. resource_cmp r x ≡ Less) (keys_of plan)
+    → ((other : Resource) → is_same other r ≡ false → HasRoom now other → HasRoom new other) → Rooms now plan → Rooms new plan
+rooms_kept r now new [] later kept rooms = tt
+rooms_kept r now new (e ∷ plan) later kept rooms = (kept e.0 (other_later r e.0 later.0) rooms.0, rooms_kept r now new plan later.1 kept rooms.1)
+
+pub still_room : (e : Resource × Mode) (this rest : Requests) (now new : Lines) → this ≡ e ∷ rest → IsStrictlySortedBy resource_cmp (keys_of this)
+    → ((other : Resource) → is_same other e.0 ≡ false → HasRoom now other → HasRoom new other) → Rooms now this → Rooms new rest
+still_room e this rest now new front sorted kept rooms =
+    let later = sorted_first e rest (subst (λ (p : Requests). IsStrictlySortedBy resource_cmp (keys_of p)) front sorted) in
+    rooms_kept e.0 now new rest later kept (subst (Rooms now) front rooms).1
+
+-- ---- nothing changes for those before
+
+granted_before : (held : List Mode) (n k : ℕ) (mode : Mode) (q : Queue) → (k == n) ≡ false → has_number n (granted_beside held (q ++ (k, mode) ∷ [])) ≡ has_number n (granted_beside held q)
+granted_before held n k mode [] other = elim (list_all (λ h. are_compatible h mode) held) as (λ v. has_number n (cond v ((k, mode) ∷ []) []) ≡ false) [
+  | true ↦ ap (λ v. v || false) other
+  | false ↦ refl
+]
+granted_before held n k mode (x ∷ q) other = elim (list_all (λ h. are_compatible h x.1) held) as (λ v. has_number n (cond v (x ∷ granted_beside (x.1 ∷ held) (q ++ (k, mode) ∷ [])) []) ≡ has_number n (cond v (x ∷ granted_beside (x.1 ∷ held) q) [])) [
+  | true ↦ ap (λ v. (x.0 == n) || v) (granted_before (x.1 ∷ held) n k mode q other)
+  | false ↦ refl
+]
+
+asked_before : (n k : ℕ) (o : Option Mode) (q : Queue) → (k == n) ≡ false → has_number n (granted (q ++ asks k o [])) ≡ has_number n (granted q)
+asked_before n k None q other = ap (λ xs. has_number n (granted xs)) (nothing_behind q)
+asked_before n k (Some mode) q other = granted_before [] n k mode q other
+
+later_other : (n k : ℕ) → n < k → (k == n) ≡ false
+later_other n k h = grind (arith, nat_tests)
+
+module _ (k : ℕ) (old new : Resource → Queue) (modes : Resource → Option Mode) (joined : (x : Resource) → new x ≡ old x ++ asks k (modes x) []) where
+  plan_before : (n : ℕ) → (k == n) ≡ false → (plan : Requests) → granted_in new n plan ≡ granted_in old n plan
+  plan_before n other [] = refl
+  plan_before n other (e ∷ plan) =
+      ap (λ xs. has_number n (granted xs) && granted_in new n plan) (joined e.0)
+      ∙ ap (λ v. v && granted_in new n plan) (asked_before n k (modes e.0) (old e.0) other)
+      ∙ ap (λ v. has_number n (granted (old e.0)) && v) (plan_before n other plan)
+
+  pub known_before : (es : List Entry) → AreBelow k (all_waiting es) → AreKnown old [] es → AreKnown new [] es
+  known_before [] below known = tt
+  known_before (e ∷ es) below known =
+      let same = plan_before e.number (later_other e.number k below.0) e.plan.items in (
+        record { sound = λ h. same ∙ known.0.sound h; complete = λ g. known.0.complete (sym same ∙ g) },
+        known_before es below.1 known.1,
+      )
+
+pub knows_exactly : (queues : Resource → Queue) (e : Entry) → e.ready ≡ granted_in queues e.number e.plan.items → Knows queues [] e
+knows_exactly queues e is = record { sound = λ h. sym is ∙ h; complete = λ g. inl (is ∙ g) }
+
+pub known_and : (queues : Resource → Queue) (es : List Entry) (e : Entry) → AreKnown queues [] es → Knows queues [] e → AreKnown queues [] (es ++ e ∷ [])
+known_and queues [] e known one = (one, tt)
+known_and queues (f ∷ es) e known one = (known.0, known_and queues es e known.1 one)
+
+rooms_and : (lines : Lines) (plan : Requests) (e : Resource × Mode) → Rooms lines plan → HasRoom lines e.0 → Rooms lines (plan ++ e ∷ [])
+rooms_and lines [] e rooms room = (room, tt)
+rooms_and lines (x ∷ plan) e rooms room = (rooms.0, rooms_and lines plan e rooms.1 room)
+
+rooms_stay : (old new : Lines) (plan : Requests) → ((other : Resource) → HasRoom old other → HasRoom new other) → Rooms old plan → Rooms new plan
+rooms_stay old new [] kept rooms = tt
+rooms_stay old new (e ∷ plan) kept rooms = (kept e.0 rooms.0, rooms_stay old new plan kept rooms.1)
+
+-- room for one request more
+pub more_rooms : (old new : Lines) (before now : Requests) (e : Resource × Mode) → now ≡ before ++ e ∷ [] → ((other : Resource) → HasRoom old other → HasRoom new other)
+    → Rooms old before → HasRoom new e.0 → Rooms new now
+more_rooms old new before now e is kept rooms room = subst (Rooms new) (sym is) (rooms_and new before e (rooms_stay old new before kept rooms) room)
