@@ -19,7 +19,7 @@ use Rattle.batch_log.specs.declared.fault.LogFault.{LogFault}
 use Rattle.batch_log.specs.Lines.{Lines}
 use Rattle.batch_log.specs.Log.{batches_of, first_fault, log_said, IsEnd, IsFault, IsNextBatch}
 use Rattle.report_text.specs.Texts.{digest, end_line, row_text}
-use Rattle.report_text.specs.Report.{batch_text, batch_texts, end_text, entries_of, next_batch, reply_lines, report}
+use Rattle.report_text.specs.Report.{batch_text, batch_texts, end_text, all_entries, next_batch, reply_lines, report}
 use Rattle.calvin.specs.Reports.{batches_in, fault_in, report_of}
 
 -- ---- entries one by one, in two parts
@@ -53,7 +53,7 @@ reply_lines-append n (x ∷ xs) ys = rw (reply_lines-append (n + 1) xs ys, more 
 
 -- after these entries, of the rest of a log
 abbrev pub to_write : List TableShape → Database → ℕ → List EntryShape → List (List EntryShape) → Option LogFault → List ℕ
-to_write tables db b es batches fault = batch_texts tables b (length es) (serial_end es db) batches ++ end_text (is_some fault) tables db (es ++ entries_of batches)
+to_write tables db b es batches fault = batch_texts tables b (length es) (serial_end es db) batches ++ end_text (is_some fault) tables db (es ++ all_entries batches)
 
 abbrev pub batches : Lines → List (List EntryShape)
 batches lines = map (map prepared) (batches_of lines)
@@ -62,7 +62,7 @@ batches lines = map (map prepared) (batches_of lines)
 pub record Gone (procs : ProcsParts) (db : Database) (b m total : ℕ) (es : List EntryShape) (front input rest : List ℕ) : Type 0 where
   pub text : report_of procs db input ≡ front ++ to_write procs.tables db b es (batches (log_said procs.procs m total rest)) (first_fault (log_said procs.procs m total rest))
   pub fault : fault_in procs input ≡ first_fault (log_said procs.procs m total rest)
-  pub ran : entries_of (batches_in procs input) ≡ es ++ entries_of (batches (log_said procs.procs m total rest))
+  pub ran : all_entries (batches_in procs input) ≡ es ++ all_entries (batches (log_said procs.procs m total rest))
 
 -- the state of a run: the entries so far, and what they gave
 pub record SoFar (procs : ProcsParts) (db : Database) (b m total number : ℕ) (rows : Database) (said : Sha256) (left now taken gave : Option (List ℕ)) : Type 0 where
@@ -92,7 +92,7 @@ Gone-next procs db b m total next total2 es calls front input mid rest g h = rec
       ∙ to_write-more procs.tables db b es (map prepared calls) (batches (log_said procs.procs next total2 rest)) (first_fault (log_said procs.procs next total2 rest)))
       ∙ sym (append_assoc front _ _);
   fault = g.fault ∙ h.fault;
-  ran = g.ran ∙ ap (λ (bs : List (List Call)). es ++ entries_of (map (map prepared) bs)) h.batches ∙ sym (append_assoc es (map prepared calls) _);
+  ran = g.ran ∙ ap (λ (bs : List (List Call)). es ++ all_entries (map (map prepared) bs)) h.batches ∙ sym (append_assoc es (map prepared calls) _);
 }
 
 -- ---- what a run knows of its input
@@ -201,12 +201,12 @@ SoFar-front_in_end procs db b m total number rows tables said left now after tak
 pub SoFar-sound : (procs : ProcsParts) (db : Database) (b m total number : ℕ) (rows : Database) (said : Sha256) (left now after taken gave : Option (List ℕ)) →
     SoFar procs db b m total number rows said left now taken gave →
     Passes (λ xs ys. IsEnd (log_said procs.procs m total xs) × (ys ≡ [])) now after →
-    IfSome left (λ input. fault_in procs input ≡ None) × IfSome left (λ input. number ≡ length (entries_of (batches_in procs input)))
+    IfSome left (λ input. fault_in procs input ≡ None) × IfSome left (λ input. number ≡ length (all_entries (batches_in procs input)))
 SoFar-sound procs db b m total number rows said left now after taken gave s p =
-    let joined : Passes (λ x y. (fault_in procs x ≡ None) × (entries_of (batches_in procs x) ≡ s.es)) left after =
+    let joined : Passes (λ x y. (fault_in procs x ≡ None) × (all_entries (batches_in procs x) ≡ s.es)) left after =
     Passes-trans _ _ _ _ _ _ s.gone p (λ x y z g h. (
       g.fault ∙ h.0.fault,
-      g.ran ∙ ap (λ (bs : List (List Call)). s.es ++ entries_of (map (map prepared) bs)) h.0.batches ∙ append-nil s.es,
+      g.ran ∙ ap (λ (bs : List (List Call)). s.es ++ all_entries (map (map prepared) bs)) h.0.batches ∙ append-nil s.es,
     )) in (
       Passes-first _ _ left after joined (λ x y g. g.0),
       Passes-first _ _ left after joined (λ x y g. s.number_is ∙ ap length (sym g.1)),

@@ -6,6 +6,7 @@ use Rattle.sequencer.specs.Entries.{prepared}
 use Rattle.batch_log.specs.declared.fault.LogFault.{LogFault}
 use Rattle.batch_log.specs.Lines.{Lines}
 use Rattle.batch_log.specs.Log.{batches_of, first_fault, log_said}
+use Rattle.meaning.specs.Entries.{EntryShape}
 use Rattle.report_text.specs.Report as texts
 
 -- what a whole log says to these procedures
@@ -13,7 +14,7 @@ abbrev pub whole_log : ProcsParts → List ℕ → Lines
 whole_log procs log = log_said procs.procs 0 0 log
 
 -- the entries of the batches that are whole before a log's first fault
-abbrev pub batches_in : ProcsParts → List ℕ → List texts.Batch
+abbrev pub batches_in : ProcsParts → List ℕ → List (List EntryShape)
 batches_in procs log = map (map prepared) (batches_of (whole_log procs log))
 
 -- the first fault of a log

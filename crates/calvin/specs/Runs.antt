@@ -4,7 +4,7 @@ use Rattle.std.specs.Io.KnownBytes.{Appends}
 use Rattle.devices.specs.Devices.{AppendsFront}
 use Rattle.values.specs.Database.{Database}
 use Rattle.proclang.specs.ProcLists.{ProcsParts}
-use Rattle.report_text.specs.Report.{entries_of}
+use Rattle.report_text.specs.Report.{all_entries}
 use Rattle.calvin.specs.declared.run_fault.RunFault.{RunFault}
 use Rattle.calvin.specs.Reports.{batches_in, fault_in, report_of}
 use Rattle.calvin.specs.Stops.{ends_in_io, IfOfLine, IfOfMachine, IsLineOf}
@@ -18,7 +18,7 @@ pub record Device : Type 0 where
 -- it ended.
 pub record IsRunOfLog (procs : ProcsParts) (db : Database) (source spent sink filled : Device) (result : Result ℕ RunFault) : Type 0 where
   -- Where it ended well, the log has no fault, all of it was read, its report was written, and the transactions were counted.
-  pub count : IfOk result (λ n. IfSome source.bytes (λ log. n ≡ length (entries_of (batches_in procs log))))
+  pub count : IfOk result (λ n. IfSome source.bytes (λ log. n ≡ length (all_entries (batches_in procs log))))
   pub sound : OnOk result (IfSome source.bytes (λ log. fault_in procs log ≡ None))
   pub read : OnOk result (IfSome source.bytes (λ log. spent.bytes ≡ Some []))
   pub ok : OnOk result (IfSome source.bytes (λ log. Appends sink.bytes filled.bytes (report_of procs db log)))

@@ -11,7 +11,7 @@ ghost use Rattle.row_store.specs.Stock.{with_rows};
 ghost use Rattle.sequencer.specs.Batches.{items_of};
 ghost use Rattle.sequencer.specs.Entries.{prepared};
 ghost use Rattle.report_text.specs.Texts.{digest, end_line, row_text};
-ghost use Rattle.report_text.specs.Report.{batch_text, next_batch, reply_lines, entries_of};
+ghost use Rattle.report_text.specs.Report.{batch_text, next_batch, reply_lines, all_entries};
 ghost use Rattle.batch_log.specs.Reader.{calls_read, fault_of, position_of, source_name, source_of, unread};
 ghost use Rattle.calvin.specs.Engines.{tables_of, procs_of, rows_of, next_of, is_busy};
 ghost use Rattle.calvin.specs.Executions.{AreOver, IsRefusal, IsRunOf, KeepsSetting};
@@ -246,7 +246,7 @@ pub fn run_text<G: Gate, S: Source, K: Sink>(
     sink: &mut K,
 ) -> Result<u64, RunFault>
     // `Ok`: the log has no fault, all of it was read, and its report was written.
-    ensures count { IfOk result (λ n. IfSome (S.left source.old) (λ log. n ≡ length (entries_of (batches_in setup.procs log)))) }
+    ensures count { IfOk result (λ n. IfSome (S.left source.old) (λ log. n ≡ length (all_entries (batches_in setup.procs log)))) }
     ensures sound { OnOk result (IfSome (S.left source.old) (λ log. fault_in setup.procs log ≡ None)) }
     ensures read { OnOk result (IfSome (S.left source.old) (λ _. S.left source.new ≡ Some [])) }
     ensures ok { OnOk result (IfSome (S.left source.old) (λ log. Appends (K.taken sink.old) (K.taken sink.new) (report_of setup.procs (with_rows map_of.empty setup.rows.items) log))) }

@@ -1,5 +1,5 @@
 -- The lines of plans. Words are separated by one space, and each line ends with a newline byte.
-use Rattle.std.specs.Prelude.{ℕ, List, [], ◌∷◌, ◌++◌, codes, option_map, unwrap_or, slice_get}
+use Rattle.std.specs.Prelude.{ℕ, List, [], ◌∷◌, ◌++◌, codes}
 use Rattle.std.specs.Fmt.{decimal}
 use Rattle.values.specs.Shapes.{TableShape}
 use Rattle.footprint.specs.declared.resource.InPart.{InPart}
@@ -8,6 +8,7 @@ use Rattle.footprint.specs.declared.resource.InTable.{InTable}
 use Rattle.footprint.specs.declared.resource.InTable.TheVariants.{WholeTable, Part}
 use Rattle.footprint.specs.declared.resource.Resource.{Resource}
 use Rattle.footprint.specs.declared.resource.Resource.TheVariants.{Db, Table}
+use Rattle.report_text.specs.Texts.{table_name}
 use Rattle.modes.specs.declared.mode.Mode.{Mode}
 use Rattle.modes.specs.declared.mode.Mode.TheVariants.{IntentionShared, IntentionExclusive, Shared, SharedIntentionExclusive, Exclusive}
 
@@ -18,9 +19,6 @@ mode_word IntentionExclusive = codes "IX"
 mode_word Shared = codes "S"
 mode_word SharedIntentionExclusive = codes "SIX"
 mode_word Exclusive = codes "X"
-
-abbrev pub table_name : List TableShape → ℕ → List ℕ
-table_name tables table = unwrap_or (option_map (λ t. t.name) (slice_get tables table)) []
 
 -- db, acct, acct/0, acct/0/2: the database, a table, a partition, a row by its key
 unfoldable pub in_part_text : InPart → List ℕ

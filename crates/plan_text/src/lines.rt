@@ -1,13 +1,14 @@
 //! Lines of requests.
 
 ghost use Rattle.std.specs.Prelude.{◌≡◌, ◌++◌, OnOk, string_bytes};
-ghost use Rattle.plan_text.specs.Texts.{in_part_text, in_table_text, mode_word, plan_lines, request_line, request_lines, resource_text, table_name};
+ghost use Rattle.plan_text.specs.Texts.{in_part_text, in_table_text, mode_word, plan_lines, request_line, request_lines, resource_text};
 
 use coarsen::Plan;
 use footprint::{InPart, InTable, Resource};
 use modes::Mode;
+use report_text::push_table_name;
 use std::alloc::AllocError;
-use values::{Catalogue, TableNo};
+use values::Catalogue;
 
 #[tactic(auto, unfolding(crate::specs::Texts::mode_word))]
 fn mode_word(mode: Mode) -> &'static str
@@ -19,21 +20,6 @@ fn mode_word(mode: Mode) -> &'static str
         Mode::Shared => "S",
         Mode::SharedIntentionExclusive => "SIX",
         Mode::Exclusive => "X",
-    }
-}
-
-/// Appends a table's name; nothing for a table that the catalogue doesn't have.
-fn push_table_name(
-    text: &mut String,
-    catalogue: &Catalogue,
-    table: TableNo,
-) -> Result<(), AllocError>
-    ensures { OnOk result (string_bytes text.new ≡ string_bytes text.old ++ table_name catalogue.now table) }
-{
-    if table.place() < catalogue.len() {
-        text.push_str(catalogue.table_name(table))
-    } else {
-        Ok(())
     }
 }
 

@@ -11,14 +11,10 @@ abbrev pub reply_lines : ℕ → List Reply → List ℕ
 reply_lines number [] = []
 reply_lines number (reply ∷ replies) = reply_line number reply ++ reply_lines (number + 1) replies
 
--- what a batch is that is ready to run: its entries
-abbrev pub Batch : Type 0
-Batch = List EntryShape
-
 -- the entries of all batches, in log order
-abbrev pub entries_of : List Batch → Batch
-entries_of [] = []
-entries_of (batch ∷ batches) = batch ++ entries_of batches
+abbrev pub all_entries : List (List EntryShape) → List EntryShape
+all_entries [] = []
+all_entries (batch ∷ batches) = batch ++ all_entries batches
 
 -- the number of the next batch; it stops rising at 2^64 - 1
 abbrev pub next_batch : ℕ → ℕ
@@ -26,22 +22,22 @@ next_batch batch = min (batch + 1) (2 ^ 64 - 1)
 
 -- the text of a batch that runs on a database: its reply lines, and its batch line with the digests of the rows after it
 -- and of those lines
-unfoldable pub batch_text : List TableShape → ℕ → ℕ → Database → Batch → List ℕ
+unfoldable pub batch_text : List TableShape → ℕ → ℕ → Database → List EntryShape → List ℕ
 batch_text tables batch number db entries =
     reply_lines number (serial_replies entries db)
     ++ batch_line batch (digest (row_text tables (serial_end entries db))) (digest (reply_lines number (serial_replies entries db)))
 
 -- the texts of batches, each from the database that the one before it left
-abbrev pub batch_texts : List TableShape → ℕ → ℕ → Database → List Batch → List ℕ
+abbrev pub batch_texts : List TableShape → ℕ → ℕ → Database → List (List EntryShape) → List ℕ
 batch_texts tables batch number db [] = []
 batch_texts tables batch number db (entries ∷ rest) =
     batch_text tables batch number db entries ++ batch_texts tables (next_batch batch) (number + length entries) (serial_end entries db) rest
 
 -- the end line over all transactions at once; nothing after a fault
-abbrev pub end_text : Bool → List TableShape → Database → Batch → List ℕ
+abbrev pub end_text : Bool → List TableShape → Database → List EntryShape → List ℕ
 end_text true tables db entries = []
 end_text false tables db entries = end_line (length entries) (digest (row_text tables (serial_end entries db))) (digest (reply_lines 0 (serial_replies entries db)))
 
 -- the report of batches on starting rows, where the input ended with a fault or without one
-unfoldable pub report : List TableShape → Database → List Batch → Bool → List ℕ
-report tables db batches faulty = batch_texts tables 1 0 db batches ++ end_text faulty tables db (entries_of batches)
+unfoldable pub report : List TableShape → Database → List (List EntryShape) → Bool → List ℕ
+report tables db batches faulty = batch_texts tables 1 0 db batches ++ end_text faulty tables db (all_entries batches)

@@ -20,7 +20,7 @@ pub fn digest_text(alloc: Global, text: &[u8]) -> Result<String, AllocError>
 }
 
 /// Appends a table's name; nothing for a table that the catalogue doesn't have.
-fn push_table_name(
+pub fn push_table_name(
     text: &mut String,
     catalogue: &Catalogue,
     table: TableNo,

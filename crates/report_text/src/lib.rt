@@ -8,7 +8,7 @@ mod lines;
 mod tests;
 mod values_text;
 
-pub use digest::{digest_of, digest_text, row_line};
+pub use digest::{digest_of, digest_text, push_table_name, row_line};
 pub use laws::every_row_has_its_line;
 pub use lines::{push_batch_line, push_end_line, push_reply_line};
 pub use values_text::push_value;

@@ -1,7 +1,8 @@
 //! Lines of reports and their digests.
 
 use crate::{
-    digest_of, digest_text, push_batch_line, push_end_line, push_reply_line, push_value, row_line,
+    digest_of, digest_text, push_batch_line, push_end_line, push_reply_line, push_table_name,
+    push_value, row_line,
 };
 use footprint::AbortCode;
 use meaning::Outcome;
@@ -125,6 +126,19 @@ fn digest_of_reply_lines(rt: HostRuntime) -> Result<(), Fail> {
     }
     assert_eq!(rt; digest_of(alloc, hasher)?.as_str(), REPLIES);
     assert_eq!(rt; digest_of(alloc, Sha256::new())?.as_str(), EMPTY);
+    Ok(())
+}
+
+#[test]
+fn table_names(rt: HostRuntime) -> Result<(), Fail> {
+    let alloc = rt.alloc();
+    let catalogue = bank(alloc)?;
+    let mut text = String::new(alloc);
+    for place in [1, 0, 2] {
+        push_table_name(&mut text, &catalogue, TableNo::new(place))?;
+        text.push_str(";")?;
+    }
+    assert_eq!(rt; text.as_str(), "ref;acct;;");
     Ok(())
 }
 

@@ -70,16 +70,16 @@ fn keys_alternate_between_partitions(rt: HostRuntime) -> Result<(), Fail> {
 }
 
 #[test]
-fn many_rows(rt: HostRuntime) -> Result<(), Fail> {
+fn ten_thousand_rows(rt: HostRuntime) -> Result<(), Fail> {
     let alloc = rt.alloc();
     let mut rows = Vec::new(alloc);
-    for place in 0..1_000u32 {
+    for place in 0..10_000u32 {
         let number = place * 7_919 % 20_011;
         rows.push((1, i64::from(number), i64::from(number * 10)))?;
     }
     assert_eq!(rt;
         digest(alloc, WIDE, rows.as_slice())?.as_str(),
-        "a8acc8b20cc94835b2239b0da96d14cffe52d374b1bc45490fef5f299066b4e8"
+        "963ba357fa50019a692cf8d59cb402f3788f8b17209a571bc0f8cf25e33d1c81"
     );
     Ok(())
 }
