@@ -1,0 +1,22 @@
+use Rattle.std.proofs.Common.{◌≡◌, ◌≢◌, ℕ, true, map, Some, slice_get, subst}
+use Rattle.coarsen.specs.Clashes.{Conflict}
+use Rattle.jobs.specs.Jobs.{JobOf}
+use Rattle.scheduler_core.specs.Transactions.{Transaction}
+use Rattle.scheduler_core.specs.Phases.{is_out}
+use Rattle.scheduler.specs.declared.slot.Slot.TheVariants.{Held}
+use Rattle.scheduler.specs.Schedules.{Schedule, log_of, phases_of, phase_in, work_of}
+use Rattle.scheduler.specs.Jobs.{IsLentAt}
+use Rattle.scheduler.proofs.scheduler.Scheduler.observe.Goals as goal
+
+pub returns-clause-jobs : goal.returns-clause-jobs
+returns-clause-jobs c =
+    subst (λ (s : Schedule). (place : ℕ) (job : JobOf) → slice_get s.slots place ≡ Some (Held job) → IsLentAt s.work place job) c.self.view_is
+    (λ place job at. c.self.invariant.1.kept place (Held job) at)
+
+pub returns-clause-apart : goal.returns-clause-apart
+returns-clause-apart c =
+    let w = work_of c.self.inside.catalogue c.self.inside.nodes c.self.inside.first c.self.inside.entries.items c.self.inside.plans.items c.self.inside.start.value.rows in
+    let sound = c.rows_are_serial.ensures w.tables w.first (log_of w) w.start c.self.invariant.0.planned in
+    subst (λ (s : Schedule). (i k : ℕ) (t u : Transaction) → i ≢ k → slice_get (log_of s.work) i ≡ Some t → slice_get (log_of s.work) k ≡ Some u
+    → is_out (slice_get (phases_of s) i) ≡ true → is_out (slice_get (phases_of s) k) ≡ true → Conflict t.plan u.plan → ⊥) c.self.view_is
+    (λ i k t u apart at_i at_k out_i out_k. sound.outs_apart (map phase_in c.self.inside.slots.items) c.self.inside.store.rows i k t u c.self.invariant.1.sound apart out_i out_k at_i at_k)

@@ -1,0 +1,56 @@
+-- What a scheduler keeps to: its rows, its lock tree and its slots follow the core's phases.
+use Rattle.std.specs.Prelude.{◌≡◌, ◌<◌, ◌≤◌, ◌+◌, ◌^◌, ⊤, ℕ, true, false, if◌then◌else◌, List, length, map, Option, Some, None, slice_get}
+use Rattle.std.specs.FinMap.{get}
+use Rattle.coarsen.specs.Subtrees.{Requests}
+use Rattle.coarsen.specs.Plans.{IsPlanOver}
+use Rattle.meaning.specs.Outcomes.{as_reply}
+use Rattle.lock_tree.specs.Locks.{Locks}
+use Rattle.row_store.specs.Stock.{Stock}
+use Rattle.scheduler_core.specs.declared.phase.Phase.{Phase}
+use Rattle.scheduler_core.specs.Transactions.{Transaction, ArePlanned}
+use Rattle.scheduler_core.specs.Serial.{serial_reply}
+use Rattle.scheduler_core.specs.Phases.{is_out, is_settled, at_number}
+use Rattle.scheduler_core.specs.Events.{waiting}
+use Rattle.scheduler_core.specs.Laws.{FitIn}
+use Rattle.scheduler_core.specs.Sound.{IsSound}
+use Rattle.scheduler.specs.declared.slot.Slot.{Slot}
+use Rattle.scheduler.specs.declared.slot.Slot.TheVariants.{Idle, Lent, Held, Ran, Settled}
+use Rattle.scheduler.specs.Schedules.{Work, log_of, phase_in}
+use Rattle.scheduler.specs.Jobs.{IsLentAt, IsRunAt}
+
+-- what is kept of a transaction is the serial run's
+abbrev pub Fits : Work → ℕ → Slot → Type 0
+Fits w place Idle = ⊤
+Fits w place Lent = ⊤
+Fits w place (Held job) = IsLentAt w place job
+Fits w place (Ran job outcome) = IsRunAt w place job outcome
+Fits w place (Settled outcome) = serial_reply (log_of w) w.start place ≡ Some (as_reply outcome)
+
+-- the plan of what is out
+abbrev pub plan_out : Option Transaction → Option Phase → Option Requests
+plan_out None p = None
+plan_out (Some t) p = if is_out p then Some t.plan else None
+
+abbrev pub lent_to : Work → List Phase → ℕ → Option Requests
+lent_to w phases number = plan_out (at_number w.first (log_of w) number) (at_number w.first phases number)
+
+-- the log fits: each entry and each plan is over the tables, each plan locks what its entry touches and fits in the room
+pub record IsFitting (w : Work) : Type 0 where
+  pub over : (place : ℕ) (t : Transaction) → slice_get (log_of w) place ≡ Some t → (t.entry.tables ≡ w.tables) × IsPlanOver w.tables t.plan
+  pub planned : ArePlanned w.tables (log_of w)
+  pub fit : FitIn w.nodes (log_of w)
+  pub plans : length w.plans ≡ length w.entries
+  pub few : w.first + length w.entries ≤ 2 ^ 48
+
+pub record IsScheduled (w : Work) (slots : List Slot) (stock : Stock) (tree : Locks) : Type 0 where
+  pub tables : stock.tables ≡ w.tables
+  pub sound : IsSound w.tables (log_of w) w.start (map phase_in slots) stock.rows
+  pub kept : (place : ℕ) (slot : Slot) → slice_get slots place ≡ Some slot → Fits w place slot
+  pub tree_is : tree ≡ record { nodes = w.nodes; waiting = waiting w.first (log_of w) (map phase_in slots) }
+  pub lent_is : (number : ℕ) → get stock.lent number ≡ lent_to w (map phase_in slots) number
+
+-- the first so many are settled, and the next is not
+pub record AreSettledBefore (slots : List Slot) (settled : ℕ) : Type 0 where
+  pub before : (place : ℕ) → place < settled → is_settled (slice_get (map phase_in slots) place) ≡ true
+  pub next : is_settled (slice_get (map phase_in slots) settled) ≡ false
+  pub within : settled ≤ length slots

@@ -1,0 +1,81 @@
+//! Lending rows to a transaction, and taking them back.
+
+ghost use Rattle.std.specs.Prelude.{◌≡◌, ℕ, true, false, if◌then◌else◌, Some, None, IfOk, OnOk, OnErr, IsSome};
+ghost use Rattle.std.specs.FinMap as map;
+ghost use Rattle.values.specs.declared.name.RowName.{RowName as Name};
+ghost use Rattle.proclang_types.specs.declared.right.Right.{Right};
+ghost use Rattle.coarsen.specs.Subtrees.{Requests};
+ghost use Rattle.coarsen.specs.Plans.{IsPlanOver};
+ghost use Rattle.coarsen.specs.Clashes.{locks_row, Conflict};
+ghost use Rattle.meaning.specs.Frame.{touches};
+ghost use Rattle.interp.specs.Entries.{entry_shape};
+ghost use Rattle.lock_tree.specs.Locks.{plan_of, with_mark, without};
+
+use coarsen::Plan;
+use interp::Entry;
+use jobs::Job;
+use lock_tree::LockTree;
+use row_store::RowStore;
+use std::alloc::Global;
+use values::NoMemory;
+
+/// The job of a transaction: the rows that its plan locks are lent to it, and it is marked. On an error nothing has changed.
+pub(crate) fn lend_to(
+    alloc: Global,
+    store: &mut RowStore,
+    locks: &mut LockTree,
+    number: u64,
+    entry: &Entry,
+    plan: &Plan,
+) -> Result<Job, NoMemory>
+    requires tables { entry.now.request.proc.tables ≡ store.old.tables }
+    requires locks { (name : Name) (right : Right) → touches (entry_shape entry.now) name right ≡ true → locks_row store.old.tables plan.now name right ≡ true }
+    requires over { IsPlanOver store.old.tables plan.now }
+    requires unlent { map.get store.old.lent number ≡ None }
+    requires apart { (other : ℕ) (requests : Requests) → map.get store.old.lent other ≡ Some requests → Conflict requests plan.now → ⊥ }
+    requires there { IsSome (plan_of locks.old.waiting number) }
+    ensures tables { store.new.tables ≡ store.old.tables }
+    ensures rows { store.new.rows ≡ store.old.rows }
+    ensures lent { OnOk result (store.new.lent ≡ map.insert store.old.lent number plan.now) }
+    ensures marked { OnOk result (locks.new ≡ record locks.old { waiting = with_mark number true locks.old.waiting }) }
+    ensures err_store { OnErr result (store.new ≡ store.old) }
+    ensures err_locks { OnErr result (locks.new ≡ locks.old) }
+    ensures number { IfOk result (λ job. job.number ≡ number) }
+    ensures entry { IfOk result (λ job. job.entry ≡ entry.now) }
+    ensures plan { IfOk result (λ job. job.loan.plan ≡ plan.now) }
+    ensures loan_tables { IfOk result (λ job. job.loan.tables ≡ store.old.tables) }
+    ensures shows { IfOk result (λ job. (name : Name) → locks_row store.old.tables plan.now name Right.Read ≡ true → map.get job.loan.rows name ≡ map.get store.old.rows name) }
+{
+    let entry = entry.clone()?;
+    let loan = store.lend(number, plan)?;
+    locks.mark(number);
+    Ok(Job::new(alloc, number, entry, loan))
+}
+
+/// Puts what a transaction left into the store, and takes its requests out of the lock tree.
+pub(crate) fn give_back(store: &mut RowStore, locks: &mut LockTree, number: u64, job: Job)
+    requires lent { map.get store.old.lent number ≡ Some job.loan.plan }
+    requires tables { job.loan.tables ≡ store.old.tables }
+    requires there { IsSome (plan_of locks.old.waiting number) }
+    ensures tables { store.new.tables ≡ store.old.tables }
+    ensures rows { (name : Name) → map.get store.new.rows name ≡ (if locks_row job.loan.tables job.loan.plan name Right.Write then map.get job.loan.rows name else map.get store.old.rows name) }
+    ensures lent { store.new.lent ≡ map.remove store.old.lent number }
+    ensures released { locks.new ≡ record locks.old { waiting = without number locks.old.waiting } }
+{
+    store.give_back(number, job.into_loan());
+    locks.release(number);
+}
+
+/// Puts the rows of a job that was not run back into the store, and takes the mark off its transaction.
+pub(crate) fn take_back(store: &mut RowStore, locks: &mut LockTree, number: u64, job: Job)
+    requires lent { map.get store.old.lent number ≡ Some job.loan.plan }
+    requires tables { job.loan.tables ≡ store.old.tables }
+    requires there { IsSome (plan_of locks.old.waiting number) }
+    ensures tables { store.new.tables ≡ store.old.tables }
+    ensures rows { (name : Name) → map.get store.new.rows name ≡ (if locks_row job.loan.tables job.loan.plan name Right.Write then map.get job.loan.rows name else map.get store.old.rows name) }
+    ensures lent { store.new.lent ≡ map.remove store.old.lent number }
+    ensures unmarked { locks.new ≡ record locks.old { waiting = with_mark number false locks.old.waiting } }
+{
+    store.give_back(number, job.into_loan());
+    locks.unmark(number);
+}

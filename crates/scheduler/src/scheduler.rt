@@ -1,0 +1,215 @@
+//! The scheduler.
+
+ghost use Rattle.std.specs.Prelude.{◌≡◌, ◌↔◌, ◌<◌, ◌≤◌, ◌+◌, ◌-◌, ◌^◌, ℕ, true, false, [], ◌∷◌, ◌++◌, length, map, option_map, Some, None, Ok, Err, IfOk, IfErr, IfSome, OnOk, OnErr, is_some, slice_get, slice_set};
+ghost use Rattle.std.specs.FinMap as finite;
+ghost use Rattle.scheduler_core.specs.Events.{enabled};
+ghost use Rattle.scheduler_core.specs.Choices.{IsLeastLend};
+ghost use Rattle.scheduler_core.specs.declared.event.Event.{Event as AnyEvent};
+ghost use Rattle.interp.specs.Over.{AreEntriesOver};
+ghost use Rattle.scheduler.specs.Logs.{ArePlansOf};
+ghost use Rattle.scheduler.specs.Schedules.{log_of, phases_of, work_of};
+ghost use Rattle.scheduler.specs.Jobs.{LendsTo, ComesBack, number_of};
+
+use crate::lending::{give_back, lend_to, take_back};
+use crate::planning::plans_of;
+use crate::slot::{Slot, count_settled, put};
+use coarsen::{Plan, clashes_are_either_way};
+use interp::Entry;
+use jobs::{Done, Job};
+use lock_tree::{EnqueueFault, LockTree};
+use row_store::RowStore;
+use scheduler_core::{admitted_and_unsettled_wait, rows_are_serial};
+use std::alloc::Global;
+use std::marker::Model;
+use std::snapshot::Snapshot;
+use values::{Catalogue, NoMemory};
+
+/// Why a transaction was not admitted.
+#[derive(Clone, Copy, Debug, PartialEq, Eq)]
+pub enum AdmitFault {
+    /// All transactions are admitted.
+    AllAdmitted,
+    /// There is less room than the next plan has requests.
+    Full,
+    NoMemory,
+}
+
+/// The entries of a log on their way: each is admitted, lent its rows, run and settled. Whatever the order of these steps, what
+/// comes of each is what the log gives run one by one.
+#[derive(Drop)]
+pub struct Scheduler {
+    pub(crate) alloc: Global,
+    pub(crate) catalogue: Catalogue,
+    pub(crate) store: RowStore,
+    pub(crate) locks: LockTree,
+    // Room for so many requests.
+    pub(crate) nodes: usize,
+    pub(crate) first: u64,
+    pub(crate) entries: Vec<Entry>,
+    pub(crate) plans: Vec<Plan>,
+    pub(crate) slots: Vec<Slot>,
+    // How many leading transactions are settled.
+    pub(crate) settled: usize,
+    pub(crate) start: Snapshot<RowStore>,
+}
+
+impl Model for Scheduler {
+    ghost use Rattle.scheduler.specs.Schedules.{Schedule, schedule_code, work_of};
+    ghost use Rattle.scheduler.specs.Scheduled.{IsFitting, IsScheduled, AreSettledBefore};
+
+    ghost Value = { Schedule };
+
+    ghost coded = { schedule_code };
+
+    ghost view = { λ s. record { work = work_of s.catalogue s.nodes s.first s.entries.items s.plans.items s.start.value.rows; slots = s.slots.items } };
+
+    ghost invariant = { λ s. IsFitting (work_of s.catalogue s.nodes s.first s.entries.items s.plans.items s.start.value.rows)
+        × IsScheduled (work_of s.catalogue s.nodes s.first s.entries.items s.plans.items s.start.value.rows) s.slots.items s.store s.locks
+        × AreSettledBefore s.slots.items s.settled };
+}
+
+/// What a scheduler was to be made of, where memory was refused.
+pub type Unmade = (Catalogue, RowStore, Vec<Entry>, NoMemory);
+
+impl Scheduler {
+    /// A scheduler of these entries on these rows, with nothing admitted. The entries are over the catalogue, nothing is lent of
+    /// the rows, and the numbers, from the first one on, are below 2^48. More than `threshold` rows of a partition, or
+    /// partitions of a table, are locked as one; the lock tree has room for `most` requests. Where memory is refused, all comes
+    /// back.
+    pub fn new(
+        alloc: Global,
+        catalogue: Catalogue,
+        store: RowStore,
+        entries: Vec<Entry>,
+        first: u64,
+        threshold: usize,
+        most: usize,
+    ) -> Result<Scheduler, Unmade>
+        requires tables { store.tables ≡ catalogue }
+        requires unlent { store.lent ≡ finite.empty }
+        requires over { AreEntriesOver catalogue entries.items }
+        requires few { first + length entries.items ≤ 2 ^ 48 }
+        requires room { 0 < most }
+        ensures start { IfOk result (λ scheduler. scheduler ≡ record { work = work_of catalogue most first entries.items scheduler.work.plans store.rows; slots = [] }) }
+        ensures plans { IfOk result (λ scheduler. ArePlansOf threshold most entries.items scheduler.work.plans) }
+        ensures back { IfErr result (λ unmade. (unmade.0 ≡ catalogue) × (unmade.1 ≡ store) × (unmade.2.items ≡ entries.items)) }
+    {
+        admitted_and_unsettled_wait();
+        rows_are_serial();
+        let _tables = catalogue.len();
+        let Ok(plans) = plans_of(alloc, &entries, threshold, most) else {
+            return Err((catalogue, store, entries, NoMemory));
+        };
+        let Ok(locks) = LockTree::new(alloc, most) else {
+            return Err((catalogue, store, entries, NoMemory));
+        };
+        let start = Snapshot::of(&store);
+        Ok(Scheduler {
+            alloc,
+            catalogue,
+            store,
+            locks,
+            nodes: most,
+            first,
+            entries,
+            plans,
+            slots: Vec::new(alloc),
+            settled: 0,
+            start,
+        })
+    }
+
+    /// Admits the next transaction: makes its lock requests, and room for its reply. On an error nothing has changed.
+    pub fn admit(&mut self) -> Result<u64, AdmitFault>
+        ensures enabled { OnOk result (enabled self.old.work.nodes self.old.work.first (log_of self.old.work) (phases_of self.old) AnyEvent.Admit ≡ true) }
+        ensures number { IfOk result (λ number. number ≡ self.old.work.first + length self.old.slots) }
+        ensures admitted { OnOk result (self.new ≡ record self.old { slots = self.old.slots ++ Slot.Idle ∷ [] }) }
+        // All are admitted exactly where it says so.
+        ensures all { (result ≡ Err AdmitFault.AllAdmitted) ↔ (length self.old.work.entries ≤ length self.old.slots) }
+        ensures full { result ≡ Err AdmitFault.Full → enabled self.old.work.nodes self.old.work.first (log_of self.old.work) (phases_of self.old) AnyEvent.Admit ≡ false }
+        ensures last { result ≡ Err AdmitFault.AllAdmitted → enabled self.old.work.nodes self.old.work.first (log_of self.old.work) (phases_of self.old) AnyEvent.Admit ≡ false }
+        ensures err { OnErr result (self.new ≡ self.old) }
+    {
+        admitted_and_unsettled_wait();
+        rows_are_serial();
+        let place = self.slots.len();
+        if place >= self.plans.len() {
+            return Err(AdmitFault::AllAdmitted);
+        }
+        let number = self.first + place as u64;
+        if self.slots.push(Slot::Idle).is_err() {
+            return Err(AdmitFault::NoMemory);
+        }
+        if let Err(fault) = self.locks.enqueue(number, &self.plans[place]) {
+            self.slots.truncate(place);
+            return Err(AdmitFault::from(fault));
+        }
+        Ok(number)
+    }
+
+    /// Lends its rows to the ready transaction of the least number that is not out, if there is one. On an error nothing has
+    /// changed.
+    pub fn lend(&mut self) -> Result<Option<Job>, NoMemory>
+        ensures least { IfOk result (λ found. IsLeastLend self.old.work.nodes self.old.work.first (log_of self.old.work) (phases_of self.old) (number_of found)) }
+        // The job shows the rows of the serial run at its place, on the row names that its plan locks, and its plan is in
+        // conflict with none that is out.
+        ensures lent { IfOk result (λ found. LendsTo self.old found self.new) }
+        ensures err { OnErr result (self.new ≡ self.old) }
+    {
+        admitted_and_unsettled_wait();
+        rows_are_serial();
+        clashes_are_either_way();
+        let Some(number) = self.locks.next_ready() else {
+            return Ok(None);
+        };
+        let place = (number - self.first) as usize;
+        let job = lend_to(
+            self.alloc,
+            &mut self.store,
+            &mut self.locks,
+            number,
+            &self.entries[place],
+            &self.plans[place],
+        )?;
+        put(&mut self.slots, place, Slot::Lent);
+        Ok(Some(job))
+    }
+
+    /// Settles a job that came back: its transaction is settled with its outcome, or, where it was not run, is ready again and
+    /// not out. It takes no memory.
+    pub fn settle(&mut self, done: Done)
+        requires { ComesBack self.old done }
+        ensures settled { IfSome done.outcome (λ outcome. self.new ≡ record self.old { slots = slice_set self.old.slots (done.job.number - self.old.work.first) (Slot.Settled outcome) }) }
+        ensures back { done.outcome ≡ None → self.new ≡ record self.old { slots = slice_set self.old.slots (done.job.number - self.old.work.first) Slot.Idle } }
+    {
+        admitted_and_unsettled_wait();
+        rows_are_serial();
+        let number = done.no();
+        let place = (number - self.first) as usize;
+        let (job, outcome) = done.into_parts();
+        match outcome {
+            Some(outcome) => {
+                give_back(&mut self.store, &mut self.locks, number, job);
+                put(&mut self.slots, place, Slot::Settled(outcome));
+                self.settled = count_settled(&self.slots, self.settled);
+            }
+            None => {
+                take_back(&mut self.store, &mut self.locks, number, job);
+                put(&mut self.slots, place, Slot::Idle);
+            }
+        }
+    }
+}
+
+impl From<EnqueueFault> for AdmitFault {
+    ghost use Rattle.scheduler.specs.Admissions.{admit_fault};
+
+    ghost from_gives = { λ fault given. given ≡ admit_fault fault };
+
+    fn from(fault: EnqueueFault) -> AdmitFault {
+        match fault {
+            EnqueueFault::Full => AdmitFault::Full,
+            EnqueueFault::NoMemory => AdmitFault::NoMemory,
+        }
+    }
+}
