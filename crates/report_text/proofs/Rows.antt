@@ -1,4 +1,12 @@
 -- The rows of a database in order.
+use Rattle.std.proofs.Common.{subst, sym, None, Option, map, option_map, slice_get}
+use Rattle.std.proofs.lemmas.Option.{slice_get_within}
+use Rattle.values.specs.Rows.{type_of}
+use Rattle.proclang_types.specs.Syntax.{ProcSyntax}
+use Rattle.meaning.specs.Entries.{EntryShape, meaning}
+use Rattle.meaning.specs.Fitting.{HasTypes, IsCallOf, StandInNeverShows}
+use Rattle.meaning.specs.Serial.{serial_end}
+use Rattle.report_text.specs.Calls.{AreCallsOver}
 use Rattle.std.proofs.Common.{◌≡◌, ℕ, ◌<◌, Bool, true, false, cond, List, [], ◌∷◌, length, filter, nat_lt, Some, refl, ap, ◌∙◌, arith}
 use Rattle.std.specs.Cmp.{IsTotalOrder, tied_itself}
 use Rattle.std.specs.Ordering.{eq_by_cmp, is_eq}
@@ -34,3 +42,26 @@ below n m h = grind (arith, nat_tests)
 
 pub all_rows : (tables : List TableShape) (db : Database) → ((name : RowName) (row : RowOf) → get db name ≡ Some row → name.table < length tables) → row_text tables db ≡ row_lines tables (entries db)
 all_rows tables db h = ap (row_lines tables) (all_pass (λ q. nat_lt q.table (length tables)) (entries db) (λ q f. below _ _ (h q f.0 (get-entries db q ∙ f.1))))
+
+-- ---- rows that calls leave
+
+-- what stands for something missing never shows, and rows keep their types
+abbrev Law : Type 0
+Law = (proc : ProcSyntax) (entry : EntryShape) (db : Database) → IsCallOf proc entry → HasTypes entry.tables db → StandInNeverShows entry db
+
+pub types_left : Law → (tables : List TableShape) (calls : List EntryShape) (db : Database) → AreCallsOver tables calls → HasTypes tables db → HasTypes tables (serial_end calls db)
+types_left law tables [] db are h = h
+types_left law tables (call ∷ calls) db are h =
+    let over : call.tables ≡ tables = are.0.over in
+    let next : HasTypes tables (meaning call db).1 = subst (λ ts. HasTypes ts (meaning call db).1) over (law are.0.proc call db are.0.call (subst (λ ts. HasTypes ts db) (sym over) h)).types in
+    types_left law tables calls (meaning call db).1 are.1 next
+
+is_there : (tables : List TableShape) (n : ℕ) (row : RowOf) (o : Option TableShape) → slice_get tables n ≡ o → option_map (λ t. map (λ c. c.kind) t.columns) o ≡ Some (map type_of row) → n < length tables
+is_there tables n row None e h = absurd cc
+is_there tables n row (Some t) e h = slice_get_within tables n t e
+
+pub lines_left : Law → (tables : List TableShape) (calls : List EntryShape) (db : Database) → AreCallsOver tables calls → HasTypes tables db →
+    row_text tables (serial_end calls db) ≡ row_lines tables (entries (serial_end calls db))
+lines_left law tables calls db are h =
+    let types = types_left law tables calls db are h in
+    all_rows tables (serial_end calls db) (λ name row g. is_there tables name.table row (slice_get tables name.table) refl (types name row g))

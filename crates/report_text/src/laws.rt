@@ -5,7 +5,13 @@ ghost use Rattle.std.specs.FinMap.{entries, get};
 ghost use Rattle.values.specs.declared.name.RowName.{RowName};
 ghost use Rattle.values.specs.Shapes.{TableShape};
 ghost use Rattle.values.specs.Database.{Database, RowOf};
+ghost use Rattle.meaning.specs.Entries.{EntryShape};
+ghost use Rattle.meaning.specs.Fitting.{HasTypes};
+ghost use Rattle.meaning.specs.Serial.{serial_end};
+ghost use Rattle.report_text.specs.Calls.{AreCallsOver};
 ghost use Rattle.report_text.specs.Texts.{row_lines, row_text};
+
+use meaning::stand_in_never_shows;
 
 /// Where each row of a database is of one of the tables, the row text has a line for each of its rows, in the order of
 /// tables and then of keys.
@@ -13,3 +19,13 @@ pub fn every_row_has_its_line()
     ensures { (tables : List TableShape) (db : Database) → ((name : RowName) (row : RowOf) → get db name ≡ Some row → name.table < length tables)
         → row_text tables db ≡ row_lines tables (entries db) }
 {}
+
+/// From rows of the columns' types, calls of procedures that fit the tables leave rows of the columns' types, each with its
+/// line in the row text.
+pub fn every_row_left_by_calls_has_its_line()
+    ensures types { (tables : List TableShape) (calls : List EntryShape) (db : Database) → AreCallsOver tables calls → HasTypes tables db → HasTypes tables (serial_end calls db) }
+    ensures lines { (tables : List TableShape) (calls : List EntryShape) (db : Database) → AreCallsOver tables calls → HasTypes tables db
+        → row_text tables (serial_end calls db) ≡ row_lines tables (entries (serial_end calls db)) }
+{
+    stand_in_never_shows();
+}
