@@ -8,3 +8,8 @@ pub mod Knowing
 pub mod Dropping
 pub mod Queueing
 pub mod Trees
+pub mod Numbers
+pub mod Opens
+pub mod Marks
+pub mod Nexts
+pub mod Below

@@ -6,16 +6,17 @@ use Rattle.footprint.specs.declared.resource.Resource.{Resource}
 use Rattle.modes.specs.declared.mode.Mode.{Mode}
 use Rattle.coarsen.specs.Subtrees.{Requests}
 use Rattle.lock_tree.specs.declared.entry.Entry.{Entry}
+use Rattle.lock_tree.specs.declared.transactions.Transactions.{Transactions}
+use Rattle.lock_tree.specs.Indexed.{IsIndexed}
 use Rattle.lock_tree.specs.Locks.{Waiting, used, plan_of, without, with_mark, AreAbove, IsRising}
 use Rattle.lock_tree.specs.Queues.{Queue, mode_on, asks, queue, granted, has_number}
 use Rattle.lock_tree.specs.Ready.{ready, all_granted}
 use Rattle.lock_tree.specs.Ranks.{place_of}
 use Rattle.lock_tree.specs.Views.{waiting_of, all_waiting}
-use Rattle.lock_tree.specs.Enqueues.{AreBelow}
 use Rattle.lock_tree.specs.Lines.{Lines, line, others}
 use Rattle.lock_tree.specs.Sound.{IsTree}
 use Rattle.lock_tree.specs.Known.{granted_in, Knows, AreKnown}
-use Rattle.lock_tree.proofs.Places.{at, plan_at, number_kept, plan_kept, same_numbers, some_one, none_some, later_place, rising_end, used_end, rising_without, rising_marked, used_marked}
+use Rattle.lock_tree.proofs.Places.{at, plan_at, marked_at, number_kept, plan_kept, same_numbers, some_one, none_some, later_place, used_end, used_marked}
 
 -- ---- queues
 
@@ -190,46 +191,70 @@ pub known_as_before : (old new : Lines) (es seen : List Entry) → ((r : Resourc
 known_as_before old new es seen same items known = subst (AreKnown (line new) []) (sym items) (known_same (line old) (line new) (λ r. sym (same r)) es known)
 
 -- more room for queues and transactions
-pub same_tree : (nodes free : ℕ) (es seen : List Entry) (old new : Lines) → ((r : Resource) → line new r ≡ line old r) → seen ≡ es → IsTree nodes free es old → IsTree nodes free seen new
-same_tree nodes free es seen old new same items tree = record {
-  room = (let e : used (all_waiting seen) ≡ used (all_waiting es) = ap (λ (xs : List Entry). used (all_waiting xs)) items in let r = tree.room in omega (arith, e, r));
-  rising = subst (λ (xs : List Entry). IsRising (all_waiting xs)) (sym items) tree.rising;
+pub same_tree : (nodes free : ℕ) (ts seen : Transactions) (old new : Lines) → ((r : Resource) → line new r ≡ line old r) → seen.entries.items ≡ ts.entries.items → IsIndexed seen → IsTree nodes free ts old → IsTree nodes free seen new
+same_tree nodes free ts seen old new same items indexed tree = record {
+  room = (let e : used (all_waiting seen.entries.items) ≡ used (all_waiting ts.entries.items) = ap (λ (xs : List Entry). used (all_waiting xs)) items in let r = tree.room in omega (arith, e, r));
+  indexed = indexed;
   lines = λ r. same r ∙ tree.lines r ∙ ap (λ (xs : List Entry). queue r (all_waiting xs)) (sym items);
-  known = known_as_before old new es seen same items tree.known;
+  known = known_as_before old new ts.entries.items seen.entries.items same items tree.known;
 }
 
 -- one more transaction
-pub joined_tree : (nodes free size : ℕ) (es seen new : List Entry) (e : Entry) (old lender lines : Lines) → IsTree nodes free es old → seen ≡ es → ((r : Resource) → line lender r ≡ line old r)
-    → size ≡ length e.plan.items → size ≤ free → AreBelow e.number (all_waiting es)
-    → ((r : Resource) → line lines r ≡ line lender r ++ asks e.number (mode_on r e.plan.items) []) → all_waiting new ≡ all_waiting seen ++ waiting_of e ∷ [] → AreKnown (line lines) [] new
+pub joined_tree : (nodes free size : ℕ) (ts seen new : Transactions) (e : Entry) (old lender lines : Lines) → IsTree nodes free ts old → seen.entries.items ≡ ts.entries.items → ((r : Resource) → line lender r ≡ line old r)
+    → size ≡ length e.plan.items → size ≤ free → IsIndexed new
+    → ((r : Resource) → line lines r ≡ line lender r ++ asks e.number (mode_on r e.plan.items) []) → all_waiting new.entries.items ≡ all_waiting seen.entries.items ++ waiting_of e ∷ [] → AreKnown (line lines) [] new.entries.items
     → IsTree nodes (free - size) new lines
-joined_tree nodes free size es seen new e old lender lines tree items same n room below joined waiting known =
-    let ws = all_waiting es in
+joined_tree nodes free size ts seen new e old lender lines tree items same n room indexed joined waiting known =
+    let ws = all_waiting ts.entries.items in
     let w = waiting_of e in
-    let is : all_waiting new ≡ ws ++ w ∷ [] = waiting ∙ ap (λ (xs : List Entry). all_waiting xs ++ w ∷ []) items in
-    let more : used (all_waiting new) ≡ used ws + length w.plan = ap used is ∙ used_end ws w in
+    let is : all_waiting new.entries.items ≡ ws ++ w ∷ [] = waiting ∙ ap (λ (xs : List Entry). all_waiting xs ++ w ∷ []) items in
+    let more : used (all_waiting new.entries.items) ≡ used ws + length w.plan = ap used is ∙ used_end ws w in
     record {
       room = (let r = tree.room in omega (arith, more, n, room, r));
-      rising = subst IsRising (sym is) (rising_end ws w tree.rising below);
+      indexed = indexed;
       lines = λ r. joined r ∙ ap (λ q. q ++ asks e.number (mode_on r e.plan.items) []) (same r ∙ tree.lines r) ∙ sym (queue_end r ws w) ∙ ap (queue r) (sym is);
       known = known;
     }
 
 -- one transaction less
-pub left_tree : (nodes free size k : ℕ) (es new : List Entry) (old lines : Lines) → IsTree nodes free es old → used (all_waiting es) ≡ size + used (without k (all_waiting es))
-    → all_waiting new ≡ without k (all_waiting es) → ((r : Resource) → line lines r ≡ others k (line old r)) → AreKnown (line lines) [] new → IsTree nodes (free + size) new lines
-left_tree nodes free size k es new old lines tree freed is left known = record {
-  room = (let e : used (all_waiting new) ≡ used (without k (all_waiting es)) = ap used is in let r = tree.room in omega (arith, e, freed, r));
-  rising = subst IsRising (sym is) (rising_without k (all_waiting es) tree.rising);
-  lines = λ r. left r ∙ ap (others k) (tree.lines r) ∙ sym (queue_without r k (all_waiting es)) ∙ ap (queue r) (sym is);
-  known = known;
-}
+pub left_tree : (nodes free size k : ℕ) (ts new : Transactions) (old lines : Lines) → IsTree nodes free ts old → used (all_waiting ts.entries.items) ≡ size + used (without k (all_waiting ts.entries.items))
+    → all_waiting new.entries.items ≡ without k (all_waiting ts.entries.items) → IsIndexed new → ((r : Resource) → line lines r ≡ others k (line old r)) → AreKnown (line lines) [] new.entries.items
+    → IsTree nodes (free + size) new lines
+left_tree nodes free size k ts new old lines tree freed is indexed left known =
+    let ws = all_waiting ts.entries.items in
+    record {
+      room = (let e : used (all_waiting new.entries.items) ≡ used (without k ws) = ap used is in let r = tree.room in omega (arith, e, freed, r));
+      indexed = indexed;
+      lines = λ r. left r ∙ ap (others k) (tree.lines r) ∙ sym (queue_without r k ws) ∙ ap (queue r) (sym is);
+      known = known;
+    }
 
 -- a mark
-pub marked_tree : (nodes free k : ℕ) (m : Bool) (es new : List Entry) (lines : Lines) → IsTree nodes free es lines → all_waiting new ≡ with_mark k m (all_waiting es) → AreKnown (line lines) [] new → IsTree nodes free new lines
-marked_tree nodes free k m es new lines tree is known = record {
-  room = (let e : used (all_waiting new) ≡ used (all_waiting es) = ap used is ∙ used_marked k m (all_waiting es) in let r = tree.room in omega (arith, e, r));
-  rising = subst IsRising (sym is) (rising_marked k m (all_waiting es) tree.rising);
-  lines = λ r. tree.lines r ∙ sym (queue_marked r k m (all_waiting es)) ∙ ap (queue r) (sym is);
-  known = known;
-}
+pub marked_tree : (nodes free k : ℕ) (m : Bool) (ts new : Transactions) (lines : Lines) → IsTree nodes free ts lines → all_waiting new.entries.items ≡ with_mark k m (all_waiting ts.entries.items) → IsIndexed new
+    → AreKnown (line lines) [] new.entries.items → IsTree nodes free new lines
+marked_tree nodes free k m ts new lines tree is indexed known =
+    let ws = all_waiting ts.entries.items in
+    record {
+      room = (let e : used (all_waiting new.entries.items) ≡ used ws = ap used is ∙ used_marked k m ws in let r = tree.room in omega (arith, e, r));
+      indexed = indexed;
+      lines = λ r. tree.lines r ∙ sym (queue_marked r k m ws) ∙ ap (queue r) (sym is);
+      known = known;
+    }
+
+some_entry : (es : List Entry) (i : ℕ) → i < length es → Entry
+some_entry [] i l = absurd (omega (arith, l))
+some_entry (e ∷ es) i l = e
+
+abbrev Marked : ℕ → Bool → List Entry → List Entry → Type 0
+Marked i m es new = (d : Entry) → new ≡ slice_set es i (record (at es i d) { marked = m })
+
+pub marked_seen : (k i : ℕ) (m : Bool) (es seen new : List Entry) → seen ≡ es → IsRising (all_waiting es) → Some i ≡ place_of k (all_waiting seen) → i < length seen → Marked i m es new
+    → all_waiting new ≡ with_mark k m (all_waiting es)
+marked_seen k i m es seen new same rising found l is =
+    let d = some_entry es i (let n = ap length same in omega (arith, l, n)) in
+    ap all_waiting (is d) ∙ marked_at k m es i d rising (sym (found ∙ ap (λ (xs : List Entry). place_of k (all_waiting xs)) same))
+
+pub marked_known : (queues : Resource → Queue) (i : ℕ) (m : Bool) (es seen new : List Entry) → seen ≡ es → i < length seen → Marked i m es new → AreKnown queues [] es → AreKnown queues [] new
+marked_known queues i m es seen new same l is known =
+    let d = some_entry es i (let n = ap length same in omega (arith, l, n)) in
+    subst (AreKnown queues []) (sym (is d)) (known_marked queues es i d m known)

@@ -8,3 +8,5 @@ pub mod Enqueues
 pub mod Lines
 pub mod Known
 pub mod Sound
+pub mod Open
+pub mod Indexed

@@ -1,8 +1,7 @@
 //! The transactions that are enqueued and not released.
 
-ghost use Rattle.std.specs.Prelude.{◌≡◌, ◌<◌, false, length, IfOk, IfSome};
-ghost use Rattle.lock_tree.specs.Ranks.{place_of};
-ghost use Rattle.lock_tree.specs.Views.{waiting_of, all_waiting};
+ghost use Rattle.std.specs.Prelude.{◌≡◌, false, IfOk};
+ghost use Rattle.lock_tree.specs.Views.{waiting_of};
 
 use footprint::Resource;
 use modes::Mode;
@@ -35,19 +34,13 @@ impl Entry {
             ready: false,
         })
     }
-}
 
-/// The place of the transaction with a number, `None` exactly where none has it.
-pub(crate) fn place_of(entries: &[Entry], number: u64) -> Option<usize>
-    ensures exact { result ≡ place_of number (all_waiting entries.now) }
-    ensures within { IfSome result (λ place. place < length entries.now) }
-{
-    let mut place = 0;
-    for entry in entries {
-        if entry.number == number {
-            return Some(place);
-        }
-        place += 1;
+    ghost use Rattle.lock_tree.specs.Open.{is_open};
+
+    /// Whether it is ready and not marked.
+    pub(crate) fn is_open(&self) -> bool
+        ensures { result ≡ is_open self.now }
+    {
+        !self.marked && self.ready
     }
-    None
 }

@@ -1,6 +1,6 @@
 //! Transactions that join the queues of their plans.
 
-ghost use Rattle.std.specs.Prelude.{◌≡◌, ◌<◌, [], ◌∷◌, ◌++◌, OnOk, vec_len, vec_capacity};
+ghost use Rattle.std.specs.Prelude.{◌≡◌, [], ◌∷◌, ◌++◌, OnOk};
 ghost use Rattle.std.specs.List.{AllByRecursion};
 ghost use Rattle.std.specs.Map.{keys_of};
 ghost use Rattle.std.specs.List.Sorted.{IsStrictlySortedBy};
@@ -9,12 +9,14 @@ ghost use Rattle.footprint.specs.Tree.{resource_cmp};
 ghost use Rattle.lock_tree.specs.Queues.{asks, mode_on};
 ghost use Rattle.lock_tree.specs.Lines.{line, HasRoom};
 ghost use Rattle.lock_tree.specs.Enqueues.{AreBelow};
+ghost use Rattle.lock_tree.specs.Indexed.{IsIndexed, HasPlace};
 ghost use Rattle.lock_tree.specs.Known.{AreKnown};
 ghost use Rattle.lock_tree.specs.Views.{waiting_of, all_waiting};
 
 use crate::entry::Entry;
 use crate::grants::are_granted;
 use crate::queues::{Queues, make_room, push};
+use crate::transactions::Transactions;
 use footprint::Resource;
 use modes::Mode;
 use std::alloc::Global;
@@ -35,15 +37,6 @@ pub(crate) fn make_room_for(
     Ok(())
 }
 
-/// Makes room for one more transaction.
-pub(crate) fn make_place(entries: &mut Vec<Entry>) -> Result<(), NoMemory>
-    ensures same { entries.new.items ≡ entries.old.items }
-    ensures place { OnOk result (vec_len entries.new < vec_capacity entries.new) }
-{
-    entries.reserve(1)?;
-    Ok(())
-}
-
 /// Puts a transaction behind the others in the queues of its plan.
 fn join_all(queues: &mut Queues, plan: &[(Resource, Mode)], number: u64)
     requires room { AllByRecursion (λ request. HasRoom queues.old request.0) plan.now }
@@ -56,17 +49,19 @@ fn join_all(queues: &mut Queues, plan: &[(Resource, Mode)], number: u64)
 }
 
 /// Puts a transaction behind all others. There is room for it.
-pub(crate) fn join(queues: &mut Queues, entries: &mut Vec<Entry>, mut entry: Entry)
+pub(crate) fn join(queues: &mut Queues, transactions: &mut Transactions, mut entry: Entry)
     requires room { AllByRecursion (λ request. HasRoom queues.old request.0) entry.plan.items }
-    requires place { vec_len entries.old < vec_capacity entries.old }
+    requires indexed { IsIndexed transactions.old }
+    requires place { HasPlace transactions.old }
     requires apart { IsStrictlySortedBy resource_cmp (keys_of entry.plan.items) }
-    requires below { AreBelow entry.number (all_waiting entries.old.items) }
-    requires known { AreKnown (line queues.old) [] entries.old.items }
+    requires below { AreBelow entry.number (all_waiting transactions.old.entries.items) }
+    requires known { AreKnown (line queues.old) [] transactions.old.entries.items }
+    ensures indexed { IsIndexed transactions.new }
     ensures joined { (other : AnyResource) → line queues.new other ≡ line queues.old other ++ asks entry.number (mode_on other entry.plan.items) [] }
-    ensures waiting { all_waiting entries.new.items ≡ all_waiting entries.old.items ++ waiting_of entry ∷ [] }
-    ensures known { AreKnown (line queues.new) [] entries.new.items }
+    ensures waiting { all_waiting transactions.new.entries.items ≡ all_waiting transactions.old.entries.items ++ waiting_of entry ∷ [] }
+    ensures known { AreKnown (line queues.new) [] transactions.new.entries.items }
 {
     join_all(queues, entry.plan.as_slice(), entry.number);
     entry.ready = are_granted(queues, entry.plan.as_slice(), entry.number);
-    entries.push_reserved(entry);
+    transactions.push(entry);
 }

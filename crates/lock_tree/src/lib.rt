@@ -6,10 +6,12 @@ mod grants;
 mod joining;
 mod laws;
 mod noting;
+mod opening;
 mod queues;
 mod room;
 #[cfg(test)]
 mod tests;
+mod transactions;
 mod tree;
 
 pub use laws::{first_ready, granted_is_longest_front, ready_apart};

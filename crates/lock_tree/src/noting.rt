@@ -4,89 +4,80 @@ ghost use Rattle.std.specs.Prelude.{◌≡◌, [], ◌∷◌, ◌==◌, false, N
 ghost use Rattle.std.specs.List.{AllByRecursion};
 ghost use Rattle.footprint.specs.declared.resource.Resource.{Resource as AnyResource};
 ghost use Rattle.modes.specs.declared.mode.Mode.{Mode as AnyMode};
-ghost use Rattle.lock_tree.specs.Locks.{IsRising};
+ghost use Rattle.lock_tree.specs.Indexed.{IsIndexed};
 ghost use Rattle.lock_tree.specs.Queues.{Queue, mode_on};
 ghost use Rattle.lock_tree.specs.Lines.{line, is_same, others};
 ghost use Rattle.lock_tree.specs.Known.{AreKnown};
 ghost use Rattle.lock_tree.specs.Views.{all_waiting};
 
-use crate::entry::{Entry, place_of};
 use crate::grants::{are_granted, count_others, front, granted_behind};
 use crate::queues::{Queues, line, remove};
+use crate::transactions::{Transactions, place_of};
 use footprint::Resource;
 use modes::Mode;
 
 /// Notes whether a transaction is ready.
-fn note(queues: &Queues, entries: &mut [Entry], number: u64)
-    requires { IsRising (all_waiting entries.old) }
-    ensures same { all_waiting entries.new ≡ all_waiting entries.old }
-    ensures noted { (mode : AnyMode) (lately : Queue) → AreKnown (line queues.now) ((number, mode) ∷ lately) entries.old → AreKnown (line queues.now) lately entries.new }
+fn note(queues: &Queues, transactions: &mut Transactions, number: u64)
+    requires { IsIndexed transactions.old }
+    ensures indexed { IsIndexed transactions.new }
+    ensures same { all_waiting transactions.new.entries.items ≡ all_waiting transactions.old.entries.items }
+    ensures noted { (mode : AnyMode) (lately : Queue) → AreKnown (line queues.now) ((number, mode) ∷ lately) transactions.old.entries.items → AreKnown (line queues.now) lately transactions.new.entries.items }
 {
-    if let Some(place) = place_of(entries, number) {
-        let ready = are_granted(queues, entries[place].plan.as_slice(), number);
-        entries[place].ready = ready;
+    if let Some(place) = place_of(transactions.entries.as_slice(), number) {
+        let ready = are_granted(queues, transactions.entries[place].plan.as_slice(), number);
+        transactions.set_ready(place, ready);
     }
 }
 
 /// Notes which of the transactions of these requests are ready.
-fn note_all(queues: &Queues, entries: &mut [Entry], lately: &[(u64, Mode)])
-    requires rising { IsRising (all_waiting entries.old) }
-    requires known { AreKnown (line queues.now) lately.now entries.old }
-    ensures same { all_waiting entries.new ≡ all_waiting entries.old }
-    ensures known { AreKnown (line queues.now) [] entries.new }
+fn note_all(queues: &Queues, transactions: &mut Transactions, lately: &[(u64, Mode)])
+    requires indexed { IsIndexed transactions.old }
+    requires known { AreKnown (line queues.now) lately.now transactions.old.entries.items }
+    ensures indexed { IsIndexed transactions.new }
+    ensures same { all_waiting transactions.new.entries.items ≡ all_waiting transactions.old.entries.items }
+    ensures known { AreKnown (line queues.now) [] transactions.new.entries.items }
 {
     for (number, _) in lately {
-        note(queues, entries, *number);
+        note(queues, transactions, *number);
     }
 }
 
 /// Takes a transaction off a resource's queue, and notes who gets ready.
-fn leave_one(queues: &mut Queues, entries: &mut [Entry], resource: &Resource, number: u64)
-    requires rising { IsRising (all_waiting entries.old) }
-    requires others { AllByRecursion (λ waiting. (waiting.number == number) ≡ false) (all_waiting entries.old) }
-    requires known { AreKnown (line queues.old) [] entries.old }
+fn leave_one(queues: &mut Queues, transactions: &mut Transactions, resource: &Resource, number: u64)
+    requires indexed { IsIndexed transactions.old }
+    requires others { AllByRecursion (λ waiting. (waiting.number == number) ≡ false) (all_waiting transactions.old.entries.items) }
+    requires known { AreKnown (line queues.old) [] transactions.old.entries.items }
     ensures left { (other : AnyResource) → line queues.new other ≡ (if is_same other resource.now then others number (line queues.old other) else line queues.old other) }
-    ensures same { all_waiting entries.new ≡ all_waiting entries.old }
-    ensures known { AreKnown (line queues.new) [] entries.new }
+    ensures indexed { IsIndexed transactions.new }
+    ensures same { all_waiting transactions.new.entries.items ≡ all_waiting transactions.old.entries.items }
+    ensures known { AreKnown (line queues.new) [] transactions.new.entries.items }
 {
     let stay = count_others(front(line(queues, resource)), number);
     remove(queues, resource, number);
     note_all(
         queues,
-        entries,
+        transactions,
         granted_behind(line(queues, resource), stay),
     );
 }
 
 /// Takes a transaction off the queues of a plan, and notes who gets ready.
-fn leave_all(queues: &mut Queues, entries: &mut [Entry], plan: &[(Resource, Mode)], number: u64)
-    requires rising { IsRising (all_waiting entries.old) }
-    requires others { AllByRecursion (λ waiting. (waiting.number == number) ≡ false) (all_waiting entries.old) }
-    requires known { AreKnown (line queues.old) [] entries.old }
-    requires elsewhere { (other : AnyResource) → mode_on other plan.now ≡ None → others number (line queues.old other) ≡ line queues.old other }
-    ensures left { (other : AnyResource) → line queues.new other ≡ others number (line queues.old other) }
-    ensures same { all_waiting entries.new ≡ all_waiting entries.old }
-    ensures known { AreKnown (line queues.new) [] entries.new }
-{
-    for (resource, _) in plan {
-        leave_one(queues, entries, resource, number);
-    }
-}
-
-/// The same of the transactions in a vector.
-pub(crate) fn leave(
+pub(crate) fn leave_all(
     queues: &mut Queues,
-    entries: &mut Vec<Entry>,
+    transactions: &mut Transactions,
     plan: &[(Resource, Mode)],
     number: u64,
 )
-    requires rising { IsRising (all_waiting entries.old.items) }
-    requires others { AllByRecursion (λ waiting. (waiting.number == number) ≡ false) (all_waiting entries.old.items) }
-    requires known { AreKnown (line queues.old) [] entries.old.items }
+    requires indexed { IsIndexed transactions.old }
+    requires others { AllByRecursion (λ waiting. (waiting.number == number) ≡ false) (all_waiting transactions.old.entries.items) }
+    requires known { AreKnown (line queues.old) [] transactions.old.entries.items }
     requires elsewhere { (other : AnyResource) → mode_on other plan.now ≡ None → others number (line queues.old other) ≡ line queues.old other }
     ensures left { (other : AnyResource) → line queues.new other ≡ others number (line queues.old other) }
-    ensures same { all_waiting entries.new.items ≡ all_waiting entries.old.items }
-    ensures known { AreKnown (line queues.new) [] entries.new.items }
+    ensures indexed { IsIndexed transactions.new }
+    ensures same { all_waiting transactions.new.entries.items ≡ all_waiting transactions.old.entries.items }
+    ensures known { AreKnown (line queues.new) [] transactions.new.entries.items }
 {
-    leave_all(queues, entries.as_mut_slice(), plan, number);
+    for (resource, _) in plan {
+        leave_one(queues, transactions, resource, number);
+    }
 }

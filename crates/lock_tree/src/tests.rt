@@ -1,5 +1,7 @@
 //! Who is ready, against what was worked out by hand.
 
+mod plain;
+
 use crate::{EnqueueFault, LockTree};
 use coarsen::Plan;
 use footprint::{Footprint, InPart, InTable, Resource, Right};

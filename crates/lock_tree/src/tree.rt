@@ -5,10 +5,12 @@ ghost use Rattle.lock_tree.specs.Locks.{used, plan_of, without, with_mark};
 ghost use Rattle.lock_tree.specs.Ready.{ready, IsNextReady};
 ghost use Rattle.lock_tree.specs.Enqueues.{AreBelow};
 
-use crate::entry::{Entry, place_of};
-use crate::joining::{join, make_place, make_room_for};
-use crate::noting::leave;
+use crate::entry::Entry;
+use crate::joining::{join, make_room_for};
+use crate::noting::leave_all;
+use crate::opening::least;
 use crate::queues::Queues;
+use crate::transactions::{Transactions, place_of};
 use coarsen::Plan;
 use std::alloc::Global;
 use std::marker::Model;
@@ -29,7 +31,7 @@ pub struct LockTree {
     alloc: Global,
     nodes: usize,
     pub(crate) free: usize,
-    entries: Vec<Entry>,
+    transactions: Transactions,
     queues: Queues,
 }
 
@@ -43,11 +45,11 @@ impl Model for LockTree {
 
     ghost coded = { locks_code };
 
-    ghost view = { λ t. record { nodes = t.nodes; waiting = all_waiting t.entries.items } };
+    ghost view = { λ t. record { nodes = t.nodes; waiting = all_waiting t.transactions.entries.items } };
 
     ghost use Rattle.lock_tree.specs.Sound.{IsTree};
 
-    ghost invariant = { λ t. IsTree t.nodes t.free t.entries.items t.queues };
+    ghost invariant = { λ t. IsTree t.nodes t.free t.transactions t.queues };
 }
 
 impl LockTree {
@@ -59,7 +61,7 @@ impl LockTree {
             alloc,
             nodes,
             free: nodes,
-            entries: Vec::new(alloc),
+            transactions: Transactions::new(alloc),
             queues: Queues::new(alloc),
         })
     }
@@ -77,9 +79,9 @@ impl LockTree {
             return Err(EnqueueFault::Full);
         }
         let entry = Entry::new(self.alloc, number, plan.requests())?;
-        make_place(&mut self.entries)?;
+        self.transactions.make_place()?;
         make_room_for(self.alloc, &mut self.queues, plan.requests())?;
-        join(&mut self.queues, &mut self.entries, entry);
+        join(&mut self.queues, &mut self.transactions, entry);
         self.free -= size;
         Ok(())
     }
@@ -88,8 +90,8 @@ impl LockTree {
     pub fn is_ready(&self, number: u64) -> bool
         ensures { result ≡ ready self.now.waiting number }
     {
-        match place_of(self.entries.as_slice(), number) {
-            Some(place) => self.entries[place].ready,
+        match place_of(self.transactions.entries.as_slice(), number) {
+            Some(place) => self.transactions.entries[place].ready,
             None => false,
         }
     }
@@ -98,20 +100,7 @@ impl LockTree {
     pub fn next_ready(&self) -> Option<u64>
         ensures { IsNextReady self.now.waiting result }
     {
-        for entry in &self.entries {
-            if self.is_open(entry) {
-                return Some(entry.number);
-            }
-        }
-        None
-    }
-
-    /// Whether a transaction is ready and not marked.
-    fn is_open(&self, entry: &Entry) -> bool
-        requires { entry.now.ready ≡ ready self.now.waiting entry.now.number }
-        ensures { result ≡ (not entry.now.marked && ready self.now.waiting entry.now.number) }
-    {
-        !entry.marked && entry.ready
+        least(self.transactions.open.as_slice())
     }
 
     /// Marks a transaction.
@@ -133,8 +122,8 @@ impl LockTree {
     fn set_mark(&mut self, number: u64, mark: bool)
         ensures { self.new ≡ record self.old { waiting = with_mark number mark self.old.waiting } }
     {
-        if let Some(place) = place_of(self.entries.as_slice(), number) {
-            self.entries[place].marked = mark;
+        if let Some(place) = place_of(self.transactions.entries.as_slice(), number) {
+            self.transactions.set_mark(place, mark);
         }
     }
 
@@ -143,12 +132,12 @@ impl LockTree {
         requires { IsSome (plan_of self.old.waiting number) }
         ensures { self.new ≡ record self.old { waiting = without number self.old.waiting } }
     {
-        if let Some(place) = place_of(self.entries.as_slice(), number) {
-            let entry = self.entries.remove(place);
+        if let Some(place) = place_of(self.transactions.entries.as_slice(), number) {
+            let entry = self.transactions.remove(place);
             self.free += entry.plan.len();
-            leave(
+            leave_all(
                 &mut self.queues,
-                &mut self.entries,
+                &mut self.transactions,
                 entry.plan.as_slice(),
                 number,
             );

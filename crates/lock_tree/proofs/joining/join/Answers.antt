@@ -17,5 +17,5 @@ returns-clause-known c =
     let joined : (x : Resource) → new x ≡ old x ++ asks k (mode_on x c.args.entry.plan.items) [] =
     λ x. c.join_all.ensures x ∙ ap (λ (p : Requests). old x ++ asks k (mode_on x p) []) c.as_slice.ensures.value in
     let ready : c.are_granted.result ≡ granted_in new k c.args.entry.plan.items = c.are_granted.ensures ∙ ap (granted_in new k) c.as_slice-2.ensures.value in
-    subst (λ (es : List Entry). AreKnown new [] es) (sym c.push_reserved.ensures.items)
-    (known_and new c.args.entries.now.items e (known_before k old new (λ x. mode_on x c.args.entry.plan.items) joined c.args.entries.now.items c.requires.below c.requires.known) (knows_exactly new e ready))
+    subst (λ (es : List Entry). AreKnown new [] es) (sym c.push.ensures.entries)
+    (known_and new c.args.transactions.now.entries.items e (known_before k old new (λ x. mode_on x c.args.entry.plan.items) joined c.args.transactions.now.entries.items c.requires.below c.requires.known) (knows_exactly new e ready))

@@ -14,5 +14,6 @@ loop-resource-preserved c = record {
       (drop c.loop-resource.resource-index c.args.plan.now) (drop (c.loop-resource.resource-index + 1) c.args.plan.now) (c.leave_one.ensures.left other) (c.loop-resource.invariant.rest other)
       (drop_more c.args.plan.now c.loop-resource.resource-index c.loop-resource-item.result c.loop-resource-test.true ∙ ap (λ (e : Resource × Mode). e ∷ drop (c.loop-resource.resource-index + 1) c.args.plan.now) (sym c.loop-resource-item.is)) (c.loop-resource.invariant.left other) none;
   same = c.leave_one.ensures.same ∙ c.loop-resource.invariant.same;
+  indexed = c.leave_one.ensures.indexed;
   known = c.leave_one.ensures.known;
 }

@@ -26,4 +26,4 @@ note_all-requires-clause-known c =
     let is : c.granted_behind.result.now ≡ newly k (old r) =
     c.granted_behind.ensures ∙ ap (λ m. drop m (granted c.line-2.result.now)) n
     ∙ ap (λ (xs : Queue). drop (length (others k (granted (old r)))) (granted xs)) (c.line-2.ensures ∙ left_here k r old new c.remove.ensures) in
-    subst (λ (xs : Queue). AreKnown new xs c.args.entries.now) (sym is) (known_left k r old new c.remove.ensures c.args.entries.now c.requires.others c.requires.known)
+    subst (λ (xs : Queue). AreKnown new xs c.args.transactions.now.entries.items) (sym is) (known_left k r old new c.remove.ensures c.args.transactions.now.entries.items c.requires.others c.requires.known)

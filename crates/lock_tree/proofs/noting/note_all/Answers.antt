@@ -9,5 +9,6 @@ use Rattle.lock_tree.proofs.noting.note_all.Goals as goal
 pub loop-number-preserved : goal.loop-number-preserved
 loop-number-preserved c = record {
   same = c.note.ensures.same ∙ c.loop-number.invariant.same;
-  known = c.note.ensures.noted _ _ (subst (λ (xs : Queue). AreKnown (line c.args.queues.now) xs c.loop-number.entries) (drop_more c.args.lately.now c.loop-number.number-index (0, IntentionShared) c.loop-number-test.true) c.loop-number.invariant.known);
+  indexed = c.note.ensures.indexed;
+  known = c.note.ensures.noted _ _ (subst (λ (xs : Queue). AreKnown (line c.args.queues.now) xs c.loop-number.transactions.entries.items) (drop_more c.args.lately.now c.loop-number.number-index (0, IntentionShared) c.loop-number-test.true) c.loop-number.invariant.known);
 }

@@ -7,7 +7,7 @@ use Rattle.lock_tree.specs.Views.{all_waiting}
 use Rattle.lock_tree.specs.Lines.{line, others}
 use Rattle.lock_tree.specs.Known.{AreKnown}
 use Rattle.lock_tree.specs.Queues.{mode_on}
-use Rattle.lock_tree.proofs.Places.{at, plan_at, removed_at, no_without, used_at, rising_without}
+use Rattle.lock_tree.proofs.Places.{at, plan_at, removed_at, no_without, used_at}
 use Rattle.lock_tree.proofs.Trees.{queue_elsewhere, others_without, known_removed, left_tree}
 use Rattle.lock_tree.proofs.tree.LockTree.release.Goals as goal
 
@@ -30,51 +30,46 @@ plan_taken k i es seen d same h is =
 
 pub overflow_add-self : goal.overflow_add-self
 overflow_add-self c =
-    let u = freed c.args.number c.in-Some.place c.self.inside.entries.items c.as_slice.result.now c.remove-entry.result c.as_slice.ensures.value c.self.invariant.rising (sym c.in-Some.ensures.exact) c.remove-entry.ensures.value in
+    let u = freed c.args.number c.in-Some.place c.self.inside.transactions.entries.items c.as_slice.result.now c.remove-entry.result c.as_slice.ensures.value c.self.invariant.indexed.rising (sym c.in-Some.ensures.exact) c.remove-entry.ensures.value in
     let n : c.len.result ≡ length c.remove-entry.result.plan.items = c.len.ensures ∙ c.remove-entry.result.plan.ok.0 in
     let all = c.self.invariant.room in
     omega (arith, u, n, all, c.self.ranges)
 
-pub leave-requires-clause-rising : goal.leave-requires-clause-rising
-leave-requires-clause-rising c =
-    let same = left c.args.number c.in-Some.place c.self.inside.entries.items c.as_slice.result.now c.remove-entry.new.self.items c.as_slice.ensures.value c.self.invariant.rising (sym c.in-Some.ensures.exact) c.remove-entry.ensures.items in
-    subst IsRising (sym same) (rising_without c.args.number (all_waiting c.self.inside.entries.items) c.self.invariant.rising)
+pub leave_all-requires-clause-others : goal.leave_all-requires-clause-others
+leave_all-requires-clause-others c =
+    let same = left c.args.number c.in-Some.place c.self.inside.transactions.entries.items c.as_slice.result.now c.remove-entry.new.self.entries.items c.as_slice.ensures.value c.self.invariant.indexed.rising (sym c.in-Some.ensures.exact) c.remove-entry.ensures.entries in
+    subst (AllByRecursion (λ (w : Waiting). (w.number == c.args.number) ≡ false)) (sym same) (others_without c.args.number (all_waiting c.self.inside.transactions.entries.items))
 
-pub leave-requires-clause-others : goal.leave-requires-clause-others
-leave-requires-clause-others c =
-    let same = left c.args.number c.in-Some.place c.self.inside.entries.items c.as_slice.result.now c.remove-entry.new.self.items c.as_slice.ensures.value c.self.invariant.rising (sym c.in-Some.ensures.exact) c.remove-entry.ensures.items in
-    subst (AllByRecursion (λ (w : Waiting). (w.number == c.args.number) ≡ false)) (sym same) (others_without c.args.number (all_waiting c.self.inside.entries.items))
+pub leave_all-requires-clause-known : goal.leave_all-requires-clause-known
+leave_all-requires-clause-known c =
+    subst (AreKnown (line c.self.inside.queues) []) (sym c.remove-entry.ensures.entries) (known_removed (line c.self.inside.queues) c.self.inside.transactions.entries.items c.in-Some.place c.self.invariant.known)
 
-pub leave-requires-clause-known : goal.leave-requires-clause-known
-leave-requires-clause-known c =
-    subst (AreKnown (line c.self.inside.queues) []) (sym c.remove-entry.ensures.items) (known_removed (line c.self.inside.queues) c.self.inside.entries.items c.in-Some.place c.self.invariant.known)
-
-pub leave-requires-clause-elsewhere : goal.leave-requires-clause-elsewhere
-leave-requires-clause-elsewhere c = λ other none.
+pub leave_all-requires-clause-elsewhere : goal.leave_all-requires-clause-elsewhere
+leave_all-requires-clause-elsewhere c = λ other none.
     let k = c.args.number in
-    let ws = all_waiting c.self.inside.entries.items in
-    let plan = plan_taken k c.in-Some.place c.self.inside.entries.items c.as_slice.result.now c.remove-entry.result c.as_slice.ensures.value (sym c.in-Some.ensures.exact) c.remove-entry.ensures.value in
+    let ws = all_waiting c.self.inside.transactions.entries.items in
+    let plan = plan_taken k c.in-Some.place c.self.inside.transactions.entries.items c.as_slice.result.now c.remove-entry.result c.as_slice.ensures.value (sym c.in-Some.ensures.exact) c.remove-entry.ensures.value in
     ap (others k) (c.self.invariant.lines other)
-    ∙ queue_elsewhere other k ws c.remove-entry.result.plan.items c.self.invariant.rising plan (ap (mode_on other) (sym c.as_slice-in-Some.ensures.value) ∙ none)
+    ∙ queue_elsewhere other k ws c.remove-entry.result.plan.items c.self.invariant.indexed.rising plan (ap (mode_on other) (sym c.as_slice-in-Some.ensures.value) ∙ none)
     ∙ sym (c.self.invariant.lines other)
 
 pub invariant_of-self : goal.invariant_of-self
 invariant_of-self c =
-    let same = left c.args.number c.in-Some.place c.self.inside.entries.items c.as_slice.result.now c.remove-entry.new.self.items c.as_slice.ensures.value c.self.invariant.rising (sym c.in-Some.ensures.exact) c.remove-entry.ensures.items in
-    let u = freed c.args.number c.in-Some.place c.self.inside.entries.items c.as_slice.result.now c.remove-entry.result c.as_slice.ensures.value c.self.invariant.rising (sym c.in-Some.ensures.exact) c.remove-entry.ensures.value in
+    let same = left c.args.number c.in-Some.place c.self.inside.transactions.entries.items c.as_slice.result.now c.remove-entry.new.self.entries.items c.as_slice.ensures.value c.self.invariant.indexed.rising (sym c.in-Some.ensures.exact) c.remove-entry.ensures.entries in
+    let u = freed c.args.number c.in-Some.place c.self.inside.transactions.entries.items c.as_slice.result.now c.remove-entry.result c.as_slice.ensures.value c.self.invariant.indexed.rising (sym c.in-Some.ensures.exact) c.remove-entry.ensures.value in
     let n : c.len.result ≡ length c.remove-entry.result.plan.items = c.len.ensures ∙ c.remove-entry.result.plan.ok.0 in
-    left_tree c.self.inside.nodes c.self.inside.free c.len.result c.args.number c.self.inside.entries.items c.leave.new.entries.items c.self.inside.queues c.leave.new.queues c.self.invariant
-    (omega (arith, u, n)) (c.leave.ensures.same ∙ same) c.leave.ensures.left c.leave.ensures.known
+    left_tree c.self.inside.nodes c.self.inside.free c.len.result c.args.number c.self.inside.transactions c.leave_all.new.transactions c.self.inside.queues c.leave_all.new.queues c.self.invariant
+    (omega (arith, u, n)) (c.leave_all.ensures.same ∙ same) c.leave_all.ensures.indexed c.leave_all.ensures.left c.leave_all.ensures.known
 
 pub returns-in-Some : goal.returns-in-Some
 returns-in-Some c =
     ap (λ (ws : List Waiting). record { nodes = c.self.inside.nodes; waiting = ws })
-    (c.leave.ensures.same ∙ left c.args.number c.in-Some.place c.self.inside.entries.items c.as_slice.result.now c.remove-entry.new.self.items c.as_slice.ensures.value c.self.invariant.rising (sym c.in-Some.ensures.exact) c.remove-entry.ensures.items)
+    (c.leave_all.ensures.same ∙ left c.args.number c.in-Some.place c.self.inside.transactions.entries.items c.as_slice.result.now c.remove-entry.new.self.entries.items c.as_slice.ensures.value c.self.invariant.indexed.rising (sym c.in-Some.ensures.exact) c.remove-entry.ensures.entries)
     ∙ ap (λ (l : Locks). record { nodes = l.nodes; waiting = without c.args.number l.waiting }) c.self.view_is
 
 pub returns-in_default : goal.returns-in_default
 returns-in_default c =
     sym c.self.view_is
     ∙ ap (λ (ws : List Waiting). record { nodes = c.self.inside.nodes; waiting = ws })
-    (sym (no_without c.args.number (all_waiting c.self.inside.entries.items) (ap (λ (xs : List Entry). place_of c.args.number (all_waiting xs)) (sym c.as_slice.ensures.value) ∙ sym c.place_of.ensures.exact ∙ c.in_default.is)))
+    (sym (no_without c.args.number (all_waiting c.self.inside.transactions.entries.items) (ap (λ (xs : List Entry). place_of c.args.number (all_waiting xs)) (sym c.as_slice.ensures.value) ∙ sym c.place_of.ensures.exact ∙ c.in_default.is)))
     ∙ ap (λ (l : Locks). record { nodes = l.nodes; waiting = without c.args.number l.waiting }) c.self.view_is
