@@ -2,7 +2,7 @@
 use Rattle.std.proofs.Common.{◌≡◌, ℕ, ◌<◌, Bool, true, false, cond, [], Option, None, Some, refl, sym, ◌∙◌, ap, subst, vec_len, vec_capacity, Ordering, Less, Equal, Greater}
 use Rattle.std.specs.Prelude.{Vec}
 use Rattle.std.specs.Ordering.{is_eq, nat_cmp, ordering_then}
-use Rattle.std.specs.Cmp.{IsTotalOrder, eq_by_cmp_equiv}
+use Rattle.std.specs.Cmp.{IsTotalOrder}
 use Rattle.std.specs.BTreeMap.{get}
 use Rattle.std.specs.declared.alloc.Global.{Global}
 use Rattle.std.proofs.lemmas.Map.Lookups.{CmpEqualImpliesEq, exact_unsigned}
@@ -57,9 +57,6 @@ tied Greater h = absurd (cc)
 
 pub same_resource : (a b : Resource) → is_same a b ≡ true → a ≡ b
 same_resource a b h = exact_resources a b (tied (resource_cmp a b) h)
-
-pub same_either_way : (a b : Resource) → is_same a b ≡ is_same b a
-same_either_way a b = (eq_by_cmp_equiv resources_total).symm a b
 
 -- ---- what changes at one resource
 

@@ -29,13 +29,6 @@ pub no_later_place : (o : Option ℕ) → option_map (λ n. n + 1) o ≡ None �
 no_later_place None h = refl
 no_later_place (Some j) h = absurd (cc)
 
-pub place_within : (k : ℕ) (es : List Entry) (i : ℕ) → place_of k (all_waiting es) ≡ Some i → i < length es
-place_within k [] i h = absurd (none_some i h)
-place_within k (e ∷ es) i h = elim (e.number == k) as (λ v. cond v (Some 0) (option_map (λ n. n + 1) (place_of k (all_waiting es))) ≡ Some i → i < suc (length es)) [
-  | true ↦ λ h. let z = some_one 0 i h in omega (arith, z)
-  | false ↦ λ h. let j = later_place (place_of k (all_waiting es)) i h in let l = place_within k es j.0 j.1 in let s = j.2 in omega (arith, l, s)
-] h
-
 pub no_plan : (k : ℕ) (ws : List Waiting) → place_of k ws ≡ None → plan_of ws k ≡ None
 no_plan k [] h = refl
 no_plan k (w ∷ ws) h = elim (w.number == k) as (λ v. cond v (Some 0) (option_map (λ n. n + 1) (place_of k ws)) ≡ None → cond v (Some w.plan) (plan_of ws k) ≡ None) [
@@ -56,10 +49,6 @@ plan_at k (e ∷ es) i d h = elim (e.number == k) as (λ v. cond v (Some 0) (opt
 
 -- ---- numbers that rise
 
-above_less : (a b : ℕ) (ws : List Waiting) → a < b → AreAbove b ws → AreAbove a ws
-above_less a b [] l h = tt
-above_less a b (w ∷ ws) l h = (let m = h.0 in omega (arith, l, m), above_less a b ws l h.1)
-
 -- a number that is below all stands nowhere
 not_above : (k : ℕ) (ws : List Waiting) → AreAbove k ws → (without k ws ≡ ws) × ((m : Bool) → with_mark k m ws ≡ ws)
 not_above k [] h = (refl, λ m. refl)
@@ -70,20 +59,6 @@ not_above k (w ∷ ws) h =
       λ m. ap (λ v. cond v (record w { marked = m }) w ∷ with_mark k m ws) other ∙ ap (λ xs. w ∷ xs) (rest.1 m),
     )
 
-above_without : (a k : ℕ) (ws : List Waiting) → AreAbove a ws → AreAbove a (without k ws)
-above_without a k [] h = tt
-above_without a k (w ∷ ws) h = elim (w.number == k) as (λ v. AreAbove a (cond v (without k ws) (w ∷ without k ws))) [
-  | true ↦ above_without a k ws h.1
-  | false ↦ (h.0, above_without a k ws h.1)
-]
-
-pub rising_without : (k : ℕ) (ws : List Waiting) → IsRising ws → IsRising (without k ws)
-rising_without k [] h = tt
-rising_without k (w ∷ ws) h = elim (w.number == k) as (λ v. IsRising (cond v (without k ws) (w ∷ without k ws))) [
-  | true ↦ rising_without k ws h.1
-  | false ↦ (above_without w.number k ws h.0, rising_without k ws h.1)
-]
-
 pub number_kept : (v : Bool) (w : Waiting) (m : Bool) → (cond v (record w { marked = m }) w).number ≡ w.number
 number_kept true w m = refl
 number_kept false w m = refl
@@ -91,15 +66,6 @@ number_kept false w m = refl
 pub plan_kept : (v : Bool) (w : Waiting) (m : Bool) → (cond v (record w { marked = m }) w).plan ≡ w.plan
 plan_kept true w m = refl
 plan_kept false w m = refl
-
-above_marked : (a k : ℕ) (m : Bool) (ws : List Waiting) → AreAbove a ws → AreAbove a (with_mark k m ws)
-above_marked a k m [] h = tt
-above_marked a k m (w ∷ ws) h = (let n = number_kept (w.number == k) w m in let l = h.0 in omega (arith, n, l), above_marked a k m ws h.1)
-
-pub rising_marked : (k : ℕ) (m : Bool) (ws : List Waiting) → IsRising ws → IsRising (with_mark k m ws)
-rising_marked k m [] h = tt
-rising_marked k m (w ∷ ws) h =
-    (subst (λ n. AreAbove n (with_mark k m ws)) (sym (number_kept (w.number == k) w m)) (above_marked w.number k m ws h.0), rising_marked k m ws h.1)
 
 pub used_marked : (k : ℕ) (m : Bool) (ws : List Waiting) → used (with_mark k m ws) ≡ used ws
 used_marked k m [] = refl
@@ -203,8 +169,3 @@ above_member a (v ∷ ws) w h (suc n, l, is) = above_member a ws w h.1 (n, omega
 first_of : (rest : List Waiting) (v w : Waiting) → IsRising (v ∷ rest) → Contains (v ∷ rest) w → v.number ≤ w.number
 first_of rest v w r (zero, l, is) = let same : v ≡ w = is in let e = ap (λ (x : Waiting). x.number) same in omega (arith, e)
 first_of rest v w r (suc n, l, is) = let a = above_member v.number rest w r.0 (n, omega (arith, l), is) in omega (arith, a)
-
-pub first_least : (ws rest : List Waiting) (v w : Waiting) → ws ≡ v ∷ rest → IsRising ws → Contains ws w → v.number ≤ w.number
-first_least ws rest v w is r k =
-    let rising = subst IsRising is r in
-    first_of rest v w rising (subst (λ xs. Contains xs w) is k)

@@ -57,9 +57,6 @@ others_above r k (w ∷ ws) above =
     ∙ ap (λ v. cond v (others k (queue r ws)) (asks w.number (mode_on r w.plan) (others k (queue r ws)))) (above_other w.number k above.0)
     ∙ ap (λ q. asks w.number (mode_on r w.plan) q) (others_above r k ws above.1)
 
-no_plan_of : {X : Type 0} (x : X) → None ≡ Some x → ⊥
-no_plan_of x e = absurd (cc)
-
 some_plan : (p q : Requests) → Some p ≡ Some q → p ≡ q
 some_plan p q e = cc
 
