@@ -25,7 +25,8 @@ const BANK: &str = r#"["procs",1,[
 ["bad5",[],["declared",["row","r","acct",1],["row","r","acct",3]],
  [["get","x","acct",5,"bal"],["reply","x"]]],
 ["set",[["k","int"],["v","int"]],["declared",["row","w","ref","k"]],
- [["put","ref","k","to","v"]]]
+ [["put","ref","k","to","v"]]],
+["tell",[["k","int"],["s","text"]],["declared"],[["reply","s"]]]
 ]]"#;
 
 const PAY: &str = r#"["call","pay",[1,2,30]]"#;
@@ -294,6 +295,30 @@ fn names_the_line_of_a_failed_read(rt: HostRuntime) -> Result<(), Fail> {
         }
         assert_eq!(rt; reader.last_line(), last);
         assert!(rt; source.failed);
+    }
+    Ok(())
+}
+
+#[test]
+fn texts_are_given_to_text_parameters_alone(rt: HostRuntime) -> Result<(), Fail> {
+    let alloc = rt.alloc();
+    let mut long = String::new(alloc);
+    for _ in 0..64 {
+        long.push_str("a")?;
+    }
+    let fits = format!(in alloc; r#"["call","tell",[1,"{long}"]]"#)?;
+    let longer = format!(in alloc; r#"["call","tell",[1,"{long}b"]]"#)?;
+    for (line, want) in [
+        (r#"["call","tell",[1,"hi"]]"#, "1 calls"),
+        (r#"["call","tell",[1,""]]"#, "1 calls"),
+        (fits.as_str(), "1 calls"),
+        (longer.as_str(), "fault 34 line 1"),
+        (r#"["call","tell",[1,2]]"#, "fault 34 line 1"),
+        (r#"["call","tell",["hi",1]]"#, "fault 34 line 1"),
+        (r#"["call","tell",["hi"]]"#, "fault 34 line 1"),
+        (r#"["call","peek",["hi"]]"#, "fault 34 line 1"),
+    ] {
+        assert_eq!(rt; first(alloc, line.as_bytes())?.as_str(), want, "{line}");
     }
     Ok(())
 }

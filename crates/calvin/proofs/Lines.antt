@@ -11,13 +11,12 @@ use Rattle.sequencer.specs.declared.batch.Batch.{Batch}
 use Rattle.sequencer.specs.Batches.{items_of, items_from}
 use Rattle.sequencer.specs.Entries.{prepared}
 use Rattle.report_text.specs.Report.{batch_text, reply_lines}
-use Rattle.calvin.specs.declared.engine.Engine.{Engine}
-use Rattle.calvin.specs.declared.replies.BatchDone.{BatchDone}
-use Rattle.calvin.specs.declared.replies.Reply.{Reply}
-use Rattle.calvin.specs.Batches.{entries_of}
-use Rattle.calvin.specs.Engines.{next_of, rows_of}
-use Rattle.calvin.specs.Executions.{IsRunOf}
-use Rattle.calvin.specs.Replies.{reply_of, sent_of, sent_from, Sent}
+use Rattle.engine.specs.declared.replies.BatchDone.{BatchDone}
+use Rattle.engine.specs.declared.replies.Reply.{Reply}
+use Rattle.engine.specs.Batches.{entries_of}
+use Rattle.engine.specs.Engines.{EngineParts}
+use Rattle.engine.specs.Executions.{IsRunOf}
+use Rattle.engine.specs.Replies.{reply_of, sent_of, sent_from, Sent}
 use Rattle.calvin.specs.Transcripts.{said_lines, with_batch_line}
 
 said_as : (n : ℕ) (rs : List Reply) (items : List Item) (replies : List meant.Reply) → map sent_of rs ≡ sent_from n items → map reply_of rs ≡ replies → said_lines rs ≡ reply_lines n replies
@@ -41,23 +40,23 @@ pub entries_in : (requests : List Call) (batch : Batch) → items_of batch ≡ i
 entries_in requests batch e = ap (map (λ item. prepared item.request)) e ∙ requests_in 0 requests
 
 -- the reply lines of a batch that was run are those of its entries one by one
-pub lines_are : (old new : Engine) (batch : Batch) (run : BatchDone) (requests : List Call) → IsRunOf old new batch run → items_of batch ≡ items_from 0 requests →
-    said_lines run.replies.items ≡ reply_lines (next_of old) (serial_replies (map prepared requests) (rows_of old))
+pub lines_are : (old new : EngineParts) (batch : Batch) (run : BatchDone) (requests : List Call) → IsRunOf old new batch run → items_of batch ≡ items_from 0 requests →
+    said_lines run.replies.items ≡ reply_lines old.next (serial_replies (map prepared requests) old.rows)
 lines_are old new batch run requests r e =
-    said_as (next_of old) run.replies.items (items_of batch) _ r.sent r.replies
-    ∙ ap (λ (es : List EntryShape). reply_lines (next_of old) (serial_replies es (rows_of old))) (entries_in requests batch e)
+    said_as old.next run.replies.items (items_of batch) _ r.sent r.replies
+    ∙ ap (λ (es : List EntryShape). reply_lines old.next (serial_replies es old.rows)) (entries_in requests batch e)
 
-pub rows_are : (old new : Engine) (batch : Batch) (run : BatchDone) (requests : List Call) → IsRunOf old new batch run → items_of batch ≡ items_from 0 requests →
-    rows_of new ≡ serial_end (map prepared requests) (rows_of old)
-rows_are old new batch run requests r e = r.rows ∙ ap (λ (es : List EntryShape). serial_end es (rows_of old)) (entries_in requests batch e)
+pub rows_are : (old new : EngineParts) (batch : Batch) (run : BatchDone) (requests : List Call) → IsRunOf old new batch run → items_of batch ≡ items_from 0 requests →
+    new.rows ≡ serial_end (map prepared requests) old.rows
+rows_are old new batch run requests r e = r.rows ∙ ap (λ (es : List EntryShape). serial_end es old.rows) (entries_in requests batch e)
 
 pub requests_count : (n : ℕ) (requests : List Call) → length (items_from n requests) ≡ length requests
 requests_count n [] = refl
 requests_count n (r ∷ rs) = let rest = requests_count (n + 1) rs in cc
 
-pub next_is : (old new : Engine) (batch : Batch) (run : BatchDone) (requests : List Call) → IsRunOf old new batch run → items_of batch ≡ items_from 0 requests →
-    next_of new ≡ next_of old + length requests
-next_is old new batch run requests r e = r.next ∙ ap (λ n. next_of old + n) (ap length e ∙ requests_count 0 requests)
+pub next_is : (old new : EngineParts) (batch : Batch) (run : BatchDone) (requests : List Call) → IsRunOf old new batch run → items_of batch ≡ items_from 0 requests →
+    new.next ≡ old.next + length requests
+next_is old new batch run requests r e = r.next ∙ ap (λ n. old.next + n) (ap length e ∙ requests_count 0 requests)
 
 pub text_is : (tables given : List TableShape) (batch n : ℕ) (db after : Database) (entries : List EntryShape) (lines : List ℕ) →
     given ≡ tables → after ≡ serial_end entries db → lines ≡ reply_lines n (serial_replies entries db) → with_batch_line batch given after lines ≡ batch_text tables batch n db entries

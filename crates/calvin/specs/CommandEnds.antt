@@ -1,5 +1,5 @@
 -- How a command ends: its exit status, and what it wrote.
-use Rattle.std.specs.Prelude.{◌≡◌, ℕ, ◌⊎◌, List, [], ◌++◌, Bool, true, false, ◌&&◌, Option, Some, None, IfSome, OnOk, Result, Ok, Err, codes, if◌then◌else◌, string_bytes, ⊤}
+use Rattle.std.specs.Prelude.{◌≡◌, ℕ, ◌⊎◌, List, [], ◌++◌, length, Bool, true, false, ◌&&◌, Option, Some, None, IfSome, OnOk, Result, Ok, Err, codes, if◌then◌else◌, string_bytes, ⊤}
 use Rattle.std.specs.Fmt.{decimal}
 use Rattle.std.specs.FinMap as map_of
 use Rattle.std.specs.Io.KnownBytes.{Appends}
@@ -15,7 +15,7 @@ use Rattle.batch_log.specs.declared.fault.FaultKind.{FaultKind}
 use Rattle.batch_log.specs.declared.fault.FaultKind.TheVariants.{Io, Memory}
 use Rattle.command_line.specs.CommandLine.{IsAskedFor}
 use Rattle.command_line.specs.declared.line.Command.{Command}
-use Rattle.command_line.specs.declared.line.Command.TheVariants.{Run, Replicas}
+use Rattle.command_line.specs.declared.line.Command.TheVariants.{Run, Replicas, Check}
 use Rattle.command_line.specs.declared.line.Line.{Line}
 use Rattle.calvin.specs.declared.run_fault.RunFault.{RunFault}
 use Rattle.calvin.specs.declared.run_fault.RunFault.TheVariants as runs
@@ -130,6 +130,21 @@ IsReplicasCommand holds holds_other source spent sink filled status =
     ((IsWithoutSetup holds status ⊎ ((status ≡ 4) × holds_other None)) × (spent ≡ source) × (filled ≡ sink))
     ⊎ AreReplicas holds holds_other source spent sink filled status
 
+-- ---- the command `check`
+
+-- the line that says how many tables, procedures and rows there are
+unfoldable pub counts_text : ℕ → ℕ → ℕ → List ℕ
+counts_text tables procedures rows = codes "ok " ++ decimal tables ++ codes " tables " ++ decimal procedures ++ codes " procedures " ++ decimal rows ++ codes " rows\n"
+
+-- how many a setup has
+abbrev pub check_text : Setup → List ℕ
+check_text setup = counts_text (length setup.catalogue) (length setup.procs.procs) (length setup.rows.items)
+
+-- Without a setup nothing is written; with one, how much it has.
+abbrev pub IsCheckCommand : Holding → Device → Device → ℕ → Type 0
+IsCheckCommand holds sink filled status =
+    (IsWithoutSetup holds status × (filled ≡ sink)) ⊎ ((setup : Setup) × IsSetupAt holds setup × IsWritten (check_text setup) sink filled 0 status)
+
 -- ---- which command
 
 -- what holds of the setup's path of `run`
@@ -142,11 +157,19 @@ abbrev pub IfReplicas : Command → (List ℕ → List ℕ → Type 0) → Type 
 IfReplicas (Replicas setup report) P = P (string_bytes setup) (string_bytes report)
 IfReplicas command P = ⊤
 
+-- what holds of the setup's path of `check`
+abbrev pub IfCheck : Command → (List ℕ → Type 0) → Type 0
+IfCheck (Check setup) P = P (string_bytes setup)
+IfCheck command P = ⊤
+
 -- What comes of a command line, by its command: `run` writes the report of the log on the setup at its path, and `replicas`
--- compares that report with the text at another. Nothing is said of `locks` here.
+-- compares that report with the text at another; `check` writes how much the setup has, and reads nothing of the log. Nothing is
+-- said of `locks` here.
 pub record Does (holds : List ℕ → Option (List ℕ) → Type 0) (line : Line) (source spent sink filled : Device) (status : ℕ) : Type 0 where
   pub run : IfRun line.command (λ path. IsRunCommand (holds path) source spent sink filled status)
   pub replicas : IfReplicas line.command (λ path report. IsReplicasCommand (holds path) (holds report) source spent sink filled status)
+  pub check : IfCheck line.command (λ path. IsCheckCommand (holds path) sink filled status)
+  pub unread : IfCheck line.command (λ path. spent ≡ source)
 
 -- What comes of the words behind the program's name: they ask for a line, which is done; or they ask for none, or memory was
 -- refused, and nothing is read of the log, and nothing is written.

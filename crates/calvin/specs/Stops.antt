@@ -4,8 +4,8 @@ use Rattle.std.specs.Io.KnownBytes.{Consumes}
 use Rattle.devices.specs.Lines.{line_number, lines_of, newlines_in, next_number}
 use Rattle.batch_log.specs.declared.fault.LogFault.{LogFault}
 use Rattle.batch_log.specs.Faults.{is_io, IsOfLine}
-use Rattle.calvin.specs.declared.engine.ExecFault.{ExecFault}
-use Rattle.calvin.specs.declared.engine.ExecFault.TheVariants.{Busy, LogFull, Spawn, NoMemory}
+use Rattle.engine.specs.declared.engine.ExecFault.{ExecFault}
+use Rattle.engine.specs.declared.engine.ExecFault.TheVariants.{Busy, LogFull, Spawn, NoMemory}
 use Rattle.calvin.specs.declared.run_fault.RunFault.{RunFault}
 use Rattle.calvin.specs.declared.run_fault.RunFault.TheVariants as runs
 use Rattle.calvin.specs.Transcripts.{IsOfMachine}

@@ -6,8 +6,8 @@ use Rattle.batch_log.specs.declared.fault.FaultKind.{FaultKind}
 use Rattle.batch_log.specs.declared.fault.FaultKind.TheVariants.{Io, Memory}
 use Rattle.batch_log.specs.Faults.{is_io}
 use Rattle.report_text.specs.Texts.{reply_line, row_text, digest, batch_line}
-use Rattle.calvin.specs.declared.replies.Reply.{Reply}
-use Rattle.calvin.specs.Replies.{reply_of}
+use Rattle.engine.specs.declared.replies.Reply.{Reply}
+use Rattle.engine.specs.Replies.{reply_of}
 
 -- the reply lines of replies
 abbrev pub said_lines : List Reply → List ℕ

@@ -2,8 +2,8 @@
 
 ghost use Rattle.calvin.specs.CommandEnds.{Does, IsRunCommand};
 
+use crate::checking::check;
 use crate::files::Files;
-use crate::gate::OpenGate;
 use crate::inputs::{print, refused, setup_at};
 use crate::locks::plans_of;
 use crate::replicas::replicas;
@@ -11,6 +11,7 @@ use crate::running::{Execution, run_log};
 use crate::status::DONE;
 use batch_log::{Sink, Source};
 use command_line::{Command, Line, Settings};
+use engine::OpenGate;
 use std::alloc::Global;
 
 /// Prints the report of the log on the setup at a path.
@@ -91,6 +92,7 @@ pub fn command<F: Files, S: Source, K: Sink, E: Sink>(
             run(alloc, execution, settings, setup, files, source, out, err)
         }
         Command::Locks { setup } => locks(alloc, settings, setup, files, source, out, err),
+        Command::Check { setup } => check(alloc, setup, files, out, err),
         Command::Replicas { setup, report } => replicas(
             alloc, settings, setup, report, files, source, out, err,
         ),

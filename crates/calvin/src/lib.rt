@@ -1,19 +1,16 @@
 //! The executor: the engine that runs batches of calls, and the program over it.
 #![tactic(auto)]
 
+mod checking;
 mod commands;
 mod comparison;
-mod engine;
 mod files;
-mod gate;
 mod inputs;
 mod locks;
 mod programs;
 mod replicas;
-mod replies;
 mod run_fault;
 mod running;
-mod serial;
 mod status;
 mod transcript;
 
@@ -22,20 +19,15 @@ pub use batch_log::{
 };
 pub use command_line::{BadSetting, Command, Line, LineFault, Settings, read_line};
 pub use commands::command;
-pub use engine::{Engine, ExecFault};
+pub use engine::{Batch, BatchDone, BatchFault, Engine, ExecFault, Gate, Item, OpenGate, Reply};
 pub use files::{FileFault, Files};
-pub use gate::{Gate, OpenGate};
 pub use programs::program;
-pub use replies::{BatchDone, Reply};
 pub use run_fault::RunFault;
 pub use running::run_text;
-pub use sequencer::{Batch, BatchFault, Item};
 pub use setup::{Setup, SetupFault, read_setup};
 
 #[cfg(test)]
 mod device_tests;
-#[cfg(test)]
-mod engine_tests;
 #[cfg(test)]
 mod locks_tests;
 #[cfg(test)]

@@ -5,13 +5,13 @@ ghost use Rattle.calvin.specs.CommandEnds.{answer_status, answer_text, IsAnswere
 
 use crate::comparison::{KeptReport, first_difference};
 use crate::files::Files;
-use crate::gate::OpenGate;
 use crate::inputs::{file_at, print, refused, setup_at};
 use crate::run_fault::RunFault;
 use crate::running::{Execution, run_log};
 use crate::status::{DIFFERENT, DONE};
 use batch_log::{FaultKind, Sink, Source};
 use command_line::Settings;
+use engine::OpenGate;
 use std::alloc::{AllocError, Global};
 
 /// The line that says where two reports differ.

@@ -8,25 +8,23 @@ ghost use Rattle.sha2.specs.Hashers.{Holds256};
 ghost use Rattle.devices.specs.Devices.{AppendsFront};
 ghost use Rattle.meaning.specs.Serial.{serial_end, serial_replies};
 ghost use Rattle.row_store.specs.Stock.{with_rows};
-ghost use Rattle.sequencer.specs.Batches.{items_of};
+ghost use Rattle.sequencer.specs.Batches.{items_of, AreOver};
 ghost use Rattle.sequencer.specs.Entries.{prepared};
 ghost use Rattle.report_text.specs.Texts.{digest, end_line, row_text};
 ghost use Rattle.report_text.specs.Report.{batch_text, next_batch, reply_lines, all_entries};
 ghost use Rattle.batch_log.specs.Reader.{calls_read, fault_of, position_of, source_name, source_of, unread};
-ghost use Rattle.calvin.specs.Engines.{tables_of, procs_of, rows_of, next_of, is_busy};
-ghost use Rattle.calvin.specs.Executions.{AreOver, IsRefusal, IsRunOf, KeepsSetting};
+ghost use Rattle.engine.specs.Engines.{tables_of, is_busy};
+ghost use Rattle.engine.specs.Executions.{IsRefusal, IsRunOf, KeepsSetting};
 ghost use Rattle.calvin.specs.Hashers.{batch_of, said_of};
 ghost use Rattle.calvin.specs.Reports.{batches_in, fault_in, report_of};
 ghost use Rattle.calvin.specs.Runs.{IsRunOfLog};
 ghost use Rattle.calvin.specs.Stops.{ends_in_io, is_of_device, IfOfLine, IfOfMachine, IsHeld, IsLineOf, IsMachineFault};
 
-use crate::engine::{Engine, ExecFault};
-use crate::gate::Gate;
-use crate::replies::BatchDone;
 use crate::run_fault::RunFault;
 use crate::transcript::Transcript;
 use batch_log::{FaultKind, LogReader, Sink, Source};
 use command_line::Settings;
+use engine::{BatchDone, Engine, ExecFault, Gate};
 use proclang::Request;
 use sequencer::{Batch, BatchFault};
 use setup::Setup;
@@ -88,18 +86,18 @@ fn run_batch<G: Gate, K: Sink>(
     requires tables { AllByRecursion (λ request. request.proc.tables ≡ tables_of engine.old) requests.items }
     requires few { length requests.items ≤ 4096 }
     requires idle { is_busy engine.old ≡ false }
-    requires room { next_of engine.old + length requests.items ≤ 2 ^ 48 }
+    requires room { engine.old.next + length requests.items ≤ 2 ^ 48 }
     ensures same { KeepsSetting engine.old engine.new }
     ensures idle { OnOk result (is_busy engine.new ≡ false) }
-    ensures rows { OnOk result (rows_of engine.new ≡ serial_end (map prepared requests.items) (rows_of engine.old)) }
-    ensures next { OnOk result (next_of engine.new ≡ next_of engine.old + length requests.items) }
+    ensures rows { OnOk result (engine.new.rows ≡ serial_end (map prepared requests.items) engine.old.rows) }
+    ensures next { OnOk result (engine.new.next ≡ engine.old.next + length requests.items) }
     ensures batch { OnOk result (batch_of transcript.new ≡ next_batch (batch_of transcript.old)) }
     ensures said { OnOk result ((m : List ℕ) → Holds256 (said_of transcript.old) m
-        → Holds256 (said_of transcript.new) (m ++ reply_lines (next_of engine.old) (serial_replies (map prepared requests.items) (rows_of engine.old)))) }
+        → Holds256 (said_of transcript.new) (m ++ reply_lines engine.old.next (serial_replies (map prepared requests.items) engine.old.rows))) }
     ensures text { OnOk result (Appends (K.taken sink.old) (K.taken sink.new)
-        (batch_text (tables_of engine.old) (batch_of transcript.old) (next_of engine.old) (rows_of engine.old) (map prepared requests.items))) }
+        (batch_text (tables_of engine.old) (batch_of transcript.old) engine.old.next engine.old.rows (map prepared requests.items))) }
     ensures front { AppendsFront (K.taken sink.old) (K.taken sink.new)
-        (batch_text (tables_of engine.old) (batch_of transcript.old) (next_of engine.old) (rows_of engine.old) (map prepared requests.items)) }
+        (batch_text (tables_of engine.old) (batch_of transcript.old) engine.old.next engine.old.rows (map prepared requests.items)) }
     ensures stops { IfErr result (IsMachineFault line) }
     ensures fails { K.broken sink.new ≡ (K.broken sink.old || ends_in_io result) }
 {
@@ -127,11 +125,11 @@ fn finish<K: Sink>(
     line: u64,
 ) -> Result<u64, RunFault>
     requires { is_busy engine.now ≡ false }
-    ensures count { IfOk result (λ n. n ≡ next_of engine.now) }
+    ensures count { IfOk result (λ n. n ≡ engine.now.next) }
     ensures text { (m : List ℕ) → Holds256 (said_of transcript) m → OnOk result (Appends (K.taken sink.old) (K.taken sink.new)
-        (end_line (next_of engine.now) (digest (row_text (tables_of engine.now) (rows_of engine.now))) (digest m))) }
+        (end_line engine.now.next (digest (row_text (tables_of engine.now) engine.now.rows)) (digest m))) }
     ensures front { (m : List ℕ) → Holds256 (said_of transcript) m → AppendsFront (K.taken sink.old) (K.taken sink.new)
-        (end_line (next_of engine.now) (digest (row_text (tables_of engine.now) (rows_of engine.now))) (digest m)) }
+        (end_line engine.now.next (digest (row_text (tables_of engine.now) engine.now.rows)) (digest m)) }
     ensures stops { IfErr result (IsMachineFault line) }
     ensures fails { K.broken sink.new ≡ (K.broken sink.old || ends_in_io result) }
 {
@@ -152,10 +150,10 @@ fn run_batches<G: Gate, S: Source, K: Sink>(
     sink: &mut K,
 ) -> Result<u64, RunFault>
     requires idle { is_busy engine.old ≡ false }
-    requires unused { next_of engine.old ≡ 0 }
+    requires unused { engine.old.next ≡ 0 }
     requires unread { (position_of reader.old ≡ record { newlines = 0; begun = 0 }) × (calls_read reader.old ≡ 0) × (fault_of reader.old ≡ None) }
     ensures same { source_name reader.new ≡ source_name reader.old }
-    ensures run { IsRunOfLog (procs_of engine.old) (rows_of engine.old)
+    ensures run { IsRunOfLog engine.old.procs engine.old.rows
         (record { bytes = unread S.left reader.old; failed = S.failed (source_of reader.old) })
         (record { bytes = S.left (source_of reader.new); failed = S.failed (source_of reader.new) })
         (record { bytes = K.taken sink.old; failed = K.broken sink.old })
@@ -196,8 +194,8 @@ fn run_on<G: Gate, S: Source, K: Sink>(
     sink: &mut K,
 ) -> Result<u64, RunFault>
     requires idle { is_busy engine.old ≡ false }
-    requires unused { next_of engine.old ≡ 0 }
-    ensures { IsRunOfLog (procs_of engine.old) (rows_of engine.old)
+    requires unused { engine.old.next ≡ 0 }
+    ensures { IsRunOfLog engine.old.procs engine.old.rows
         (record { bytes = S.left source.old; failed = S.failed source.old })
         (record { bytes = S.left source.new; failed = S.failed source.new })
         (record { bytes = K.taken sink.old; failed = K.broken sink.old })

@@ -9,8 +9,8 @@ ghost use Rattle.report_text.specs.Texts.{digest, end_line, row_text};
 ghost use Rattle.report_text.specs.Report.{next_batch};
 ghost use Rattle.calvin.specs.Transcripts.{said_lines, with_batch_line, write_failed, IsOfMachine};
 
-use crate::replies::Reply;
 use batch_log::{FaultKind, Sink, write_all};
+use engine::Reply;
 use report_text::{digest_of, digest_text, push_batch_line, push_end_line, push_reply_line};
 use row_store::{RowStore, all_is_free_with_nothing_lent};
 use row_text::rows_digest;

@@ -3,7 +3,7 @@ use Rattle.std.specs.Prelude.{◌≡◌, ℕ, List, [], Bool, true, false, Optio
 use Rattle.std.specs.Str.Parse.{IsNumeral, digits_value, without_leading_plus}
 use Rattle.clap.specs.Words.{Row, Text, fault_of, first_of, one_of, subcommand_of}
 use Rattle.command_line.specs.declared.line.Command.{Command}
-use Rattle.command_line.specs.declared.line.Command.TheVariants.{Locks, Replicas, Run}
+use Rattle.command_line.specs.declared.line.Command.TheVariants.{Check, Locks, Replicas, Run}
 use Rattle.command_line.specs.declared.line.Line.{Line}
 use Rattle.command_line.specs.declared.line.LineFault.{LineFault}
 use Rattle.command_line.specs.declared.line.LineFault.TheVariants.{NoMemory, Refused}
@@ -39,6 +39,10 @@ pub record IsLocks (word : Text) (rows : List Row) (setup : Text) : Type 0 where
   pub name : word ≡ codes "locks"
   pub setup_is : first_of (codes "setup") rows ≡ Some setup
 
+pub record IsCheck (word : Text) (rows : List Row) (setup : Text) : Type 0 where
+  pub name : word ≡ codes "check"
+  pub setup_is : first_of (codes "setup") rows ≡ Some setup
+
 pub record IsReplicas (word : Text) (rows : List Row) (setup report : Text) : Type 0 where
   pub name : word ≡ codes "replicas"
   pub setup_is : first_of (codes "setup") rows ≡ Some setup
@@ -47,6 +51,7 @@ pub record IsReplicas (word : Text) (rows : List Row) (setup report : Text) : Ty
 abbrev pub IsCommand : Text → List Row → Command → Type 0
 IsCommand name rows (Run alone setup) = IsRun name rows alone (string_bytes setup)
 IsCommand name rows (Locks setup) = IsLocks name rows (string_bytes setup)
+IsCommand name rows (Check setup) = IsCheck name rows (string_bytes setup)
 IsCommand name rows (Replicas setup report) = IsReplicas name rows (string_bytes setup) (string_bytes report)
 
 -- what the name and the arguments of a command ask for

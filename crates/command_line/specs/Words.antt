@@ -45,7 +45,6 @@ replicas_app =
     (number_rule (codes "coarsen") 0 65535 (codes "64")))
     (number_rule (codes "arena") 1 1048576 (codes "65536"))
 
--- the commands, of which one must be named; the words begin behind the program's name
 -- `locks [--workers N] [--lanes N] [--coarsen N] [--arena N] SETUP`
 unfoldable pub locks_app : App
 locks_app =
@@ -56,9 +55,20 @@ locks_app =
     (number_rule (codes "coarsen") 0 65535 (codes "64")))
     (number_rule (codes "arena") 1 1048576 (codes "65536"))
 
+-- `check [--workers N] [--lanes N] [--coarsen N] [--arena N] SETUP`
+unfoldable pub check_app : App
+check_app =
+    with_rule (with_rule (with_rule (with_rule (with_rule (new_app (codes "check"))
+    (word_rule (codes "setup")))
+    (number_rule (codes "workers") 1 16 (codes "4")))
+    (number_rule (codes "lanes") 1 64 (codes "8")))
+    (number_rule (codes "coarsen") 0 65535 (codes "64")))
+    (number_rule (codes "arena") 1 1048576 (codes "65536"))
+
+-- the commands, of which one must be named; the words begin behind the program's name
 unfoldable pub calvin_app : App
-calvin_app = with_subcommand (with_subcommand (with_subcommand (on_top (λ s. record s {
+calvin_app = with_subcommand (with_subcommand (with_subcommand (with_subcommand (on_top (λ s. record s {
   no_binary_name = true;
   subcommand_required = true;
   arg_required_else_help = true;
-}) (new_app (codes "calvin"))) run_app.top) replicas_app.top) locks_app.top
+}) (new_app (codes "calvin"))) run_app.top) replicas_app.top) locks_app.top) check_app.top

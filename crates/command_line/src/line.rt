@@ -21,6 +21,8 @@ pub enum Command {
     Run { alone: bool, setup: String },
     /// Print the plans of the log's first batch on the setup at this path.
     Locks { setup: String },
+    /// Read the setup at this path, and say how much it has.
+    Check { setup: String },
     /// Run the log on the setup at this path, and compare the report with the file at that one.
     Replicas { setup: String, report: String },
 }
@@ -116,6 +118,18 @@ fn locks_of(alloc: Global, matches: &ArgMatches<'_>) -> Result<Option<Command>, 
     Ok(Some(Command::Locks { setup }))
 }
 
+// The command `check`, by its arguments.
+fn check_of(alloc: Global, matches: &ArgMatches<'_>) -> Result<Option<Command>, AllocError>
+    ensures some { IfOk result (λ o. IfSome o (IsCommand (codes "check") (rows_of (found_of matches.now)))) }
+    ensures none { IfOk result (λ o. IsNone o → (command : Command) → ¬ IsCommand (codes "check") (rows_of (found_of matches.now)) command) }
+{
+    let Some(setup) = matches.get_str("setup") else {
+        return Ok(None);
+    };
+    let setup = String::from_str(alloc, setup)?;
+    Ok(Some(Command::Check { setup }))
+}
+
 // The command of a name, by its arguments.
 fn command_of(
     alloc: Global,
@@ -128,6 +142,7 @@ fn command_of(
     match name {
         "run" => run_of(alloc, matches),
         "locks" => locks_of(alloc, matches),
+        "check" => check_of(alloc, matches),
         "replicas" => replicas_of(alloc, matches),
         _ => Ok(None),
     }

@@ -3,7 +3,7 @@
 ghost use Rattle.std.specs.Prelude.{◌≡◌, codes, IfOk, false};
 ghost use Rattle.clap.specs.Words.{app_of, rule_of};
 ghost use Rattle.clap.specs.declared.builder.command.Command.TheViews.{out-Command as fields_of};
-ghost use Rattle.command_line.specs.Words.{calvin_app, flag_rule, locks_app, number_rule, replicas_app, run_app, word_rule};
+ghost use Rattle.command_line.specs.Words.{calvin_app, check_app, flag_rule, locks_app, number_rule, replicas_app, run_app, word_rule};
 
 use clap::builder::ValueParser;
 use clap::{Arg, ArgAction, Command};
@@ -42,6 +42,13 @@ const LOCKS_EXAMPLE: &str = "Example:
   calvin locks bank.json < calls.log
 
 prints a line `NO MODE RESOURCE` for each request, and runs nothing.";
+
+const CHECK_ABOUT: &str = "Reads a setup, and says how many tables, procedures and rows it has";
+
+const CHECK_EXAMPLE: &str = "Example:
+  calvin check bank.json
+
+prints `ok T tables P procedures R rows`, or the setup's first fault. The options change nothing.";
 
 const REPORT_HELP: &str = "The file of the other replica's report";
 
@@ -174,6 +181,26 @@ fn locks_command<'a>(alloc: Global) -> Result<Command<'a>, AllocError>
         .arg(arena)
 }
 
+/// The command `check`.
+fn check_command<'a>(alloc: Global) -> Result<Command<'a>, AllocError>
+    ensures app { IfOk result (λ r. app_of r ≡ check_app) }
+    ensures local { IfOk result (λ r. (fields_of r).has_globals ≡ false) }
+{
+    let setup = required_word(alloc, "setup", "SETUP", SETUP_HELP);
+    let workers = workers_option(alloc);
+    let lanes = lanes_option(alloc);
+    let coarsen = coarsen_option(alloc);
+    let arena = arena_option(alloc);
+    Command::new(alloc, "check")
+        .about(CHECK_ABOUT)
+        .after_help(CHECK_EXAMPLE)
+        .arg(setup)?
+        .arg(workers)?
+        .arg(lanes)?
+        .arg(coarsen)?
+        .arg(arena)
+}
+
 /// The command `replicas`.
 fn replicas_command<'a>(alloc: Global) -> Result<Command<'a>, AllocError>
     ensures app { IfOk result (λ r. app_of r ≡ replicas_app) }
@@ -203,6 +230,7 @@ pub(crate) fn calvin_command<'a>(alloc: Global) -> Result<Command<'a>, AllocErro
     let run = run_command(alloc)?;
     let replicas = replicas_command(alloc)?;
     let locks = locks_command(alloc)?;
+    let check = check_command(alloc)?;
     Command::new(alloc, "calvin")
         .bin_name("calvin")?
         .about(ABOUT)
@@ -212,5 +240,6 @@ pub(crate) fn calvin_command<'a>(alloc: Global) -> Result<Command<'a>, AllocErro
         .arg_required_else_help(true)
         .subcommand(run)?
         .subcommand(replicas)?
-        .subcommand(locks)
+        .subcommand(locks)?
+        .subcommand(check)
 }

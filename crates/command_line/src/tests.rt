@@ -128,6 +128,34 @@ fn reads_locks(rt: HostRuntime) -> Result<(), Fail> {
 }
 
 #[test]
+fn reads_checks(rt: HostRuntime) -> Result<(), Fail> {
+    let alloc = rt.alloc();
+    for line in [
+        "check a.json",
+        "check --workers 2 --lanes 3 a.json --coarsen 0 --arena 3",
+    ] {
+        match read(alloc, line)? {
+            Ok(line) => match &line.command {
+                Command::Check { setup } => assert_eq!(rt; setup.as_str(), "a.json"),
+                _ => assert!(rt; false, "no check"),
+            },
+            Err(_) => assert!(rt; false, "no line"),
+        }
+    }
+    for (line, text) in [
+        ("check", "  <SETUP>\n"),
+        ("check --workers 17 a", "17 is not in 1..=16"),
+        (
+            "check --alone a",
+            "error: unexpected argument '--alone' found\n",
+        ),
+    ] {
+        assert!(rt; text_for(alloc, line)?.as_str().contains(text), "at {line}");
+    }
+    Ok(())
+}
+
+#[test]
 fn takes_both_ends_of_a_range(rt: HostRuntime) -> Result<(), Fail> {
     let alloc = rt.alloc();
     let least = "run --workers 1 --lanes 1 --coarsen 0 --arena 1 a";
@@ -192,8 +220,8 @@ fn refuses_other_words(rt: HostRuntime) -> Result<(), Fail> {
             "error: unexpected argument 'b' found\n\nUsage: calvin run [OPTIONS] <SETUP>\n\nFor more information, try '--help'.\n",
         ),
         (
-            "check a",
-            "error: unrecognized subcommand 'check'\n\nUsage: calvin <COMMAND>\n\nFor more information, try '--help'.\n",
+            "verify a",
+            "error: unrecognized subcommand 'verify'\n\nUsage: calvin <COMMAND>\n\nFor more information, try '--help'.\n",
         ),
         (
             "run --workers",
@@ -214,6 +242,7 @@ fn answers_help(rt: HostRuntime) -> Result<(), Fail> {
             "Usage: calvin <COMMAND>",
             "  run       Runs the log on standard input and prints its report\n",
             "  replicas  Runs the log on standard input and compares its report with another replica's\n",
+            "  check     Reads a setup, and says how many tables, procedures and rows it has\n",
             "  calvin run --workers 8 bank.json < calls.log\n",
         ] {
             assert!(rt; text.as_str().contains(part), "{part} at {line}");

@@ -4,3 +4,4 @@ pub mod Entries
 pub mod InOrder
 pub mod OfCatalogue
 pub mod StandIns
+pub mod Divisions

@@ -1,5 +1,5 @@
 -- In a declaration whose expressions fit, what stands for a missing parameter never shows.
-use Rattle.std.proofs.Common.{◌≡◌, ℕ, ◌+◌, ℤ, pos, ◌+ℤ◌, ◌-ℤ◌, List, [], ◌∷◌, map, refl, sym, ap, ◌∙◌, Option, Some, None, option_map, Result, Ok, Err}
+use Rattle.std.proofs.Common.{◌≡◌, ℕ, ◌+◌, ℤ, pos, List, [], ◌∷◌, map, refl, sym, ap, ◌∙◌, Option, Some, None, option_map, Result, Ok, Err}
 use Rattle.std.specs.Prelude.{slice_get, nat_lt, ⊤}
 use Rattle.std.specs.List.{AllByRecursion}
 use Rattle.std.specs.FinMap.{empty}
@@ -13,8 +13,8 @@ use Rattle.values.specs.Shapes.{TableShape}
 use Rattle.values.specs.Rows.{type_of}
 use Rattle.values.specs.Keys.{key_of, partition_numbered}
 use Rattle.proclang_types.specs.declared.right.Right.{Right}
-use Rattle.proclang_types.specs.Syntax.{IntSyntax, number, variable, add, subtract, EntrySyntax, row_entry, part_entry, table_entry, db_entry, ProcSyntax}
-use Rattle.proclang_types.specs.Typing.{IntFits, EntryFits, kinds_of, ProcFits}
+use Rattle.proclang_types.specs.Syntax.{IntSyntax, number, variable, binary, count_rows, sum_column, EntrySyntax, row_entry, part_entry, table_entry, db_entry, ProcSyntax}
+use Rattle.proclang_types.specs.Typing.{IntFits, AsksNoRows, EntryFits, kinds_of, ProcFits}
 use Rattle.footprint.specs.declared.abort_code.AbortCode.{AbortCode}
 use Rattle.footprint.specs.declared.abort_code.AbortCode.TheVariants.{BadKey, BadPart, TooLong}
 use Rattle.footprint.specs.declared.resource.Resource.{Resource}
@@ -23,7 +23,8 @@ use Rattle.footprint.specs.declared.resource.InTable.TheVariants.{Part}
 use Rattle.footprint.specs.declared.resource.InPart.TheVariants.{WholePart}
 use Rattle.footprint.specs.Tree.{row_resource}
 use Rattle.footprint.specs.Rights.{FootprintOf, with_right}
-use Rattle.footprint.specs.Declaration.{number_or, in_range, value_of, grant_of, with_entries, declared_with, declared_footprint}
+use Rattle.footprint.specs.Arithmetic.{result_of}
+use Rattle.footprint.specs.Declaration.{number_or, value_of, grant_of, with_entries, declared_with, declared_footprint}
 
 same_number : (o : Option Value) (x y : ℤ) → option_map type_of o ≡ Some types.Int → number_or y o ≡ number_or x o
 same_number None x y e = absurd (cc)
@@ -37,23 +38,22 @@ alike (Ok x) (Err code) f h same = refl
 alike (Err code) r f h same = refl
 
 module _ (other : ℤ) (kinds : List ColType) (arguments : List Value) (args : map type_of arguments ≡ kinds) where
-  same_value : (e : IntSyntax) → IntFits kinds e → value_of other arguments e ≡ value_of (pos 0) arguments e
-  same_value (number z) fits = refl
-  same_value (variable place) fits =
+  same_value : (tables : List TableShape) (e : IntSyntax) → IntFits tables kinds e → AsksNoRows e → value_of other arguments e ≡ value_of (pos 0) arguments e
+  same_value tables (number z) fits asks = refl
+  same_value tables (variable place) fits asks =
       let there : option_map type_of (slice_get arguments place) ≡ Some types.Int = sym (slice_get-map type_of arguments place) ∙ ap (λ (ks : List ColType). slice_get ks place) args ∙ fits in
       ap (λ (z : ℤ). Ok z) (same_number (slice_get arguments place) (pos 0) other there)
-  same_value (add a b) fits =
-      ap (λ (r : Result ℤ AbortCode). r >>= λ x. value_of other arguments b >>= λ y. in_range (x +ℤ y)) (same_value a fits.0)
-      ∙ ap (λ (r : Result ℤ AbortCode). value_of (pos 0) arguments a >>= λ x. r >>= λ y. in_range (x +ℤ y)) (same_value b fits.1)
-  same_value (subtract a b) fits =
-      ap (λ (r : Result ℤ AbortCode). r >>= λ x. value_of other arguments b >>= λ y. in_range (x -ℤ y)) (same_value a fits.0)
-      ∙ ap (λ (r : Result ℤ AbortCode). value_of (pos 0) arguments a >>= λ x. r >>= λ y. in_range (x -ℤ y)) (same_value b fits.1)
+  same_value tables (binary op a b) fits asks =
+      ap (λ (r : Result ℤ AbortCode). r >>= λ x. value_of other arguments b >>= λ y. result_of op x y) (same_value tables a fits.0 asks.0)
+      ∙ ap (λ (r : Result ℤ AbortCode). value_of (pos 0) arguments a >>= λ x. r >>= λ y. result_of op x y) (same_value tables b fits.1 asks.1)
+  same_value tables (count_rows table part) fits asks = absurd asks
+  same_value tables (sum_column table part column) fits asks = absurd asks
 
   same_grant : (tables : List TableShape) (entry : EntrySyntax) → EntryFits tables kinds entry → grant_of other tables arguments entry ≡ grant_of (pos 0) tables arguments entry
   same_grant tables (row_entry right table key) fits =
-      ap (λ (r : Result ℤ AbortCode). r >>= λ z. formed BadKey (key_of z) >>= λ k. Ok (row_resource tables (record { table = table; key = k }), right)) (same_value key fits.1)
+      ap (λ (r : Result ℤ AbortCode). r >>= λ z. formed BadKey (key_of z) >>= λ k. Ok (row_resource tables (record { table = table; key = k }), right)) (same_value tables key fits.1 fits.2)
   same_grant tables (part_entry right table part) fits =
-      ap (λ (r : Result ℤ AbortCode). r >>= λ z. formed BadPart (partition_numbered tables table z) >>= λ p. Ok (Table table (Part p WholePart), right)) (same_value part fits.1)
+      ap (λ (r : Result ℤ AbortCode). r >>= λ z. formed BadPart (partition_numbered tables table z) >>= λ p. Ok (Table table (Part p WholePart), right)) (same_value tables part fits.1 fits.2)
   same_grant tables (table_entry right table) fits = refl
   same_grant tables (db_entry right) fits = refl
 

@@ -1,11 +1,13 @@
 -- The numbers of the abort codes.
 use Rattle.std.specs.Prelude.{ℕ}
 use Rattle.footprint.specs.declared.abort_code.AbortCode.{AbortCode}
-use Rattle.footprint.specs.declared.abort_code.AbortCode.TheVariants.{NoRow, Overflow, BadKey, BadPart, TooLong, Budget, Uncovered, Own}
+use Rattle.footprint.specs.declared.abort_code.AbortCode.TheVariants.{NoRow, DuplicateRow, Overflow, DivisionByZero, BadKey, BadPart, TooLong, Budget, Uncovered, Own}
 
 abbrev pub number_of : AbortCode → ℕ
 number_of NoRow = 1
+number_of DuplicateRow = 2
 number_of Overflow = 3
+number_of DivisionByZero = 4
 number_of BadKey = 5
 number_of BadPart = 6
 number_of TooLong = 7

@@ -1,5 +1,5 @@
 -- The footprint that a procedure declares for its arguments, or the abort of the first fault.
-use Rattle.std.specs.Prelude.{ℕ, ℤ, pos, negsuc, ◌^◌, ◌+◌, ◌+ℤ◌, ◌-ℤ◌, nat_lt, List, [], ◌∷◌, Option, Some, None, Result, Ok, Err, Bool, if◌then◌else◌, slice_get}
+use Rattle.std.specs.Prelude.{ℕ, ℤ, pos, ◌+◌, nat_lt, List, [], ◌∷◌, Option, Some, None, Result, Ok, slice_get}
 use Rattle.std.specs.FinMap.{empty}
 use Rattle.values.specs.declared.value.Value.{Value}
 use Rattle.values.specs.declared.value.Value.TheVariants as values
@@ -7,20 +7,16 @@ use Rattle.values.specs.Shapes.{TableShape}
 use Rattle.values.specs.Keys.{key_of, partition_numbered}
 use Rattle.documents.specs.Reading.{◌>>=◌, rule, formed}
 use Rattle.proclang_types.specs.declared.right.Right.{Right}
-use Rattle.proclang_types.specs.Syntax.{IntSyntax, number, variable, add, subtract, EntrySyntax, row_entry, part_entry, table_entry, db_entry}
+use Rattle.proclang_types.specs.Syntax.{IntSyntax, number, variable, binary, count_rows, sum_column, EntrySyntax, row_entry, part_entry, table_entry, db_entry}
 use Rattle.footprint.specs.declared.abort_code.AbortCode.{AbortCode}
-use Rattle.footprint.specs.declared.abort_code.AbortCode.TheVariants.{Overflow, BadKey, BadPart, TooLong}
+use Rattle.footprint.specs.declared.abort_code.AbortCode.TheVariants.{BadKey, BadPart, TooLong}
 use Rattle.footprint.specs.declared.resource.Resource.{Resource}
 use Rattle.footprint.specs.declared.resource.Resource.TheVariants.{Db, Table}
 use Rattle.footprint.specs.declared.resource.InTable.TheVariants.{WholeTable, Part}
 use Rattle.footprint.specs.declared.resource.InPart.TheVariants.{WholePart}
+use Rattle.footprint.specs.Arithmetic.{result_of}
 use Rattle.footprint.specs.Tree.{row_resource}
 use Rattle.footprint.specs.Rights.{FootprintOf, with_right}
-
--- whether a number is in the signed 64-bit range
-abbrev pub is_int : ℤ → Bool
-is_int (pos n) = nat_lt n (2 ^ 63)
-is_int (negsuc n) = nat_lt n (2 ^ 63)
 
 -- the number of a variable, or another number in the place of one that is not there or is a text
 abbrev pub number_or : ℤ → Option Value → ℤ
@@ -28,22 +24,17 @@ number_or other (Some (values.Int z)) = z
 number_or other (Some (values.Text s)) = other
 number_or other None = other
 
--- an exact result, or an abort where it is outside the range
-abbrev pub in_range : ℤ → Result ℤ AbortCode
-in_range z = if is_int z then Ok z else Err Overflow
-
--- an expression over the parameters, from left to right
+-- An expression over the parameters, from left to right. The other number stands for a count or a sum too, of which there is none in
+-- an entry that fits.
 abbrev pub value_of : ℤ → List Value → IntSyntax → Result ℤ AbortCode
 value_of other arguments (number z) = Ok z
 value_of other arguments (variable place) = Ok (number_or other (slice_get arguments place))
-value_of other arguments (add a b) = do
+value_of other arguments (binary op a b) = do
   x ← value_of other arguments a
   y ← value_of other arguments b
-  in_range (x +ℤ y)
-value_of other arguments (subtract a b) = do
-  x ← value_of other arguments a
-  y ← value_of other arguments b
-  in_range (x -ℤ y)
+  result_of op x y
+value_of other arguments (count_rows table part) = Ok other
+value_of other arguments (sum_column table part column) = Ok other
 
 -- What an entry adds: a resource, and a right on it. A negative key is a bad key, and a number that is no partition of the table a
 -- bad partition.
@@ -67,7 +58,8 @@ with_entries other tables arguments count footprint (entry ∷ entries) = do
   _ ← rule (nat_lt count 65536) TooLong
   with_entries other tables arguments (count + 1) (with_right footprint grant.0 grant.1) entries
 
--- the footprint that entries declare, where another number stands for a parameter that is not there or is a text
+-- the footprint that entries declare, where another number stands for a parameter that is not there or is a text, for a count and
+-- for a sum
 abbrev pub declared_with : ℤ → List TableShape → List Value → List EntrySyntax → Result FootprintOf AbortCode
 declared_with other tables arguments entries = with_entries other tables arguments 0 empty entries
 

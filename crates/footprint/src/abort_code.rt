@@ -8,10 +8,14 @@ use std::fmt;
 /// Why a transaction aborts. Each code has a number, which the report prints.
 #[derive(Clone, Copy, Debug, PartialEq, Eq)]
 pub enum AbortCode {
-    /// 1: a `get` or `put` of a row that is not there.
+    /// 1: a `get`, `put` or `delete` of a row that is not there.
     NoRow,
+    /// 2: an `insert` of a row that is there.
+    DuplicateRow,
     /// 3: a result outside the signed 64-bit range.
     Overflow,
+    /// 4: a division or a remainder by 0.
+    DivisionByZero,
     /// 5: a negative key.
     BadKey,
     /// 6: a partition number outside 0 to P - 1, of a table of P partitions.
@@ -33,7 +37,9 @@ impl AbortCode {
     {
         match self {
             AbortCode::NoRow => 1,
+            AbortCode::DuplicateRow => 2,
             AbortCode::Overflow => 3,
+            AbortCode::DivisionByZero => 4,
             AbortCode::BadKey => 5,
             AbortCode::BadPart => 6,
             AbortCode::TooLong => 7,

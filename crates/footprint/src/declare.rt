@@ -1,15 +1,16 @@
 //! Declared footprints.
 
-ghost use Rattle.std.specs.Prelude.{◌≡◌, pos, ◌+ℤ◌, ◌-ℤ◌, IfOk, map, slice_get};
+ghost use Rattle.std.specs.Prelude.{◌≡◌, pos, IfOk, map, slice_get};
 ghost use Rattle.std.specs.List.{AllByRecursion};
 ghost use Rattle.proclang_types.specs.Views.{int_view, entry_view};
 ghost use Rattle.proclang_types.specs.Procedures.{proc_syntax};
-ghost use Rattle.footprint.specs.Declaration.{value_of, number_or, in_range, grant_of, declared_footprint};
+ghost use Rattle.footprint.specs.Declaration.{value_of, number_or, grant_of, declared_footprint};
 ghost use Rattle.footprint.specs.Tables.{HasTable};
 ghost use Rattle.footprint.specs.OfCatalogue.{IsResourceOf, IsFootprintOf};
 ghost use Rattle.footprint.specs.Stops.{Gives};
 
 use crate::abort_code::AbortCode;
+use crate::arithmetic::compute;
 use crate::footprint::Footprint;
 use crate::resource::{InPart, InTable, Resource};
 use proclang_types::{FootprintEntry, IntExpr, Proc, Right};
@@ -53,41 +54,20 @@ fn int_at(arguments: &[Value], place: usize) -> i64
     }
 }
 
-fn add(left: i64, right: i64) -> Result<i64, AbortCode>
-    ensures { result ≡ in_range (left +ℤ right) }
-{
-    match left.checked_add(right) {
-        Some(number) => Ok(number),
-        None => Err(AbortCode::Overflow),
-    }
-}
-
-fn subtract(left: i64, right: i64) -> Result<i64, AbortCode>
-    ensures { result ≡ in_range (left -ℤ right) }
-{
-    match left.checked_sub(right) {
-        Some(number) => Ok(number),
-        None => Err(AbortCode::Overflow),
-    }
-}
-
-/// The value of an expression over the parameters, or the abort of its first fault.
+/// The value of an expression over the parameters, or the abort of its first fault. No entry of a procedure asks for a
+/// count or a sum; 0 stands for one.
 fn int_value(arguments: &[Value], expression: &IntExpr) -> Result<i64, AbortCode>
     ensures { result ≡ value_of (pos 0) arguments.now (int_view expression.now) }
 {
     match expression {
         IntExpr::Number(number) => Ok(*number),
         IntExpr::Variable(place) => Ok(int_at(arguments, *place)),
-        IntExpr::Add(left, right) => {
+        IntExpr::Binary(operator, left, right) => {
             let left = int_value(arguments, left)?;
             let right = int_value(arguments, right)?;
-            add(left, right)
+            compute(*operator, left, right)
         }
-        IntExpr::Subtract(left, right) => {
-            let left = int_value(arguments, left)?;
-            let right = int_value(arguments, right)?;
-            subtract(left, right)
-        }
+        IntExpr::Count { .. } | IntExpr::Sum { .. } => Ok(0),
     }
 }
 

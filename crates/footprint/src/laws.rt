@@ -1,17 +1,25 @@
 //! Laws of declarations.
 
-ghost use Rattle.std.specs.Prelude.{◌≡◌, ℤ, List, map};
+ghost use Rattle.std.specs.Prelude.{◌≡◌, ℤ, pos, int_div, int_rem, List, map};
 ghost use Rattle.values.specs.declared.value.Value.{Value};
 ghost use Rattle.values.specs.Shapes.{TableShape};
 ghost use Rattle.values.specs.Rows.{type_of};
 ghost use Rattle.proclang_types.specs.Syntax.{ProcSyntax};
 ghost use Rattle.proclang_types.specs.Typing.{kinds_of, ProcFits};
+ghost use Rattle.footprint.specs.Arithmetic.{IsDivision};
 ghost use Rattle.footprint.specs.Declaration.{declared_with, declared_footprint};
 
-/// What stands for a parameter that is not there, or is a text, never shows: a procedure that fits its tables declares the
+/// What stands for a parameter that is not there, or is a text, and for a count or a sum, never shows: a procedure that fits its tables declares the
 /// same for arguments of the parameters' types, whatever number stands for it.
 #[tactic(auto, using(crate::proofs::StandIns::never_shows))]
 pub fn stand_in_never_shows()
     ensures { (tables : List TableShape) (proc : ProcSyntax) (arguments : List Value) (other : ℤ) → ProcFits tables proc → map type_of arguments ≡ kinds_of proc.params
         → declared_with other tables arguments proc.footprint ≡ declared_footprint tables arguments proc.footprint }
+{}
+
+/// A quotient is rounded towards 0, and a remainder is what it leaves: it is less than the divisor, signs aside, and is 0 or has
+/// the sign of the first operand.
+#[tactic(auto, using(crate::proofs::Divisions::division))]
+pub fn quotients_are_rounded_towards_zero()
+    ensures { (x y : ℤ) → ¬ (y ≡ pos 0) → IsDivision x y (int_div x y) (int_rem x y) }
 {}

@@ -2,6 +2,7 @@
 #![tactic(auto)]
 
 mod abort_code;
+mod arithmetic;
 mod declare;
 mod footprint;
 mod iter;
@@ -11,8 +12,9 @@ mod resource;
 mod tests;
 
 pub use abort_code::AbortCode;
+pub use arithmetic::compute;
 pub use declare::declared;
 pub use footprint::Footprint;
-pub use laws::stand_in_never_shows;
+pub use laws::{quotients_are_rounded_towards_zero, stand_in_never_shows};
 pub use proclang_types::Right;
 pub use resource::{InPart, InTable, Resource};

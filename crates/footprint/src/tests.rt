@@ -6,10 +6,10 @@ ghost use Rattle.values.specs.Shapes.{TableShape};
 ghost use Rattle.values.specs.declared.value.ColType.TheVariants.{Int};
 ghost use Rattle.proclang_types.specs.Syntax.{number, part_entry, row_entry};
 ghost use Rattle.proclang_types.specs.Views.{int_view, entry_view};
-ghost use Rattle.proclang_types.specs.Typing.{IntFits, EntryFits};
+ghost use Rattle.proclang_types.specs.Typing.{IntFits, AsksNoRows, EntryFits};
 
-use crate::{AbortCode, Footprint, InPart, InTable, Resource, Right, declared};
-use proclang_types::{FootprintEntry, IntExpr, Param, Proc};
+use crate::{AbortCode, Footprint, InPart, InTable, Resource, Right, compute, declared};
+use proclang_types::{FootprintEntry, IntExpr, IntOperator, Param, Proc};
 use serde_json::Value as Json;
 use std::alloc::Global;
 use std::test::Fail;
@@ -117,7 +117,9 @@ fn resources_stand_in_tree_order(rt: HostRuntime) {
 fn numbers_of_codes(rt: HostRuntime) -> Result<(), Fail> {
     let table = [
         (AbortCode::NoRow, "1"),
+        (AbortCode::DuplicateRow, "2"),
         (AbortCode::Overflow, "3"),
+        (AbortCode::DivisionByZero, "4"),
         (AbortCode::BadKey, "5"),
         (AbortCode::BadPart, "6"),
         (AbortCode::TooLong, "7"),
@@ -133,6 +135,41 @@ fn numbers_of_codes(rt: HostRuntime) -> Result<(), Fail> {
     Ok(())
 }
 
+#[test]
+fn results_are_exact(rt: HostRuntime) {
+    let overflow = Err(AbortCode::Overflow);
+    let by_zero = Err(AbortCode::DivisionByZero);
+    let table = [
+        (IntOperator::Add, i64::MAX, 1, overflow),
+        (IntOperator::Add, i64::MIN, -1, overflow),
+        (IntOperator::Subtract, i64::MIN, 1, overflow),
+        (IntOperator::Subtract, 0, i64::MIN, overflow),
+        (IntOperator::Subtract, -1, i64::MIN, Ok(i64::MAX)),
+        (IntOperator::Multiply, -3, 4, Ok(-12)),
+        (IntOperator::Multiply, 1 << 32, 1 << 31, overflow),
+        (IntOperator::Multiply, -1 << 32, 1 << 31, Ok(i64::MIN)),
+        (IntOperator::Multiply, i64::MIN, -1, overflow),
+        (IntOperator::Divide, 7, 2, Ok(3)),
+        (IntOperator::Divide, -7, 2, Ok(-3)),
+        (IntOperator::Divide, 7, -2, Ok(-3)),
+        (IntOperator::Divide, -7, -2, Ok(3)),
+        (IntOperator::Divide, 7, 0, by_zero),
+        (IntOperator::Divide, i64::MIN, 0, by_zero),
+        (IntOperator::Divide, i64::MIN, -1, overflow),
+        (IntOperator::Divide, i64::MIN, 1, Ok(i64::MIN)),
+        (IntOperator::Remainder, 7, 2, Ok(1)),
+        (IntOperator::Remainder, -7, 2, Ok(-1)),
+        (IntOperator::Remainder, 7, -2, Ok(1)),
+        (IntOperator::Remainder, -7, -2, Ok(-1)),
+        (IntOperator::Remainder, 0, 0, by_zero),
+        (IntOperator::Remainder, i64::MIN, -1, overflow),
+        (IntOperator::Remainder, i64::MAX, -1, Ok(0)),
+    ];
+    for (operator, left, right, result) in table {
+        assert_eq!(rt; compute(operator, left, right), result);
+    }
+}
+
 /// What a procedure of two numbers declares that writes two rows of the first table.
 fn declares(
     alloc: Global,
@@ -141,8 +178,8 @@ fn declares(
     arguments: &[Value],
 ) -> Result<Result<Footprint, AbortCode>, Fail>
     requires table { 0 < length catalogue.now }
-    requires first { IntFits (Int ∷ Int ∷ []) (int_view keys.0) }
-    requires second { IntFits (Int ∷ Int ∷ []) (int_view keys.1) }
+    requires first { IntFits catalogue.now (Int ∷ Int ∷ []) (int_view keys.0) × AsksNoRows (int_view keys.0) }
+    requires second { IntFits catalogue.now (Int ∷ Int ∷ []) (int_view keys.1) × AsksNoRows (int_view keys.1) }
 {
     let mut params = Vec::new(alloc);
     let name = String::from_str(alloc, "a")?;
@@ -201,7 +238,8 @@ fn the_first_fault_aborts(rt: HostRuntime) -> Result<(), Fail> {
         (1, -1, Some(AbortCode::BadKey)),
     ];
     for (one, other, code) in table {
-        let sum = IntExpr::Add(
+        let sum = IntExpr::Binary(
+            IntOperator::Add,
             Box::new(alloc, IntExpr::Variable(0))?,
             Box::new(alloc, IntExpr::Variable(1))?,
         );

@@ -1,3 +1,4 @@
 pub mod Everywhere
 pub mod Memory
 pub mod Named
+pub mod LeftNumbers

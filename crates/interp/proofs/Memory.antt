@@ -1,5 +1,5 @@
 -- Rows in memory.
-use Rattle.std.proofs.Common.{◌≡◌, ℕ, ◌^◌, ◌<◌, ◌≤◌, true, false, refl, ap, ◌∙◌, cond, List, Option, None, sym, arith}
+use Rattle.std.proofs.Common.{◌≡◌, ℕ, ◌<◌, ◌≤◌, true, false, refl, ap, ◌∙◌, cond, List, Option, None, sym, arith}
 use borrow.Author.Tests.{ltb-true}
 use Rattle.std.specs.Prelude.{nat_lt}
 use Rattle.std.specs.BTreeMap.{is_at}
@@ -13,16 +13,16 @@ use Rattle.interp_expr.proofs.Writes.{after_write, get_applied}
 use Rattle.interp.specs.Memory.{rows_in}
 
 pub get_rows_in : (places : List (RowName × Option RowOf)) (q : RowName)
-    → get (rows_in places) q ≡ cond (nat_lt q.key (2 ^ 63)) (after_write (lookup (is_at (name_cmp q)) places) None) None
+    → get (rows_in places) q ≡ cond (nat_lt q.key 64) (after_write (lookup (is_at (name_cmp q)) places) None) None
 get_rows_in places q =
-    get-retain_keys (applied places empty) (λ name. nat_lt name.key (2 ^ 63)) q (λ x same. ap (λ (name : RowName). nat_lt name.key (2 ^ 63)) (sym (exact_names q x same)))
-    ∙ ap (λ row. cond (nat_lt q.key (2 ^ 63)) row None) (get_applied places empty q ∙ ap (after_write (lookup (is_at (name_cmp q)) places)) (get-empty name_cmp q))
+    get-retain_keys (applied places empty) (λ name. nat_lt name.key 64) q (λ x same. ap (λ (name : RowName). nat_lt name.key 64) (sym (exact_names q x same)))
+    ∙ ap (λ row. cond (nat_lt q.key 64) row None) (get_applied places empty q ∙ ap (after_write (lookup (is_at (name_cmp q)) places)) (get-empty name_cmp q))
 
 -- there is no row behind the last key
 pub none_behind : (places : List (RowName × Option RowOf)) (q : RowName) (limit : ℕ)
-    → 2 ^ 63 ≤ limit → (q.key < limit → get (rows_in places) q ≡ None) → get (rows_in places) q ≡ None
+    → 64 ≤ limit → (q.key < limit → get (rows_in places) q ≡ None) → get (rows_in places) q ≡ None
 none_behind places q limit high below =
-    elim (nat_lt q.key (2 ^ 63)) as (λ b. nat_lt q.key (2 ^ 63) ≡ b → get (rows_in places) q ≡ None) [
-      | true ↦ λ e. below (omega (arith, ltb-true q.key (2 ^ 63) e))
+    elim (nat_lt q.key 64) as (λ b. nat_lt q.key 64 ≡ b → get (rows_in places) q ≡ None) [
+      | true ↦ λ e. below (omega (arith, ltb-true q.key 64 e))
       | false ↦ λ e. get_rows_in places q ∙ ap (λ b. cond b (after_write (lookup (is_at (name_cmp q)) places) None) None) e
     ] refl

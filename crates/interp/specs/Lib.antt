@@ -3,3 +3,4 @@ pub mod Endings
 pub mod Touched
 pub mod Memory
 pub mod Over
+pub mod Numbers

@@ -5,6 +5,8 @@ mod block;
 mod body;
 mod effect;
 mod entry;
+mod loop_numbers;
+mod row_statement;
 mod runs;
 mod statement;
 

@@ -28,6 +28,7 @@ fn run_here<V: RowView>(
     view: &V,
 ) -> Result<Effect, NoMemory>
     requires tables { entry.now.request.proc.tables ≡ catalogue.now }
+    requires view { V.tables view.now ≡ catalogue.now }
     requires shows { ShowsTouched (entry_shape entry.now) (V.shows view.now) }
     ensures gives { IfOk result (λ effect. meaning (entry_shape entry.now) (V.rows view.now) ≡ (as_reply effect.outcome, applied effect.writes.entries (V.rows view.now))) }
     ensures covered { IfOk result (λ effect. OnlyTouched (entry_shape entry.now) effect.writes.entries) }
@@ -52,8 +53,8 @@ fn run_here<V: RowView>(
     run_body(alloc, view, &permit, request.args(), request.proc().body())
 }
 
-/// Runs an entry over a view that shows each name that the entry may read, and is asked for no other name. The only error is
-/// want of memory.
+/// Runs an entry over a view of the entry's catalogue that shows each name that the entry may read, and is asked for no other
+/// name. The only error is want of memory.
 pub fn run<V: RowView>(
     alloc: Global,
     catalogue: &Catalogue,
@@ -61,6 +62,7 @@ pub fn run<V: RowView>(
     view: &V,
 ) -> Result<Effect, NoMemory>
     requires tables { entry.now.request.proc.tables ≡ catalogue.now }
+    requires view { V.tables view.now ≡ catalogue.now }
     requires shows { ShowsTouched (entry_shape entry.now) (V.shows view.now) }
     // On each database that agrees with the view on what the entry may read, the entry has this outcome, and it leaves that
     // database with these writes.

@@ -4,7 +4,7 @@
 ghost use Rattle.std.specs.Prelude.{◌≡◌, pos, map, unwrap_or, slice_get, IfOk, OnOk};
 ghost use Rattle.values.specs.declared.value.Value.TheVariants.{Int};
 ghost use Rattle.proclang_types.specs.Views.{int_view, value_view};
-ghost use Rattle.meaning.specs.Meaning.{get_column, put_column, reply_with};
+ghost use Rattle.meaning.specs.Meaning.{assign_value, get_column, put_column, reply_with};
 ghost use Rattle.meaning.specs.Entries.{nothing};
 ghost use Rattle.interp_expr.specs.Coverage.{gate_of, ShowsCovered, KeepsCovered};
 ghost use Rattle.interp_expr.specs.States.{seen};
@@ -28,6 +28,24 @@ fn column_value(row: &Row, column: usize) -> Result<Value, NoMemory>
     }
 }
 
+/// A variable gets a value.
+pub(crate) fn assign_value<V: RowView>(
+    alloc: Global,
+    view: &V,
+    permit: &Permit,
+    space: &mut Workspace,
+    variable: usize,
+    value: &ValueExpr,
+) -> Result<(), Stop>
+    requires { ShowsCovered permit.now (V.tables view.now) (V.shows view.now) }
+    ensures gives { Gives (λ _. tt) (seen (V.rows view.now) space.new) result (assign_value nothing (gate_of permit.now) variable (value_view value.now) (seen (V.rows view.now) space.old)) }
+    ensures kept { OnOk result (KeepsCovered permit.now space.old space.new) }
+{
+    let value = evaluate(alloc, view, permit, space, value)?;
+    space.set_variable(variable, value)?;
+    Ok(())
+}
+
 /// A variable gets a column of the row with a key.
 pub(crate) fn get_column<V: RowView>(
     view: &V,
@@ -38,7 +56,7 @@ pub(crate) fn get_column<V: RowView>(
     key: &IntExpr,
     column: usize,
 ) -> Result<(), Stop>
-    requires { ShowsCovered permit.now (V.shows view.now) }
+    requires { ShowsCovered permit.now (V.tables view.now) (V.shows view.now) }
     ensures gives { Gives (λ _. tt) (seen (V.rows view.now) space.new) result (get_column nothing (gate_of permit.now) variable table (int_view key.now) column (seen (V.rows view.now) space.old)) }
     ensures kept { OnOk result (KeepsCovered permit.now space.old space.new) }
 {
@@ -61,7 +79,7 @@ pub(crate) fn put_column<V: RowView>(
     column: usize,
     value: &ValueExpr,
 ) -> Result<(), Stop>
-    requires { ShowsCovered permit.now (V.shows view.now) }
+    requires { ShowsCovered permit.now (V.tables view.now) (V.shows view.now) }
     ensures gives { Gives (λ _. tt) (seen (V.rows view.now) space.new) result (put_column nothing (gate_of permit.now) table (int_view key.now) column (value_view value.now) (seen (V.rows view.now) space.old)) }
     ensures kept { OnOk result (KeepsCovered permit.now space.old space.new) }
 {
@@ -82,7 +100,7 @@ pub(crate) fn reply_with<V: RowView>(
     space: &mut Workspace,
     expressions: &Vec<ValueExpr>,
 ) -> Result<(), Stop>
-    requires { ShowsCovered permit.now (V.shows view.now) }
+    requires { ShowsCovered permit.now (V.tables view.now) (V.shows view.now) }
     ensures gives { Gives (λ _. tt) (seen (V.rows view.now) space.new) result (reply_with nothing (gate_of permit.now) (map value_view expressions.now.items) (seen (V.rows view.now) space.old)) }
     ensures kept { OnOk result (KeepsCovered permit.now space.old space.new) }
 {

@@ -1,6 +1,7 @@
 //! Runs of bodies over rows in memory.
 
 mod calls;
+mod language;
 mod memory;
 mod procedures;
 

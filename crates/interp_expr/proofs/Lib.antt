@@ -1,2 +1,7 @@
-pub mod Covered
 pub mod Writes
+pub mod Ahead
+pub mod Covered
+pub mod Untouched
+pub mod OwnRows
+pub mod Merged
+pub mod Counts

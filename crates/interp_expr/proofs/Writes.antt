@@ -49,7 +49,7 @@ one_written old new name now h db = same_map names_total exact_names _ _ (λ q.
     ∙ ap (cond (eq_by_cmp name_cmp q name) now) (sym (get_applied old db q))
     ∙ sym (get-write (applied old db) name now q))
 
-is_equal : (o : Ordering) → is_eq o ≡ true → o ≡ Equal
+pub is_equal : (o : Ordering) → is_eq o ≡ true → o ≡ Equal
 is_equal Less e = absurd (cc)
 is_equal Equal e = refl
 is_equal Greater e = absurd (cc)

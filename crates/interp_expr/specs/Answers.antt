@@ -1,9 +1,7 @@
 -- What an answer of the code says of a part of a run.
-use Rattle.std.specs.Prelude.{◌≡◌, ℤ, List, ◌++◌, Option, Some, None, Result, Ok, Err, ⊤}
+use Rattle.std.specs.Prelude.{◌≡◌, List, ◌++◌, Result, Ok, Err, ⊤}
 use Rattle.values.specs.declared.value.Value.{Value}
-use Rattle.footprint.specs.declared.abort_code.AbortCode.TheVariants.{Overflow}
 use Rattle.meaning.specs.declared.outcome.Ending.{Ending}
-use Rattle.meaning.specs.declared.outcome.Ending.TheVariants.{Abort}
 use Rattle.meaning.specs.Runs.{State}
 use Rattle.interp_expr.specs.declared.stop.Stop.{Stop}
 use Rattle.interp_expr.specs.declared.stop.Stop.TheVariants.{Memory, End}
@@ -17,11 +15,6 @@ StopsWith left (End e) ran = ran ≡ (Err e, left)
 abbrev pub Gives : {A B : Type 0} → (A → B) → State → Result A Stop → Result B Ending × State → Type 0
 Gives view left (Ok x) ran = ran ≡ (Ok (view x), left)
 Gives view left (Err stop) ran = StopsWith left stop ran
-
--- a number, or the end of the run where it is outside the range
-abbrev pub number_or_overflow : Option ℤ → Result ℤ Stop
-number_or_overflow (Some z) = Ok z
-number_or_overflow None = Err (End (Abort Overflow))
 
 -- what a part of a run comes to, with these values in front
 abbrev pub behind : List Value → Result (List Value) Ending × State → Result (List Value) Ending × State

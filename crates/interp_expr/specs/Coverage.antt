@@ -1,12 +1,16 @@
 -- What a permit covers: what a run may ask of a view, and what it may write.
-use Rattle.std.specs.Prelude.{◌≡◌, Bool, true, false, List, Option, None}
+use Rattle.std.specs.Prelude.{◌≡◌, ℕ, Bool, true, false, List, Option, None}
 use Rattle.std.specs.Map.{lookup}
 use Rattle.std.specs.BTreeMap.{is_at}
 use Rattle.values.specs.declared.name.RowName.{RowName}
+use Rattle.values.specs.Shapes.{TableShape}
 use Rattle.values.specs.Database.{RowOf, name_cmp}
 use Rattle.proclang_types.specs.declared.right.Right.{Right}
 use Rattle.proclang_types.specs.declared.right.Right.TheVariants.{Read, Write}
-use Rattle.footprint.specs.Rights.{covers_row}
+use Rattle.footprint.specs.declared.resource.Resource.TheVariants.{Table}
+use Rattle.footprint.specs.declared.resource.InTable.TheVariants.{Part}
+use Rattle.footprint.specs.declared.resource.InPart.TheVariants.{WholePart}
+use Rattle.footprint.specs.Rights.{covers, covers_row}
 use Rattle.meaning.specs.Runs.{Gate, covered}
 use Rattle.interp_expr.specs.declared.permit.Permit.{Permit}
 use Rattle.interp_expr.specs.declared.workspace.Workspace.{Workspace}
@@ -15,12 +19,17 @@ use Rattle.interp_expr.specs.declared.workspace.Workspace.{Workspace}
 abbrev pub permits : Permit → RowName → Right → Bool
 permits permit name right = covers_row permit.catalogue.now permit.footprint.now name right
 
+-- the permit covers reading a partition
+abbrev pub permits_part : Permit → ℕ → ℕ → Bool
+permits_part permit table part = covers permit.footprint.now (Table table (Part part WholePart)) Read
+
 -- what happens at an access under a permit
 abbrev pub gate_of : Permit → Gate
 gate_of permit = covered permit.catalogue.now permit.footprint.now permit.uncovered
 
--- each name that is covered with Read is shown
-pub record ShowsCovered (permit : Permit) (shows : RowName → Bool) : Type 0 where
+-- a view of the permit's tables shows each name that is covered with Read
+pub record ShowsCovered (permit : Permit) (tables : List TableShape) (shows : RowName → Bool) : Type 0 where
+  pub over : tables ≡ permit.catalogue.now
   pub shown : (name : RowName) → permits permit name Read ≡ true → shows name ≡ true
 
 -- there are only writes of names that are covered with Write

@@ -1,14 +1,10 @@
 -- Scans: the rows of a partition by ascending key.
-use Rattle.std.specs.Prelude.{◌≡◌, ℕ, Bool, true, ◌&&◌, ◌==◌, nat_lt, List, Option, None, Some, unwrap_or}
+use Rattle.std.specs.Prelude.{◌≡◌, ℕ, Bool, true, ◌&&◌, nat_lt, List, Option, None, Some}
 use Rattle.std.specs.FinMap.{get}
 use Rattle.values.specs.declared.name.RowName.{RowName}
 use Rattle.values.specs.Shapes.{TableShape}
-use Rattle.values.specs.Keys.{partition_of}
 use Rattle.values.specs.Database.{Database, RowOf}
-
--- the name is of that partition of the table
-abbrev pub is_in_part : List TableShape → ℕ → ℕ → RowName → Bool
-is_in_part tables table part name = (name.table == table) && (unwrap_or (partition_of tables table name.key) 0 == part)
+pub use Rattle.meaning.specs.Partitions.{is_in_part}
 
 abbrev pub is_after : Option ℕ → ℕ → Bool
 is_after None key = true

@@ -3,33 +3,24 @@
 
 ghost use Rattle.std.specs.Prelude.{◌≡◌, map, IfOk, OnOk};
 ghost use Rattle.values.specs.Database.{Database};
-ghost use Rattle.proclang_types.specs.Views.{int_view, text_view, bool_view, value_view};
+ghost use Rattle.proclang_types.specs.Views.{int_view, text_view, value_view};
 ghost use Rattle.meaning.specs.Runs.{Gate};
-ghost use Rattle.meaning.specs.Meaning.{int_of, text_of, bool_of, value_of, values_of};
+ghost use Rattle.meaning.specs.Meaning.{int_of, text_of, value_of, values_of};
 ghost use Rattle.meaning.specs.Entries.{nothing};
 ghost use Rattle.interp_expr.specs.Coverage.{gate_of, ShowsCovered, KeepsCovered};
 ghost use Rattle.interp_expr.specs.States.{seen};
-ghost use Rattle.interp_expr.specs.Answers.{number_or_overflow, Gives};
+ghost use Rattle.interp_expr.specs.Answers.{Gives};
 
 use crate::permit::Permit;
+use crate::rows::access_part;
+use crate::scanning::{count_in, total_in};
 use crate::stop::Stop;
 use crate::view::RowView;
 use crate::workspace::Workspace;
-use footprint::AbortCode;
-use meaning::Ending;
-use proclang_types::{BoolExpr, IntExpr, TextExpr, ValueExpr};
+use footprint::compute;
+use proclang_types::{IntExpr, TextExpr, ValueExpr};
 use std::alloc::Global;
-use values::{NoMemory, Text, Value};
-
-/// A result in the signed 64-bit range, or the end of the run.
-fn in_range(exact: Option<i64>) -> Result<i64, Stop>
-    ensures { result ≡ number_or_overflow exact }
-{
-    match exact {
-        Some(number) => Ok(number),
-        None => Err(Stop::End(Ending::Abort(AbortCode::Overflow))),
-    }
-}
+use values::{Text, Value};
 
 /// The value of a number expression.
 pub fn evaluate_int<V: RowView>(
@@ -38,53 +29,45 @@ pub fn evaluate_int<V: RowView>(
     space: &mut Workspace,
     expression: &IntExpr,
 ) -> Result<i64, Stop>
-    requires { ShowsCovered permit.now (V.shows view.now) }
+    requires { ShowsCovered permit.now (V.tables view.now) (V.shows view.now) }
     ensures gives { Gives (λ z. z) (seen (V.rows view.now) space.new) result (int_of nothing (gate_of permit.now) (int_view expression.now) (seen (V.rows view.now) space.old)) }
     ensures kept { OnOk result (KeepsCovered permit.now space.old space.new) }
 {
     match expression {
         IntExpr::Number(number) => Ok(*number),
         IntExpr::Variable(place) => Ok(space.number(*place)),
-        IntExpr::Add(left, right) => {
+        IntExpr::Binary(operator, left, right) => {
             let left = evaluate_int(view, permit, space, left)?;
             let right = evaluate_int(view, permit, space, right)?;
-            in_range(left.checked_add(right))
+            let number = compute(*operator, left, right)?;
+            Ok(number)
         }
-        IntExpr::Subtract(left, right) => {
-            let left = evaluate_int(view, permit, space, left)?;
-            let right = evaluate_int(view, permit, space, right)?;
-            in_range(left.checked_sub(right))
+        IntExpr::Count { table, part } => {
+            space.take_step()?;
+            let number = evaluate_int(view, permit, space, part)?;
+            let part = access_part(permit, *table, number)?;
+            count_in(view, permit, space, *table, part)
+        }
+        IntExpr::Sum {
+            table,
+            part,
+            column,
+        } => {
+            space.take_step()?;
+            let number = evaluate_int(view, permit, space, part)?;
+            let part = access_part(permit, *table, number)?;
+            total_in(view, permit, space, *table, part, *column)
         }
     }
 }
 
 /// The value of a text expression.
-fn evaluate_text(alloc: Global, space: &Workspace, expression: &TextExpr) -> Result<Text, NoMemory>
-    ensures { (db : Database) (gate : Gate) → IfOk result (λ text. text_of nothing gate (text_view expression.now) (seen db space.now) ≡ (Ok text, seen db space.now)) }
+pub(crate) fn text_of<'a>(space: &'a Workspace, expression: &'a TextExpr) -> &'a str
+    ensures { (db : Database) (gate : Gate) → text_of nothing gate (text_view expression.now) (seen db space.now) ≡ (Ok result.now, seen db space.now) }
 {
     match expression {
-        TextExpr::Literal(text) => Ok(text.clone()?),
-        TextExpr::Variable(place) => space.text(alloc, *place),
-    }
-}
-
-/// Whether an expression is true.
-pub fn evaluate_bool<V: RowView>(
-    view: &V,
-    permit: &Permit,
-    space: &mut Workspace,
-    expression: &BoolExpr,
-) -> Result<bool, Stop>
-    requires { ShowsCovered permit.now (V.shows view.now) }
-    ensures gives { Gives (λ b. b) (seen (V.rows view.now) space.new) result (bool_of nothing (gate_of permit.now) (bool_view expression.now) (seen (V.rows view.now) space.old)) }
-    ensures kept { OnOk result (KeepsCovered permit.now space.old space.new) }
-{
-    match expression {
-        BoolExpr::Less(left, right) => {
-            let left = evaluate_int(view, permit, space, left)?;
-            let right = evaluate_int(view, permit, space, right)?;
-            Ok(left < right)
-        }
+        TextExpr::Literal(text) => text.as_str(),
+        TextExpr::Variable(place) => space.text(*place),
     }
 }
 
@@ -96,7 +79,7 @@ pub fn evaluate<V: RowView>(
     space: &mut Workspace,
     expression: &ValueExpr,
 ) -> Result<Value, Stop>
-    requires { ShowsCovered permit.now (V.shows view.now) }
+    requires { ShowsCovered permit.now (V.tables view.now) (V.shows view.now) }
     ensures gives { Gives (λ v. v) (seen (V.rows view.now) space.new) result (value_of nothing (gate_of permit.now) (value_view expression.now) (seen (V.rows view.now) space.old)) }
     ensures kept { OnOk result (KeepsCovered permit.now space.old space.new) }
 {
@@ -106,7 +89,7 @@ pub fn evaluate<V: RowView>(
             Ok(Value::Int(number))
         }
         ValueExpr::Text(expression) => {
-            let text = evaluate_text(alloc, space, expression)?;
+            let text = Text::new(alloc, text_of(space, expression))?;
             Ok(Value::Text(text))
         }
     }
@@ -120,7 +103,7 @@ pub fn evaluate_all<V: RowView>(
     space: &mut Workspace,
     expressions: &Vec<ValueExpr>,
 ) -> Result<Vec<Value>, Stop>
-    requires { ShowsCovered permit.now (V.shows view.now) }
+    requires { ShowsCovered permit.now (V.tables view.now) (V.shows view.now) }
     ensures gives { Gives (λ vs. vs.items) (seen (V.rows view.now) space.new) result (values_of nothing (gate_of permit.now) (map value_view expressions.now.items) (seen (V.rows view.now) space.old)) }
     ensures kept { OnOk result (KeepsCovered permit.now space.old space.new) }
 {

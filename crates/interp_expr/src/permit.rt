@@ -3,7 +3,7 @@
 ghost use Rattle.std.specs.Prelude.{◌≡◌, unwrap_or};
 ghost use Rattle.values.specs.Keys.{partition_of};
 ghost use Rattle.footprint.specs.Tree.{row_resource};
-ghost use Rattle.interp_expr.specs.Coverage.{permits};
+ghost use Rattle.interp_expr.specs.Coverage.{permits, permits_part};
 
 use footprint::{Footprint, InPart, InTable, Resource, Right};
 use meaning::Ending;
@@ -46,5 +46,13 @@ impl Permit<'_> {
     {
         let resource = row_resource(self.catalogue, name);
         self.footprint.covers(&resource, right)
+    }
+
+    /// Whether reading a partition is covered.
+    pub fn covers_part(&self, table: TableNo, part: u32) -> bool
+        ensures { result ≡ permits_part self.now table part }
+    {
+        let resource = Resource::Table(table, InTable::Part(part, InPart::WholePart));
+        self.footprint.covers(&resource, Right::Read)
     }
 }

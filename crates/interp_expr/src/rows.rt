@@ -1,12 +1,13 @@
 //! Accesses of rows.
 #![tactic(auto, unfolding(meaning::specs::Runs::and_then))]
 
-ghost use Rattle.std.specs.Prelude.{◌≡◌, true, IfOk, option_copied};
+ghost use Rattle.std.specs.Prelude.{◌≡◌, true, IfOk, is_some, option_copied};
 ghost use Rattle.std.specs.FinMap as map;
+ghost use Rattle.values.specs.Keys.{partition_numbered};
 ghost use Rattle.proclang_types.specs.declared.right.Right.TheVariants.{Read};
-ghost use Rattle.meaning.specs.Runs.{State, key_of, accessed, present};
+ghost use Rattle.meaning.specs.Runs.{State, key_of, accessed, part_accessed, present};
 ghost use Rattle.interp_expr.specs.Overlay.{applied};
-ghost use Rattle.interp_expr.specs.Coverage.{gate_of, ShowsCovered, permits};
+ghost use Rattle.interp_expr.specs.Coverage.{gate_of, ShowsCovered, permits, permits_part};
 ghost use Rattle.interp_expr.specs.States.{seen};
 ghost use Rattle.interp_expr.specs.Answers.{Gives};
 
@@ -16,7 +17,7 @@ use crate::view::RowView;
 use crate::workspace::Workspace;
 use footprint::{AbortCode, Right};
 use meaning::Ending;
-use values::{Key, Row, RowName, TableNo};
+use values::{Catalogue, Key, Row, RowName, TableNo};
 
 /// The key of a number, or the end of the run.
 fn key_of(number: i64) -> Result<Key, Stop>
@@ -44,15 +45,40 @@ pub fn access(permit: &Permit, right: Right, table: TableNo, number: i64) -> Res
     }
 }
 
+/// The partition with a number, `None` exactly where the table has none with that number.
+fn part_numbered(catalogue: &Catalogue, table: TableNo, number: i64) -> Option<u32>
+    ensures { result ≡ partition_numbered catalogue.now table number }
+{
+    if table.place() < catalogue.len() {
+        catalogue.part(table, number)
+    } else {
+        None
+    }
+}
+
+/// The partition with a number: the number is tested, and then the right to read the partition.
+pub fn access_part(permit: &Permit, table: TableNo, number: i64) -> Result<u32, Stop>
+    ensures part { (state : State) → Gives (λ part. part) state result (part_accessed (gate_of permit.now) table number state) }
+    ensures read { IfOk result (λ part. permits_part permit.now table part ≡ true) }
+{
+    let Some(part) = part_numbered(permit.catalogue, table, number) else {
+        return Err(Stop::End(Ending::Abort(AbortCode::BadPart)));
+    };
+    if !permit.covers_part(table, part) {
+        return Err(Stop::End(permit.uncovered));
+    }
+    Ok(part)
+}
+
 /// The row with a name, after the own writes; `None` exactly where there is none.
 #[tactic(auto, using(crate::proofs::Writes::get_applied))]
-fn row_seen<'a, V: RowView>(
+pub(crate) fn row_seen<'a, V: RowView>(
     view: &'a V,
     permit: &Permit,
     space: &'a Workspace,
     name: &RowName,
 ) -> Option<&'a Row>
-    requires shows { ShowsCovered permit.now (V.shows view.now) }
+    requires shows { ShowsCovered permit.now (V.tables view.now) (V.shows view.now) }
     requires covered { permits permit.now name.now Read ≡ true }
     ensures { option_copied result ≡ map.get (applied space.now.writes.entries (V.rows view.now)) name.now }
 {
@@ -69,7 +95,7 @@ pub fn present_row<'a, V: RowView>(
     space: &'a Workspace,
     name: &RowName,
 ) -> Result<&'a Row, Stop>
-    requires shows { ShowsCovered permit.now (V.shows view.now) }
+    requires shows { ShowsCovered permit.now (V.tables view.now) (V.shows view.now) }
     requires covered { permits permit.now name.now Read ≡ true }
     ensures { Gives (λ row. row.now) (seen (V.rows view.now) space.now) result (present (map.get (applied space.now.writes.entries (V.rows view.now)) name.now) (seen (V.rows view.now) space.now)) }
 {
@@ -77,4 +103,13 @@ pub fn present_row<'a, V: RowView>(
         Some(row) => Ok(row),
         None => Err(Stop::End(Ending::Abort(AbortCode::NoRow))),
     }
+}
+
+/// Whether the row with a name is there, after the own writes.
+pub fn is_there<V: RowView>(view: &V, permit: &Permit, space: &Workspace, name: &RowName) -> bool
+    requires shows { ShowsCovered permit.now (V.tables view.now) (V.shows view.now) }
+    requires covered { permits permit.now name.now Read ≡ true }
+    ensures { result ≡ is_some (map.get (applied space.now.writes.entries (V.rows view.now)) name.now) }
+{
+    row_seen(view, permit, space, name).is_some()
 }

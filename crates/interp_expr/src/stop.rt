@@ -1,8 +1,10 @@
 //! Why a run stops before its body's end.
 
 ghost use Rattle.std.specs.Prelude.{◌≡◌};
-ghost use Rattle.interp_expr.specs.declared.stop.Stop.TheVariants.{Memory};
+ghost use Rattle.interp_expr.specs.declared.stop.Stop.TheVariants.{Memory, End};
+ghost use Rattle.meaning.specs.declared.outcome.Ending.TheVariants.{Abort};
 
+use footprint::AbortCode;
 use meaning::Ending;
 use std::alloc::{AllocError, AllocFailed};
 use values::NoMemory;
@@ -20,6 +22,14 @@ impl From<NoMemory> for Stop {
 
     fn from(_: NoMemory) -> Stop {
         Stop::Memory
+    }
+}
+
+impl From<AbortCode> for Stop {
+    ghost from_gives = { λ code stop. stop ≡ End (Abort code) };
+
+    fn from(code: AbortCode) -> Stop {
+        Stop::End(Ending::Abort(code))
     }
 }
 

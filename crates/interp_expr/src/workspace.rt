@@ -5,7 +5,7 @@ ghost use Rattle.std.specs.Prelude.{◌≡◌, pos, [], true, OnOk, IfOk, slice_
 ghost use Rattle.values.specs.Database.{Database};
 ghost use Rattle.proclang_types.specs.declared.right.Right.TheVariants.{Write};
 ghost use Rattle.footprint.specs.Declaration.{number_or};
-ghost use Rattle.meaning.specs.Runs.{step, set_row, set_variable, replying};
+ghost use Rattle.meaning.specs.Runs.{step, declare, set_row, remove_row, set_variable, replying};
 ghost use Rattle.meaning.specs.Meaning.{text_or};
 ghost use Rattle.meaning.specs.Entries.{start};
 ghost use Rattle.interp_expr.specs.Coverage.{KeepsCovered, permits};
@@ -18,7 +18,7 @@ use footprint::AbortCode;
 use meaning::Ending;
 use std::alloc::Global;
 use std::collections::BTreeMap;
-use values::{NoMemory, Row, RowName, Text, Value};
+use values::{NoMemory, Row, RowName, Value};
 
 /// The own writes of a run, its variables in the order of their declarations, the steps that it took, and what it
 /// replied. A write without a row is a deletion.
@@ -55,13 +55,22 @@ impl Workspace {
     }
 
     /// The text of a variable; the empty text stands for one that is not there or is a number.
-    pub fn text(&self, alloc: Global, place: usize) -> Result<Text, NoMemory>
-        ensures { IfOk result (λ text. text ≡ text_or [] (slice_get self.now.variables.items place)) }
+    pub fn text(&self, place: usize) -> &str
+        ensures { result.now ≡ text_or [] (slice_get self.now.variables.items place) }
     {
         match self.variables.get(place) {
-            Some(Value::Text(text)) => Ok(text.clone()?),
-            Some(Value::Int(_)) | None => Ok(Text::new(alloc, "")?),
+            Some(Value::Text(text)) => text.as_str(),
+            Some(Value::Int(_)) | None => "",
         }
+    }
+
+    /// Declares one more variable behind the others.
+    pub fn declare(&mut self, value: Value) -> Result<(), Stop>
+        ensures gives { (db : Database) → Gives (λ _. tt) (seen db self.new) result (declare value (seen db self.old)) }
+        ensures writes { OnOk result (self.new.writes ≡ self.old.writes) }
+    {
+        self.variables.push(value)?;
+        Ok(())
     }
 
     /// Declares the variable behind the others, or changes it.
@@ -70,7 +79,7 @@ impl Workspace {
         ensures writes { OnOk result (self.new.writes ≡ self.old.writes) }
     {
         if place == self.variables.len() {
-            self.variables.push(value)?;
+            self.declare(value)?;
         } else if place < self.variables.len() {
             self.variables[place] = value;
         }
@@ -103,6 +112,15 @@ impl Workspace {
         ensures kept { (permit : PermitOf) → permits permit name Write ≡ true → OnOk result (KeepsCovered permit self.old self.new) }
     {
         self.writes.insert(name, Some(row))?;
+        Ok(())
+    }
+
+    /// Leaves no row.
+    pub fn remove(&mut self, name: RowName) -> Result<(), Stop>
+        ensures gives { (db : Database) → Gives (λ _. tt) (seen db self.new) result (remove_row name (seen db self.old)) }
+        ensures kept { (permit : PermitOf) → permits permit name Write ≡ true → OnOk result (KeepsCovered permit self.old self.new) }
+    {
+        self.writes.insert(name, None)?;
         Ok(())
     }
 

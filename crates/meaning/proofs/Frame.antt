@@ -1,30 +1,40 @@
 -- The frame law: two runs from states that agree on what the footprint covers go on alike.
-use Rattle.std.proofs.Common.{◌≡◌, ℕ, ◌+◌, Bool, true, false, cond, not, ◌||◌, List, [], ◌∷◌, ◌++◌, refl, sym, ap, ◌∙◌, subst, Option, Some, None, Result, Ok, Err, ℤ, pos, negsuc, Ordering, Less, Equal, Greater}
+use Rattle.std.proofs.Common.{◌≡◌, ℕ, ◌+◌, Bool, true, false, cond, not, ◌||◌, List, [], ◌∷◌, ◌++◌, map, refl, sym, ap, ◌∙◌, subst, Option, Some, None, Result, Ok, Err, ℤ, pos, negsuc, Ordering, Less, Equal, Greater}
 use Rattle.std.specs.List.{list_any}
-use Rattle.std.specs.Prelude.{nat_lt, length, take, unwrap_or, slice_get, slice_set, int_lt}
-use Rattle.std.specs.FinMap.{get, insert, get-insert}
+use Rattle.std.specs.Prelude.{nat_lt, length, take, unwrap_or, slice_get, slice_set}
+use Rattle.std.specs.FinMap.{get, insert, get-insert, remove, get-remove, entries}
+use Rattle.std.specs.Option.{is_some}
 use Rattle.std.specs.Ordering.{eq_by_cmp, is_eq}
 use Rattle.values.specs.declared.name.RowName.{RowName}
 use Rattle.values.specs.declared.value.Value.{Value}
 use Rattle.values.specs.declared.value.Value.TheVariants as values
 use Rattle.values.specs.Shapes.{TableShape}
+use Rattle.values.specs.Keys.{partition_numbered}
 use Rattle.values.specs.Database.{Database, RowOf, name_cmp}
 use Rattle.proclang_types.specs.declared.right.Right.{Right}
 use Rattle.proclang_types.specs.declared.right.Right.TheVariants.{Read, Write}
-use Rattle.proclang_types.specs.Syntax.{IntSyntax, number, variable, add, subtract, TextSyntax, literal, text_variable, BoolSyntax, less, ValueSyntax, int_value, text_value, StmtSyntax, get as get_syntax, put, choose, abort as abort_syntax, reply, BlockSyntax, no_statements, followed, block_of}
+use Rattle.proclang_types.specs.Syntax.{IntSyntax, number, variable, binary, count_rows, sum_column, TextSyntax, literal, text_variable, BoolSyntax, compare_ints, compare_texts, both, either, negated, row_exists, ValueSyntax, int_value, text_value, StmtSyntax, assign, get as get_syntax, put, insert_row, delete_row, choose, for_numbers, for_keys, abort as abort_syntax, reply, BlockSyntax, no_statements, followed, block_of}
 use Rattle.footprint.specs.declared.abort_code.AbortCode.{AbortCode}
-use Rattle.footprint.specs.declared.abort_code.AbortCode.TheVariants.{BadKey, NoRow, Budget, TooLong, Own, Uncovered}
+use Rattle.footprint.specs.declared.abort_code.AbortCode.TheVariants.{BadKey, BadPart, NoRow, DuplicateRow, Budget, TooLong, Own, Uncovered}
 use Rattle.footprint.specs.declared.resource.Resource.{Resource}
+use Rattle.footprint.specs.declared.resource.Resource.TheVariants.{Table}
+use Rattle.footprint.specs.declared.resource.InTable.TheVariants.{Part}
+use Rattle.footprint.specs.declared.resource.InPart.TheVariants.{WholePart}
 use Rattle.footprint.specs.Tree.{row_resource, ancestors_of}
 use Rattle.footprint.specs.Rights.{FootprintOf, covers, covers_row, is_at_least}
+use Rattle.footprint.specs.Arithmetic.{result_of}
 use Rattle.footprint.specs.Declaration.{number_or}
 use Rattle.meaning.specs.declared.outcome.Ending.{Ending}
 use Rattle.meaning.specs.declared.outcome.Ending.TheVariants as endings
-use Rattle.meaning.specs.Runs.{State, Ran, after, and_then, ok, ended, look, alter, provided, Gate, passing, covered, step, key_of, accessed, row_now, present, set_row, with_variable, set_variable, scoped, replying}
-use Rattle.meaning.specs.Meaning.{StandIn, text_or, int_of, text_of, bool_of, value_of, values_of, chosen, effect, in_order}
+use Rattle.meaning.specs.Runs.{State, Ran, after, and_then, ok, ended, look, alter, provided, Gate, passing, covered, step, key_of, computed, accessed, part_there, part_accessed, part_now, row_now, present, absent, set_row, remove_row, declare, with_variable, set_variable, scoped, replying}
+use Rattle.meaning.specs.Comparing.{compare, compare_bytes}
+use Rattle.meaning.specs.Partitions.{keys_of}
+use Rattle.meaning.specs.Turns.{numbers_between}
+use Rattle.meaning.specs.Meaning.{StandIn, text_or, int_of, text_of, bool_of, value_of, values_of, chosen, with_number, turns, effect, in_order}
 use Rattle.meaning.specs.Entries.{EntryShape, Footing, declares, faults, finds, Reply, commit, start, reply_of, finished, run_of, nothing}
 use Rattle.meaning.specs.Frame.{Agree, StaysInFootprint}
 use Rattle.meaning.proofs.Names.{names_total, exact_names}
+use Rattle.meaning.proofs.Partitions.{alike_in_part}
 
 pub is_equal : (o : Ordering) → is_eq o ≡ true → o ≡ Equal
 is_equal Less e = absurd (cc)
@@ -136,6 +146,23 @@ module _ (tables : List TableShape) (fo : FootprintOf) (uncovered : Ending) (one
     },
   )
 
+  k_remove : (name : RowName) → covers_row tables fo name Write ≡ true → Keeps Any (remove_row name)
+  k_remove name c s t same = (
+    tt,
+    refl,
+    record {
+      agree = λ q h.
+          get-remove names_total t.rows name q
+          ∙ ap (cond (eq_by_cmp name_cmp q name) None) (same.agree q h)
+          ∙ sym (get-remove names_total s.rows name q);
+      others = λ q n. apart tables fo s.rows name q None (get (remove s.rows name) q) c n (get-remove names_total s.rows name q) ∙ same.others q n;
+      rest = ap (λ (z : State). record z { rows = remove t.rows name }) same.rest;
+    },
+  )
+
+  k_declare : (v : Value) → Keeps Any (declare v)
+  k_declare v = k_alter (λ st. record st { variables = st.variables ++ v ∷ [] }) (λ s. refl) (λ s rows. refl)
+
   k_variable : (place : ℕ) (v : Value) → Keeps Any (set_variable place v)
   k_variable place v = k_alter (λ st. record st { variables = with_variable st.variables place v }) (λ s. refl) (λ s rows. refl)
 
@@ -160,6 +187,28 @@ module _ (tables : List TableShape) (fo : FootprintOf) (uncovered : Ending) (one
       let name : RowName = record { table = table; key = key } in
       bind (λ u. Covered right name) (Covered right) _ _ (k_passing (covers fo (row_resource tables name) right)) (λ u c. k_ok (Covered right) name c))
 
+  k_computed : {A : Type 0} (r : Result A AbortCode) → Keeps Any (computed r)
+  k_computed (Ok x) = k_ok Any x tt
+  k_computed {A} (Err code) = k_ended {A = A} Any (endings.Abort code)
+
+  abbrev Readable : ℕ → ℕ → Type 0
+  Readable table part = covers fo (Table table (Part part WholePart)) Read ≡ true
+
+  k_part_there : (o : Option ℕ) → Keeps Any (part_there o)
+  k_part_there None = k_ended {A = ℕ} Any (endings.Abort BadPart)
+  k_part_there (Some part) = k_ok Any part tt
+
+  k_part_access : (table : ℕ) (z : ℤ) → Keeps (Readable table) (part_accessed gate table z)
+  k_part_access table z = bind Any (Readable table) _ _ (k_part_there (partition_numbered tables table z)) (λ part w.
+      bind (λ u. Readable table part) (Readable table) _ _ (k_passing (covers fo (Table table (Part part WholePart)) Read)) (λ u c. k_ok (Readable table) part c))
+
+  k_part : (table part : ℕ) → Readable table part → Keeps Any (part_now gate table part)
+  k_part table part c s t same = (tt, alike_in_part tables fo table part s.rows t.rows same.agree c, same)
+
+  k_absent : (o : Option RowOf) → Keeps Any (absent o)
+  k_absent None = k_ok Any tt tt
+  k_absent (Some row) = k_ended {A = Unit {0}} Any (endings.Abort DuplicateRow)
+
   k_present : (o : Option RowOf) → Keeps Any (present o)
   k_present None = k_ended {A = RowOf} Any (endings.Abort NoRow)
   k_present (Some row) = k_ok Any row tt
@@ -177,15 +226,28 @@ module _ (tables : List TableShape) (fo : FootprintOf) (uncovered : Ending) (one
     k_int : (e : IntSyntax) → Keeps Any (int_of d gate e)
     k_int (number z) = k_ok Any z tt
     k_int (variable place) = k_look (λ st. number_or d.number (slice_get st.variables place)) (λ s rows. refl)
-    k_int (add a b) = bind Any Any _ _ (k_int a) (λ x u. bind Any Any _ _ (k_int b) (λ y w. k_provided _ _ _))
-    k_int (subtract a b) = bind Any Any _ _ (k_int a) (λ x u. bind Any Any _ _ (k_int b) (λ y w. k_provided _ _ _))
+    k_int (binary op a b) = bind Any Any _ _ (k_int a) (λ x u. bind Any Any _ _ (k_int b) (λ y w. k_computed (result_of op x y)))
+    k_int (count_rows table part) = bind Any Any _ _ k_step (λ u w. bind Any Any _ _ (k_int part) (λ z x.
+        bind (Readable table) Any _ _ (k_part_access table z) (λ p c. bind Any Any _ _ (k_part table p c) (λ rows y. k_provided _ _ _))))
+    k_int (sum_column table part column) = bind Any Any _ _ k_step (λ u w. bind Any Any _ _ (k_int part) (λ z x.
+        bind (Readable table) Any _ _ (k_part_access table z) (λ p c. bind Any Any _ _ (k_part table p c) (λ rows y. k_provided _ _ _))))
 
     k_text : (e : TextSyntax) → Keeps Any (text_of d gate e)
     k_text (literal s) = k_ok Any s tt
     k_text (text_variable place) = k_look (λ st. text_or d.text (slice_get st.variables place)) (λ s rows. refl)
 
+    k_chosen : {A : Type 0} (b : Bool) (f g : Ran A) → Keeps Any f → Keeps Any g → Keeps Any (chosen b f g)
+    k_chosen true f g k l = k
+    k_chosen false f g k l = l
+
     k_bool : (e : BoolSyntax) → Keeps Any (bool_of d gate e)
-    k_bool (less a b) = bind Any Any _ _ (k_int a) (λ x u. bind Any Any _ _ (k_int b) (λ y w. k_ok Any (int_lt x y) tt))
+    k_bool (compare_ints test a b) = bind Any Any _ _ (k_int a) (λ x u. bind Any Any _ _ (k_int b) (λ y w. k_ok Any (compare test x y) tt))
+    k_bool (compare_texts test a b) = bind Any Any _ _ (k_text a) (λ x u. bind Any Any _ _ (k_text b) (λ y w. k_ok Any (compare_bytes test x y) tt))
+    k_bool (both a b) = bind Any Any _ _ (k_bool a) (λ x u. k_chosen x (bool_of d gate b) (ok false) (k_bool b) (k_ok Any false tt))
+    k_bool (either a b) = bind Any Any _ _ (k_bool a) (λ x u. k_chosen x (ok true) (bool_of d gate b) (k_ok Any true tt) (k_bool b))
+    k_bool (negated a) = bind Any Any _ _ (k_bool a) (λ x u. k_ok Any (not x) tt)
+    k_bool (row_exists table key) = bind Any Any _ _ k_step (λ u w. bind Any Any _ _ (k_int key) (λ k x.
+        bind (Covered Read) Any _ _ (k_access Read table k) (λ name c. bind Any Any _ _ (k_row name c) (λ found y. k_ok Any (is_some found) tt))))
 
     k_value : (e : ValueSyntax) → Keeps Any (value_of d gate e)
     k_value (int_value e) = bind Any Any _ _ (k_int e) (λ z u. k_ok Any (values.Int z) tt)
@@ -195,15 +257,18 @@ module _ (tables : List TableShape) (fo : FootprintOf) (uncovered : Ending) (one
     k_values [] = k_ok Any [] tt
     k_values (e ∷ es) = bind Any Any _ _ (k_value e) (λ v u. bind Any Any _ _ (k_values es) (λ vs w. k_ok Any (v ∷ vs) tt))
 
-    k_chosen : (b : Bool) (f g : Ran (Unit {0})) → Keeps Any f → Keeps Any g → Keeps Any (chosen b f g)
-    k_chosen true f g k l = k
-    k_chosen false f g k l = l
+    k_turns : (block : Ran (Unit {0})) → Keeps Any block → (zs : List ℤ) → Keeps Any (turns block zs)
+    k_turns block k [] = k_ok Any tt tt
+    k_turns block k (z ∷ zs) = bind Any Any _ _
+        (bind Any Any _ _ k_step (λ u w. k_scoped (with_number block z) (bind Any Any _ _ (k_declare (values.Int z)) (λ v x. k))))
+        (λ u w. k_turns block k zs)
 
     write_reads : (name : RowName) → Covered Write name → Covered Read name
     write_reads name c = any_weaker fo (row_resource tables name ∷ ancestors_of (row_resource tables name)) c
 
     mutual
       k_effect : (s : StmtSyntax) → Keeps Any (effect d gate s)
+      k_effect (assign place value) = bind Any Any _ _ (k_value value) (λ v u. k_variable place v)
       k_effect (get_syntax place table key column) = bind Any Any _ _ (k_int key) (λ k u.
           bind (Covered Read) Any _ _ (k_access Read table k) (λ name c.
           bind Any Any _ _ (k_row name c) (λ found w. bind Any Any _ _ (k_present found) (λ row x.
@@ -212,6 +277,19 @@ module _ (tables : List TableShape) (fo : FootprintOf) (uncovered : Ending) (one
           bind (Covered Write) Any _ _ (k_access Write table k) (λ name c.
           bind Any Any _ _ (k_row name (write_reads name c)) (λ found x. bind Any Any _ _ (k_present found) (λ row y.
           k_write name (slice_set row column v) c)))))
+      k_effect (insert_row table key es) = bind Any Any _ _ (k_int key) (λ k u. bind Any Any _ _ (k_values es) (λ vs w.
+          bind (Covered Write) Any _ _ (k_access Write table k) (λ name c.
+          bind Any Any _ _ (k_row name (write_reads name c)) (λ found x. bind Any Any _ _ (k_absent found) (λ v y.
+          k_write name vs c)))))
+      k_effect (delete_row table key) = bind Any Any _ _ (k_int key) (λ k u.
+          bind (Covered Write) Any _ _ (k_access Write table k) (λ name c.
+          bind Any Any _ _ (k_row name (write_reads name c)) (λ found x. bind Any Any _ _ (k_present found) (λ row y.
+          k_remove name c))))
+      k_effect (for_numbers low high body) = bind Any Any _ _ (k_int low) (λ first u. bind Any Any _ _ (k_int high) (λ last w.
+          k_turns (in_order d gate body) (k_order body) (numbers_between first last)))
+      k_effect (for_keys table part body) = bind Any Any _ _ (k_int part) (λ z u.
+          bind (Readable table) Any _ _ (k_part_access table z) (λ p c. bind Any Any _ _ (k_part table p c) (λ rows w.
+          k_turns (in_order d gate body) (k_order body) (map pos (keys_of (entries rows))))))
       k_effect (choose test first second) = bind Any Any _ _ (k_bool test) (λ b u.
           k_scoped (chosen b (in_order d gate first) (in_order d gate second)) (k_chosen b (in_order d gate first) (in_order d gate second) (k_order first) (k_order second)))
       k_effect (abort_syntax code) = k_ended {A = Unit {0}} Any (endings.Abort (Own code))

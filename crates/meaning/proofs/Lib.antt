@@ -1,3 +1,7 @@
 pub mod Names
+pub mod Partitions
 pub mod Frame
+pub mod Typed
+pub mod Totals
 pub mod StandIns
+pub mod Ranges

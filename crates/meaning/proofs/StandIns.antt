@@ -1,13 +1,11 @@
 -- In a body that fits, over rows of the tables, what stands for a missing variable or column never shows.
-use Rattle.std.proofs.Common.{◌≡◌, ℕ, zero, suc, ◌+◌, Bool, true, false, cond, not, List, [], ◌∷◌, ◌++◌, map, refl, sym, ap, ◌∙◌, subst, Option, Some, None, option_map, option_and_then, unwrap_or, Result, Ok, Err, ℤ, pos, negsuc, inl, inr, append_assoc}
-use Rattle.std.specs.Prelude.{◌⊎◌, nat_lt, int_lt, length, take, slice_get, slice_set, if◌then◌else◌, ◌==◌}
+use Rattle.std.proofs.Common.{◌≡◌, ℕ, ◌+◌, Bool, true, false, cond, not, List, [], ◌∷◌, ◌++◌, map, refl, sym, ap, ◌∙◌, subst, Option, Some, None, unwrap_or, Result, Ok, Err, ℤ, pos, negsuc}
+use Rattle.std.specs.Prelude.{nat_lt, length, take, slice_get, slice_set}
 use Rattle.std.specs.List.{AllByRecursion}
-use Rattle.std.specs.FinMap.{get, get-insert}
+use Rattle.std.specs.FinMap.{get, get-insert, get-remove, entries}
+use Rattle.std.specs.Option.{is_some}
 use Rattle.std.specs.Ordering.{eq_by_cmp}
-use Rattle.std.proofs.lemmas.Option.{slice_get-map}
-use Rattle.std.proofs.lemmas.List.{map-append, length-map, take-map, append-nil}
-use Rattle.std.proofs.Math.Seq.{take-append_seam}
-use Rattle.std.proofs.lemmas.Bool.{eqb-false}
+use Rattle.std.proofs.lemmas.List.{map-append, length-map, take-map}
 use Rattle.values.specs.declared.name.RowName.{RowName}
 use Rattle.values.specs.declared.value.ColType.{ColType}
 use Rattle.values.specs.declared.value.ColType.TheVariants as types
@@ -15,113 +13,33 @@ use Rattle.values.specs.declared.value.Value.{Value}
 use Rattle.values.specs.declared.value.Value.TheVariants as values
 use Rattle.values.specs.Shapes.{TableShape}
 use Rattle.values.specs.Rows.{type_of}
+use Rattle.values.specs.Keys.{partition_numbered}
 use Rattle.values.specs.Database.{Database, RowOf, name_cmp}
 use Rattle.proclang_types.specs.declared.right.Right.{Right}
 use Rattle.proclang_types.specs.declared.right.Right.TheVariants.{Read, Write}
-use Rattle.proclang_types.specs.Syntax.{IntSyntax, number, variable, add, subtract, TextSyntax, literal, text_variable, BoolSyntax, less, ValueSyntax, int_value, text_value, StmtSyntax, get as get_syntax, put, choose, abort as abort_syntax, reply, BlockSyntax, no_statements, followed, block_of, ProcSyntax}
-use Rattle.proclang_types.specs.Typing.{column_kind, IntFits, TextFits, BoolFits, ValueFits, kind_of, Takes, declared, after as kinds_after, StmtFits, BlockFits, kinds_of}
+use Rattle.proclang_types.specs.Syntax.{IntSyntax, number, variable, binary, count_rows, sum_column, TextSyntax, literal, text_variable, BoolSyntax, compare_ints, compare_texts, both, either, negated, row_exists, ValueSyntax, int_value, text_value, StmtSyntax, assign, get as get_syntax, put, insert_row, delete_row, choose, for_numbers, for_keys, abort as abort_syntax, reply, BlockSyntax, no_statements, followed, block_of, ProcSyntax}
+use Rattle.proclang_types.specs.Typing.{column_kind, IntFits, TextFits, BoolFits, ValueFits, kind_of, in_loop, Takes, declared, after as kinds_after, StmtFits, BlockFits, kinds_of}
 use Rattle.footprint.specs.declared.abort_code.AbortCode.{AbortCode}
-use Rattle.footprint.specs.declared.abort_code.AbortCode.TheVariants.{BadKey, NoRow, Budget, TooLong, Own, Uncovered}
+use Rattle.footprint.specs.declared.abort_code.AbortCode.TheVariants.{BadKey, BadPart, NoRow, DuplicateRow, Budget, TooLong, Own, Overflow, Uncovered}
+use Rattle.footprint.specs.declared.resource.Resource.TheVariants.{Table}
+use Rattle.footprint.specs.declared.resource.InTable.TheVariants.{Part}
+use Rattle.footprint.specs.declared.resource.InPart.TheVariants.{WholePart}
 use Rattle.footprint.specs.Tree.{row_resource}
 use Rattle.footprint.specs.Rights.{FootprintOf, covers}
-use Rattle.footprint.specs.Declaration.{number_or}
+use Rattle.footprint.specs.Arithmetic.{result_of, is_int}
 use Rattle.meaning.specs.declared.outcome.Ending.{Ending}
 use Rattle.meaning.specs.declared.outcome.Ending.TheVariants as endings
-use Rattle.meaning.specs.Runs.{State, Ran, after, and_then, ok, ended, look, alter, provided, Gate, passing, covered, step, key_of, accessed, row_now, present, set_row, with_variable, set_variable, scoped, replying}
-use Rattle.meaning.specs.Meaning.{StandIn, text_or, int_of, text_of, bool_of, value_of, values_of, chosen, effect, in_order}
+use Rattle.meaning.specs.Runs.{State, Ran, after, and_then, ok, ended, look, alter, provided, Gate, passing, covered, step, key_of, in_range, computed, accessed, part_there, part_accessed, part_now, row_now, present, absent, set_row, remove_row, declare, set_variable, scoped, replying}
+use Rattle.meaning.specs.Comparing.{compare, compare_bytes}
+use Rattle.meaning.specs.Partitions.{keys_of, total, part_rows}
+use Rattle.meaning.specs.Turns.{numbers_between}
+use Rattle.meaning.specs.Meaning.{StandIn, int_of, text_of, bool_of, value_of, values_of, chosen, with_number, turns, effect, in_order}
 use Rattle.meaning.specs.Entries.{EntryShape, Footing, declares, faults, finds, start, finished, run_of, nothing, meaning_by}
 use Rattle.meaning.specs.Fitting.{IsRowOf, HasTypes, IsCallOf, StandInNeverShows}
 use Rattle.meaning.proofs.Names.{names_total, exact_names}
 use Rattle.meaning.proofs.Frame.{is_equal}
-
--- ---- values in place
-
-same_number : (o : Option Value) (x y : ℤ) → option_map type_of o ≡ Some types.Int → number_or y o ≡ number_or x o
-same_number None x y e = absurd (cc)
-same_number (Some (values.Int z)) x y e = refl
-same_number (Some (values.Text s)) x y e = absurd (cc)
-
-same_text : (o : Option Value) (x y : List ℕ) → option_map type_of o ≡ Some types.Text → text_or y o ≡ text_or x o
-same_text None x y e = absurd (cc)
-same_text (Some (values.Int z)) x y e = absurd (cc)
-same_text (Some (values.Text s)) x y e = refl
-
-same_value : (o : Option Value) (x y : Value) (kind : ColType) → option_map type_of o ≡ Some kind → (unwrap_or o y ≡ unwrap_or o x) × (type_of (unwrap_or o x) ≡ kind)
-same_value None x y kind e = absurd (cc)
-same_value (Some v) x y kind e = (refl, cc)
-
--- the variable at a place has the type that is seen there
-in_place : (vs : List Value) (kinds : List ColType) (place : ℕ) (kind : ColType) → map type_of vs ≡ kinds → slice_get kinds place ≡ Some kind → option_map type_of (slice_get vs place) ≡ Some kind
-in_place vs kinds place kind e h = sym (slice_get-map type_of vs place) ∙ ap (λ (ks : List ColType). slice_get ks place) e ∙ h
-
--- the value in a column of a row has the column's type
-column_in_place : (tables : List TableShape) (table : ℕ) (row : RowOf) (column : ℕ) (kind : ColType) → IsRowOf tables table row → column_kind tables table column ≡ Some kind → option_map type_of (slice_get row column) ≡ Some kind
-column_in_place tables table row column kind is there = by (slice_get tables table) is there
-  where
-    by : (o : Option TableShape) → option_map (λ t. map (λ c. c.kind) t.columns) o ≡ Some (map type_of row) → option_and_then (λ t. option_map (λ c. c.kind) (slice_get t.columns column)) o ≡ Some kind
-        → option_map type_of (slice_get row column) ≡ Some kind
-    by None e h = absurd (cc)
-    by (Some t) e h =
-        let same : map (λ c. c.kind) t.columns ≡ map type_of row = cc in
-        in_place row (map (λ c. c.kind) t.columns) column kind (sym same) (slice_get-map (λ c. c.kind) t.columns column ∙ h)
-
--- another value of the same type leaves the types as they are
-kept_types : (vs : List Value) (place : ℕ) (v : Value) → option_map type_of (slice_get vs place) ≡ Some (type_of v) → map type_of (slice_set vs place v) ≡ map type_of vs
-kept_types [] place v e = absurd (cc)
-kept_types (x ∷ xs) zero v e = (let same : type_of v ≡ type_of x = cc in ap (λ (k : ColType). k ∷ map type_of xs) same)
-kept_types (x ∷ xs) (suc place) v e = ap (λ (ks : List ColType). type_of x ∷ ks) (kept_types xs place v e)
-
--- a variable that gets a value of a type that its place takes
-set_types : (vs : List Value) (kinds : List ColType) (place : ℕ) (v : Value) (kind : ColType) → map type_of vs ≡ kinds → type_of v ≡ kind → Takes kinds place kind → map type_of (with_variable vs place v) ≡ declared kinds place kind
-set_types vs kinds place v kind e k takes =
-    subst (λ (n : ℕ). map type_of (with_variable vs place v) ≡ (if place == n then kinds ++ kind ∷ [] else kinds)) (sym (length-map vs type_of) ∙ ap length e) (by (place == length vs) refl)
-  where
-    at_end : (place n : ℕ) → place == n ≡ false → (place ≡ n) ⊎ (slice_get kinds place ≡ Some kind) → slice_get kinds place ≡ Some kind
-    at_end place n f (inl is) = absurd (eqb-false place n f is)
-    at_end place n f (inr there) = there
-
-    by : (b : Bool) → place == length vs ≡ b → map type_of (if b then vs ++ v ∷ [] else slice_set vs place v) ≡ (if b then kinds ++ kind ∷ [] else kinds)
-    by true is = map-append type_of vs (v ∷ []) ∙ ap (λ (ks : List ColType). ks ++ type_of v ∷ []) e ∙ ap (λ (q : ColType). kinds ++ q ∷ []) k
-    by false is =
-        let n : length kinds ≡ length vs = ap length (sym e) ∙ length-map vs type_of in
-        let there = at_end place (length kinds) (ap (λ (m : ℕ). place == m) n ∙ is) takes in
-        kept_types vs place v (in_place vs kinds place kind e there ∙ ap (λ (q : ColType). Some q) (sym k)) ∙ e
-
--- ---- the types of the variables that are seen
-
-abbrev kinds_through : List TableShape → List ColType → BlockSyntax → List ColType
-kinds_through tables kinds no_statements = kinds
-kinds_through tables kinds (followed s rest) = kinds_through tables (kinds_after tables kinds s) rest
-
--- variables are declared behind those that are seen
-abbrev Extends : List ColType → List ColType → Type 0
-Extends before later = (more : List ColType) × (later ≡ before ++ more)
-
-extends_take : (before later : List ColType) → Extends before later → take (length before) later ≡ before
-extends_take before later e = ap (λ (ks : List ColType). take (length before) ks) e.1 ∙ take-append_seam before e.0
-
-declared_extends : (kinds : List ColType) (place : ℕ) (kind : ColType) → Extends kinds (declared kinds place kind)
-declared_extends kinds place kind = by (place == length kinds)
-  where
-    by : (b : Bool) → Extends kinds (if b then kinds ++ kind ∷ [] else kinds)
-    by true = (kind ∷ [], refl)
-    by false = ([], sym (append-nil kinds))
-
-after_extends : (tables : List TableShape) (kinds : List ColType) (s : StmtSyntax) → Extends kinds (kinds_after tables kinds s)
-after_extends tables kinds (get_syntax place table key column) = declared_extends kinds place (unwrap_or (column_kind tables table column) types.Int)
-after_extends tables kinds (put table key column value) = ([], sym (append-nil kinds))
-after_extends tables kinds (choose test first second) = ([], sym (append-nil kinds))
-after_extends tables kinds (abort_syntax code) = ([], sym (append-nil kinds))
-after_extends tables kinds (reply es) = ([], sym (append-nil kinds))
-
-through_extends : (tables : List TableShape) (kinds : List ColType) (b : BlockSyntax) → Extends kinds (kinds_through tables kinds b)
-through_extends tables kinds no_statements = ([], sym (append-nil kinds))
-through_extends tables kinds (followed s rest) =
-    let first = after_extends tables kinds s in
-    let more = through_extends tables (kinds_after tables kinds s) rest in
-    (first.0 ++ more.0, more.1 ∙ ap (λ (ks : List ColType). ks ++ more.0) first.1 ∙ append_assoc kinds first.0 more.0)
-
--- ---- runs
+use Rattle.meaning.proofs.Typed.{same_number, same_text, same_value, in_place, column_in_place, kept_types, set_types, kinds_through, Extends, extends_take, through_extends, loop_extends}
+use Rattle.meaning.proofs.Totals.{same_total}
 
 module _ (tables : List TableShape) where
   -- variables of these types, and rows of the tables
@@ -165,6 +83,10 @@ module _ (tables : List TableShape) where
   s_look : {A : Type 0} (kinds : List ColType) (f : State → A) → Same Any kinds kinds (look f) (look f)
   s_look kinds f s typed = (refl, (tt, typed))
 
+  s_computed : {A : Type 0} (kinds : List ColType) (r : Result A AbortCode) → Same Any kinds kinds (computed r) (computed r)
+  s_computed kinds (Ok x) = s_ok Any kinds x tt
+  s_computed {A} kinds (Err code) = s_ended {A = A} Any kinds kinds (endings.Abort code)
+
   -- a change of the steps or of the reply
   s_alter : (kinds : List ColType) (f : State → State) → ((s : State) → (f s).variables ≡ s.variables) → ((s : State) → (f s).rows ≡ s.rows) → Same Any kinds kinds (alter f) (alter f)
   s_alter kinds f v r s typed = (refl, (tt, record { variables = ap (map type_of) (v s) ∙ typed.variables; rows = subst (HasTypes tables) (sym (r s)) typed.rows }))
@@ -189,6 +111,14 @@ module _ (tables : List TableShape) where
   s_present kinds table None of = s_ended {A = RowOf} (IsRowOf tables table) kinds kinds (endings.Abort NoRow)
   s_present kinds table (Some row) of = s_ok (IsRowOf tables table) kinds row (of row refl)
 
+  s_absent : (kinds : List ColType) (found : Option RowOf) → Same Any kinds kinds (absent found) (absent found)
+  s_absent kinds None = s_ok Any kinds tt tt
+  s_absent kinds (Some row) = s_ended {A = Unit {0}} Any kinds kinds (endings.Abort DuplicateRow)
+
+  s_part_there : (kinds : List ColType) (o : Option ℕ) → Same Any kinds kinds (part_there o) (part_there o)
+  s_part_there kinds None = s_ended {A = ℕ} Any kinds kinds (endings.Abort BadPart)
+  s_part_there kinds (Some part) = s_ok Any kinds part tt
+
   s_write : (kinds : List ColType) (name : RowName) (row : RowOf) → IsRowOf tables name.table row → Same Any kinds kinds (set_row name row) (set_row name row)
   s_write kinds name row is s typed = (
     refl,
@@ -201,6 +131,35 @@ module _ (tables : List TableShape) where
               | true ↦ λ e h. subst (λ (n : RowName). IsRowOf tables n.table r) (sym (exact_names q name (is_equal (name_cmp q name) e))) (let same : row ≡ r = cc in subst (IsRowOf tables name.table) same is)
               | false ↦ λ e h. typed.rows q r h
             ] refl (sym (get-insert names_total s.rows name row q) ∙ there);
+      },
+    ),
+  )
+
+  s_remove : (kinds : List ColType) (name : RowName) → Same Any kinds kinds (remove_row name) (remove_row name)
+  s_remove kinds name s typed = (
+    refl,
+    (
+      tt,
+      record {
+        variables = typed.variables;
+        rows = λ q r there.
+            elim (eq_by_cmp name_cmp q name) as (λ t. cond t None (get s.rows q) ≡ Some r → IsRowOf tables q.table r) [
+              | true ↦ λ h. absurd (cc)
+              | false ↦ λ h. typed.rows q r h
+            ] (sym (get-remove names_total s.rows name q) ∙ there);
+      },
+    ),
+  )
+
+  -- the variable of a loop
+  s_declare : (kinds : List ColType) (z : ℤ) → Same Any kinds (in_loop kinds) (declare (values.Int z)) (declare (values.Int z))
+  s_declare kinds z s typed = (
+    refl,
+    (
+      tt,
+      record {
+        variables = map-append type_of s.variables (values.Int z ∷ []) ∙ ap (λ (ks : List ColType). ks ++ types.Int ∷ []) typed.variables;
+        rows = typed.rows;
       },
     ),
   )
@@ -251,29 +210,71 @@ module _ (tables : List TableShape) where
         let name : RowName = record { table = table; key = key } in
         bind Any (InTable table) kinds kinds kinds _ _ _ _ (s_passing kinds (covers fo (row_resource tables name) right)) (λ u c. s_ok (InTable table) kinds name refl))
 
-    s_int : (kinds : List ColType) (t : IntSyntax) → IntFits kinds t → Same Any kinds kinds (int_of d gate t) (int_of e gate t)
+    s_part : (kinds : List ColType) (table : ℕ) (z : ℤ) → Same Any kinds kinds (part_accessed gate table z) (part_accessed gate table z)
+    s_part kinds table z = bind Any Any kinds kinds kinds _ _ _ _ (s_part_there kinds (partition_numbered tables table z)) (λ part u.
+        bind Any Any kinds kinds kinds _ _ _ _ (s_passing kinds (covers fo (Table table (Part part WholePart)) Read)) (λ v w. s_ok Any kinds part tt))
+
+    abbrev Totals : ℕ → ℕ → Database → Type 0
+    Totals table column rows = (x y : ℤ) → total y column (entries rows) ≡ total x column (entries rows)
+
+    -- the rows of a partition of a table that has that column
+    s_rows : (kinds : List ColType) (table part column : ℕ) → column_kind tables table column ≡ Some types.Int → Same (Totals table column) kinds kinds (part_now gate table part) (part_now gate table part)
+    s_rows kinds table part column is s typed = (refl, (λ x y. same_total tables table part column s.rows x y typed.rows is, typed))
+
+    s_in_range : (kinds : List ColType) (x y : ℤ) → y ≡ x → Same Any kinds kinds (in_range x) (in_range y)
+    s_in_range kinds x y is s typed = (ap (λ (z : ℤ). in_range z s) is, (s_provided kinds (is_int x) Overflow x s typed).1)
+
+    s_int : (kinds : List ColType) (t : IntSyntax) → IntFits tables kinds t → Same Any kinds kinds (int_of d gate t) (int_of e gate t)
     s_int kinds (number z) fits = s_ok Any kinds z tt
     s_int kinds (variable place) fits = λ s typed. (ap (λ (z : ℤ). (Ok z, s)) (same_number (slice_get s.variables place) d.number e.number (in_place s.variables kinds place types.Int typed.variables fits)), (tt, typed))
-    s_int kinds (add a b) fits = bind Any Any kinds kinds kinds _ _ _ _ (s_int kinds a fits.0) (λ x u. bind Any Any kinds kinds kinds _ _ _ _ (s_int kinds b fits.1) (λ y w. s_provided kinds _ _ _))
-    s_int kinds (subtract a b) fits = bind Any Any kinds kinds kinds _ _ _ _ (s_int kinds a fits.0) (λ x u. bind Any Any kinds kinds kinds _ _ _ _ (s_int kinds b fits.1) (λ y w. s_provided kinds _ _ _))
+    s_int kinds (binary op a b) fits = bind Any Any kinds kinds kinds _ _ _ _ (s_int kinds a fits.0) (λ x u. bind Any Any kinds kinds kinds _ _ _ _ (s_int kinds b fits.1) (λ y w. s_computed kinds (result_of op x y)))
+    s_int kinds (count_rows table part) fits = bind Any Any kinds kinds kinds _ _ _ _ (s_step kinds) (λ u v.
+        bind Any Any kinds kinds kinds _ _ _ _ (s_int kinds part fits.1) (λ z w.
+        bind Any Any kinds kinds kinds _ _ _ _ (s_part kinds table z) (λ p x.
+        bind Any Any kinds kinds kinds _ _ _ _ (s_look kinds (λ st. part_rows tables table p st.rows)) (λ rows y.
+        s_provided kinds _ _ _))))
+    s_int kinds (sum_column table part column) fits = bind Any Any kinds kinds kinds _ _ _ _ (s_step kinds) (λ u v.
+        bind Any Any kinds kinds kinds _ _ _ _ (s_int kinds part fits.0) (λ z w.
+        bind Any Any kinds kinds kinds _ _ _ _ (s_part kinds table z) (λ p x.
+        bind (Totals table column) Any kinds kinds kinds _ _ _ _ (s_rows kinds table p column fits.1) (λ rows same.
+        s_in_range kinds (total d.number column (entries rows)) (total e.number column (entries rows)) (same d.number e.number)))))
 
     s_text : (kinds : List ColType) (t : TextSyntax) → TextFits kinds t → Same Any kinds kinds (text_of d gate t) (text_of e gate t)
     s_text kinds (literal s) fits = s_ok Any kinds s tt
     s_text kinds (text_variable place) fits = λ s typed. (ap (λ (t : List ℕ). (Ok t, s)) (same_text (slice_get s.variables place) d.text e.text (in_place s.variables kinds place types.Text typed.variables fits)), (tt, typed))
 
-    s_bool : (kinds : List ColType) (t : BoolSyntax) → BoolFits kinds t → Same Any kinds kinds (bool_of d gate t) (bool_of e gate t)
-    s_bool kinds (less a b) fits = bind Any Any kinds kinds kinds _ _ _ _ (s_int kinds a fits.0) (λ x u. bind Any Any kinds kinds kinds _ _ _ _ (s_int kinds b fits.1) (λ y w. s_ok Any kinds (int_lt x y) tt))
+    s_pick : {A : Type 0} (kinds : List ColType) (b : Bool) (f g k l : Ran A) → Same Any kinds kinds f k → Same Any kinds kinds g l → Same Any kinds kinds (chosen b f g) (chosen b k l)
+    s_pick kinds true f g k l p q = p
+    s_pick kinds false f g k l p q = q
+
+    s_bool : (kinds : List ColType) (t : BoolSyntax) → BoolFits tables kinds t → Same Any kinds kinds (bool_of d gate t) (bool_of e gate t)
+    s_bool kinds (compare_ints test a b) fits = bind Any Any kinds kinds kinds _ _ _ _ (s_int kinds a fits.0) (λ x u. bind Any Any kinds kinds kinds _ _ _ _ (s_int kinds b fits.1) (λ y w. s_ok Any kinds (compare test x y) tt))
+    s_bool kinds (compare_texts test a b) fits = bind Any Any kinds kinds kinds _ _ _ _ (s_text kinds a fits.0) (λ x u. bind Any Any kinds kinds kinds _ _ _ _ (s_text kinds b fits.1) (λ y w. s_ok Any kinds (compare_bytes test x y) tt))
+    s_bool kinds (both a b) fits = bind Any Any kinds kinds kinds _ _ _ _ (s_bool kinds a fits.0) (λ x u.
+        s_pick kinds x (bool_of d gate b) (ok false) (bool_of e gate b) (ok false) (s_bool kinds b fits.1) (s_ok Any kinds false tt))
+    s_bool kinds (either a b) fits = bind Any Any kinds kinds kinds _ _ _ _ (s_bool kinds a fits.0) (λ x u.
+        s_pick kinds x (ok true) (bool_of d gate b) (ok true) (bool_of e gate b) (s_ok Any kinds true tt) (s_bool kinds b fits.1))
+    s_bool kinds (negated a) fits = bind Any Any kinds kinds kinds _ _ _ _ (s_bool kinds a fits) (λ x u. s_ok Any kinds (not x) tt)
+    s_bool kinds (row_exists table key) fits = bind Any Any kinds kinds kinds _ _ _ _ (s_step kinds) (λ u v.
+        bind Any Any kinds kinds kinds _ _ _ _ (s_int kinds key fits.1) (λ k w.
+        bind (InTable table) Any kinds kinds kinds _ _ _ _ (s_access kinds Read table k) (λ name is.
+        bind (OfTable table) Any kinds kinds kinds _ _ _ _ (s_row kinds table name is) (λ found of. s_ok Any kinds (is_some found) tt))))
 
     abbrev OfKind : ColType → Value → Type 0
     OfKind kind v = type_of v ≡ kind
 
-    s_value : (kinds : List ColType) (t : ValueSyntax) → ValueFits kinds t → Same (OfKind (kind_of t)) kinds kinds (value_of d gate t) (value_of e gate t)
+    s_value : (kinds : List ColType) (t : ValueSyntax) → ValueFits tables kinds t → Same (OfKind (kind_of t)) kinds kinds (value_of d gate t) (value_of e gate t)
     s_value kinds (int_value t) fits = bind Any (OfKind types.Int) kinds kinds kinds _ _ _ _ (s_int kinds t fits) (λ z u. s_ok (OfKind types.Int) kinds (values.Int z) refl)
     s_value kinds (text_value t) fits = bind Any (OfKind types.Text) kinds kinds kinds _ _ _ _ (s_text kinds t fits) (λ s u. s_ok (OfKind types.Text) kinds (values.Text s) refl)
 
-    s_values : (kinds : List ColType) (ts : List ValueSyntax) → AllByRecursion (ValueFits kinds) ts → Same Any kinds kinds (values_of d gate ts) (values_of e gate ts)
-    s_values kinds [] fits = s_ok Any kinds [] tt
-    s_values kinds (t ∷ ts) fits = bind (OfKind (kind_of t)) Any kinds kinds kinds _ _ _ _ (s_value kinds t fits.0) (λ v u. bind Any Any kinds kinds kinds _ _ _ _ (s_values kinds ts fits.1) (λ vs w. s_ok Any kinds (v ∷ vs) tt))
+    abbrev OfKinds : List ColType → List Value → Type 0
+    OfKinds ks vs = map type_of vs ≡ ks
+
+    s_values : (kinds : List ColType) (ts : List ValueSyntax) → AllByRecursion (ValueFits tables kinds) ts → Same (OfKinds (map kind_of ts)) kinds kinds (values_of d gate ts) (values_of e gate ts)
+    s_values kinds [] fits = s_ok (OfKinds []) kinds [] refl
+    s_values kinds (t ∷ ts) fits = bind (OfKind (kind_of t)) (OfKinds (map kind_of (t ∷ ts))) kinds kinds kinds _ _ _ _ (s_value kinds t fits.0) (λ v is.
+        bind (OfKinds (map kind_of ts)) (OfKinds (map kind_of (t ∷ ts))) kinds kinds kinds _ _ _ _ (s_values kinds ts fits.1) (λ vs are.
+        s_ok (OfKinds (map kind_of (t ∷ ts))) kinds (v ∷ vs) (ap (λ (k : ColType). k ∷ map type_of vs) is ∙ ap (λ (ks : List ColType). kind_of t ∷ ks) are)))
 
     -- a variable gets a column's value
     s_column : (kinds : List ColType) (place table column : ℕ) (kind : ColType) (row : RowOf) → column_kind tables table column ≡ Some kind → Takes kinds place kind → IsRowOf tables table row
@@ -286,7 +287,14 @@ module _ (tables : List TableShape) where
     s_chosen kinds true f g k l p q = p
     s_chosen kinds false f g k l p q = q
 
-    s_get : (kinds : List ColType) (place table : ℕ) (key : IntSyntax) (column : ℕ) (kind : ColType) → IntFits kinds key → column_kind tables table column ≡ Some kind → Takes kinds place kind
+    s_turns : (kinds later : List ColType) (f g : Ran (Unit {0})) → Extends kinds later → Same Any (in_loop kinds) later f g → (zs : List ℤ) → Same Any kinds kinds (turns f zs) (turns g zs)
+    s_turns kinds later f g more h [] = s_ok Any kinds tt tt
+    s_turns kinds later f g more h (z ∷ zs) = bind Any Any kinds kinds kinds _ _ _ _
+        (bind Any Any kinds kinds kinds _ _ _ _ (s_step kinds) (λ u v.
+        s_scoped kinds later (with_number f z) (with_number g z) more (bind Any Any kinds (in_loop kinds) later _ _ _ _ (s_declare kinds z) (λ w x. h))))
+        (λ u v. s_turns kinds later f g more h zs)
+
+    s_get : (kinds : List ColType) (place table : ℕ) (key : IntSyntax) (column : ℕ) (kind : ColType) → IntFits tables kinds key → column_kind tables table column ≡ Some kind → Takes kinds place kind
         → Same Any kinds (declared kinds place kind) (effect d gate (get_syntax place table key column)) (effect e gate (get_syntax place table key column))
     s_get kinds place table key column kind fits there takes = bind Any Any kinds kinds _ _ _ _ _ (s_int kinds key fits) (λ k u.
         bind (InTable table) Any kinds kinds _ _ _ _ _ (s_access kinds Read table k) (λ name is.
@@ -296,6 +304,8 @@ module _ (tables : List TableShape) where
 
     mutual
       s_effect : (kinds : List ColType) (t : StmtSyntax) → StmtFits tables kinds t → Same Any kinds (kinds_after tables kinds t) (effect d gate t) (effect e gate t)
+      s_effect kinds (assign place value) fits = bind (OfKind (kind_of value)) Any kinds kinds _ _ _ _ _ (s_value kinds value fits.0) (λ v is.
+          s_variable kinds place v (kind_of value) is fits.1)
       s_effect kinds (get_syntax place table key column) fits =
           subst (λ (o : Option ColType). Same Any kinds (declared kinds place (unwrap_or o types.Int)) (effect d gate (get_syntax place table key column)) (effect e gate (get_syntax place table key column)))
           (sym fits.1.1) (s_get kinds place table key column fits.1.0 fits.0 fits.1.1 fits.1.2)
@@ -306,12 +316,30 @@ module _ (tables : List TableShape) where
           bind (IsRowOf tables table) Any kinds kinds kinds _ _ _ _ (s_present kinds table found of) (λ row its.
           let same : map type_of (slice_set row column v) ≡ map type_of row = kept_types row column v (column_in_place tables table row column (kind_of value) its fits.2 ∙ ap (λ (q : ColType). Some q) (sym is)) in
           s_write kinds name (slice_set row column v) (subst (λ (n : ℕ). IsRowOf tables n (slice_set row column v)) (sym at) (its ∙ ap (λ (ks : List ColType). Some ks) (sym same))))))))
+      s_effect kinds (insert_row table key es) fits = bind Any Any kinds kinds kinds _ _ _ _ (s_int kinds key fits.0) (λ k u.
+          bind (OfKinds (map kind_of es)) Any kinds kinds kinds _ _ _ _ (s_values kinds es fits.1.0) (λ vs are.
+          bind (InTable table) Any kinds kinds kinds _ _ _ _ (s_access kinds Write table k) (λ name at.
+          bind (OfTable table) Any kinds kinds kinds _ _ _ _ (s_row kinds table name at) (λ found of.
+          bind Any Any kinds kinds kinds _ _ _ _ (s_absent kinds found) (λ v w.
+          s_write kinds name vs (subst (λ (n : ℕ). IsRowOf tables n vs) (sym at) (fits.1.1 ∙ ap (λ (ks : List ColType). Some ks) (sym are))))))))
+      s_effect kinds (delete_row table key) fits = bind Any Any kinds kinds kinds _ _ _ _ (s_int kinds key fits.1) (λ k u.
+          bind (InTable table) Any kinds kinds kinds _ _ _ _ (s_access kinds Write table k) (λ name at.
+          bind (OfTable table) Any kinds kinds kinds _ _ _ _ (s_row kinds table name at) (λ found of.
+          bind (IsRowOf tables table) Any kinds kinds kinds _ _ _ _ (s_present kinds table found of) (λ row its.
+          s_remove kinds name))))
+      s_effect kinds (for_numbers low high body) fits = bind Any Any kinds kinds kinds _ _ _ _ (s_int kinds low fits.0) (λ first u.
+          bind Any Any kinds kinds kinds _ _ _ _ (s_int kinds high fits.1) (λ last w.
+          s_turns kinds (kinds_through tables (in_loop kinds) body) (in_order d gate body) (in_order e gate body) (loop_extends tables kinds body) (s_order (in_loop kinds) body fits.2) (numbers_between first last)))
+      s_effect kinds (for_keys table part body) fits = bind Any Any kinds kinds kinds _ _ _ _ (s_int kinds part fits.1) (λ z u.
+          bind Any Any kinds kinds kinds _ _ _ _ (s_part kinds table z) (λ p w.
+          bind Any Any kinds kinds kinds _ _ _ _ (s_look kinds (λ st. part_rows tables table p st.rows)) (λ rows x.
+          s_turns kinds (kinds_through tables (in_loop kinds) body) (in_order d gate body) (in_order e gate body) (loop_extends tables kinds body) (s_order (in_loop kinds) body fits.2) (map pos (keys_of (entries rows))))))
       s_effect kinds (choose test first second) fits = bind Any Any kinds kinds kinds _ _ _ _ (s_bool kinds test fits.0) (λ b u.
           s_chosen kinds b (in_order d gate first) (in_order d gate second) (in_order e gate first) (in_order e gate second)
           (s_scoped kinds (kinds_through tables kinds first) (in_order d gate first) (in_order e gate first) (through_extends tables kinds first) (s_order kinds first fits.1))
           (s_scoped kinds (kinds_through tables kinds second) (in_order d gate second) (in_order e gate second) (through_extends tables kinds second) (s_order kinds second fits.2)))
       s_effect kinds (abort_syntax code) fits = s_ended {A = Unit {0}} Any kinds kinds (endings.Abort (Own code))
-      s_effect kinds (reply es) fits = bind Any Any kinds kinds kinds _ _ _ _ (s_values kinds es fits) (λ vs u. s_replying kinds vs)
+      s_effect kinds (reply es) fits = bind (OfKinds (map kind_of es)) Any kinds kinds kinds _ _ _ _ (s_values kinds es fits) (λ vs u. s_replying kinds vs)
 
       s_order : (kinds : List ColType) (b : BlockSyntax) → BlockFits tables kinds b → Same Any kinds (kinds_through tables kinds b) (in_order d gate b) (in_order e gate b)
       s_order kinds no_statements fits = s_ok Any kinds tt tt

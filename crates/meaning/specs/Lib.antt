@@ -1,3 +1,6 @@
+pub mod Partitions
+pub mod Turns
+pub mod Comparing
 pub mod Runs
 pub mod Meaning
 pub mod Entries

@@ -1,13 +1,19 @@
 -- What a procedure's body does, by cases on its statements and expressions.
-use Rattle.std.specs.Prelude.{ℕ, ℤ, ◌+ℤ◌, ◌-ℤ◌, int_lt, Bool, true, false, List, [], ◌∷◌, Option, Some, None, unwrap_or, slice_get, slice_set}
+use Rattle.std.specs.Prelude.{ℕ, ℤ, pos, Bool, true, false, not, List, [], ◌∷◌, map, Option, Some, None, unwrap_or, slice_get, slice_set}
+use Rattle.std.specs.Option.{is_some}
+use Rattle.std.specs.FinMap.{entries, len}
 use Rattle.values.specs.declared.value.Value.{Value}
 use Rattle.values.specs.declared.value.Value.TheVariants as values
 use Rattle.proclang_types.specs.declared.right.Right.TheVariants.{Read, Write}
-use Rattle.proclang_types.specs.Syntax.{IntSyntax, number, variable, add, subtract, TextSyntax, literal, text_variable, BoolSyntax, less, ValueSyntax, int_value, text_value, StmtSyntax, get, put, choose, reply, BlockSyntax, no_statements, followed}
+use Rattle.proclang_types.specs.Syntax.{IntSyntax, number, variable, binary, count_rows, sum_column, TextSyntax, literal, text_variable, BoolSyntax, compare_ints, compare_texts, both, either, negated, row_exists, ValueSyntax, int_value, text_value, StmtSyntax, assign, get, put, insert_row, delete_row, choose, for_numbers, for_keys, reply, BlockSyntax, no_statements, followed}
 use Rattle.proclang_types.specs.Syntax as syntax
 use Rattle.footprint.specs.declared.abort_code.AbortCode.TheVariants.{Own}
+use Rattle.footprint.specs.Arithmetic.{result_of}
 use Rattle.footprint.specs.Declaration.{number_or}
-use Rattle.meaning.specs.Runs.{Ran, ◌>>=◌, ok, abort, look, Gate, step, in_range, accessed, row_now, present, set_row, set_variable, scoped, replying}
+use Rattle.meaning.specs.Comparing.{compare, compare_bytes}
+use Rattle.meaning.specs.Partitions.{keys_of, total}
+use Rattle.meaning.specs.Turns.{numbers_between}
+use Rattle.meaning.specs.Runs.{Ran, ◌>>=◌, ok, abort, look, Gate, step, in_range, computed, accessed, part_accessed, part_now, row_now, present, absent, set_row, remove_row, declare, set_variable, scoped, replying}
 
 -- What stands for a variable or a column that is not there, or has the other type. That it never shows
 -- where procedure, arguments and rows fit the tables is a law of its own, StandInNeverShows.
@@ -24,24 +30,56 @@ text_or other None = other
 abbrev pub int_of : StandIn → Gate → IntSyntax → Ran ℤ
 int_of d gate (number z) = ok z
 int_of d gate (variable place) = look (λ st. number_or d.number (slice_get st.variables place))
-int_of d gate (add a b) = do
+int_of d gate (binary op a b) = do
   x ← int_of d gate a
   y ← int_of d gate b
-  in_range (x +ℤ y)
-int_of d gate (subtract a b) = do
-  x ← int_of d gate a
-  y ← int_of d gate b
-  in_range (x -ℤ y)
+  computed (result_of op x y)
+int_of d gate (count_rows table part) = do
+  u ← step
+  z ← int_of d gate part
+  p ← part_accessed gate table z
+  rows ← part_now gate table p
+  in_range (pos (len rows))
+int_of d gate (sum_column table part column) = do
+  u ← step
+  z ← int_of d gate part
+  p ← part_accessed gate table z
+  rows ← part_now gate table p
+  in_range (total d.number column (entries rows))
 
 abbrev pub text_of : StandIn → Gate → TextSyntax → Ran (List ℕ)
 text_of d gate (literal s) = ok s
 text_of d gate (text_variable place) = look (λ st. text_or d.text (slice_get st.variables place))
 
+abbrev pub chosen : {A : Type 0} → Bool → A → A → A
+chosen true x y = x
+chosen false x y = y
+
+-- the second part of an "and" or an "or" is evaluated only where the first does not decide
 abbrev pub bool_of : StandIn → Gate → BoolSyntax → Ran Bool
-bool_of d gate (less a b) = do
+bool_of d gate (compare_ints test a b) = do
   x ← int_of d gate a
   y ← int_of d gate b
-  ok (int_lt x y)
+  ok (compare test x y)
+bool_of d gate (compare_texts test a b) = do
+  x ← text_of d gate a
+  y ← text_of d gate b
+  ok (compare_bytes test x y)
+bool_of d gate (both a b) = do
+  x ← bool_of d gate a
+  chosen x (bool_of d gate b) (ok false)
+bool_of d gate (either a b) = do
+  x ← bool_of d gate a
+  chosen x (ok true) (bool_of d gate b)
+bool_of d gate (negated a) = do
+  x ← bool_of d gate a
+  ok (not x)
+bool_of d gate (row_exists table key) = do
+  u ← step
+  k ← int_of d gate key
+  name ← accessed gate Read table k
+  found ← row_now name
+  ok (is_some found)
 
 abbrev pub value_of : StandIn → Gate → ValueSyntax → Ran Value
 value_of d gate (int_value e) = do
@@ -57,6 +95,12 @@ values_of d gate (e ∷ es) = do
   v ← value_of d gate e
   vs ← values_of d gate es
   ok (v ∷ vs)
+
+-- a variable gets a value
+abbrev pub assign_value : StandIn → Gate → ℕ → ValueSyntax → Ran (Unit {0})
+assign_value d gate place value = do
+  v ← value_of d gate value
+  set_variable place v
 
 -- a variable gets a column of a row
 abbrev pub get_column : StandIn → Gate → ℕ → ℕ → IntSyntax → ℕ → Ran (Unit {0})
@@ -77,14 +121,29 @@ put_column d gate table key column value = do
   row ← present found
   set_row name (slice_set row column v)
 
+-- a new row
+abbrev pub insert_values : StandIn → Gate → ℕ → IntSyntax → List ValueSyntax → Ran (Unit {0})
+insert_values d gate table key es = do
+  k ← int_of d gate key
+  vs ← values_of d gate es
+  name ← accessed gate Write table k
+  found ← row_now name
+  u ← absent found
+  set_row name vs
+
+-- a row is no more
+abbrev pub delete_key : StandIn → Gate → ℕ → IntSyntax → Ran (Unit {0})
+delete_key d gate table key = do
+  k ← int_of d gate key
+  name ← accessed gate Write table k
+  found ← row_now name
+  row ← present found
+  remove_row name
+
 abbrev pub reply_with : StandIn → Gate → List ValueSyntax → Ran (Unit {0})
 reply_with d gate es = do
   vs ← values_of d gate es
   replying vs
-
-abbrev pub chosen : {A : Type 0} → Bool → A → A → A
-chosen true x y = x
-chosen false x y = y
 
 -- one of two blocks
 abbrev pub if_of : StandIn → Gate → BoolSyntax → Ran (Unit {0}) → Ran (Unit {0}) → Ran (Unit {0})
@@ -92,12 +151,55 @@ if_of d gate test first second = do
   b ← bool_of d gate test
   scoped (chosen b first second)
 
+-- ---- loops
+
+-- a block whose first variable is that number
+abbrev pub with_number : Ran (Unit {0}) → ℤ → Ran (Unit {0})
+with_number block z = do
+  u ← declare (values.Int z)
+  block
+
+-- a turn of a loop: one step, and the block
+abbrev pub turn_of : Ran (Unit {0}) → ℤ → Ran (Unit {0})
+turn_of block z = do
+  u ← step
+  scoped (with_number block z)
+
+-- a turn for each number, in order
+abbrev pub turns : Ran (Unit {0}) → List ℤ → Ran (Unit {0})
+turns block [] = ok tt
+turns block (z ∷ zs) = do
+  u ← turn_of block z
+  turns block zs
+
+-- a block for each number from one to another
+abbrev pub for_of : StandIn → Gate → IntSyntax → IntSyntax → Ran (Unit {0}) → Ran (Unit {0})
+for_of d gate low high block = do
+  first ← int_of d gate low
+  last ← int_of d gate high
+  turns block (numbers_between first last)
+
+-- a block for each key that a partition holds when the statement begins, ascending
+abbrev pub each_of : StandIn → Gate → ℕ → IntSyntax → Ran (Unit {0}) → Ran (Unit {0})
+each_of d gate table part block = do
+  z ← int_of d gate part
+  p ← part_accessed gate table z
+  rows ← part_now gate table p
+  turns block (map pos (keys_of (entries rows)))
+
+-- ---- statements and blocks
+
 abbrev mutual
   -- what a statement does after its step
   pub effect : StandIn → Gate → StmtSyntax → Ran (Unit {0})
+  effect d gate (assign place value) = assign_value d gate place value
   effect d gate (get place table key column) = get_column d gate place table key column
   effect d gate (put table key column value) = put_column d gate table key column value
+  effect d gate (insert_row table key es) = insert_values d gate table key es
+  effect d gate (delete_row table key) = delete_key d gate table key
   effect d gate (choose test first second) = if_of d gate test (in_order d gate first) (in_order d gate second)
+  effect d gate (for_numbers low high body) = for_of d gate low high (in_order d gate body)
+  effect d gate (for_keys table part body) = each_of d gate table part (in_order d gate body)
   effect d gate (syntax.abort code) = abort (Own code)
   effect d gate (reply es) = reply_with d gate es
 

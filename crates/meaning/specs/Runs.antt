@@ -1,17 +1,23 @@
 -- Runs: what a step of a procedure does to the state, and how a run ends.
 use Rattle.std.specs.Prelude.{ℕ, ℤ, pos, negsuc, ◌+◌, nat_lt, Bool, true, false, not, List, [], ◌∷◌, ◌++◌, length, take, Option, Some, None, Result, Ok, Err, ◌==◌, if◌then◌else◌, slice_set}
-use Rattle.std.specs.FinMap.{get, insert}
+use Rattle.std.specs.FinMap.{get, insert, remove}
 use Rattle.values.specs.declared.name.RowName.{RowName}
 use Rattle.values.specs.declared.value.Value.{Value}
 use Rattle.values.specs.Shapes.{TableShape}
 use Rattle.values.specs.Database.{Database, RowOf}
+use Rattle.values.specs.Keys.{partition_numbered}
 use Rattle.proclang_types.specs.declared.right.Right.{Right}
+use Rattle.proclang_types.specs.declared.right.Right.TheVariants.{Read}
 use Rattle.footprint.specs.declared.abort_code.AbortCode.{AbortCode}
-use Rattle.footprint.specs.declared.abort_code.AbortCode.TheVariants.{NoRow, Overflow, BadKey, TooLong, Budget}
+use Rattle.footprint.specs.declared.abort_code.AbortCode.TheVariants.{NoRow, DuplicateRow, Overflow, BadKey, BadPart, TooLong, Budget}
 use Rattle.footprint.specs.declared.resource.Resource.{Resource}
+use Rattle.footprint.specs.declared.resource.Resource.TheVariants.{Table}
+use Rattle.footprint.specs.declared.resource.InTable.TheVariants.{Part}
+use Rattle.footprint.specs.declared.resource.InPart.TheVariants.{WholePart}
 use Rattle.footprint.specs.Tree.{row_resource}
 use Rattle.footprint.specs.Rights.{FootprintOf, covers}
-use Rattle.footprint.specs.Declaration.{is_int}
+use Rattle.footprint.specs.Arithmetic.{is_int}
+use Rattle.meaning.specs.Partitions.{part_rows}
 use Rattle.meaning.specs.declared.outcome.Ending.{Ending}
 use Rattle.meaning.specs.declared.outcome.Ending.TheVariants.{Abort}
 
@@ -87,6 +93,11 @@ step = do
 abbrev pub in_range : ℤ → Ran ℤ
 in_range z = provided (is_int z) Overflow z
 
+-- the result of an operator
+abbrev pub computed : {A : Type 0} → Result A AbortCode → Ran A
+computed (Ok x) = ok x
+computed (Err code) = abort code
+
 abbrev pub key_of : ℤ → Ran ℕ
 key_of (pos n) = ok n
 key_of (negsuc n) = abort BadKey
@@ -98,6 +109,22 @@ accessed gate right table z = do
   u ← gate.access (row_resource gate.tables (record { table = table; key = key })) right
   ok (record { table = table; key = key })
 
+-- a partition that may be there
+abbrev pub part_there : Option ℕ → Ran ℕ
+part_there None = abort BadPart
+part_there (Some part) = ok part
+
+-- a partition, once its number was tested and then the right to read it
+abbrev pub part_accessed : Gate → ℕ → ℤ → Ran ℕ
+part_accessed gate table z = do
+  part ← part_there (partition_numbered gate.tables table z)
+  u ← gate.access (Table table (Part part WholePart)) Read
+  ok part
+
+-- the rows of a partition
+abbrev pub part_now : Gate → ℕ → ℕ → Ran Database
+part_now gate table part = look (λ st. part_rows gate.tables table part st.rows)
+
 abbrev pub row_now : RowName → Ran (Option RowOf)
 row_now name = look (λ st. get st.rows name)
 
@@ -105,8 +132,19 @@ abbrev pub present : Option RowOf → Ran RowOf
 present None = abort NoRow
 present (Some row) = ok row
 
+abbrev pub absent : Option RowOf → Ran (Unit {0})
+absent None = ok tt
+absent (Some row) = abort DuplicateRow
+
 abbrev pub set_row : RowName → RowOf → Ran (Unit {0})
 set_row name row = alter (λ st. record st { rows = insert st.rows name row })
+
+abbrev pub remove_row : RowName → Ran (Unit {0})
+remove_row name = alter (λ st. record st { rows = remove st.rows name })
+
+-- one more variable behind the others
+abbrev pub declare : Value → Ran (Unit {0})
+declare value = alter (λ st. record st { variables = st.variables ++ value ∷ [] })
 
 -- a variable is declared behind the others, or changed
 abbrev pub with_variable : List Value → ℕ → Value → List Value

@@ -1,9 +1,11 @@
 //! Laws of the meaning.
 
+ghost use Rattle.std.specs.Prelude.{◌≡◌, ℕ, ℤ, pos, ◌+ℤ◌, int_le, slice_get, Some, None, if◌then◌else◌};
 ghost use Rattle.values.specs.Database.{Database};
 ghost use Rattle.proclang_types.specs.Syntax.{ProcSyntax};
 ghost use Rattle.meaning.specs.Entries.{EntryShape};
 ghost use Rattle.meaning.specs.Frame.{Agree, StaysInFootprint};
+ghost use Rattle.meaning.specs.Turns.{numbers_between};
 ghost use Rattle.meaning.specs.Fitting.{HasTypes, IsCallOf, StandInNeverShows};
 
 /// The frame law. From databases that agree on what an entry may read, it has one outcome and does the same to what it may
@@ -18,4 +20,11 @@ pub fn stays_in_footprint()
 /// for it. It leaves rows of the columns' types.
 pub fn stand_in_never_shows()
     ensures { (proc : ProcSyntax) (entry : EntryShape) (db : Database) → IsCallOf proc entry → HasTypes entry.tables db → StandInNeverShows entry db }
+{}
+
+/// The numbers from one to another, place by place: each is one more than the one before it, the first is the lower one, and there
+/// are those that are not above the higher one.
+#[tactic(auto, using(crate::proofs::Ranges::numbers_at))]
+pub fn numbers_go_from_low_to_high()
+    ensures { (low high : ℤ) (place : ℕ) → slice_get (numbers_between low high) place ≡ (if int_le (low +ℤ pos place) high then Some (low +ℤ pos place) else None) }
 {}

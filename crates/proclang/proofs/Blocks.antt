@@ -1,5 +1,5 @@
 -- The statements of a block.
-use Rattle.std.proofs.Common.{◌≡◌, ℕ, zero, suc, ◌-◌, List, [], ◌∷◌, ◌++◌, Some, Result, Ok, Err, refl, arith}
+use Rattle.std.proofs.Common.{◌≡◌, ℕ, zero, suc, ◌-◌, List, [], ◌∷◌, ◌++◌, Some, Ok, Err, refl, arith}
 use Rattle.serde_json.specs.Data.{Data}
 use Rattle.documents.specs.Json.{elements}
 use Rattle.values.specs.Shapes.{TableShape}
@@ -7,9 +7,9 @@ use Rattle.proclang_types.specs.Syntax.{StmtSyntax}
 use Rattle.proclang.specs.declared.fault.ProcFault.{ProcFault}
 use Rattle.proclang.specs.Seen.{Seen}
 use Rattle.proclang.specs.Walk.{each_from, at_most}
-use Rattle.proclang.specs.Statements.{statement_at, next_statement, block_at}
+use Rattle.proclang.specs.Statements.{BlockReader, statement_at, next_statement, block_at}
 
-pub next_is : (tables : List TableShape) (block : List ℕ → List Seen → Data → Result (List StmtSyntax) ProcFault) (path : List ℕ) (done : List StmtSyntax) (scope : List Seen) (d : Data) (s : StmtSyntax) (after : List Seen)
+pub next_is : (tables : List TableShape) (block : BlockReader) (path : List ℕ) (done : List StmtSyntax) (scope : List Seen) (d : Data) (s : StmtSyntax) (after : List Seen)
     → statement_at tables block path scope d ≡ Ok (s, after) → next_statement tables block path (done, scope) d ≡ Ok (done ++ s ∷ [], after)
 next_is tables block path done scope d s after h = rw h refl
 
@@ -22,7 +22,7 @@ block_is tables (suc room) path scope d ds done after some e f h =
     let all : each_from (next_statement tables (block_at tables room)) path 0 ([], scope) ds ≡ Ok (done, after) = rw less at h in
     rw (e, f, all) refl
 
-pub next_fails : (tables : List TableShape) (block : List ℕ → List Seen → Data → Result (List StmtSyntax) ProcFault) (path : List ℕ) (done : List StmtSyntax) (scope : List Seen) (d : Data) (e : ProcFault)
+pub next_fails : (tables : List TableShape) (block : BlockReader) (path : List ℕ) (done : List StmtSyntax) (scope : List Seen) (d : Data) (e : ProcFault)
     → statement_at tables block path scope d ≡ Err e → next_statement tables block path (done, scope) d ≡ Err e
 next_fails tables block path done scope d e h = rw h refl
 

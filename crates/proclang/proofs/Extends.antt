@@ -6,17 +6,19 @@ use Rattle.documents.specs.Reading.{formed}
 use Rattle.documents.proofs.Steps.{bind_ok}
 use Rattle.values.specs.declared.value.ColType.{ColType}
 use Rattle.values.specs.Shapes.{TableShape}
-use Rattle.proclang_types.specs.Syntax.{StmtSyntax, get}
+use Rattle.proclang_types.specs.Syntax.{StmtSyntax, assign, get}
+use Rattle.proclang_types.specs.Typing.{kind_of}
 use Rattle.proclang.specs.declared.fault.FaultKind.TheVariants.{Shape}
 use Rattle.proclang.specs.declared.fault.ProcFault.{ProcFault}
 use Rattle.proclang.specs.declared.fault.ProcFault.TheVariants.{At}
 use Rattle.proclang.specs.declared.scope.Declaration.TheVariants.{Statement}
 use Rattle.proclang.specs.declared.scope.Found.{Found}
 use Rattle.proclang.specs.Seen.{Seen}
-use Rattle.proclang.specs.Lookups.{table_at, column_at}
-use Rattle.proclang.specs.Expressions.{deepest, expr_at, as_int}
-use Rattle.proclang.specs.StmtForms.{GetParts, StatementForm, get_parts, put_parts, if_parts, abort_code, reply_values, statement_form}
-use Rattle.proclang.specs.Statements.{target_at, same_type, bound, get_at, put_at, if_at, abort_at, reply_at, in_scope, form_at, statement_at}
+use Rattle.proclang.specs.Lookups.{same_type, table_at, column_at}
+use Rattle.proclang.specs.Expressions.{as_int, as_value, statement_expr}
+use Rattle.proclang.specs.StmtForms.{LetParts, GetParts, StatementForm, let_parts, get_parts, put_parts, insert_parts, delete_parts, if_parts, for_parts, each_parts, abort_code, reply_values, statement_form}
+use Rattle.proclang.specs.Targets.{target_at, bound}
+use Rattle.proclang.specs.Statements.{let_at, get_at, put_at, insert_at, delete_at, BlockReader, if_at, for_at, each_at, abort_at, reply_at, in_scope, form_at, statement_at}
 
 after_is : {A B F : Type 0} (x : A) (y : B) (r : A × B) → ◌≡◌ {A = Result (A × B) F} (Ok (x, y)) (Ok r) → y ≡ r.1
 after_is x y r e = cc
@@ -41,26 +43,41 @@ unfolding get_at
 get_extends tables path scope form r e =
     let target = bind_ok (target_at (path ++ 1 ∷ []) scope form.variable) _ r e in
     let table = bind_ok (table_at (path ++ 2 ∷ []) tables form.table) _ r target.2 in
-    let expr = bind_ok (expr_at deepest (path ++ 3 ∷ []) scope form.key) _ r table.2 in
+    let expr = bind_ok (statement_expr tables (path ++ 3 ∷ []) scope form.key) _ r table.2 in
     let column = bind_ok (column_at (path ++ 4 ∷ []) tables table.0 form.column) _ r expr.2 in
     let key = bind_ok (as_int (path ++ 3 ∷ []) expr.0) _ r column.2 in
     let variable = bind_ok (bound (path ++ 4 ∷ []) scope form.variable column.0.1 target.0) _ r key.2 in
     let is : variable.0.1 ≡ r.1 = after_is (get variable.0.0 table.0 key.0 column.0.0) variable.0.1 r variable.2 in
     subst (λ (s : List Seen). Extends scope s) is (bound_extends (path ++ 4 ∷ []) scope form.variable column.0.1 target.0 variable.0 variable.1)
 
+let_extends : (tables : List TableShape) (path : List ℕ) (scope : List Seen) (form : LetParts) (r : StmtSyntax × List Seen) → let_at tables path scope form ≡ Ok r → Extends scope r.1
+unfolding let_at
+let_extends tables path scope form r e =
+    let target = bind_ok (target_at (path ++ 1 ∷ []) scope form.variable) _ r e in
+    let expr = bind_ok (statement_expr tables (path ++ 2 ∷ []) scope form.value) _ r target.2 in
+    let value = bind_ok (as_value (path ++ 2 ∷ []) expr.0) _ r expr.2 in
+    let variable = bind_ok (bound (path ++ 2 ∷ []) scope form.variable (kind_of value.0) target.0) _ r value.2 in
+    let is : variable.0.1 ≡ r.1 = after_is (assign variable.0.0 value.0) variable.0.1 r variable.2 in
+    subst (λ (s : List Seen). Extends scope s) is (bound_extends (path ++ 2 ∷ []) scope form.variable (kind_of value.0) target.0 variable.0 variable.1)
+
 scoped_extends : (scope : List Seen) (read : Result StmtSyntax ProcFault) (r : StmtSyntax × List Seen) → in_scope scope read ≡ Ok r → Extends scope r.1
 scoped_extends scope (Ok s) r e = same scope r.1 cc
 scoped_extends scope (Err f) r e = absurd cc
 
-form_extends : (tables : List TableShape) (block : List ℕ → List Seen → Data → Result (List StmtSyntax) ProcFault) (path : List ℕ) (scope : List Seen) (f : StatementForm) (r : StmtSyntax × List Seen) → form_at tables block path scope f ≡ Ok r → Extends scope r.1
+form_extends : (tables : List TableShape) (block : BlockReader) (path : List ℕ) (scope : List Seen) (f : StatementForm) (r : StmtSyntax × List Seen) → form_at tables block path scope f ≡ Ok r → Extends scope r.1
 unfolding form_at
+form_extends tables block path scope (let_parts form) r e = let_extends tables path scope form r e
 form_extends tables block path scope (get_parts form) r e = get_extends tables path scope form r e
 form_extends tables block path scope (put_parts form) r e = scoped_extends scope (put_at tables path scope form) r e
-form_extends tables block path scope (if_parts form) r e = scoped_extends scope (if_at block path scope form) r e
+form_extends tables block path scope (insert_parts form) r e = scoped_extends scope (insert_at tables path scope form) r e
+form_extends tables block path scope (delete_parts form) r e = scoped_extends scope (delete_at tables path scope form) r e
+form_extends tables block path scope (if_parts form) r e = scoped_extends scope (if_at tables block path scope form) r e
+form_extends tables block path scope (for_parts form) r e = scoped_extends scope (for_at tables block path scope form) r e
+form_extends tables block path scope (each_parts form) r e = scoped_extends scope (each_at tables block path scope form) r e
 form_extends tables block path scope (abort_code z) r e = scoped_extends scope (abort_at path z) r e
-form_extends tables block path scope (reply_values ds) r e = scoped_extends scope (reply_at path scope ds) r e
+form_extends tables block path scope (reply_values ds) r e = scoped_extends scope (reply_at tables path scope ds) r e
 
-pub statement_extends : (tables : List TableShape) (block : List ℕ → List Seen → Data → Result (List StmtSyntax) ProcFault) (path : List ℕ) (scope : List Seen) (d : Data) (r : StmtSyntax × List Seen) → statement_at tables block path scope d ≡ Ok r → Extends scope r.1
+pub statement_extends : (tables : List TableShape) (block : BlockReader) (path : List ℕ) (scope : List Seen) (d : Data) (r : StmtSyntax × List Seen) → statement_at tables block path scope d ≡ Ok r → Extends scope r.1
 statement_extends tables block path scope d r e =
     let f = bind_ok (formed (At Shape path) (statement_form d)) _ r e in
     form_extends tables block path scope f.0 r f.2

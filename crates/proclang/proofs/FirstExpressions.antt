@@ -1,136 +1,150 @@
 -- The fault that reading an expression meets is the first rule that it breaks.
-use Rattle.std.proofs.Common.{◌≡◌, ℕ, zero, suc, List, [], ◌∷◌, ◌++◌, Option, Some, None, option_map, option_and_then, is_some, Result, Ok, refl, sym, ap, ◌∙◌, subst}
+use Rattle.std.proofs.Common.{◌≡◌, ℕ, zero, suc, leb, List, [], ◌∷◌, ◌++◌, length, Option, Some, None, is_some, Ok, refl}
 use Rattle.serde_json.specs.Data.{Data}
 use Rattle.documents.specs.FirstFault.{broken, IsFirst}
-use Rattle.documents.specs.Reading.{formed}
-use Rattle.documents.proofs.FirstFault.{bind_first, formed_first, ok_first}
-use Rattle.documents.proofs.Steps.{bind_ok, formed_ok}
+use Rattle.documents.specs.Reading.{◌>>=◌, rule}
+use Rattle.documents.proofs.FirstFault.{bind_first, formed_first, ok_first, rule_last}
 use Rattle.values.specs.declared.value.ColType.{ColType}
 use Rattle.values.specs.declared.value.ColType.TheVariants as types
-use Rattle.proclang_types.specs.Syntax.{IntSyntax, number, add, subtract, less, ExprSyntax, int, text, bool}
-use Rattle.proclang.specs.declared.fault.FaultKind.TheVariants.{Shape, UnknownName, TypeMismatch, Limit}
-use Rattle.proclang.specs.declared.fault.ProcFault.{ProcFault}
+use Rattle.values.specs.Keys.{table_named}
+use Rattle.values.specs.Shapes.{TableShape}
+use Rattle.proclang_types.specs.declared.operator.Equality.{Equality}
+use Rattle.proclang_types.specs.declared.operator.Comparison.TheVariants as comparisons
+use Rattle.proclang_types.specs.Syntax.{IntSyntax, binary, count_rows, sum_column, literal, BoolSyntax, compare_ints, both, either, negated, row_exists, ExprSyntax, int, text, bool}
+use Rattle.proclang.specs.declared.fault.FaultKind.TheVariants.{Shape, UnknownTable, UnknownName, TypeMismatch, Limit}
 use Rattle.proclang.specs.declared.fault.ProcFault.TheVariants.{At}
-use Rattle.proclang.specs.declared.expr_form.Operator.{Operator}
-use Rattle.proclang.specs.declared.expr_form.Operator.TheVariants.{Add, Subtract, Less}
+use Rattle.proclang.specs.declared.operator.Operator.{Operator}
+use Rattle.proclang.specs.declared.operator.Operator.TheVariants.{Arithmetic, Less, AtMost, Same, And, Or}
+use Rattle.proclang.specs.declared.expr_form.Section.{Section}
 use Rattle.proclang.specs.declared.scope.Found.{Found}
 use Rattle.proclang.specs.Faults.{refuse}
 use Rattle.proclang.specs.Seen.{Seen, found_in}
-use Rattle.proclang.specs.ExprForms.{Form, number_form, variable_form, binary_form, expr_form}
-use Rattle.proclang.specs.Expressions.{variable_syntax, named, as_int, as_bool, as_value, two_ints, combine, node_at, expr_at}
-use Rattle.proclang.specs.ExprTypes.{ExprType, int_type, text_type, bool_type, variable_type, result_type, type_of_form, type_said, is_int, is_bool, is_value}
-use Rattle.proclang.specs.BrokenExpressions.{not_int, not_bool, not_value, in_form, in_deep_form, in_expr_form, in_expr}
+use Rattle.proclang.specs.Lookups.{same_type, table_at, column_at}
+use Rattle.proclang.specs.ExprForms.{Form, number_form, literal_form, variable_form, not_form, binary_form, exists_form, count_form, sum_form, form_in}
+use Rattle.proclang.specs.Expressions.{named, as_int, as_bool, two_ints, two_bools, two_alike, calculate, compare, combine, PartReader, not_at, binary_at, exists_at, count_at, sum_at, node_at, expr_at}
+use Rattle.proclang.specs.ExprTypes.{type_said, is_value, are_alike}
+use Rattle.proclang.specs.BrokenNames.{in_table, column_type_said, in_column}
+use Rattle.proclang.specs.BrokenExpressions.{not_int, not_bool, not_value, not_alike, in_types, is_int_column, PartRules, in_table_and_int, in_sum, in_form, in_deep_form, in_expr_form, in_expr}
+use Rattle.proclang.proofs.FirstNames.{found_first, table_so, column_first, column_type_so}
+use Rattle.proclang.proofs.FirstTypes.{type_read, type_so, int_first, bool_first}
 
--- ---- types
+-- ---- operators
 
--- the type of what was read
-abbrev pub type_read : ExprSyntax → ExprType
-type_read (int e) = int_type
-type_read (text e) = text_type
-type_read (bool e) = bool_type
-
-variable_so : (kind : ColType) (place : ℕ) → variable_type kind ≡ type_read (variable_syntax kind place)
-variable_so types.Int place = refl
-variable_so types.Text place = refl
-
-named_so : (path : List ℕ) (o : Option Found) (e : ExprSyntax) → named path o ≡ Ok e → option_map (λ v. variable_type v.kind) o ≡ Some (type_read e)
-named_so path None e r = absurd cc
-named_so path (Some v) e r =
-    let is : variable_syntax v.kind v.place ≡ e = cc in
-    ap (λ (t : ExprType). Some t) (variable_so v.kind v.place ∙ ap type_read is)
-
-two_so : (make : IntSyntax → IntSyntax → ExprSyntax) (t : ExprType) → ((a b : IntSyntax) → type_read (make a b) ≡ t) → (p : List ℕ) (x : ExprSyntax) (q : List ℕ) (y e : ExprSyntax) → two_ints make p x q y ≡ Ok e → t ≡ type_read e
-unfolding two_ints
-two_so make t law p x q y e r =
-    let a = bind_ok (as_int p x) _ e r in
-    let b = bind_ok (as_int q y) _ e a.2 in
-    let is : make a.0 b.0 ≡ e = cc in
-    sym (law a.0 b.0) ∙ ap type_read is
-
-combine_so : (op : Operator) (p : List ℕ) (x : ExprSyntax) (q : List ℕ) (y e : ExprSyntax) → combine op p x q y ≡ Ok e → result_type op ≡ type_read e
-unfolding combine
-combine_so Add p x q y e r = two_so (λ a b. int (add a b)) int_type (λ a b. refl) p x q y e r
-combine_so Subtract p x q y e r = two_so (λ a b. int (subtract a b)) int_type (λ a b. refl) p x q y e r
-combine_so Less p x q y e r = two_so (λ a b. bool (less a b)) bool_type (λ a b. refl) p x q y e r
-
-node_so : (part : List ℕ → List Seen → Data → Result ExprSyntax ProcFault) (path : List ℕ) (scope : List Seen) (f : Form) (e : ExprSyntax) → node_at part path scope f ≡ Ok e → type_of_form scope f ≡ Some (type_read e)
-unfolding node_at
-node_so part path scope (number_form z) e r = let is : int (number z) ≡ e = cc in ap (λ (s : ExprSyntax). Some (type_read s)) is
-node_so part path scope (variable_form name) e r = named_so path (found_in name scope) e r
-node_so part path scope (binary_form op a b) e r =
-    let x = bind_ok (part (path ++ 1 ∷ []) scope a) _ e r in
-    let y = bind_ok (part (path ++ 2 ∷ []) scope b) _ e x.2 in
-    ap (λ (t : ExprType). Some t) (combine_so op (path ++ 1 ∷ []) x.0 (path ++ 2 ∷ []) y.0 e y.2)
-
--- an expression that is read has the type that its document says
-pub type_so : (room : ℕ) (path : List ℕ) (scope : List Seen) (d : Data) (e : ExprSyntax) → expr_at room path scope d ≡ Ok e → type_said scope d ≡ Some (type_read e)
-unfolding expr_at
-type_so zero path scope d e r = let f = bind_ok (formed (At Shape path) (expr_form d)) _ e r in absurd (let h = f.2 in cc)
-type_so (suc room) path scope d e r =
-    let f = bind_ok (formed (At Shape path) (expr_form d)) _ e r in
-    ap (option_and_then (type_of_form scope)) (formed_ok (At Shape path) (expr_form d) f.0 f.1) ∙ node_so (expr_at room) path scope f.0 e f.2
-
--- ---- operands of the type that is asked for
-
-int_by : (path : List ℕ) (e : ExprSyntax) → IsFirst (as_int path e) (broken (is_int (Some (type_read e))) (At TypeMismatch path))
-int_by path (int e) = refl
-int_by path (text e) = refl
-int_by path (bool e) = refl
-
-pub int_first : (path : List ℕ) (scope : List Seen) (d : Data) (e : ExprSyntax) → type_said scope d ≡ Some (type_read e) → IsFirst (as_int path e) (not_int path scope d)
-int_first path scope d e is = subst (λ (t : Option ExprType). IsFirst (as_int path e) (broken (is_int t) (At TypeMismatch path))) (sym is) (int_by path e)
-
-bool_by : (path : List ℕ) (e : ExprSyntax) → IsFirst (as_bool path e) (broken (is_bool (Some (type_read e))) (At TypeMismatch path))
-bool_by path (int e) = refl
-bool_by path (text e) = refl
-bool_by path (bool e) = refl
-
-pub bool_first : (path : List ℕ) (scope : List Seen) (d : Data) (e : ExprSyntax) → type_said scope d ≡ Some (type_read e) → IsFirst (as_bool path e) (not_bool path scope d)
-bool_first path scope d e is = subst (λ (t : Option ExprType). IsFirst (as_bool path e) (broken (is_bool t) (At TypeMismatch path))) (sym is) (bool_by path e)
-
-value_by : (path : List ℕ) (e : ExprSyntax) → IsFirst (as_value path e) (broken (is_value (Some (type_read e))) (At TypeMismatch path))
-value_by path (int e) = refl
-value_by path (text e) = refl
-value_by path (bool e) = refl
-
-pub value_first : (path : List ℕ) (scope : List Seen) (d : Data) (e : ExprSyntax) → type_said scope d ≡ Some (type_read e) → IsFirst (as_value path e) (not_value path scope d)
-value_first path scope d e is = subst (λ (t : Option ExprType). IsFirst (as_value path e) (broken (is_value t) (At TypeMismatch path))) (sym is) (value_by path e)
-
--- ---- expressions
-
+-- both operands are of the types that are asked for, or the fault is at the first that isn't
 module _ (scope : List Seen) (a b : Data) (p q : List ℕ) (x y : ExprSyntax) (a_is : type_said scope a ≡ Some (type_read x)) (b_is : type_said scope b ≡ Some (type_read y)) where
-  two_first : (make : IntSyntax → IntSyntax → ExprSyntax) → IsFirst (two_ints make p x q y) (not_int p scope a ++ not_int q scope b)
+  two_ints_first : (make : IntSyntax → IntSyntax → ExprSyntax) → IsFirst (two_ints make p x q y) (not_int p scope a ++ not_int q scope b)
   unfolding two_ints
-  two_first make =
+  two_ints_first make =
       bind_first (as_int p x) _ (not_int p scope a) (not_int q scope b) (int_first p scope a x a_is) (λ i _.
       ok_first (as_int q y) (make i) (not_int q scope b) (int_first q scope b y b_is))
 
-  combine_first : (op : Operator) → IsFirst (combine op p x q y) (not_int p scope a ++ not_int q scope b)
-  unfolding combine
-  combine_first Add = two_first (λ i j. int (add i j))
-  combine_first Subtract = two_first (λ i j. int (subtract i j))
-  combine_first Less = two_first (λ i j. bool (less i j))
+  two_bools_first : (make : BoolSyntax → BoolSyntax → ExprSyntax) → IsFirst (two_bools make p x q y) (not_bool p scope a ++ not_bool q scope b)
+  unfolding two_bools
+  two_bools_first make =
+      bind_first (as_bool p x) _ (not_bool p scope a) (not_bool q scope b) (bool_first p scope a x a_is) (λ i _.
+      ok_first (as_bool q y) (make i) (not_bool q scope b) (bool_first q scope b y b_is))
+
+alike_by : (test : Equality) (p q : List ℕ) (x y : ExprSyntax) → IsFirst (two_alike test p x q y)
+    (broken (is_value (Some (type_read x))) (At TypeMismatch p) ++ broken (are_alike (Some (type_read x)) (Some (type_read y))) (At TypeMismatch q))
+unfolding two_alike
+alike_by test p q (int x) (int y) = refl
+alike_by test p q (int x) (text y) = refl
+alike_by test p q (int x) (bool y) = refl
+alike_by test p q (text x) (int y) = refl
+alike_by test p q (text x) (text y) = refl
+alike_by test p q (text x) (bool y) = refl
+alike_by test p q (bool x) y = refl
+
+alike_first : (scope : List Seen) (a b : Data) (p q : List ℕ) (x y : ExprSyntax) → type_said scope a ≡ Some (type_read x) → type_said scope b ≡ Some (type_read y) → (test : Equality)
+    → IsFirst (two_alike test p x q y) (not_value p scope a ++ not_alike q scope a b)
+alike_first scope a b p q x y a_is b_is test = rw (a_is, b_is) (alike_by test p q x y)
+
+combine_first : (scope : List Seen) (a b : Data) (p q : List ℕ) (x y : ExprSyntax) → type_said scope a ≡ Some (type_read x) → type_said scope b ≡ Some (type_read y) → (op : Operator) → IsFirst (combine op p x q y) (in_types op p q scope a b)
+unfolding combine calculate compare
+combine_first scope a b p q x y s t (Arithmetic op) = two_ints_first scope a b p q x y s t (λ i j. int (binary op i j))
+combine_first scope a b p q x y s t Less = two_ints_first scope a b p q x y s t (λ i j. bool (compare_ints comparisons.Less i j))
+combine_first scope a b p q x y s t AtMost = two_ints_first scope a b p q x y s t (λ i j. bool (compare_ints comparisons.AtMost i j))
+combine_first scope a b p q x y s t (Same test) = alike_first scope a b p q x y s t test
+combine_first scope a b p q x y s t And = two_bools_first scope a b p q x y s t (λ i j. bool (both i j))
+combine_first scope a b p q x y s t Or = two_bools_first scope a b p q x y s t (λ i j. bool (either i j))
+
+-- ---- expressions
 
 named_first : (path : List ℕ) (o : Option Found) → IsFirst (named path o) (broken (is_some o) (At UnknownName path))
 named_first path None = refl
 named_first path (Some v) = refl
 
-module _ (part : List ℕ → List Seen → Data → Result ExprSyntax ProcFault) (faults : List ℕ → List Seen → Data → List ProcFault) (scope : List Seen)
+sum_type_first : (path : List ℕ) (kind : ColType) (e : ExprSyntax) → IsFirst (rule (same_type kind types.Int) (At TypeMismatch path) >>= λ _. Ok e) (broken (is_int_column (Some kind)) (At TypeMismatch path))
+sum_type_first path types.Int e = refl
+sum_type_first path types.Text e = refl
+
+module _ (tables : List TableShape) (part : PartReader) (faults : PartRules) (scope : List Seen)
     (law : (path : List ℕ) (d : Data) → IsFirst (part path scope d) (faults path scope d))
-    (types : (path : List ℕ) (d : Data) (e : ExprSyntax) → part path scope d ≡ Ok e → type_said scope d ≡ Some (type_read e)) where
-  node_first : (path : List ℕ) (f : Form) → IsFirst (node_at part path scope f) (in_form faults path scope f)
-  unfolding node_at
-  node_first path (number_form z) = refl
-  node_first path (variable_form name) = named_first path (found_in name scope)
-  node_first path (binary_form op a b) =
+    (typed : (path : List ℕ) (d : Data) (e : ExprSyntax) → part path scope d ≡ Ok e → type_said scope d ≡ Some (type_read e)) where
+  not_first : (path : List ℕ) (a : Data) → IsFirst (not_at part path scope a) (faults (path ++ 1 ∷ []) scope a ++ not_bool (path ++ 1 ∷ []) scope a)
+  unfolding not_at
+  not_first path a =
+      let p = path ++ 1 ∷ [] in
+      bind_first (part p scope a) _ (faults p scope a) (not_bool p scope a) (law p a) (λ x x_is.
+      ok_first (as_bool p x) (λ b. bool (negated b)) (not_bool p scope a) (bool_first p scope a x (typed p a x x_is)))
+
+  binary_first : (path : List ℕ) (op : Operator) (a b : Data) → IsFirst (binary_at part path scope op a b) (faults (path ++ 1 ∷ []) scope a ++ (faults (path ++ 2 ∷ []) scope b ++ in_types op (path ++ 1 ∷ []) (path ++ 2 ∷ []) scope a b))
+  unfolding binary_at
+  binary_first path op a b =
       let p = path ++ 1 ∷ [] in
       let q = path ++ 2 ∷ [] in
-      bind_first (part p scope a) _ (faults p scope a) (faults q scope b ++ (not_int p scope a ++ not_int q scope b)) (law p a) (λ x x_is.
-      bind_first (part q scope b) _ (faults q scope b) (not_int p scope a ++ not_int q scope b) (law q b) (λ y y_is.
-      combine_first scope a b p q x y (types p a x x_is) (types q b y y_is) op))
+      bind_first (part p scope a) _ (faults p scope a) (faults q scope b ++ in_types op p q scope a b) (law p a) (λ x x_is.
+      bind_first (part q scope b) _ (faults q scope b) (in_types op p q scope a b) (law q b) (λ y y_is.
+      combine_first scope a b p q x y (typed p a x x_is) (typed q b y y_is) op))
 
-pub expr_first : (room : ℕ) (path : List ℕ) (scope : List Seen) (d : Data) → IsFirst (expr_at room path scope d) (in_expr room path scope d)
+  exists_first : (path : List ℕ) (table : List ℕ) (d : Data) → IsFirst (exists_at tables part path scope table d) (in_table_and_int tables faults path scope table d)
+  unfolding exists_at
+  exists_first path table d =
+      let p = path ++ 1 ∷ [] in
+      let q = path ++ 2 ∷ [] in
+      bind_first (table_at p tables table) _ (in_table p tables table) (faults q scope d ++ not_int q scope d) (found_first (At UnknownTable p) (table_named tables table)) (λ t _.
+      bind_first (part q scope d) _ (faults q scope d) (not_int q scope d) (law q d) (λ x x_is.
+      ok_first (as_int q x) (λ k. bool (row_exists t k)) (not_int q scope d) (int_first q scope d x (typed q d x x_is))))
+
+  count_first : (path : List ℕ) (table : List ℕ) (d : Data) → IsFirst (count_at tables part path scope table d) (in_table_and_int tables faults path scope table d)
+  unfolding count_at
+  count_first path table d =
+      let p = path ++ 1 ∷ [] in
+      let q = path ++ 2 ∷ [] in
+      bind_first (table_at p tables table) _ (in_table p tables table) (faults q scope d ++ not_int q scope d) (found_first (At UnknownTable p) (table_named tables table)) (λ t _.
+      bind_first (part q scope d) _ (faults q scope d) (not_int q scope d) (law q d) (λ x x_is.
+      ok_first (as_int q x) (λ k. int (count_rows t k)) (not_int q scope d) (int_first q scope d x (typed q d x x_is))))
+
+  sum_first : (path : List ℕ) (table : List ℕ) (d : Data) (column : List ℕ) → IsFirst (sum_at tables part path scope table d column) (in_sum tables faults path scope table d column)
+  unfolding sum_at
+  sum_first path table d column =
+      let p = path ++ 1 ∷ [] in
+      let q = path ++ 2 ∷ [] in
+      let r = path ++ 3 ∷ [] in
+      let last = broken (is_int_column (column_type_said tables table column)) (At TypeMismatch r) in
+      bind_first (table_at p tables table) _ (in_table p tables table) (faults q scope d ++ (in_column r tables table column ++ (not_int q scope d ++ last))) (found_first (At UnknownTable p) (table_named tables table)) (λ t t_is.
+      bind_first (part q scope d) _ (faults q scope d) (in_column r tables table column ++ (not_int q scope d ++ last)) (law q d) (λ x x_is.
+      bind_first (column_at r tables t column) _ (in_column r tables table column) (not_int q scope d ++ last) (column_first r tables table column t (table_so p tables table t t_is)) (λ c c_is.
+      bind_first (as_int q x) _ (not_int q scope d) last (int_first q scope d x (typed q d x x_is)) (λ k _.
+      known r t c k (column_type_so r tables table column t c (table_so p tables table t t_is) c_is)))))
+    where
+      known : (r : List ℕ) (t : ℕ) (c : ℕ × ColType) (k : IntSyntax) → column_type_said tables table column ≡ Some c.1
+          → IsFirst (rule (same_type c.1 types.Int) (At TypeMismatch r) >>= λ _. Ok (int (sum_column t k c.0))) (broken (is_int_column (column_type_said tables table column)) (At TypeMismatch r))
+      known r t c k e = rw e (sum_type_first r c.1 (int (sum_column t k c.0)))
+
+  node_first : (path : List ℕ) (f : Form) → IsFirst (node_at tables part path scope f) (in_form tables faults path scope f)
+  unfolding node_at
+  node_first path (number_form z) = refl
+  node_first path (literal_form s) = rule_last (leb (length s) 64) (At Limit path) (text (literal s))
+  node_first path (variable_form name) = named_first path (found_in name scope)
+  node_first path (not_form a) = not_first path a
+  node_first path (binary_form op a b) = binary_first path op a b
+  node_first path (exists_form table d) = exists_first path table d
+  node_first path (count_form table d) = count_first path table d
+  node_first path (sum_form table d column) = sum_first path table d column
+
+pub expr_first : (section : Section) (tables : List TableShape) (room : ℕ) (path : List ℕ) (scope : List Seen) (d : Data) → IsFirst (expr_at section tables room path scope d) (in_expr section tables room path scope d)
 unfolding expr_at in_expr
-expr_first zero path scope d = formed_first (At Shape path) (expr_form d) (λ f. refuse Limit path) (in_deep_form path) refl (λ f. refl)
-expr_first (suc room) path scope d = formed_first (At Shape path) (expr_form d) (node_at (expr_at room) path scope) (in_expr_form (in_expr room) path scope) refl (λ f.
-    node_first (expr_at room) (in_expr room) scope (λ p x. expr_first room p scope x) (λ p x e. type_so room p scope x e) path f)
+expr_first section tables zero path scope d = formed_first (At Shape path) (form_in section d) (λ f. refuse Limit path) (in_deep_form path) refl (λ f. refl)
+expr_first section tables (suc room) path scope d = formed_first (At Shape path) (form_in section d) (node_at tables (expr_at section tables room) path scope) (in_expr_form tables (in_expr section tables room) path scope) refl (λ f.
+    node_first tables (expr_at section tables room) (in_expr section tables room) scope (λ p x. expr_first section tables room p scope x) (λ p x e. type_so section tables room p scope x e) path f)

@@ -29,10 +29,15 @@ use Rattle.proclang.specs.Statements.{block_at}
 use Rattle.proclang.specs.ProcForms.{ProcDocument, proc_form, declared_form, EntryDocument, row_parts, part_parts, table_parts, db_parts, entry_form}
 use Rattle.proclang.specs.Procs.{fresh_at, param_at, each_param, params_at, int_at, entry_of, entry_at, each_entry, footprint_at, PartsSyntax, parts_at, proc_at, each_proc, procs_at}
 use Rattle.proclang.specs.BrokenExpressions.{not_int, in_expr}
-use Rattle.proclang.specs.BrokenStatements.{in_table, in_parts, in_block}
+use Rattle.proclang.specs.declared.expr_form.Section.TheVariants as sections
+use Rattle.proclang.specs.BrokenNames.{in_table}
+use Rattle.proclang.specs.BrokenStatements.{in_parts, in_block}
 use Rattle.proclang.specs.BrokenProcs.{in_named_parts, in_new_name, name_of_param, in_param_form, in_param, in_params, params_of_form, params_said, in_int, in_entry_form, in_entry, in_footprint_form, in_footprint, name_of_proc, in_proc_form, in_proc, in_procs_form, broken_rules}
-use Rattle.proclang.proofs.FirstExpressions.{type_so, int_first, expr_first}
-use Rattle.proclang.proofs.FirstStatements.{found_first, parts_first, block_first}
+use Rattle.proclang.proofs.FirstNames.{found_first}
+use Rattle.proclang.proofs.FirstTypes.{type_so, int_first}
+use Rattle.proclang.proofs.FirstExpressions.{expr_first}
+use Rattle.proclang.proofs.FirstParts.{parts_first}
+use Rattle.proclang.proofs.FirstBlocks.{block_first}
 
 -- ---- names
 
@@ -118,20 +123,20 @@ params_so path ds params e =
 
 -- ---- footprints
 
-int_expr_first : (path : List ℕ) (scope : List Seen) (d : Data) → IsFirst (int_at path scope d) (in_int path scope d)
+int_expr_first : (tables : List TableShape) (path : List ℕ) (scope : List Seen) (d : Data) → IsFirst (int_at tables path scope d) (in_int tables path scope d)
 unfolding int_at
-int_expr_first path scope d =
-    bind_first (expr_at deepest path scope d) (as_int path) (in_expr deepest path scope d) (not_int path scope d) (expr_first deepest path scope d) (λ e e_is.
-    int_first path scope d e (type_so deepest path scope d e e_is))
+int_expr_first tables path scope d =
+    bind_first (expr_at sections.Footprint tables deepest path scope d) (as_int path) (in_expr sections.Footprint tables deepest path scope d) (not_int path scope d) (expr_first sections.Footprint tables deepest path scope d) (λ e e_is.
+    int_first path scope d e (type_so sections.Footprint tables deepest path scope d e e_is))
 
 entry_of_first : (tables : List TableShape) (path : List ℕ) (scope : List Seen) (form : EntryDocument) → IsFirst (entry_of tables path scope form) (in_entry_form tables path scope (Some form))
 unfolding entry_of
 entry_of_first tables path scope (row_parts right table key) =
-    bind_first (table_at (path ++ 2 ∷ []) tables table) _ (in_table (path ++ 2 ∷ []) tables table) (in_int (path ++ 3 ∷ []) scope key) (found_first (At UnknownTable (path ++ 2 ∷ [])) (table_named tables table)) (λ t _.
-    ok_first (int_at (path ++ 3 ∷ []) scope key) (λ k. row_entry right t k) (in_int (path ++ 3 ∷ []) scope key) (int_expr_first (path ++ 3 ∷ []) scope key))
+    bind_first (table_at (path ++ 2 ∷ []) tables table) _ (in_table (path ++ 2 ∷ []) tables table) (in_int tables (path ++ 3 ∷ []) scope key) (found_first (At UnknownTable (path ++ 2 ∷ [])) (table_named tables table)) (λ t _.
+    ok_first (int_at tables (path ++ 3 ∷ []) scope key) (λ k. row_entry right t k) (in_int tables (path ++ 3 ∷ []) scope key) (int_expr_first tables (path ++ 3 ∷ []) scope key))
 entry_of_first tables path scope (part_parts right table part) =
-    bind_first (table_at (path ++ 2 ∷ []) tables table) _ (in_table (path ++ 2 ∷ []) tables table) (in_int (path ++ 3 ∷ []) scope part) (found_first (At UnknownTable (path ++ 2 ∷ [])) (table_named tables table)) (λ t _.
-    ok_first (int_at (path ++ 3 ∷ []) scope part) (λ p. part_entry right t p) (in_int (path ++ 3 ∷ []) scope part) (int_expr_first (path ++ 3 ∷ []) scope part))
+    bind_first (table_at (path ++ 2 ∷ []) tables table) _ (in_table (path ++ 2 ∷ []) tables table) (in_int tables (path ++ 3 ∷ []) scope part) (found_first (At UnknownTable (path ++ 2 ∷ [])) (table_named tables table)) (λ t _.
+    ok_first (int_at tables (path ++ 3 ∷ []) scope part) (λ p. part_entry right t p) (in_int tables (path ++ 3 ∷ []) scope part) (int_expr_first tables (path ++ 3 ∷ []) scope part))
 entry_of_first tables path scope (table_parts right table) =
     ok_first (table_at (path ++ 2 ∷ []) tables table) (λ t. table_entry right t) (in_table (path ++ 2 ∷ []) tables table) (found_first (At UnknownTable (path ++ 2 ∷ [])) (table_named tables table))
 entry_of_first tables path scope (db_parts right) = refl

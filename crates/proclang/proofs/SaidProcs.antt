@@ -20,6 +20,7 @@ use Rattle.proclang_types.specs.Syntax.{IntSyntax, int, EntrySyntax, row_entry, 
 use Rattle.proclang.specs.declared.fault.FaultKind.TheVariants.{Shape, UnknownTable, DuplicateName}
 use Rattle.proclang.specs.declared.fault.ProcFault.{ProcFault}
 use Rattle.proclang.specs.declared.fault.ProcFault.TheVariants.{At}
+use Rattle.proclang.specs.declared.expr_form.Section.TheVariants as sections
 use Rattle.proclang.specs.Seen.{Seen, seen_of}
 use Rattle.proclang.specs.Walk.{each_from, behind, at_most}
 use Rattle.proclang.specs.Lookups.{table_at}
@@ -27,9 +28,12 @@ use Rattle.proclang.specs.Expressions.{deepest, expr_at}
 use Rattle.proclang.specs.Statements.{block_at}
 use Rattle.proclang.specs.ProcForms.{ProcDocument, proc_form, declared_form, EntryDocument, row_parts, part_parts, table_parts, db_parts, entry_form}
 use Rattle.proclang.specs.Procs.{fresh_at, param_at, params_at, int_at, entry_of, entry_at, footprint_at, PartsSyntax, parts_at, proc_at, procs_at}
-use Rattle.proclang.specs.Says.{SaysExpr, SaysInt, SaysBlock, SaysParam, SaysParams, SaysEntryForm, SaysEntry, SaysFootprint, SaysProc, SaysProcs}
+use Rattle.proclang.specs.SaysExpressions.{SaysExpr, SaysFootprintInt}
+use Rattle.proclang.specs.SaysStatements.{SaysBlock}
+use Rattle.proclang.specs.Says.{SaysParam, SaysParams, SaysEntryForm, SaysEntry, SaysFootprint, SaysProc, SaysProcs}
 use Rattle.proclang.proofs.SaidExpressions.{int_found, expr_found, expr_read}
-use Rattle.proclang.proofs.SaidStatements.{few_found, few_again, parts_found, parts_read, block_found, block_read}
+use Rattle.proclang.proofs.SaidParts.{few_found, few_again, parts_found, parts_read}
+use Rattle.proclang.proofs.SaidBlocks.{block_found, block_read}
 use Rattle.proclang.proofs.Spelled.{entry_said, entry_again, declared_said, declared_again, proc_said, proc_again}
 
 ok_is : {A : Type 0} (x y : A) → ◌≡◌ {A = Result A ProcFault} (Ok x) (Ok y) → x ≡ y
@@ -134,15 +138,15 @@ params_read path ds params h =
 
 -- ---- footprints
 
-int_expr_found : (path : List ℕ) (scope : List Seen) (d : Data) (x : IntSyntax) → int_at path scope d ≡ Ok x → SaysInt scope d x
+int_expr_found : (tables : List TableShape) (path : List ℕ) (scope : List Seen) (d : Data) (x : IntSyntax) → int_at tables path scope d ≡ Ok x → SaysFootprintInt tables scope d x
 unfolding int_at
-int_expr_found path scope d x e =
-    let expr = bind_ok (expr_at deepest path scope d) _ x e in
-    subst (SaysExpr deepest scope d) (int_found path expr.0 x expr.2) (expr_found deepest path scope d expr.0 expr.1)
+int_expr_found tables path scope d x e =
+    let expr = bind_ok (expr_at sections.Footprint tables deepest path scope d) _ x e in
+    subst (SaysExpr sections.Footprint tables deepest scope d) (int_found path expr.0 x expr.2) (expr_found sections.Footprint tables deepest path scope d expr.0 expr.1)
 
-int_expr_read : (path : List ℕ) (scope : List Seen) (d : Data) (x : IntSyntax) → SaysInt scope d x → int_at path scope d ≡ Ok x
+int_expr_read : (tables : List TableShape) (path : List ℕ) (scope : List Seen) (d : Data) (x : IntSyntax) → SaysFootprintInt tables scope d x → int_at tables path scope d ≡ Ok x
 unfolding int_at
-int_expr_read path scope d x h = rw (expr_read deepest path scope d (int x) h) refl
+int_expr_read tables path scope d x h = rw (expr_read sections.Footprint tables deepest path scope d (int x) h) refl
 
 table_found : (path : List ℕ) (tables : List TableShape) (name : List ℕ) (t : ℕ) → table_at path tables name ≡ Ok t → table_named tables name ≡ Some t
 table_found path tables name t e = formed_ok (At UnknownTable path) (table_named tables name) t e
@@ -151,12 +155,12 @@ entry_form_found : (tables : List TableShape) (path : List ℕ) (scope : List Se
 unfolding entry_of
 entry_form_found tables path scope (row_parts right table key) e h =
     let t = bind_ok (table_at (path ++ 2 ∷ []) tables table) _ e h in
-    let k = bind_ok (int_at (path ++ 3 ∷ []) scope key) _ e t.2 in
-    (t.0, k.0, table_found (path ++ 2 ∷ []) tables table t.0 t.1, int_expr_found (path ++ 3 ∷ []) scope key k.0 k.1, sym (ok_is (row_entry right t.0 k.0) e k.2))
+    let k = bind_ok (int_at tables (path ++ 3 ∷ []) scope key) _ e t.2 in
+    (t.0, k.0, table_found (path ++ 2 ∷ []) tables table t.0 t.1, int_expr_found tables (path ++ 3 ∷ []) scope key k.0 k.1, sym (ok_is (row_entry right t.0 k.0) e k.2))
 entry_form_found tables path scope (part_parts right table part) e h =
     let t = bind_ok (table_at (path ++ 2 ∷ []) tables table) _ e h in
-    let p = bind_ok (int_at (path ++ 3 ∷ []) scope part) _ e t.2 in
-    (t.0, p.0, table_found (path ++ 2 ∷ []) tables table t.0 t.1, int_expr_found (path ++ 3 ∷ []) scope part p.0 p.1, sym (ok_is (part_entry right t.0 p.0) e p.2))
+    let p = bind_ok (int_at tables (path ++ 3 ∷ []) scope part) _ e t.2 in
+    (t.0, p.0, table_found (path ++ 2 ∷ []) tables table t.0 t.1, int_expr_found tables (path ++ 3 ∷ []) scope part p.0 p.1, sym (ok_is (part_entry right t.0 p.0) e p.2))
 entry_form_found tables path scope (table_parts right table) e h =
     let t = bind_ok (table_at (path ++ 2 ∷ []) tables table) _ e h in
     (t.0, table_found (path ++ 2 ∷ []) tables table t.0 t.1, sym (ok_is (table_entry right t.0) e t.2))
@@ -164,8 +168,8 @@ entry_form_found tables path scope (db_parts right) e h = sym (ok_is (db_entry r
 
 entry_form_read : (tables : List TableShape) (path : List ℕ) (scope : List Seen) (form : EntryDocument) (e : EntrySyntax) → SaysEntryForm tables scope form e → entry_of tables path scope form ≡ Ok e
 unfolding entry_of
-entry_form_read tables path scope (row_parts right table key) e h = rw (h.2, int_expr_read (path ++ 3 ∷ []) scope key h.1 h.3) (ap (λ (x : EntrySyntax). Ok x) (sym h.4))
-entry_form_read tables path scope (part_parts right table part) e h = rw (h.2, int_expr_read (path ++ 3 ∷ []) scope part h.1 h.3) (ap (λ (x : EntrySyntax). Ok x) (sym h.4))
+entry_form_read tables path scope (row_parts right table key) e h = rw (h.2, int_expr_read tables (path ++ 3 ∷ []) scope key h.1 h.3) (ap (λ (x : EntrySyntax). Ok x) (sym h.4))
+entry_form_read tables path scope (part_parts right table part) e h = rw (h.2, int_expr_read tables (path ++ 3 ∷ []) scope part h.1 h.3) (ap (λ (x : EntrySyntax). Ok x) (sym h.4))
 entry_form_read tables path scope (table_parts right table) e h = rw h.1 (ap (λ (x : EntrySyntax). Ok x) (sym h.2))
 entry_form_read tables path scope (db_parts right) e h = ap (λ (x : EntrySyntax). Ok x) (sym h)
 

@@ -1,24 +1,22 @@
 -- A procedure that is read fits the catalogue, and its name is a new one that obeys the rule.
-use Rattle.std.proofs.Common.{◌≡◌, ℕ, ◌+◌, ◌<◌, Bool, true, false, not, List, [], ◌∷◌, ◌++◌, map, Some, Ok, refl, ap, subst}
-use Rattle.std.specs.Prelude.{length}
+use Rattle.std.proofs.Common.{◌≡◌, ℕ, ◌+◌, Bool, true, false, not, List, [], ◌∷◌, ◌++◌, map, Ok, refl, ap, subst}
 use Rattle.std.specs.List.{AllByRecursion, IsDistinct}
-use Rattle.std.proofs.lemmas.List.Quantifiers.{position-Some}
 use Rattle.std.specs.Str.{bytes_eq}
 use Rattle.serde_json.specs.Data.{Data}
 use Rattle.documents.specs.Reading.{formed, rule}
-use Rattle.documents.proofs.Steps.{bind_ok, formed_ok}
+use Rattle.documents.proofs.Steps.{bind_ok}
 use Rattle.values.specs.declared.value.ColType.{ColType}
 use Rattle.values.specs.Shapes.{TableShape}
 use Rattle.values.specs.Names.{is_name}
-use Rattle.values.specs.Keys.{table_named}
 use Rattle.values.specs.Reading.{is_used}
 use Rattle.values.proofs.Named.{distinct_push}
 use Rattle.proclang_types.specs.Syntax.{IntSyntax, EntrySyntax, row_entry, part_entry, table_entry, db_entry, ParamShape, ProcSyntax, block_of}
 use Rattle.proclang_types.specs.Procedures.{ProcParts, proc_syntax}
-use Rattle.proclang_types.specs.Typing.{IntFits, EntryFits, BlockFits, kinds_of, ProcFits}
-use Rattle.proclang.specs.declared.fault.FaultKind.TheVariants.{Shape, UnknownTable, DuplicateName}
+use Rattle.proclang_types.specs.Typing.{IntFits, AsksNoRows, EntryFits, BlockFits, kinds_of, ProcFits}
+use Rattle.proclang.specs.declared.fault.FaultKind.TheVariants.{Shape, DuplicateName}
 use Rattle.proclang.specs.declared.fault.ProcFault.{ProcFault}
 use Rattle.proclang.specs.declared.fault.ProcFault.TheVariants.{At}
+use Rattle.proclang.specs.declared.expr_form.Section.TheVariants as sections
 use Rattle.proclang.specs.Seen.{Seen, seen_of, seen_kinds}
 use Rattle.proclang.specs.Walk.{each_from, behind, at_most}
 use Rattle.proclang.specs.Lookups.{declared_at, table_at}
@@ -27,40 +25,37 @@ use Rattle.proclang.specs.Statements.{block_at}
 use Rattle.proclang.specs.ProcForms.{ProcDocument, proc_form, declared_form, EntryDocument, row_parts, part_parts, table_parts, db_parts, entry_form}
 use Rattle.proclang.specs.Procs.{fresh_at, params_at, int_at, entry_of, entry_at, footprint_at, PartsSyntax, parts_at, proc_at, each_proc}
 use Rattle.proclang.specs.ProcLists.{AreOver, AreProcs}
-use Rattle.proclang.proofs.TypedExpressions.{int_fits, expr_fits}
-use Rattle.proclang.proofs.TypedStatements.{all_push, each_keeps, block_fits}
+use Rattle.proclang.proofs.TypedExpressions.{table_there, int_fits, expr_fits}
+use Rattle.proclang.proofs.FootprintExpressions.{int_plain, expr_plain}
+use Rattle.proclang.proofs.TypedParts.{all_push, each_keeps}
+use Rattle.proclang.proofs.TypedBlocks.{block_fits}
 
 -- parameters are seen with their types
 kinds_seen : (params : List ParamShape) → seen_kinds (seen_of params) ≡ kinds_of params
 kinds_seen [] = refl
 kinds_seen (p ∷ ps) = ap (λ (ks : List ColType). p.kind ∷ ks) (kinds_seen ps)
 
--- the table of a name that is found is there
-table_there : (tables : List TableShape) (path name : List ℕ) (place : ℕ) → table_at path tables name ≡ Ok place → place < length tables
-table_there tables path name place e = within tables name place (formed_ok (At UnknownTable path) (table_named tables name) place e)
-  where
-    within : (tables : List TableShape) (name : List ℕ) (place : ℕ) → table_named tables name ≡ Some place → place < length tables
-    within [] name place e = absurd cc
-    within (t ∷ ts) name place e = (position-Some (λ u. bytes_eq name u.name) (t ∷ ts) place t e).0
-
-number_fits : (path : List ℕ) (scope : List Seen) (d : Data) (e : IntSyntax) → int_at path scope d ≡ Ok e → IntFits (seen_kinds scope) e
+-- an expression of a footprint fits, and asks for no rows
+number_fits : (tables : List TableShape) (path : List ℕ) (scope : List Seen) (d : Data) (e : IntSyntax) → int_at tables path scope d ≡ Ok e → IntFits tables (seen_kinds scope) e × AsksNoRows e
 unfolding int_at
-number_fits path scope d e r =
-    let x = bind_ok (expr_at deepest path scope d) _ e r in
-    int_fits path (seen_kinds scope) x.0 e (expr_fits deepest path scope d x.0 x.1) x.2
+number_fits tables path scope d e r =
+    let x = bind_ok (expr_at sections.Footprint tables deepest path scope d) _ e r in
+    (int_fits tables (seen_kinds scope) path x.0 e (expr_fits sections.Footprint tables deepest path scope d x.0 x.1) x.2, int_plain path x.0 e (expr_plain tables deepest path scope d x.0 x.1) x.2)
 
 entry_fits : (tables : List TableShape) (path : List ℕ) (scope : List Seen) (f : EntryDocument) (e : EntrySyntax) → entry_of tables path scope f ≡ Ok e → EntryFits tables (seen_kinds scope) e
 unfolding entry_of
 entry_fits tables path scope (row_parts right table key) e r =
     let t = bind_ok (table_at (path ++ 2 ∷ []) tables table) _ e r in
-    let k = bind_ok (int_at (path ++ 3 ∷ []) scope key) _ e t.2 in
+    let k = bind_ok (int_at tables (path ++ 3 ∷ []) scope key) _ e t.2 in
     let is : row_entry right t.0 k.0 ≡ e = (let h = k.2 in cc) in
-    subst (EntryFits tables (seen_kinds scope)) is (table_there tables (path ++ 2 ∷ []) table t.0 t.1, number_fits (path ++ 3 ∷ []) scope key k.0 k.1)
+    let fits = number_fits tables (path ++ 3 ∷ []) scope key k.0 k.1 in
+    subst (EntryFits tables (seen_kinds scope)) is (table_there tables (path ++ 2 ∷ []) table t.0 t.1, fits.0, fits.1)
 entry_fits tables path scope (part_parts right table part) e r =
     let t = bind_ok (table_at (path ++ 2 ∷ []) tables table) _ e r in
-    let p = bind_ok (int_at (path ++ 3 ∷ []) scope part) _ e t.2 in
+    let p = bind_ok (int_at tables (path ++ 3 ∷ []) scope part) _ e t.2 in
     let is : part_entry right t.0 p.0 ≡ e = (let h = p.2 in cc) in
-    subst (EntryFits tables (seen_kinds scope)) is (table_there tables (path ++ 2 ∷ []) table t.0 t.1, number_fits (path ++ 3 ∷ []) scope part p.0 p.1)
+    let fits = number_fits tables (path ++ 3 ∷ []) scope part p.0 p.1 in
+    subst (EntryFits tables (seen_kinds scope)) is (table_there tables (path ++ 2 ∷ []) table t.0 t.1, fits.0, fits.1)
 entry_fits tables path scope (table_parts right table) e r =
     let t = bind_ok (table_at (path ++ 2 ∷ []) tables table) _ e r in
     let is : table_entry right t.0 ≡ e = (let h = t.2 in cc) in

@@ -13,8 +13,10 @@ use Rattle.proclang_types.specs.Syntax.{ParamShape}
 use Rattle.proclang.specs.declared.fault.FaultKind.TheVariants.{Shape, DuplicateName}
 use Rattle.proclang.specs.declared.fault.ProcFault.{ProcFault}
 use Rattle.proclang.specs.declared.fault.ProcFault.TheVariants.{At}
+use Rattle.proclang.specs.declared.expr_form.Section.TheVariants as sections
 use Rattle.proclang.specs.BrokenExpressions.{not_int, in_expr}
-use Rattle.proclang.specs.BrokenStatements.{in_table, in_parts, too_many, in_block}
+use Rattle.proclang.specs.BrokenNames.{in_table}
+use Rattle.proclang.specs.BrokenStatements.{in_parts, too_many, in_block}
 use Rattle.proclang.specs.Expressions.{deepest}
 use Rattle.proclang.specs.ProcForms.{ProcDocument, proc_form, declared_form, EntryDocument, row_parts, part_parts, table_parts, db_parts, entry_form}
 use Rattle.proclang.specs.Seen.{Seen, seen_of}
@@ -55,14 +57,14 @@ params_said (d ∷ ds) = params_of_form (column_form d) (params_said ds)
 
 -- ---- footprints
 
--- an Int expression over the parameters
-abbrev pub in_int : List ℕ → List Seen → Data → List ProcFault
-in_int path scope d = in_expr deepest path scope d ++ not_int path scope d
+-- an Int expression over the parameters, which reads no rows
+abbrev pub in_int : List TableShape → List ℕ → List Seen → Data → List ProcFault
+in_int tables path scope d = in_expr sections.Footprint tables deepest path scope d ++ not_int path scope d
 
 abbrev pub in_entry_form : List TableShape → List ℕ → List Seen → Option EntryDocument → List ProcFault
 in_entry_form tables path scope None = At Shape path ∷ []
-in_entry_form tables path scope (Some (row_parts right table key)) = in_table (path ++ 2 ∷ []) tables table ++ in_int (path ++ 3 ∷ []) scope key
-in_entry_form tables path scope (Some (part_parts right table part)) = in_table (path ++ 2 ∷ []) tables table ++ in_int (path ++ 3 ∷ []) scope part
+in_entry_form tables path scope (Some (row_parts right table key)) = in_table (path ++ 2 ∷ []) tables table ++ in_int tables (path ++ 3 ∷ []) scope key
+in_entry_form tables path scope (Some (part_parts right table part)) = in_table (path ++ 2 ∷ []) tables table ++ in_int tables (path ++ 3 ∷ []) scope part
 in_entry_form tables path scope (Some (table_parts right table)) = in_table (path ++ 2 ∷ []) tables table
 in_entry_form tables path scope (Some (db_parts right)) = []
 

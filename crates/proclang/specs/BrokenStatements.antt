@@ -1,94 +1,52 @@
 -- Every rule that a statement or a block breaks, each with its path, in the order of the rules; and the variables that are seen after a statement. No rule here hangs on what reading gives.
-use Rattle.std.specs.Prelude.{ℕ, zero, suc, ℤ, pos, negsuc, ◌+◌, Bool, true, false, ◌&&◌, not, nat_le, List, [], ◌∷◌, ◌++◌, length, Option, Some, None, is_some, option_and_then}
+use Rattle.std.specs.Prelude.{ℕ, zero, suc, ℤ, pos, negsuc, ◌+◌, ◌==◌, Bool, true, false, ◌&&◌, not, nat_le, List, [], ◌∷◌, ◌++◌, length, Option, Some, None, option_map, option_and_then, unwrap_or}
+use Rattle.std.specs.List.{zip}
 use Rattle.serde_json.specs.Data.{Data}
 use Rattle.documents.specs.FirstFault.{broken}
 use Rattle.documents.specs.Json.{elements}
 use Rattle.values.specs.declared.value.ColType.{ColType}
-use Rattle.values.specs.declared.value.ColType.TheVariants as types
 use Rattle.values.specs.Keys.{table_named}
 use Rattle.values.specs.Names.{is_name}
 use Rattle.values.specs.Shapes.{TableShape}
-use Rattle.proclang.specs.declared.fault.FaultKind.TheVariants.{Shape, UnknownTable, UnknownColumn, TypeMismatch, DuplicateName, AbortCode, Limit}
+use Rattle.proclang_types.specs.Typing.{column_kinds}
+use Rattle.proclang.specs.declared.fault.FaultKind.TheVariants.{Shape, TypeMismatch, DuplicateName, AbortCode, Limit}
 use Rattle.proclang.specs.declared.fault.ProcFault.{ProcFault}
 use Rattle.proclang.specs.declared.fault.ProcFault.TheVariants.{At}
 use Rattle.proclang.specs.declared.scope.Declaration.TheVariants.{Statement}
 use Rattle.proclang.specs.declared.scope.Found.{Found}
-use Rattle.proclang.specs.BrokenExpressions.{not_int, not_bool, not_value, in_expr}
-use Rattle.proclang.specs.Expressions.{deepest}
-use Rattle.proclang.specs.ExprTypes.{ExprType, int_type, text_type, bool_type, type_said}
-use Rattle.proclang.specs.Lookups.{column_in}
-use Rattle.proclang.specs.Seen.{Seen, found_in}
-use Rattle.proclang.specs.Statements.{is_parameter, same_type}
-use Rattle.proclang.specs.StmtForms.{GetParts, PutParts, IfParts, StatementForm, get_parts, put_parts, if_parts, abort_code, reply_values, statement_form}
+use Rattle.proclang.specs.BrokenNames.{in_table, column_type_said, in_column}
+use Rattle.proclang.specs.BrokenExpressions.{not_int, not_bool, not_value, in_statement_expr}
+use Rattle.proclang.specs.ExprTypes.{kind_said}
+use Rattle.proclang.specs.Lookups.{same_type}
+use Rattle.proclang.specs.Seen.{Seen, found_in, seen_in_loop}
+use Rattle.proclang.specs.StmtForms.{LetParts, GetParts, PutParts, InsertParts, DeleteParts, IfParts, ForParts, EachParts, StatementForm, let_parts, get_parts, put_parts, insert_parts, delete_parts, if_parts, for_parts, each_parts, abort_code, reply_values, statement_form}
+use Rattle.proclang.specs.Targets.{is_fixed}
 
--- ---- names
+-- ---- names and types
 
--- a table has that name
-abbrev pub in_table : List ℕ → List TableShape → List ℕ → List ProcFault
-in_table path tables name = broken (is_some (table_named tables name)) (At UnknownTable path)
-
--- the place and the type of a column, by the names of its table and of itself
-abbrev pub column_said : List TableShape → List ℕ → List ℕ → Option (ℕ × ColType)
-column_said tables table column = option_and_then (λ place. column_in tables place column) (table_named tables table)
-
--- the table has a column of that name
-abbrev pub in_column : List ℕ → List TableShape → List ℕ → List ℕ → List ProcFault
-in_column path tables table column = broken (is_some (column_said tables table column)) (At UnknownColumn path)
-
--- a variable that gets a value: the name of a new one obeys the rule, and one that is seen isn't a parameter
+-- a variable that gets a value: the name of a new one obeys the rule, and one that is seen may be changed
 abbrev pub in_target : List ℕ → List ℕ → Option Found → List ProcFault
 in_target path name None = broken (is_name name) (At Shape path)
-in_target path name (Some v) = broken (not (is_parameter v.declaration)) (At DuplicateName path)
+in_target path name (Some v) = broken (not (is_fixed v.declaration)) (At DuplicateName path)
 
--- a variable that is seen keeps its type
-abbrev pub keeps_type : Option Found → Option (ℕ × ColType) → Bool
-keeps_type None column = true
-keeps_type (Some v) None = true
-keeps_type (Some v) (Some c) = same_type v.kind c.1
+-- the variable of a loop: its name obeys the rule, and no variable that is seen has it
+abbrev pub in_loop_name : List ℕ → List ℕ → Option Found → List ProcFault
+in_loop_name path name None = broken (is_name name) (At Shape path)
+in_loop_name path name (Some v) = At DuplicateName path ∷ []
 
--- a value that is stored has its column's type
-abbrev pub is_of_column : Option (ℕ × ColType) → Option ExprType → Bool
-is_of_column None kind = true
-is_of_column (Some c) None = true
-is_of_column (Some c) (Some bool_type) = true
-is_of_column (Some c) (Some int_type) = same_type types.Int c.1
-is_of_column (Some c) (Some text_type) = same_type types.Text c.1
+-- the type of a variable that is seen
+abbrev pub type_found : Option Found → Option ColType
+type_found variable = option_map (λ v. v.kind) variable
 
--- ---- statements
+-- two types are the same, where both are known
+abbrev pub agree : Option ColType → Option ColType → Bool
+agree None b = true
+agree (Some a) None = true
+agree (Some a) (Some b) = same_type a b
 
-abbrev pub in_get : List TableShape → List ℕ → List Seen → GetParts → List ProcFault
-in_get tables path scope form =
-    in_target (path ++ 1 ∷ []) form.variable (found_in form.variable scope)
-    ++ (in_table (path ++ 2 ∷ []) tables form.table
-    ++ (in_expr deepest (path ++ 3 ∷ []) scope form.key
-    ++ (in_column (path ++ 4 ∷ []) tables form.table form.column
-    ++ (not_int (path ++ 3 ∷ []) scope form.key
-    ++ broken (keeps_type (found_in form.variable scope) (column_said tables form.table form.column)) (At TypeMismatch (path ++ 4 ∷ []))))))
-
-abbrev pub in_put : List TableShape → List ℕ → List Seen → PutParts → List ProcFault
-in_put tables path scope form =
-    in_table (path ++ 1 ∷ []) tables form.table
-    ++ (in_expr deepest (path ++ 2 ∷ []) scope form.key
-    ++ (in_column (path ++ 3 ∷ []) tables form.table form.column
-    ++ (in_expr deepest (path ++ 4 ∷ []) scope form.value
-    ++ (not_int (path ++ 2 ∷ []) scope form.key
-    ++ (not_value (path ++ 4 ∷ []) scope form.value
-    ++ broken (is_of_column (column_said tables form.table form.column) (type_said scope form.value)) (At TypeMismatch (path ++ 4 ∷ [])))))))
-
--- the condition's type comes after both blocks
-abbrev pub in_if : (List ℕ → List Seen → Data → List ProcFault) → List ℕ → List Seen → IfParts → List ProcFault
-in_if block path scope form =
-    in_expr deepest (path ++ 1 ∷ []) scope form.test
-    ++ (block (path ++ 2 ∷ []) scope form.first
-    ++ (block (path ++ 3 ∷ []) scope form.second
-    ++ not_bool (path ++ 1 ∷ []) scope form.test))
-
-abbrev pub is_abort_code : ℤ → Bool
-is_abort_code (pos n) = nat_le 100 n && nat_le n 65535
-is_abort_code (negsuc n) = false
-
-abbrev pub in_abort : List ℕ → ℤ → List ProcFault
-in_abort path code = broken (is_abort_code code) (At AbortCode (path ++ 1 ∷ []))
+-- the types of the columns of the table with a name
+abbrev pub kinds_said : List TableShape → List ℕ → List ColType
+kinds_said tables table = unwrap_or (option_and_then (column_kinds tables) (table_named tables table)) []
 
 -- those of each part in turn, the first at the place that is given
 abbrev pub in_parts : {D : Type 0} → (List ℕ → D → List ProcFault) → List ℕ → ℕ → List D → List ProcFault
@@ -98,33 +56,127 @@ in_parts one path place (d ∷ ds) = one (path ++ place ∷ []) d ++ in_parts on
 abbrev pub too_many : {D : Type 0} → List ℕ → ℕ → List D → List ProcFault
 too_many path most ds = broken (nat_le (length ds) most) (At Limit path)
 
-abbrev pub in_reply : List ℕ → List Seen → List Data → List ProcFault
-in_reply path scope ds =
+-- ---- statements
+
+abbrev pub in_let : List TableShape → List ℕ → List Seen → LetParts → List ProcFault
+in_let tables path scope form =
+    in_target (path ++ 1 ∷ []) form.variable (found_in form.variable scope)
+    ++ (in_statement_expr tables (path ++ 2 ∷ []) scope form.value
+    ++ (not_value (path ++ 2 ∷ []) scope form.value
+    ++ broken (agree (type_found (found_in form.variable scope)) (kind_said scope form.value)) (At TypeMismatch (path ++ 2 ∷ []))))
+
+abbrev pub in_get : List TableShape → List ℕ → List Seen → GetParts → List ProcFault
+in_get tables path scope form =
+    in_target (path ++ 1 ∷ []) form.variable (found_in form.variable scope)
+    ++ (in_table (path ++ 2 ∷ []) tables form.table
+    ++ (in_statement_expr tables (path ++ 3 ∷ []) scope form.key
+    ++ (in_column (path ++ 4 ∷ []) tables form.table form.column
+    ++ (not_int (path ++ 3 ∷ []) scope form.key
+    ++ broken (agree (type_found (found_in form.variable scope)) (column_type_said tables form.table form.column)) (At TypeMismatch (path ++ 4 ∷ []))))))
+
+abbrev pub in_put : List TableShape → List ℕ → List Seen → PutParts → List ProcFault
+in_put tables path scope form =
+    in_table (path ++ 1 ∷ []) tables form.table
+    ++ (in_statement_expr tables (path ++ 2 ∷ []) scope form.key
+    ++ (in_column (path ++ 3 ∷ []) tables form.table form.column
+    ++ (in_statement_expr tables (path ++ 4 ∷ []) scope form.value
+    ++ (not_int (path ++ 2 ∷ []) scope form.key
+    ++ (not_value (path ++ 4 ∷ []) scope form.value
+    ++ broken (agree (kind_said scope form.value) (column_type_said tables form.table form.column)) (At TypeMismatch (path ++ 4 ∷ [])))))))
+
+-- an expression is a value of a column's type
+abbrev pub not_stored : List ℕ → List Seen → ColType → Data → List ProcFault
+not_stored path scope kind d = not_value path scope d ++ broken (agree (kind_said scope d) (Some kind)) (At TypeMismatch path)
+
+-- as many values as columns; all are well formed, and then each has its column's type
+abbrev pub in_insert : List TableShape → List ℕ → List Seen → InsertParts → List ProcFault
+in_insert tables path scope form =
+    in_table (path ++ 1 ∷ []) tables form.table
+    ++ (in_statement_expr tables (path ++ 2 ∷ []) scope form.key
+    ++ (broken (length form.values == length (kinds_said tables form.table)) (At Shape (path ++ 3 ∷ []))
+    ++ (in_parts (λ p d. in_statement_expr tables p scope d) (path ++ 3 ∷ []) 0 form.values
+    ++ (not_int (path ++ 2 ∷ []) scope form.key
+    ++ in_parts (λ p c. not_stored p scope c.0 c.1) (path ++ 3 ∷ []) 0 (zip (kinds_said tables form.table) form.values)))))
+
+abbrev pub in_delete : List TableShape → List ℕ → List Seen → DeleteParts → List ProcFault
+in_delete tables path scope form =
+    in_table (path ++ 1 ∷ []) tables form.table
+    ++ (in_statement_expr tables (path ++ 2 ∷ []) scope form.key
+    ++ not_int (path ++ 2 ∷ []) scope form.key)
+
+abbrev pub is_abort_code : ℤ → Bool
+is_abort_code (pos n) = nat_le 100 n && nat_le n 65535
+is_abort_code (negsuc n) = false
+
+abbrev pub in_abort : List ℕ → ℤ → List ProcFault
+in_abort path code = broken (is_abort_code code) (At AbortCode (path ++ 1 ∷ []))
+
+abbrev pub in_reply : List TableShape → List ℕ → List Seen → List Data → List ProcFault
+in_reply tables path scope ds =
     too_many path 64 ds
-    ++ (in_parts (λ p d. in_expr deepest p scope d) path 1 ds
+    ++ (in_parts (λ p d. in_statement_expr tables p scope d) path 1 ds
     ++ in_parts (λ p d. not_value p scope d) path 1 ds)
 
-abbrev pub in_statement_form : List TableShape → (List ℕ → List Seen → Data → List ProcFault) → List ℕ → List Seen → Option StatementForm → List ProcFault
+-- ---- statements with blocks
+
+-- the rules that blocks break
+abbrev pub BlockRules : Type 0
+BlockRules = List ℕ → List Seen → Data → List ProcFault
+
+-- the condition's type comes after both blocks
+abbrev pub in_if : List TableShape → BlockRules → List ℕ → List Seen → IfParts → List ProcFault
+in_if tables block path scope form =
+    in_statement_expr tables (path ++ 1 ∷ []) scope form.test
+    ++ (block (path ++ 2 ∷ []) scope form.first
+    ++ (block (path ++ 3 ∷ []) scope form.second
+    ++ not_bool (path ++ 1 ∷ []) scope form.test))
+
+-- the bounds' types come after the block
+abbrev pub in_for : List TableShape → BlockRules → List ℕ → List Seen → ForParts → List ProcFault
+in_for tables block path scope form =
+    in_loop_name (path ++ 1 ∷ []) form.variable (found_in form.variable scope)
+    ++ (in_statement_expr tables (path ++ 2 ∷ []) scope form.low
+    ++ (in_statement_expr tables (path ++ 3 ∷ []) scope form.high
+    ++ (block (path ++ 4 ∷ []) (seen_in_loop scope form.variable) form.body
+    ++ (not_int (path ++ 2 ∷ []) scope form.low
+    ++ not_int (path ++ 3 ∷ []) scope form.high))))
+
+-- the partition's type comes after the block
+abbrev pub in_each : List TableShape → BlockRules → List ℕ → List Seen → EachParts → List ProcFault
+in_each tables block path scope form =
+    in_loop_name (path ++ 1 ∷ []) form.variable (found_in form.variable scope)
+    ++ (in_table (path ++ 2 ∷ []) tables form.table
+    ++ (in_statement_expr tables (path ++ 3 ∷ []) scope form.number
+    ++ (block (path ++ 4 ∷ []) (seen_in_loop scope form.variable) form.body
+    ++ not_int (path ++ 3 ∷ []) scope form.number)))
+
+abbrev pub in_statement_form : List TableShape → BlockRules → List ℕ → List Seen → Option StatementForm → List ProcFault
 in_statement_form tables block path scope None = At Shape path ∷ []
+in_statement_form tables block path scope (Some (let_parts form)) = in_let tables path scope form
 in_statement_form tables block path scope (Some (get_parts form)) = in_get tables path scope form
 in_statement_form tables block path scope (Some (put_parts form)) = in_put tables path scope form
-in_statement_form tables block path scope (Some (if_parts form)) = in_if block path scope form
+in_statement_form tables block path scope (Some (insert_parts form)) = in_insert tables path scope form
+in_statement_form tables block path scope (Some (delete_parts form)) = in_delete tables path scope form
+in_statement_form tables block path scope (Some (if_parts form)) = in_if tables block path scope form
+in_statement_form tables block path scope (Some (for_parts form)) = in_for tables block path scope form
+in_statement_form tables block path scope (Some (each_parts form)) = in_each tables block path scope form
 in_statement_form tables block path scope (Some (abort_code code)) = in_abort path code
-in_statement_form tables block path scope (Some (reply_values ds)) = in_reply path scope ds
+in_statement_form tables block path scope (Some (reply_values ds)) = in_reply tables path scope ds
 
-abbrev pub in_statement : List TableShape → (List ℕ → List Seen → Data → List ProcFault) → List ℕ → List Seen → Data → List ProcFault
+abbrev pub in_statement : List TableShape → BlockRules → List ℕ → List Seen → Data → List ProcFault
 in_statement tables block path scope d = in_statement_form tables block path scope (statement_form d)
 
 -- ---- the variables that are seen after a statement
 
 -- a variable that isn't seen stands behind the others from there on, with the type of its value
-abbrev pub seen_with : List Seen → List ℕ → Option Found → Option (ℕ × ColType) → List Seen
-seen_with scope name (Some v) column = scope
+abbrev pub seen_with : List Seen → List ℕ → Option Found → Option ColType → List Seen
+seen_with scope name (Some v) kind = scope
 seen_with scope name None None = scope
-seen_with scope name None (Some c) = scope ++ record { name = name; kind = c.1; declaration = Statement } ∷ []
+seen_with scope name None (Some kind) = scope ++ record { name = name; kind = kind; declaration = Statement } ∷ []
 
 abbrev pub seen_after_form : List TableShape → List Seen → Option StatementForm → List Seen
-seen_after_form tables scope (Some (get_parts form)) = seen_with scope form.variable (found_in form.variable scope) (column_said tables form.table form.column)
+seen_after_form tables scope (Some (let_parts form)) = seen_with scope form.variable (found_in form.variable scope) (kind_said scope form.value)
+seen_after_form tables scope (Some (get_parts form)) = seen_with scope form.variable (found_in form.variable scope) (column_type_said tables form.table form.column)
 seen_after_form tables scope form = scope
 
 abbrev pub seen_after : List TableShape → List Seen → Data → List Seen
@@ -133,7 +185,7 @@ seen_after tables scope d = seen_after_form tables scope (statement_form d)
 -- ---- blocks
 
 -- those of each statement in turn, with the variables that are seen after the ones before it
-abbrev pub in_statements : List TableShape → (List ℕ → List Seen → Data → List ProcFault) → List ℕ → ℕ → List Seen → List Data → List ProcFault
+abbrev pub in_statements : List TableShape → BlockRules → List ℕ → ℕ → List Seen → List Data → List ProcFault
 in_statements tables block path place scope [] = []
 in_statements tables block path place scope (d ∷ ds) =
     in_statement tables block (path ++ place ∷ []) scope d ++ in_statements tables block path (place + 1) (seen_after tables scope d) ds
@@ -142,7 +194,7 @@ abbrev pub in_deep_block : List ℕ → Option (List Data) → List ProcFault
 in_deep_block path None = At Shape path ∷ []
 in_deep_block path (Some ds) = At Limit path ∷ []
 
-abbrev pub in_block_form : List TableShape → (List ℕ → List Seen → Data → List ProcFault) → List ℕ → List Seen → Option (List Data) → List ProcFault
+abbrev pub in_block_form : List TableShape → BlockRules → List ℕ → List Seen → Option (List Data) → List ProcFault
 in_block_form tables block path scope None = At Shape path ∷ []
 in_block_form tables block path scope (Some ds) = too_many path 1024 ds ++ in_statements tables block path 0 scope ds
 

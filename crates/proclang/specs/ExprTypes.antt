@@ -3,10 +3,10 @@ use Rattle.std.specs.Prelude.{Bool, true, false, List, Option, Some, None, optio
 use Rattle.serde_json.specs.Data.{Data}
 use Rattle.values.specs.declared.value.ColType.{ColType}
 use Rattle.values.specs.declared.value.ColType.TheVariants as types
-use Rattle.proclang.specs.declared.expr_form.Operator.{Operator}
-use Rattle.proclang.specs.declared.expr_form.Operator.TheVariants.{Add, Subtract, Less}
+use Rattle.proclang.specs.declared.operator.Operator.{Operator}
+use Rattle.proclang.specs.declared.operator.Operator.TheVariants.{Arithmetic, Less, AtMost, Same, And, Or}
 use Rattle.proclang.specs.Seen.{Seen, found_in}
-use Rattle.proclang.specs.ExprForms.{Form, number_form, variable_form, binary_form, expr_form}
+use Rattle.proclang.specs.ExprForms.{Form, number_form, literal_form, variable_form, not_form, binary_form, exists_form, count_form, sum_form, expr_form}
 
 -- Int, Text and Bool. No variable, column or reply is Bool.
 pub data ExprType : Type 0 where
@@ -17,14 +17,22 @@ variable_type types.Int = int_type
 variable_type types.Text = text_type
 
 abbrev pub result_type : Operator → ExprType
-result_type Add = int_type
-result_type Subtract = int_type
+result_type (Arithmetic op) = int_type
 result_type Less = bool_type
+result_type AtMost = bool_type
+result_type (Same test) = bool_type
+result_type And = bool_type
+result_type Or = bool_type
 
 abbrev pub type_of_form : List Seen → Form → Option ExprType
 type_of_form scope (number_form z) = Some int_type
+type_of_form scope (literal_form s) = Some text_type
 type_of_form scope (variable_form name) = option_map (λ v. variable_type v.kind) (found_in name scope)
+type_of_form scope (not_form a) = Some bool_type
 type_of_form scope (binary_form op a b) = Some (result_type op)
+type_of_form scope (exists_form table key) = Some bool_type
+type_of_form scope (count_form table part) = Some int_type
+type_of_form scope (sum_form table part column) = Some int_type
 
 -- the type of an expression, where it has a form and its variable is seen
 abbrev pub type_said : List Seen → Data → Option ExprType
@@ -48,3 +56,20 @@ is_value None = false
 is_value (Some int_type) = true
 is_value (Some text_type) = true
 is_value (Some bool_type) = false
+
+-- both have one type
+abbrev pub are_alike : Option ExprType → Option ExprType → Bool
+are_alike (Some int_type) (Some int_type) = true
+are_alike (Some text_type) (Some text_type) = true
+are_alike (Some bool_type) (Some bool_type) = true
+are_alike a b = false
+
+-- the type of a value
+abbrev pub value_kind : ExprType → Option ColType
+value_kind int_type = Some types.Int
+value_kind text_type = Some types.Text
+value_kind bool_type = None
+
+-- the type of a value that an expression says
+abbrev pub kind_said : List Seen → Data → Option ColType
+kind_said scope d = option_and_then value_kind (type_said scope d)

@@ -1,7 +1,8 @@
 -- Names that are declared, and tables and columns that are named.
-use Rattle.std.specs.Prelude.{ℕ, List, Option, option_map, option_and_then, slice_get, Result, ⊤}
+use Rattle.std.specs.Prelude.{ℕ, Bool, true, false, List, Option, option_map, option_and_then, slice_get, Result, ⊤}
 use Rattle.documents.specs.Reading.{formed, rule}
 use Rattle.values.specs.declared.value.ColType.{ColType}
+use Rattle.values.specs.declared.value.ColType.TheVariants as types
 use Rattle.values.specs.Shapes.{TableShape}
 use Rattle.values.specs.Names.{is_name}
 use Rattle.values.specs.Keys.{table_named, column_named}
@@ -9,6 +10,11 @@ use Rattle.proclang_types.specs.Typing.{column_kind}
 use Rattle.proclang.specs.declared.fault.FaultKind.TheVariants.{Shape, UnknownTable, UnknownColumn}
 use Rattle.proclang.specs.declared.fault.ProcFault.{ProcFault}
 use Rattle.proclang.specs.declared.fault.ProcFault.TheVariants.{At}
+
+abbrev pub same_type : ColType → ColType → Bool
+same_type types.Int types.Int = true
+same_type types.Text types.Text = true
+same_type a b = false
 
 -- a name that is declared obeys the rule of names
 abbrev pub declared_at : List ℕ → List ℕ → Result ⊤ ProcFault

@@ -12,6 +12,7 @@ use Rattle.proclang.specs.declared.read_proc.Parts.{Parts}
 use Rattle.proclang.specs.declared.fault.FaultKind.TheVariants.{Shape, DuplicateName}
 use Rattle.proclang.specs.declared.fault.ProcFault.{ProcFault}
 use Rattle.proclang.specs.declared.fault.ProcFault.TheVariants.{At}
+use Rattle.proclang.specs.declared.expr_form.Section.TheVariants as sections
 use Rattle.proclang.specs.Seen.{Seen, seen_of}
 use Rattle.proclang.specs.Walk.{each_from, behind, at_most}
 use Rattle.proclang.specs.Lookups.{declared_at, table_at}
@@ -43,20 +44,20 @@ params_at path ds = do
 
 -- ---- footprints
 
--- an Int expression
-unfoldable pub int_at : List ℕ → List Seen → Data → Result IntSyntax ProcFault
-int_at path scope d = do
-  e ← expr_at deepest path scope d
+-- an Int expression over the parameters, which reads no rows
+unfoldable pub int_at : List TableShape → List ℕ → List Seen → Data → Result IntSyntax ProcFault
+int_at tables path scope d = do
+  e ← expr_at sections.Footprint tables deepest path scope d
   as_int path e
 
 unfoldable pub entry_of : List TableShape → List ℕ → List Seen → EntryDocument → Result EntrySyntax ProcFault
 entry_of tables path scope (row_parts right table key) = do
   t ← table_at (path ++ 2 ∷ []) tables table
-  k ← int_at (path ++ 3 ∷ []) scope key
+  k ← int_at tables (path ++ 3 ∷ []) scope key
   Ok (row_entry right t k)
 entry_of tables path scope (part_parts right table part) = do
   t ← table_at (path ++ 2 ∷ []) tables table
-  p ← int_at (path ++ 3 ∷ []) scope part
+  p ← int_at tables (path ++ 3 ∷ []) scope part
   Ok (part_entry right t p)
 entry_of tables path scope (table_parts right table) = do
   t ← table_at (path ++ 2 ∷ []) tables table

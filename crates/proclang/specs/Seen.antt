@@ -1,10 +1,11 @@
 -- The variables that are seen at a place of a procedure.
-use Rattle.std.specs.Prelude.{ℕ, List, map, Option, option_map, option_and_then, position, slice_get, string_bytes}
+use Rattle.std.specs.Prelude.{ℕ, List, [], ◌∷◌, ◌++◌, map, Option, option_map, option_and_then, position, slice_get, string_bytes}
 use Rattle.std.specs.Str.{bytes_eq}
 use Rattle.values.specs.declared.value.ColType.{ColType}
+use Rattle.values.specs.declared.value.ColType.TheVariants as types
 use Rattle.proclang_types.specs.Syntax.{ParamShape}
 use Rattle.proclang.specs.declared.scope.Declaration.{Declaration}
-use Rattle.proclang.specs.declared.scope.Declaration.TheVariants.{Parameter}
+use Rattle.proclang.specs.declared.scope.Declaration.TheVariants.{Parameter, Loop}
 use Rattle.proclang.specs.declared.scope.Variable.{Variable}
 use Rattle.proclang.specs.declared.scope.Found.{Found}
 
@@ -38,3 +39,7 @@ found_at place v = record { place = place; kind = v.kind; declaration = v.declar
 -- the variable of that name, with its place
 abbrev pub found_in : List ℕ → List Seen → Option Found
 found_in name scope = option_and_then (λ place. option_map (found_at place) (slice_get scope place)) (place_in name scope)
+
+-- the variables that are seen in the block of a loop: its own, an Int, stands behind those that are seen before it
+abbrev pub seen_in_loop : List Seen → List ℕ → List Seen
+seen_in_loop scope name = scope ++ record { name = name; kind = types.Int; declaration = Loop } ∷ []

@@ -2,58 +2,184 @@
 
 ghost use Rattle.std.specs.Prelude.{◌≡◌, option_map, map};
 ghost use Rattle.serde_json.specs.View.{view};
-ghost use Rattle.proclang.specs.ExprForms.{form_view, operator_of, call_form, expr_form};
+ghost use Rattle.proclang.specs.ExprForms.{form_view, operands_form, literal_form_of, not_form_of, exists_form_of, count_form_of, sum_form_of, call_form, calls_form, expr_form, is_allowed, form_in};
 
+use crate::operator::{Operator, operator_of};
 use serde_json::Value;
 
-/// A word that takes two operands.
+/// The section of a procedure that an expression stands in. A footprint's expressions read no rows.
 #[derive(Clone, Copy, Debug, PartialEq, Eq)]
-pub(crate) enum Operator {
-    Add,
-    Subtract,
-    Less,
+pub(crate) enum Section {
+    Footprint,
+    Body,
+}
+
+#[derive(Clone, Copy)]
+pub(crate) struct BinaryForm<'a> {
+    pub(crate) operator: Operator,
+    pub(crate) left: &'a Value,
+    pub(crate) right: &'a Value,
+}
+
+#[derive(Clone, Copy)]
+pub(crate) struct ExistsForm<'a> {
+    pub(crate) table: &'a str,
+    pub(crate) key: &'a Value,
+}
+
+#[derive(Clone, Copy)]
+pub(crate) struct CountForm<'a> {
+    pub(crate) table: &'a str,
+    /// The partition's number.
+    pub(crate) number: &'a Value,
+}
+
+#[derive(Clone, Copy)]
+pub(crate) struct SumForm<'a> {
+    pub(crate) table: &'a str,
+    /// The partition's number.
+    pub(crate) number: &'a Value,
+    pub(crate) column: &'a str,
 }
 
 #[derive(Clone, Copy)]
 pub(crate) enum ExprForm<'a> {
     Number(i64),
+    Literal(&'a str),
     Variable(&'a str),
-    Binary(Operator, &'a Value, &'a Value),
+    Not(&'a Value),
+    Binary(BinaryForm<'a>),
+    Exists(ExistsForm<'a>),
+    Count(CountForm<'a>),
+    Sum(SumForm<'a>),
 }
 
-fn operator_of(word: &str) -> Option<Operator>
-    ensures { result ≡ operator_of word.now }
+#[tactic(auto, unfolding(crate::specs::ExprForms::literal_form_of))]
+fn literal_form(parts: &[Value]) -> Option<ExprForm<'_>>
+    ensures { option_map form_view result ≡ literal_form_of (map view parts.now) }
 {
-    match word {
-        "+" => Some(Operator::Add),
-        "-" => Some(Operator::Subtract),
-        "<" => Some(Operator::Less),
+    match parts {
+        [text] => Some(ExprForm::Literal(text.as_str()?)),
+        _ => None,
+    }
+}
+
+#[tactic(auto, unfolding(crate::specs::ExprForms::not_form_of))]
+fn not_form(parts: &[Value]) -> Option<ExprForm<'_>>
+    ensures { option_map form_view result ≡ not_form_of (map view parts.now) }
+{
+    match parts {
+        [part] => Some(ExprForm::Not(part)),
+        _ => None,
+    }
+}
+
+#[tactic(auto, unfolding(crate::specs::ExprForms::exists_form_of))]
+fn exists_form(parts: &[Value]) -> Option<ExprForm<'_>>
+    ensures { option_map form_view result ≡ exists_form_of (map view parts.now) }
+{
+    match parts {
+        [table, key] => Some(ExprForm::Exists(ExistsForm {
+            table: table.as_str()?,
+            key,
+        })),
+        _ => None,
+    }
+}
+
+#[tactic(auto, unfolding(crate::specs::ExprForms::count_form_of))]
+fn count_form(parts: &[Value]) -> Option<ExprForm<'_>>
+    ensures { option_map form_view result ≡ count_form_of (map view parts.now) }
+{
+    match parts {
+        [table, number] => Some(ExprForm::Count(CountForm {
+            table: table.as_str()?,
+            number,
+        })),
+        _ => None,
+    }
+}
+
+#[tactic(auto, unfolding(crate::specs::ExprForms::sum_form_of))]
+fn sum_form(parts: &[Value]) -> Option<ExprForm<'_>>
+    ensures { option_map form_view result ≡ sum_form_of (map view parts.now) }
+{
+    match parts {
+        [table, number, column] => Some(ExprForm::Sum(SumForm {
+            table: table.as_str()?,
+            number,
+            column: column.as_str()?,
+        })),
+        _ => None,
+    }
+}
+
+#[tactic(auto, unfolding(crate::specs::ExprForms::operands_form))]
+fn operands_form<'a>(word: &str, parts: &'a [Value]) -> Option<ExprForm<'a>>
+    ensures { option_map form_view result ≡ operands_form word.now (map view parts.now) }
+{
+    match parts {
+        [left, right] => Some(ExprForm::Binary(BinaryForm {
+            operator: operator_of(word)?,
+            left,
+            right,
+        })),
         _ => None,
     }
 }
 
 #[tactic(auto, unfolding(crate::specs::ExprForms::call_form))]
-fn call_form(items: &[Value]) -> Option<ExprForm<'_>>
-    ensures { option_map form_view result ≡ call_form (map view items.now) }
+fn call_form<'a>(word: &str, parts: &'a [Value]) -> Option<ExprForm<'a>>
+    ensures { option_map form_view result ≡ call_form word.now (map view parts.now) }
 {
-    match items {
-        [head, left, right] => {
-            let operator = operator_of(head.as_str()?)?;
-            Some(ExprForm::Binary(operator, left, right))
-        }
-        _ => None,
+    match word {
+        "text" => literal_form(parts),
+        "not" => not_form(parts),
+        "exists" => exists_form(parts),
+        "count" => count_form(parts),
+        "sum" => sum_form(parts),
+        _ => operands_form(word, parts),
     }
 }
 
-/// The form of an expression, `None` of a document that has none.
+fn calls_form(items: &[Value]) -> Option<ExprForm<'_>>
+    ensures { option_map form_view result ≡ calls_form (map view items.now) }
+{
+    let (head, parts) = items.split_first()?;
+    call_form(head.as_str()?, parts)
+}
+
 #[tactic(auto, using(crate::proofs::Arrays::form_of_array))]
-pub(crate) fn expr_form(value: &Value) -> Option<ExprForm<'_>>
+fn expr_form(value: &Value) -> Option<ExprForm<'_>>
     ensures { option_map form_view result ≡ expr_form (view value.now) }
 {
     match value {
         Value::Number(number) => Some(ExprForm::Number(number.as_i64()?)),
         Value::String(name) => Some(ExprForm::Variable(name.as_str())),
-        Value::Array(items) => call_form(items.as_slice()),
+        Value::Array(items) => calls_form(items.as_slice()),
         _ => None,
+    }
+}
+
+/// Whether an expression of that form may stand in a section.
+fn is_allowed(section: Section, form: &ExprForm<'_>) -> bool
+    ensures { result ≡ is_allowed section (form_view form.now) }
+{
+    match form {
+        ExprForm::Exists(_) | ExprForm::Count(_) | ExprForm::Sum(_) => section == Section::Body,
+        _ => true,
+    }
+}
+
+/// The form of an expression in a section, `None` of a document that has none there.
+#[tactic(auto, unfolding(crate::specs::ExprForms::form_in))]
+pub(crate) fn form_in(section: Section, value: &Value) -> Option<ExprForm<'_>>
+    ensures { option_map form_view result ≡ form_in section (view value.now) }
+{
+    let form = expr_form(value)?;
+    if is_allowed(section, &form) {
+        Some(form)
+    } else {
+        None
     }
 }

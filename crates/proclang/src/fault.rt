@@ -24,11 +24,12 @@ pub enum FaultKind {
     UnknownName = 14,
     /// The expression, or the column, has the wrong type.
     TypeMismatch = 15,
-    /// The name of a procedure or of a parameter that was used before, or a parameter that is to be changed.
+    /// The name of a procedure or of a parameter that was used before; a parameter, or the variable of a loop, that is to be
+    /// changed; or the name of a loop's variable that is seen already.
     DuplicateName = 16,
     /// An abort code outside 100 to 65535.
     AbortCode = 17,
-    /// More procedures, parameters, entries, statements, values or levels than there may be.
+    /// More procedures, parameters, entries, statements, values, levels or bytes of a text than there may be.
     Limit = 18,
 }
 

@@ -1,9 +1,11 @@
 //! Reading procedures: from a JSON document to typed syntax, or the first fault and where it stands.
 #![tactic(auto)]
 
+mod combine;
 mod expr_form;
 mod fault;
 mod limits;
+mod operator;
 mod path;
 mod proc_form;
 mod proc_map;
@@ -15,15 +17,19 @@ mod read_names;
 mod read_params;
 mod read_proc;
 mod read_stmt;
+mod read_target;
+mod read_values;
 mod request;
 mod scope;
 mod stmt_form;
 #[cfg(test)]
 mod tests;
+mod typed;
 
 pub use fault::{FaultKind, Places, ProcFault};
 pub use proclang_types::{
-    BoolExpr, Expr, FootprintEntry, IntExpr, Param, Proc, Right, Stmt, TextExpr, ValueExpr,
+    BoolExpr, Comparison, Equality, Expr, FootprintEntry, IntExpr, IntOperator, Param, Proc, Right,
+    Stmt, TextExpr, ValueExpr,
 };
 pub use procs::{Procs, read_procs};
 pub use request::{Request, RequestFault};

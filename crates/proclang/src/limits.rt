@@ -1,16 +1,20 @@
 //! How many parts there may be.
 
-ghost use Rattle.std.specs.Prelude.{◌≡◌, map};
+ghost use Rattle.std.specs.Prelude.{◌≡◌, ◌<◌, ◌==◌, OnOk, length, map};
 ghost use Rattle.serde_json.specs.View.{view};
-ghost use Rattle.documents.specs.Reading.{Gives};
+ghost use Rattle.documents.specs.Reading.{Gives, rule};
 ghost use Rattle.proclang.specs.Paths.{places};
 ghost use Rattle.proclang.specs.Faults.{is_memory};
+ghost use Rattle.proclang.specs.declared.fault.FaultKind.TheVariants.{Shape};
+ghost use Rattle.proclang.specs.declared.fault.ProcFault.TheVariants.{At};
+ghost use Rattle.proclang.specs.Statements.{kinds_in};
 ghost use Rattle.proclang.specs.Walk.{at_most};
 
 use crate::fault::{FaultKind, ProcFault, fault};
 use crate::path::Path;
 use serde_json::Value;
 use std::alloc::Global;
+use values::{Catalogue, TableNo};
 
 /// No more than so many parts.
 pub(crate) fn at_most(
@@ -23,6 +27,26 @@ pub(crate) fn at_most(
 {
     if values.len() > most {
         return Err(fault(alloc, FaultKind::Limit, path));
+    }
+    Ok(())
+}
+
+/// As many parts as the table has columns.
+#[tactic(auto, using(crate::proofs::Columns::count_of_kinds))]
+pub(crate) fn as_many(
+    alloc: Global,
+    path: &Path<'_>,
+    catalogue: &Catalogue,
+    table: TableNo,
+    values: &[Value],
+) -> Result<(), ProcFault>
+    requires { table < length catalogue.now }
+    ensures exact { Gives is_memory (λ x. x) result
+        (rule (length values.now == length (kinds_in catalogue.now table)) (At Shape (places path.now))) }
+    ensures many { OnOk result (length values.now ≡ length (kinds_in catalogue.now table)) }
+{
+    if values.len() != catalogue.columns_len(table) {
+        return Err(fault(alloc, FaultKind::Shape, path));
     }
     Ok(())
 }

@@ -6,21 +6,27 @@ ghost use Rattle.documents.specs.Reading.{Gives};
 ghost use Rattle.proclang_types.specs.Views.{stmt_view, stmts_view};
 ghost use Rattle.proclang.specs.Paths.{places};
 ghost use Rattle.proclang.specs.Faults.{is_memory};
-ghost use Rattle.proclang.specs.StmtForms.{if_parts_of};
-ghost use Rattle.proclang.specs.Statements.{if_at, statement_at, block_at};
+ghost use Rattle.proclang.specs.Seen.{seen_in_loop};
+ghost use Rattle.proclang.specs.StmtForms.{if_parts_of, for_parts_of, each_parts_of};
+ghost use Rattle.proclang.specs.Statements.{if_at, for_at, each_at, statement_at, block_at};
 
 use crate::fault::{FaultKind, ProcFault, fault};
 use crate::limits::at_most;
 use crate::path::Path;
-use crate::read_expr::{DEEPEST, as_bool, read_expr};
-use crate::read_stmt::{read_abort, read_get, read_put, read_reply};
-use crate::scope::Scope;
-use crate::stmt_form::{IfForm, StmtForm, statement_form};
+use crate::read_expr::read_statement_expr;
+use crate::read_names::read_table;
+use crate::read_stmt::{
+    read_abort, read_delete, read_get, read_insert, read_let, read_put, read_reply,
+};
+use crate::read_target::read_loop_name;
+use crate::scope::{Declaration, Scope};
+use crate::stmt_form::{EachForm, ForForm, IfForm, StmtForm, statement_form};
+use crate::typed::{as_bool, as_int};
 use documents::elements;
 use proclang_types::Stmt;
 use serde_json::Value;
 use std::alloc::Global;
-use values::Catalogue;
+use values::{Catalogue, ColType};
 
 #[cycle(block)]
 #[tactic(auto, unfolding(crate::specs::Statements::if_at))]
@@ -33,13 +39,13 @@ fn read_if(
     form: IfForm<'_>,
 ) -> Result<Stmt, ProcFault>
     ensures exact { Gives is_memory stmt_view result
-        (if_at (block_at catalogue.now room) (places path.now) scope.old (if_parts_of form.entry)) }
+        (if_at catalogue.now (block_at catalogue.now room) (places path.now) scope.old (if_parts_of form.entry)) }
     ensures scope { OnOk result (scope.new ≡ scope.old) }
 {
     let test_path = Path::Element(&*path, 1);
     let first_path = Path::Element(&*path, 2);
     let second_path = Path::Element(&*path, 3);
-    let test = read_expr(alloc, scope, DEEPEST, &test_path, form.test)?;
+    let test = read_statement_expr(alloc, catalogue, scope, &test_path, form.test)?;
     let first = read_block(alloc, catalogue, scope, room, &first_path, form.first)?;
     let second = read_block(alloc, catalogue, scope, room, &second_path, form.second)?;
     let test = as_bool(alloc, &test_path, test)?;
@@ -48,6 +54,95 @@ fn read_if(
         first,
         second,
     })
+}
+
+/// The block of a loop, in which the loop's variable is seen too.
+#[cycle(block)]
+fn read_loop_block(
+    alloc: Global,
+    catalogue: &Catalogue,
+    scope: &mut Scope,
+    room: u32,
+    path: &Path<'_>,
+    variable: &str,
+    value: &Value,
+) -> Result<Vec<Stmt>, ProcFault>
+    ensures exact { Gives is_memory (λ v. stmts_view v.items) result
+        (block_at catalogue.now room (places path.now) (seen_in_loop scope.old variable.now) (view value.now)) }
+    ensures scope { OnOk result (scope.new ≡ scope.old) }
+{
+    let seen = scope.len();
+    let variable = String::from_str(alloc, variable)?;
+    scope.declare(variable, ColType::Int, Declaration::Loop)?;
+    let block = read_block(alloc, catalogue, scope, room, path, value)?;
+    scope.truncate(seen);
+    Ok(block)
+}
+
+#[cycle(block)]
+#[tactic(auto, unfolding(crate::specs::Statements::for_at))]
+fn read_for(
+    alloc: Global,
+    catalogue: &Catalogue,
+    scope: &mut Scope,
+    room: u32,
+    path: &Path<'_>,
+    form: ForForm<'_>,
+) -> Result<Stmt, ProcFault>
+    ensures exact { Gives is_memory stmt_view result
+        (for_at catalogue.now (block_at catalogue.now room) (places path.now) scope.old (for_parts_of form.entry)) }
+    ensures scope { OnOk result (scope.new ≡ scope.old) }
+{
+    let low_path = Path::Element(&*path, 2);
+    let high_path = Path::Element(&*path, 3);
+    let body_path = Path::Element(&*path, 4);
+    read_loop_name(alloc, &Path::Element(&*path, 1), scope, form.variable)?;
+    let low = read_statement_expr(alloc, catalogue, scope, &low_path, form.low)?;
+    let high = read_statement_expr(alloc, catalogue, scope, &high_path, form.high)?;
+    let body = read_loop_block(
+        alloc,
+        catalogue,
+        scope,
+        room,
+        &body_path,
+        form.variable,
+        form.body,
+    )?;
+    let low = as_int(alloc, &low_path, low)?;
+    let high = as_int(alloc, &high_path, high)?;
+    Ok(Stmt::For { low, high, body })
+}
+
+#[cycle(block)]
+#[tactic(auto, unfolding(crate::specs::Statements::each_at))]
+fn read_each(
+    alloc: Global,
+    catalogue: &Catalogue,
+    scope: &mut Scope,
+    room: u32,
+    path: &Path<'_>,
+    form: EachForm<'_>,
+) -> Result<Stmt, ProcFault>
+    ensures exact { Gives is_memory stmt_view result
+        (each_at catalogue.now (block_at catalogue.now room) (places path.now) scope.old (each_parts_of form.entry)) }
+    ensures scope { OnOk result (scope.new ≡ scope.old) }
+{
+    let part_path = Path::Element(&*path, 3);
+    let body_path = Path::Element(&*path, 4);
+    read_loop_name(alloc, &Path::Element(&*path, 1), scope, form.variable)?;
+    let table = read_table(alloc, &Path::Element(&*path, 2), catalogue, form.table)?;
+    let part = read_statement_expr(alloc, catalogue, scope, &part_path, form.number)?;
+    let body = read_loop_block(
+        alloc,
+        catalogue,
+        scope,
+        room,
+        &body_path,
+        form.variable,
+        form.body,
+    )?;
+    let part = as_int(alloc, &part_path, part)?;
+    Ok(Stmt::Each { table, part, body })
 }
 
 #[cycle(block)]
@@ -67,11 +162,16 @@ fn read_statement(
         return Err(fault(alloc, FaultKind::Shape, path));
     };
     match form {
+        StmtForm::Let(form) => read_let(alloc, catalogue, scope, &*path, form),
         StmtForm::Get(form) => read_get(alloc, catalogue, scope, &*path, form),
         StmtForm::Put(form) => read_put(alloc, catalogue, scope, &*path, form),
+        StmtForm::Insert(form) => read_insert(alloc, catalogue, scope, &*path, form),
+        StmtForm::Delete(form) => read_delete(alloc, catalogue, scope, &*path, form),
         StmtForm::If(form) => read_if(alloc, catalogue, scope, room, &*path, form),
+        StmtForm::For(form) => read_for(alloc, catalogue, scope, room, &*path, form),
+        StmtForm::Each(form) => read_each(alloc, catalogue, scope, room, &*path, form),
         StmtForm::Abort(code) => read_abort(alloc, &*path, code),
-        StmtForm::Reply(values) => read_reply(alloc, scope, &*path, values),
+        StmtForm::Reply(values) => read_reply(alloc, catalogue, scope, &*path, values),
     }
 }
 

@@ -3,20 +3,23 @@
 ghost use Rattle.std.specs.Prelude.{◌≡◌};
 ghost use Rattle.serde_json.specs.View.{view};
 ghost use Rattle.documents.specs.Reading.{Gives};
-ghost use Rattle.proclang_types.specs.Views.{int_view, bool_view, value_view, expr_view};
+ghost use Rattle.proclang_types.specs.Views.{expr_view};
 ghost use Rattle.proclang.specs.Paths.{places};
 ghost use Rattle.proclang.specs.Faults.{is_memory};
 ghost use Rattle.proclang.specs.Seen.{found_in};
-ghost use Rattle.proclang.specs.Expressions.{named, as_int, as_bool, as_value, combine, expr_at};
+ghost use Rattle.proclang.specs.Expressions.{named, literal_at, not_at, binary_at, exists_at, count_at, sum_at, expr_at, statement_expr};
 
-use crate::expr_form::{ExprForm, Operator, expr_form};
+use crate::combine::combine;
+use crate::expr_form::{BinaryForm, CountForm, ExistsForm, ExprForm, Section, SumForm, form_in};
 use crate::fault::{FaultKind, ProcFault, fault};
 use crate::path::Path;
+use crate::read_names::{read_column, read_table};
 use crate::scope::Scope;
-use proclang_types::{BoolExpr, Expr, IntExpr, TextExpr, ValueExpr};
+use crate::typed::{as_bool, as_int};
+use proclang_types::{BoolExpr, Expr, IntExpr, TextExpr};
 use serde_json::Value;
 use std::alloc::Global;
-use values::ColType;
+use values::{Catalogue, ColType, Text};
 
 /// The last depth that blocks and expressions may nest to; the outermost have depth 1.
 pub(crate) const DEEPEST: u32 = 24;
@@ -38,91 +41,201 @@ fn read_variable(
     }
 }
 
-pub(crate) fn as_int(alloc: Global, path: &Path<'_>, expr: Expr) -> Result<IntExpr, ProcFault>
-    ensures { Gives is_memory int_view result (as_int (places path.now) (expr_view expr)) }
+fn read_literal(alloc: Global, path: &Path<'_>, text: &str) -> Result<Expr, ProcFault>
+    ensures { Gives is_memory expr_view result (literal_at (places path.now) text.now) }
 {
-    match expr {
-        Expr::Int(expr) => Ok(expr),
-        _ => Err(fault(alloc, FaultKind::TypeMismatch, path)),
+    if text.len() > 64 {
+        return Err(fault(alloc, FaultKind::Limit, path));
     }
+    Ok(Expr::Text(TextExpr::Literal(Text::new(alloc, text)?)))
 }
 
-pub(crate) fn as_bool(alloc: Global, path: &Path<'_>, expr: Expr) -> Result<BoolExpr, ProcFault>
-    ensures { Gives is_memory bool_view result (as_bool (places path.now) (expr_view expr)) }
-{
-    match expr {
-        Expr::Bool(expr) => Ok(expr),
-        _ => Err(fault(alloc, FaultKind::TypeMismatch, path)),
-    }
-}
-
-pub(crate) fn as_value(alloc: Global, path: &Path<'_>, expr: Expr) -> Result<ValueExpr, ProcFault>
-    ensures { Gives is_memory value_view result (as_value (places path.now) (expr_view expr)) }
-{
-    match expr {
-        Expr::Int(expr) => Ok(ValueExpr::Int(expr)),
-        Expr::Text(expr) => Ok(ValueExpr::Text(expr)),
-        Expr::Bool(_) => Err(fault(alloc, FaultKind::TypeMismatch, path)),
-    }
-}
-
-#[tactic(auto, unfolding(crate::specs::Expressions::combine, crate::specs::Expressions::two_ints))]
-fn combine(
+#[cycle(expression)]
+#[tactic(auto, unfolding(crate::specs::Expressions::not_at))]
+fn read_not(
     alloc: Global,
-    operator: Operator,
-    left_path: &Path<'_>,
-    left: Expr,
-    right_path: &Path<'_>,
-    right: Expr,
+    section: Section,
+    catalogue: &Catalogue,
+    scope: &Scope,
+    room: u32,
+    path: &Path<'_>,
+    part: &Value,
 ) -> Result<Expr, ProcFault>
     ensures { Gives is_memory expr_view result
-        (combine operator (places left_path.now) (expr_view left) (places right_path.now) (expr_view right)) }
+        (not_at (expr_at section catalogue.now room) (places path.now) scope.now (view part.now)) }
 {
-    match operator {
-        Operator::Add => {
-            let left = Box::new(alloc, as_int(alloc, left_path, left)?)?;
-            let right = Box::new(alloc, as_int(alloc, right_path, right)?)?;
-            Ok(Expr::Int(IntExpr::Add(left, right)))
-        }
-        Operator::Subtract => {
-            let left = Box::new(alloc, as_int(alloc, left_path, left)?)?;
-            let right = Box::new(alloc, as_int(alloc, right_path, right)?)?;
-            Ok(Expr::Int(IntExpr::Subtract(left, right)))
-        }
-        Operator::Less => {
-            let left = as_int(alloc, left_path, left)?;
-            let right = as_int(alloc, right_path, right)?;
-            Ok(Expr::Bool(BoolExpr::Less(left, right)))
-        }
-    }
+    let part_path = Path::Element(&*path, 1);
+    let part = read_expr(alloc, section, catalogue, scope, room, &part_path, part)?;
+    let part = as_bool(alloc, &part_path, part)?;
+    Ok(Expr::Bool(BoolExpr::Not(Box::new(alloc, part)?)))
 }
 
-/// The expression that the document says where these variables are seen, and so many levels may still nest.
+#[cycle(expression)]
+#[tactic(auto, unfolding(crate::specs::Expressions::binary_at))]
+fn read_binary(
+    alloc: Global,
+    section: Section,
+    catalogue: &Catalogue,
+    scope: &Scope,
+    room: u32,
+    path: &Path<'_>,
+    form: BinaryForm<'_>,
+) -> Result<Expr, ProcFault>
+    ensures { Gives is_memory expr_view result
+        (binary_at (expr_at section catalogue.now room) (places path.now) scope.now form.entry.operator (view form.entry.left.now) (view form.entry.right.now)) }
+{
+    let left_path = Path::Element(&*path, 1);
+    let right_path = Path::Element(&*path, 2);
+    let left = read_expr(
+        alloc, section, catalogue, scope, room, &left_path, form.left,
+    )?;
+    let right = read_expr(
+        alloc,
+        section,
+        catalogue,
+        scope,
+        room,
+        &right_path,
+        form.right,
+    )?;
+    combine(alloc, form.operator, &left_path, left, &right_path, right)
+}
+
+#[cycle(expression)]
+#[tactic(auto, unfolding(crate::specs::Expressions::exists_at))]
+fn read_exists(
+    alloc: Global,
+    section: Section,
+    catalogue: &Catalogue,
+    scope: &Scope,
+    room: u32,
+    path: &Path<'_>,
+    form: ExistsForm<'_>,
+) -> Result<Expr, ProcFault>
+    ensures { Gives is_memory expr_view result
+        (exists_at catalogue.now (expr_at section catalogue.now room) (places path.now) scope.now form.entry.table.now (view form.entry.key.now)) }
+{
+    let key_path = Path::Element(&*path, 2);
+    let table = read_table(alloc, &Path::Element(&*path, 1), catalogue, form.table)?;
+    let key = read_expr(alloc, section, catalogue, scope, room, &key_path, form.key)?;
+    let key = as_int(alloc, &key_path, key)?;
+    Ok(Expr::Bool(BoolExpr::Exists { table, key }))
+}
+
+#[cycle(expression)]
+#[tactic(auto, unfolding(crate::specs::Expressions::count_at))]
+fn read_count(
+    alloc: Global,
+    section: Section,
+    catalogue: &Catalogue,
+    scope: &Scope,
+    room: u32,
+    path: &Path<'_>,
+    form: CountForm<'_>,
+) -> Result<Expr, ProcFault>
+    ensures { Gives is_memory expr_view result
+        (count_at catalogue.now (expr_at section catalogue.now room) (places path.now) scope.now form.entry.table.now (view form.entry.number.now)) }
+{
+    let part_path = Path::Element(&*path, 2);
+    let table = read_table(alloc, &Path::Element(&*path, 1), catalogue, form.table)?;
+    let part = read_expr(
+        alloc,
+        section,
+        catalogue,
+        scope,
+        room,
+        &part_path,
+        form.number,
+    )?;
+    let part = as_int(alloc, &part_path, part)?;
+    let part = Box::new(alloc, part)?;
+    Ok(Expr::Int(IntExpr::Count { table, part }))
+}
+
+#[cycle(expression)]
+#[tactic(auto, unfolding(crate::specs::Expressions::sum_at))]
+fn read_sum(
+    alloc: Global,
+    section: Section,
+    catalogue: &Catalogue,
+    scope: &Scope,
+    room: u32,
+    path: &Path<'_>,
+    form: SumForm<'_>,
+) -> Result<Expr, ProcFault>
+    ensures { Gives is_memory expr_view result
+        (sum_at catalogue.now (expr_at section catalogue.now room) (places path.now) scope.now form.entry.table.now (view form.entry.number.now) form.entry.column.now) }
+{
+    let part_path = Path::Element(&*path, 2);
+    let column_path = Path::Element(&*path, 3);
+    let table = read_table(alloc, &Path::Element(&*path, 1), catalogue, form.table)?;
+    let part = read_expr(
+        alloc,
+        section,
+        catalogue,
+        scope,
+        room,
+        &part_path,
+        form.number,
+    )?;
+    let (column, kind) = read_column(alloc, &column_path, catalogue, table, form.column)?;
+    let part = as_int(alloc, &part_path, part)?;
+    if kind != ColType::Int {
+        return Err(fault(alloc, FaultKind::TypeMismatch, &column_path));
+    }
+    let part = Box::new(alloc, part)?;
+    Ok(Expr::Int(IntExpr::Sum {
+        table,
+        part,
+        column,
+    }))
+}
+
+/// The expression that the document says in that section of a procedure, where these variables are seen, and so many
+/// levels may still nest.
+#[cycle(expression)]
 #[tactic(auto, unfolding(crate::specs::Expressions::expr_at, crate::specs::Expressions::node_at))]
 pub(crate) fn read_expr(
     alloc: Global,
+    section: Section,
+    catalogue: &Catalogue,
     scope: &Scope,
     room: u32,
     path: &Path<'_>,
     value: &Value,
 ) -> Result<Expr, ProcFault>
-    ensures { Gives is_memory expr_view result (expr_at room (places path.now) scope.now (view value.now)) }
+    ensures { Gives is_memory expr_view result
+        (expr_at section catalogue.now room (places path.now) scope.now (view value.now)) }
 {
-    let Some(form) = expr_form(value) else {
+    let Some(form) = form_in(section, value) else {
         return Err(fault(alloc, FaultKind::Shape, path));
     };
     if room == 0 {
         return Err(fault(alloc, FaultKind::Limit, path));
     }
+    let room = room - 1;
     match form {
         ExprForm::Number(number) => Ok(Expr::Int(IntExpr::Number(number))),
+        ExprForm::Literal(text) => read_literal(alloc, path, text),
         ExprForm::Variable(name) => read_variable(alloc, path, scope, name),
-        ExprForm::Binary(operator, left, right) => {
-            let left_path = Path::Element(&*path, 1);
-            let right_path = Path::Element(&*path, 2);
-            let left = read_expr(alloc, scope, room - 1, &left_path, left)?;
-            let right = read_expr(alloc, scope, room - 1, &right_path, right)?;
-            combine(alloc, operator, &left_path, left, &right_path, right)
-        }
+        ExprForm::Not(part) => read_not(alloc, section, catalogue, scope, room, path, part),
+        ExprForm::Binary(form) => read_binary(alloc, section, catalogue, scope, room, path, form),
+        ExprForm::Exists(form) => read_exists(alloc, section, catalogue, scope, room, path, form),
+        ExprForm::Count(form) => read_count(alloc, section, catalogue, scope, room, path, form),
+        ExprForm::Sum(form) => read_sum(alloc, section, catalogue, scope, room, path, form),
     }
+}
+
+/// An outermost expression in a statement.
+pub(crate) fn read_statement_expr(
+    alloc: Global,
+    catalogue: &Catalogue,
+    scope: &Scope,
+    path: &Path<'_>,
+    value: &Value,
+) -> Result<Expr, ProcFault>
+    ensures { Gives is_memory expr_view result
+        (statement_expr catalogue.now (places path.now) scope.now (view value.now)) }
+{
+    read_expr(alloc, Section::Body, catalogue, scope, DEEPEST, path, value)
 }

@@ -9,29 +9,33 @@ ghost use Rattle.proclang.specs.Faults.{is_memory};
 ghost use Rattle.proclang.specs.ProcForms.{entry_form_view};
 ghost use Rattle.proclang.specs.Procs.{int_at, entry_of, entry_at, each_entry, footprint_at};
 
+use crate::expr_form::Section;
 use crate::fault::{FaultKind, ProcFault, fault};
 use crate::limits::at_most;
 use crate::path::Path;
 use crate::proc_form::{EntryForm, declared_form, entry_form};
-use crate::read_expr::{DEEPEST, as_int, read_expr};
+use crate::read_expr::{DEEPEST, read_expr};
 use crate::read_names::read_table;
 use crate::scope::Scope;
+use crate::typed::as_int;
 use proclang_types::{FootprintEntry, IntExpr};
 use serde_json::Value;
 use std::alloc::Global;
 use values::Catalogue;
 
-/// An expression of type Int over the parameters.
+/// An expression of type Int over the parameters, which reads no rows.
 #[tactic(auto, unfolding(crate::specs::Procs::int_at))]
 fn read_int(
     alloc: Global,
+    catalogue: &Catalogue,
     scope: &Scope,
     path: &Path<'_>,
     value: &Value,
 ) -> Result<IntExpr, ProcFault>
-    ensures { Gives is_memory int_view result (int_at (places path.now) scope.now (view value.now)) }
+    ensures { Gives is_memory int_view result (int_at catalogue.now (places path.now) scope.now (view value.now)) }
 {
-    let expr = read_expr(alloc, scope, DEEPEST, path, value)?;
+    let footprint = Section::Footprint;
+    let expr = read_expr(alloc, footprint, catalogue, scope, DEEPEST, path, value)?;
     as_int(alloc, path, expr)
 }
 
@@ -50,12 +54,12 @@ fn read_parts(
     match form {
         EntryForm::Row(right, table, key) => {
             let table = read_table(alloc, &table_path, catalogue, table)?;
-            let key = read_int(alloc, scope, &number_path, key)?;
+            let key = read_int(alloc, catalogue, scope, &number_path, key)?;
             Ok(FootprintEntry::Row { right, table, key })
         }
         EntryForm::Part(right, table, part) => {
             let table = read_table(alloc, &table_path, catalogue, table)?;
-            let part = read_int(alloc, scope, &number_path, part)?;
+            let part = read_int(alloc, catalogue, scope, &number_path, part)?;
             Ok(FootprintEntry::Part { right, table, part })
         }
         EntryForm::Table(right, table) => {

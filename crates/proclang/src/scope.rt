@@ -4,7 +4,6 @@ ghost use Rattle.std.specs.Prelude.{◌≡◌, List, [], ◌∷◌, ◌++◌, le
 ghost use Rattle.std.specs.Str.{bytes_eq};
 ghost use Rattle.proclang_types.specs.Procedures.{param_shape};
 ghost use Rattle.proclang.specs.Seen.{seen, seen_of, found_in};
-ghost use Rattle.proclang.specs.declared.scope.Declaration.TheVariants.{Statement};
 
 use proclang_types::Param;
 use std::alloc::{AllocError, Global};
@@ -15,7 +14,9 @@ use values::ColType;
 #[derive(Clone, Copy, Debug, PartialEq, Eq)]
 pub(crate) enum Declaration {
     Parameter,
+    /// By a `let` or a `get`.
     Statement,
+    Loop,
 }
 
 #[derive(Drop)]
@@ -86,14 +87,19 @@ impl Scope {
     }
 
     /// Declares a variable behind the others.
-    pub(crate) fn declare(&mut self, name: String, kind: ColType) -> Result<(), AllocError>
+    pub(crate) fn declare(
+        &mut self,
+        name: String,
+        kind: ColType,
+        declaration: Declaration,
+    ) -> Result<(), AllocError>
         ensures ok { OnOk result (self.new
-            ≡ self.old ++ record { name = string_bytes name; kind = kind; declaration = Statement } ∷ []) }
+            ≡ self.old ++ record { name = string_bytes name; kind = kind; declaration = declaration } ∷ []) }
     {
         self.variables.push(Variable {
             name,
             kind,
-            declaration: Declaration::Statement,
+            declaration,
         })?;
         Ok(())
     }

@@ -2,10 +2,16 @@
 
 ghost use Rattle.std.specs.Prelude.{◌≡◌, option_map, map};
 ghost use Rattle.serde_json.specs.View.{view};
-ghost use Rattle.proclang.specs.StmtForms.{stmt_form_view, get_form, put_form, if_form, abort_form, word_form, words_form, statement_form};
+ghost use Rattle.proclang.specs.StmtForms.{stmt_form_view, let_form, get_form, put_form, insert_form, delete_form, if_form, for_form, each_form, abort_form, word_form, words_form, statement_form};
 
 use documents::elements;
 use serde_json::Value;
+
+#[derive(Clone, Copy)]
+pub(crate) struct LetForm<'a> {
+    pub(crate) variable: &'a str,
+    pub(crate) value: &'a Value,
+}
 
 #[derive(Clone, Copy)]
 pub(crate) struct GetForm<'a> {
@@ -24,6 +30,19 @@ pub(crate) struct PutForm<'a> {
 }
 
 #[derive(Clone, Copy)]
+pub(crate) struct InsertForm<'a> {
+    pub(crate) table: &'a str,
+    pub(crate) key: &'a Value,
+    pub(crate) values: &'a [Value],
+}
+
+#[derive(Clone, Copy)]
+pub(crate) struct DeleteForm<'a> {
+    pub(crate) table: &'a str,
+    pub(crate) key: &'a Value,
+}
+
+#[derive(Clone, Copy)]
 pub(crate) struct IfForm<'a> {
     pub(crate) test: &'a Value,
     pub(crate) first: &'a Value,
@@ -31,12 +50,47 @@ pub(crate) struct IfForm<'a> {
 }
 
 #[derive(Clone, Copy)]
+pub(crate) struct ForForm<'a> {
+    pub(crate) variable: &'a str,
+    pub(crate) low: &'a Value,
+    pub(crate) high: &'a Value,
+    pub(crate) body: &'a Value,
+}
+
+#[derive(Clone, Copy)]
+pub(crate) struct EachForm<'a> {
+    pub(crate) variable: &'a str,
+    pub(crate) table: &'a str,
+    /// The partition's number.
+    pub(crate) number: &'a Value,
+    pub(crate) body: &'a Value,
+}
+
+#[derive(Clone, Copy)]
 pub(crate) enum StmtForm<'a> {
+    Let(LetForm<'a>),
     Get(GetForm<'a>),
     Put(PutForm<'a>),
+    Insert(InsertForm<'a>),
+    Delete(DeleteForm<'a>),
     If(IfForm<'a>),
+    For(ForForm<'a>),
+    Each(EachForm<'a>),
     Abort(i64),
     Reply(&'a [Value]),
+}
+
+#[tactic(auto, unfolding(crate::specs::StmtForms::let_form))]
+fn let_form(parts: &[Value]) -> Option<StmtForm<'_>>
+    ensures { option_map stmt_form_view result ≡ let_form (map view parts.now) }
+{
+    match parts {
+        [variable, value] => Some(StmtForm::Let(LetForm {
+            variable: variable.as_str()?,
+            value,
+        })),
+        _ => None,
+    }
 }
 
 #[tactic(auto, unfolding(crate::specs::StmtForms::get_form))]
@@ -69,6 +123,33 @@ fn put_form(parts: &[Value]) -> Option<StmtForm<'_>>
     }
 }
 
+#[tactic(auto, unfolding(crate::specs::StmtForms::insert_form))]
+fn insert_form(parts: &[Value]) -> Option<StmtForm<'_>>
+    ensures { option_map stmt_form_view result ≡ insert_form (map view parts.now) }
+{
+    match parts {
+        [table, key, values] => Some(StmtForm::Insert(InsertForm {
+            table: table.as_str()?,
+            key,
+            values: elements(values)?,
+        })),
+        _ => None,
+    }
+}
+
+#[tactic(auto, unfolding(crate::specs::StmtForms::delete_form))]
+fn delete_form(parts: &[Value]) -> Option<StmtForm<'_>>
+    ensures { option_map stmt_form_view result ≡ delete_form (map view parts.now) }
+{
+    match parts {
+        [table, key] => Some(StmtForm::Delete(DeleteForm {
+            table: table.as_str()?,
+            key,
+        })),
+        _ => None,
+    }
+}
+
 #[tactic(auto, unfolding(crate::specs::StmtForms::if_form))]
 fn if_form(parts: &[Value]) -> Option<StmtForm<'_>>
     ensures { option_map stmt_form_view result ≡ if_form (map view parts.now) }
@@ -78,6 +159,36 @@ fn if_form(parts: &[Value]) -> Option<StmtForm<'_>>
             test,
             first,
             second,
+        })),
+        _ => None,
+    }
+}
+
+#[tactic(auto, unfolding(crate::specs::StmtForms::for_form))]
+fn for_form(parts: &[Value]) -> Option<StmtForm<'_>>
+    ensures { option_map stmt_form_view result ≡ for_form (map view parts.now) }
+{
+    match parts {
+        [variable, low, high, body] => Some(StmtForm::For(ForForm {
+            variable: variable.as_str()?,
+            low,
+            high,
+            body,
+        })),
+        _ => None,
+    }
+}
+
+#[tactic(auto, unfolding(crate::specs::StmtForms::each_form))]
+fn each_form(parts: &[Value]) -> Option<StmtForm<'_>>
+    ensures { option_map stmt_form_view result ≡ each_form (map view parts.now) }
+{
+    match parts {
+        [variable, table, number, body] => Some(StmtForm::Each(EachForm {
+            variable: variable.as_str()?,
+            table: table.as_str()?,
+            number,
+            body,
         })),
         _ => None,
     }
@@ -98,9 +209,14 @@ fn word_form<'a>(word: &str, parts: &'a [Value]) -> Option<StmtForm<'a>>
     ensures { option_map stmt_form_view result ≡ word_form word.now (map view parts.now) }
 {
     match word {
+        "let" => let_form(parts),
         "get" => get_form(parts),
         "put" => put_form(parts),
+        "insert" => insert_form(parts),
+        "delete" => delete_form(parts),
         "if" => if_form(parts),
+        "for" => for_form(parts),
+        "each" => each_form(parts),
         "abort" => abort_form(parts),
         "reply" => Some(StmtForm::Reply(parts)),
         _ => None,

@@ -1,3 +1,6 @@
+mod language;
+mod scopes;
+
 use super::*;
 use serde_json::Value as Json;
 use std::alloc::Global;
@@ -5,7 +8,8 @@ use std::process::Abort;
 use std::test::Fail;
 use values::{Catalogue, Text, Value};
 
-const CATALOGUE: &str = r#"["catalogue",1,[["acct",2,[["bal","int"]]],["ref",1,[["to","int"]]]]]"#;
+const CATALOGUE: &str = r#"["catalogue",1,[["acct",2,[["bal","int"]]],["ref",1,[["to","int"]]],
+["note",1,[["s","text"],["n","int"]]]]]"#;
 
 const BANK: &str = r#"["procs",1,[
 ["pay",[["a","int"],["b","int"],["n","int"]],
@@ -82,13 +86,26 @@ fn assert_faults(rt: &impl Abort, alloc: Global, table: &[(&str, &str)]) -> Resu
     Ok(())
 }
 
+/// Each body, alone in its document as the body of a procedure with the parameters `k`, an Int, and `w`, a Text, has the
+/// outcome beside it.
+fn assert_bodies(rt: &impl Abort, alloc: Global, table: &[(&str, &str)]) -> Result<(), Fail> {
+    for (body, want) in table {
+        let procedure = format!(in alloc;
+            r#"["p",[["k","int"],["w","text"]],["declared"],[{body}]]"#
+        )?;
+        let found = outcome_of(alloc, procedure.as_str())?;
+        assert_eq!(rt; found.as_str(), *want, "{body}");
+    }
+    Ok(())
+}
+
 #[test]
 fn wrong_forms(rt: HostRuntime) -> Result<(), Fail> {
     let table = [
         (r#"["p",[],["declared"]]"#, "fault 11 at /2/0"),
         (r#"["P",[],["declared"],[]]"#, "fault 11 at /2/0/0"),
         (
-            r#"["p",[["n","text"]],["declared"],[]]"#,
+            r#"["p",[["n","bool"]],["declared"],[]]"#,
             "fault 11 at /2/0/1/0",
         ),
         (r#"["p",[],["recon"],[]]"#, "fault 11 at /2/0/2"),
@@ -126,7 +143,7 @@ fn wrong_forms(rt: HostRuntime) -> Result<(), Fail> {
             "fault 11 at /2/0/3/0/1",
         ),
         (
-            r#"["p",[],["declared"],[["reply",["*",1,2]]]]"#,
+            r#"["p",[],["declared"],[["reply",["^",1,2]]]]"#,
             "fault 11 at /2/0/3/0/1",
         ),
     ];

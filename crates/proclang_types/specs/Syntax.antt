@@ -2,18 +2,30 @@
 use Rattle.std.specs.Prelude.{ℕ, ℤ, List, [], ◌∷◌}
 use Rattle.values.specs.declared.value.ColType.{ColType}
 use Rattle.proclang_types.specs.declared.right.Right.{Right}
+use Rattle.proclang_types.specs.declared.operator.IntOperator.{IntOperator}
+use Rattle.proclang_types.specs.declared.operator.Comparison.{Comparison}
+use Rattle.proclang_types.specs.declared.operator.Equality.{Equality}
 
 pub data IntSyntax : Type 0 where
   number : ℤ → IntSyntax
   variable : ℕ → IntSyntax
-  add subtract : IntSyntax → IntSyntax → IntSyntax
+  binary : IntOperator → IntSyntax → IntSyntax → IntSyntax
+  -- the number of rows of a partition: table, partition
+  count_rows : ℕ → IntSyntax → IntSyntax
+  -- the total of a column over the rows of a partition: table, partition, column
+  sum_column : ℕ → IntSyntax → ℕ → IntSyntax
 
 pub data TextSyntax : Type 0 where
   literal : List ℕ → TextSyntax
   text_variable : ℕ → TextSyntax
 
 pub data BoolSyntax : Type 0 where
-  less : IntSyntax → IntSyntax → BoolSyntax
+  compare_ints : Comparison → IntSyntax → IntSyntax → BoolSyntax
+  compare_texts : Equality → TextSyntax → TextSyntax → BoolSyntax
+  both either : BoolSyntax → BoolSyntax → BoolSyntax
+  negated : BoolSyntax → BoolSyntax
+  -- whether a row is there: table, key
+  row_exists : ℕ → IntSyntax → BoolSyntax
 
 pub data ValueSyntax : Type 0 where
   int_value : IntSyntax → ValueSyntax
@@ -26,11 +38,21 @@ pub data ExprSyntax : Type 0 where
 
 mutual
   pub data StmtSyntax : Type 0 where
+    -- a variable gets a value
+    assign : ℕ → ValueSyntax → StmtSyntax
     -- a variable gets a column of the row with a key: variable, table, key, column
     get : ℕ → ℕ → IntSyntax → ℕ → StmtSyntax
     -- a column of the row with a key gets a value: table, key, column, value
     put : ℕ → IntSyntax → ℕ → ValueSyntax → StmtSyntax
+    -- a new row: table, key, values
+    insert_row : ℕ → IntSyntax → List ValueSyntax → StmtSyntax
+    -- a row is no more: table, key
+    delete_row : ℕ → IntSyntax → StmtSyntax
     choose : BoolSyntax → BlockSyntax → BlockSyntax → StmtSyntax
+    -- a block for each number from one to another, which is the variable behind those that are seen
+    for_numbers : IntSyntax → IntSyntax → BlockSyntax → StmtSyntax
+    -- a block for each key of a partition, which is the variable behind those that are seen: table, partition, block
+    for_keys : ℕ → IntSyntax → BlockSyntax → StmtSyntax
     abort : ℕ → StmtSyntax
     reply : List ValueSyntax → StmtSyntax
 

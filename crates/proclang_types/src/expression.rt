@@ -1,6 +1,7 @@
 //! Expressions, each with its type.
 
-use values::Text;
+use crate::operator::{Comparison, Equality, IntOperator};
+use values::{TableNo, Text};
 
 /// An expression whose value is a whole number in the signed 64-bit range.
 #[derive(Debug, Drop)]
@@ -8,8 +9,18 @@ pub enum IntExpr {
     Number(i64),
     /// The variable at that place of the scope.
     Variable(usize),
-    Add(Box<IntExpr>, Box<IntExpr>),
-    Subtract(Box<IntExpr>, Box<IntExpr>),
+    Binary(IntOperator, Box<IntExpr>, Box<IntExpr>),
+    /// The number of rows of a partition.
+    Count {
+        table: TableNo,
+        part: Box<IntExpr>,
+    },
+    /// The exact total of an int column over the rows of a partition.
+    Sum {
+        table: TableNo,
+        part: Box<IntExpr>,
+        column: usize,
+    },
 }
 
 /// An expression whose value is a text.
@@ -23,7 +34,15 @@ pub enum TextExpr {
 /// An expression that is true or false.
 #[derive(Debug, Drop)]
 pub enum BoolExpr {
-    Less(IntExpr, IntExpr),
+    CompareInts(Comparison, IntExpr, IntExpr),
+    CompareTexts(Equality, TextExpr, TextExpr),
+    /// Both are true. The second is evaluated only where the first is.
+    And(Box<BoolExpr>, Box<BoolExpr>),
+    /// One is true, or both. The second is evaluated only where the first is not true.
+    Or(Box<BoolExpr>, Box<BoolExpr>),
+    Not(Box<BoolExpr>),
+    /// The row with that key is there.
+    Exists { table: TableNo, key: IntExpr },
 }
 
 /// An expression whose value may stand in a row, a variable or a reply.

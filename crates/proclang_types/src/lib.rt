@@ -3,11 +3,13 @@
 #![tactic(auto)]
 
 mod expression;
+mod operator;
 mod procedure;
 mod right;
 mod statement;
 
 pub use expression::{BoolExpr, Expr, IntExpr, TextExpr, ValueExpr};
+pub use operator::{Comparison, Equality, IntOperator};
 pub use procedure::{Param, Proc};
 pub use right::Right;
 pub use statement::{FootprintEntry, Stmt};

@@ -7,8 +7,12 @@ use values::TableNo;
 /// A statement of a procedure's body.
 #[derive(Debug, Drop)]
 pub enum Stmt {
-    /// The variable gets the value of the column of the row with that key. Where its place is the number of variables
-    /// seen it is declared, and else changed.
+    /// The variable gets the value. Where its place is the number of variables seen it is declared, and else changed.
+    Let {
+        variable: usize,
+        value: ValueExpr,
+    },
+    /// The variable gets the value of the column of the row with that key. It is declared or changed as by `Let`.
     Get {
         variable: usize,
         table: TableNo,
@@ -22,11 +26,36 @@ pub enum Stmt {
         column: usize,
         value: ValueExpr,
     },
+    /// A new row with that key: one value a column, in the columns' order.
+    Insert {
+        table: TableNo,
+        key: IntExpr,
+        values: Vec<ValueExpr>,
+    },
+    /// The row with that key is no more.
+    Delete {
+        table: TableNo,
+        key: IntExpr,
+    },
     /// The first block where the test is true, and else the second.
     If {
         test: BoolExpr,
         first: Vec<Stmt>,
         second: Vec<Stmt>,
+    },
+    /// The block for each number from `low` to `high`, both included. The number is the block's first variable, behind
+    /// all that are seen.
+    For {
+        low: IntExpr,
+        high: IntExpr,
+        body: Vec<Stmt>,
+    },
+    /// The block for each key that the partition holds when the statement begins, ascending. The key is the block's first
+    /// variable, behind all that are seen.
+    Each {
+        table: TableNo,
+        part: IntExpr,
+        body: Vec<Stmt>,
     },
     /// Ends the transaction with that code, 100 to 65535.
     Abort(u16),
@@ -34,7 +63,7 @@ pub enum Stmt {
     Reply(Vec<ValueExpr>),
 }
 
-/// An entry of a declared footprint. Its expressions are over the parameters.
+/// An entry of a declared footprint. Its expressions are over the parameters, and ask for no rows.
 #[derive(Debug, Drop)]
 pub enum FootprintEntry {
     /// The name of one row.

@@ -59,3 +59,7 @@ module _ (w : Work) (slots : List Slot) (stock : Stock) (tree : Locks) (fits : I
     | true ↦ λ t. let e : n ≡ length w.entries = all_done n leading t in grind (arith, nat_tests)
     | false ↦ λ t. let d : n ≢ length w.entries = (λ e. let g : true ≡ false = sym (done_where n leading e) ∙ t in absurd (cc)) in grind (arith, nat_tests)
   ] refl
+
+  -- no more are admitted than the log has
+  pub admitted_within : length slots ≤ length w.entries
+  admitted_within = let c = counts in omega (arith, c.0, c.1, c.2)

@@ -1,16 +1,18 @@
 //! Which event comes next.
 
-ghost use Rattle.std.specs.Prelude.{◌≡◌, ◌∷◌, [], ◌++◌, ◌<◌, ◌+◌, ◌&&◌, not, Some, None, IfOk, OnOk, true, length, filter, slice_get, take};
+ghost use Rattle.std.specs.Prelude.{◌≡◌, [], ◌++◌, ◌<◌, ◌+◌, ◌&&◌, not, IfOk, OnOk, length, filter, slice_get};
 ghost use Rattle.scheduler_core.specs.declared.event.Event.{Event as AnyEvent};
 ghost use Rattle.lock_tree.specs.Ready.{ready};
 ghost use Rattle.scheduler_core.specs.Phases.{is_idle};
 ghost use Rattle.scheduler_core.specs.Events.{enabled, waiting};
-ghost use Rattle.scheduler_core.specs.Choices.{next_event, IsNextEvent, enabled_events, chosen, next_step, first_step};
+ghost use Rattle.scheduler_core.specs.Choices.{next_event, IsNextEvent, enabled_events, chosen, next_step};
 ghost use Rattle.scheduler.specs.Schedules.{log_of, phases_of, phase_in, KeepsItsJobs, steps_of, next_step_at, IsChoice};
 
 use crate::scheduler::Scheduler;
 use crate::slot::{Slot, is_idle};
-use scheduler_core::{Event, enabled_events_are_listed, events_by_places, next_event_is_enabled};
+use scheduler_core::{
+    Event, enabled_events_are_listed, events_by_places, first_choice, next_event_is_enabled,
+};
 use values::NoMemory;
 
 /// The step that an admitted transaction makes next, `None` exactly where it is settled.
@@ -111,6 +113,22 @@ impl Scheduler {
             push(&mut events, self.enabled_step(place))?;
         }
         Ok(events)
+    }
+
+    /// The event that choice 0 gives, found without a list of the others: to admit where that is enabled, and else the next
+    /// event; `None` exactly where all is done. No job is with the caller, and no memory is taken.
+    pub fn first_event(&self) -> Option<Event>
+        requires { KeepsItsJobs self.now }
+        ensures event { result ≡ chosen 0 (enabled_events self.now.work.nodes self.now.work.first (log_of self.now.work) (phases_of self.now)) }
+        ensures enabled { IsChoice self.now.work.nodes self.now.work.first (log_of self.now.work) (phases_of self.now) result }
+    {
+        first_choice();
+        enabled_events_are_listed();
+        let _slots = &self.slots;
+        if self.can_admit() {
+            return Some(Event::Admit);
+        }
+        self.next_event()
     }
 
     /// The event at place `n` modulo their count of the enabled events, to admit first and then by transaction number; `None`

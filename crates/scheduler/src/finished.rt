@@ -1,6 +1,6 @@
 //! Replies, and the end.
 
-ghost use Rattle.std.specs.Prelude.{◌≡◌, ◌≢◌, ◌-◌, ℕ, true, [], ◌∷◌, Some, None, IfSome, is_some, length, map, slice_get};
+ghost use Rattle.std.specs.Prelude.{◌≡◌, ◌≢◌, ◌≤◌, ◌-◌, ℕ, true, [], ◌∷◌, Some, None, IfSome, is_some, length, map, slice_get};
 ghost use Rattle.std.specs.FinMap as finite;
 ghost use Rattle.coarsen.specs.Clashes.{Conflict};
 ghost use Rattle.meaning.specs.Outcomes.{as_reply};
@@ -10,16 +10,14 @@ ghost use Rattle.jobs.specs.Jobs.{JobOf};
 ghost use Rattle.scheduler_core.specs.Transactions.{Transaction};
 ghost use Rattle.scheduler_core.specs.Serial.{serial_reply};
 ghost use Rattle.scheduler_core.specs.Phases.{is_done, is_out, is_settled, phase_of};
-ghost use Rattle.scheduler_core.specs.declared.phase.Phase.{Phase};
-ghost use Rattle.scheduler.specs.Schedules.{log_of, phases_of, KeepsItsJobs};
+ghost use Rattle.scheduler.specs.Schedules.{log_of, phases_of};
 ghost use Rattle.scheduler.specs.Jobs.{IsLentAt};
 
-use crate::lending::{give_back, take_back};
 use crate::scheduler::Scheduler;
-use crate::slot::{Slot, count_settled, outcome_at, put, take_held, take_run};
+use crate::slot::{Slot, outcome_at};
 use meaning::Outcome;
 use row_store::RowStore;
-use scheduler_core::{admitted_and_unsettled_wait, rows_are_serial, serial_run_by_places};
+use scheduler_core::{rows_are_serial, serial_run_by_places};
 use std::marker::Model;
 use std::vec::IntoIter;
 use values::Catalogue;
@@ -114,9 +112,10 @@ impl Scheduler {
         }
     }
 
-    /// What holds at every moment: each job that is here shows, as it was lent, the rows of the serial run at its place, on the
+    /// What holds at every moment: no more are admitted than the log has, each job that is here shows, as it was lent, the rows of the serial run at its place, on the
     /// row names that its plan locks, and no two plans that are out are in conflict.
     pub fn observe(&self)
+        ensures within { length self.now.slots ≤ length self.now.work.entries }
         ensures jobs { (place : ℕ) (job : JobOf) → slice_get self.now.slots place ≡ Some (Slot.Held job) → IsLentAt self.now.work place job }
         ensures apart { (i k : ℕ) (t u : Transaction) → i ≢ k → slice_get (log_of self.now.work) i ≡ Some t → slice_get (log_of self.now.work) k ≡ Some u
             → is_out (slice_get (phases_of self.now) i) ≡ true → is_out (slice_get (phases_of self.now) k) ≡ true → Conflict t.plan u.plan → ⊥ }

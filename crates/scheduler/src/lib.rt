@@ -1,4 +1,4 @@
-//! The scheduler.
+//! The scheduler: admits the entries of a log in its order, lends each its rows, and settles it, in whatever order jobs come back.
 #![tactic(auto)]
 
 mod choosing;
@@ -13,6 +13,7 @@ mod slot;
 #[cfg(test)]
 mod tests;
 
+pub use finished::{Finished, Outcomes};
 pub use jobs::{Done, Job, run_job};
 pub use laws::lent_jobs_come_back;
 pub use scheduler::{AdmitFault, Scheduler, Unmade};

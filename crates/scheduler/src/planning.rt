@@ -1,6 +1,6 @@
 //! Plans of entries.
 
-ghost use Rattle.std.specs.Prelude.{◌<◌, ◌≤◌, ◌≡◌, true, List, IfOk, length};
+ghost use Rattle.std.specs.Prelude.{◌<◌, IfOk};
 ghost use Rattle.coarsen.specs.Plans.{IsPlanFor};
 ghost use Rattle.scheduler.specs.Logs.{IsPlanOfEntry, ArePlansOf, Serves, IsPlannedFor, ArePlannedFor};
 

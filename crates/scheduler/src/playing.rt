@@ -1,6 +1,6 @@
 //! Playing events: the jobs that are lent stay with the scheduler.
 
-ghost use Rattle.std.specs.Prelude.{◌≡◌, ◌≢◌, ◌<◌, ◌+◌, ℕ, Some, None, Ok, Err, IfOk, IfSome, OnErr, length, slice_get, slice_set};
+ghost use Rattle.std.specs.Prelude.{◌≡◌, ◌≢◌, ◌<◌, ◌+◌, ℕ, Some, None, Ok, Err, IfOk, IfSome, OnErr, length};
 ghost use Rattle.scheduler_core.specs.declared.event.Event.{Event as AnyEvent};
 ghost use Rattle.scheduler_core.specs.declared.event.StepAnswer.{StepAnswer as AnyAnswer};
 ghost use Rattle.scheduler_core.specs.Phases.{phase_of};

@@ -1,6 +1,6 @@
 //! The scheduler.
 
-ghost use Rattle.std.specs.Prelude.{◌≡◌, ◌↔◌, ◌<◌, ◌≤◌, ◌+◌, ◌-◌, ◌^◌, ℕ, true, false, [], ◌∷◌, ◌++◌, length, map, option_map, Some, None, Ok, Err, IfOk, IfErr, IfSome, OnOk, OnErr, is_some, slice_get, slice_set};
+ghost use Rattle.std.specs.Prelude.{◌≡◌, ◌↔◌, ◌<◌, ◌≤◌, ◌+◌, ◌-◌, ◌^◌, true, false, [], ◌∷◌, ◌++◌, length, None, Ok, Err, IfOk, IfErr, IfSome, OnOk, OnErr, slice_set};
 ghost use Rattle.std.specs.FinMap as finite;
 ghost use Rattle.scheduler_core.specs.Events.{enabled};
 ghost use Rattle.scheduler_core.specs.Choices.{IsLeastLend};

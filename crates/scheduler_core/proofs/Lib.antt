@@ -16,6 +16,7 @@ pub mod EventLists
 pub mod NextSteps
 pub mod Listed
 pub mod Progress
+pub mod GoingOn
 pub mod Places
 pub mod Room
 pub mod RunOnShown

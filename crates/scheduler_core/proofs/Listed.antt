@@ -1,7 +1,9 @@
 -- The list of the enabled events.
-use Rattle.std.proofs.Common.{◌≡◌, ◌↔◌, ℕ, ◌≤◌, inl, inr, ◌==◌, true, false, List, [], ◌∷◌, length, Option, None, Some, refl, sym, ap, subst, arith, slice_get}
+use Rattle.std.proofs.Common.{◌≡◌, ◌↔◌, ℕ, ◌≤◌, inl, inr, ◌==◌, Bool, true, false, cond, List, [], ◌∷◌, length, Option, None, Some, refl, sym, ap, subst, arith, slice_get}
+use Rattle.std.specs.Prelude.{filter}
 use Rattle.std.specs.List.{Contains, list_all}
 use Rattle.std.proofs.lemmas.List.Kept.{AllPairs-filter}
+use Rattle.std.proofs.Math.Nat.{zero-mod}
 use Rattle.lock_tree.specs.Laws.{FirstReady}
 use Rattle.scheduler_core.specs.declared.event.Event.{Event}
 use Rattle.scheduler_core.specs.declared.event.Event.TheVariants.{Admit, Lend, Run, Settle}
@@ -10,14 +12,14 @@ use Rattle.scheduler_core.specs.declared.phase.Phase.TheVariants.{Idle, Out, Ran
 use Rattle.scheduler_core.specs.Transactions.{Transaction}
 use Rattle.scheduler_core.specs.Phases.{is_settled, is_done, phase_of}
 use Rattle.scheduler_core.specs.Events.{waiting, has_room, enabled}
-use Rattle.scheduler_core.specs.Choices.{next_steps, enabled_events, chosen, number_of, IsBefore, ListsEnabled}
-use Rattle.scheduler_core.specs.Laws.{FitIn, EnabledEventsAreListed}
+use Rattle.scheduler_core.specs.Choices.{next_steps, first_step, next_event, enabled_events, chosen, number_of, IsBefore, ListsEnabled}
+use Rattle.scheduler_core.specs.Laws.{FitIn, EnabledEventsAreListed, FirstChoice}
 use Rattle.scheduler_core.proofs.Lists.{cases, both, true_false, none_some, get_past, contains_first, contains_later, not_in_nothing, each_passes}
 use Rattle.scheduler_core.proofs.Numbers.{numbers_same, placed}
 use Rattle.scheduler_core.proofs.PhaseTests.{lent_is, ran_is}
 use Rattle.scheduler_core.proofs.Readies.{lend_from}
 use Rattle.scheduler_core.proofs.EventLists.{filter_passes, filter_keeps, nothing_in, chosen_there, chosen_none, one_order, before_not_both}
-use Rattle.scheduler_core.proofs.NextSteps.{step_there, admit_first, never_stuck}
+use Rattle.scheduler_core.proofs.NextSteps.{step_there, admit_first, never_stuck, unfinished_next}
 
 module _ (nodes first : ℕ) (log : List Transaction) (phases : List Phase) where
   -- what is enabled is a next step
@@ -89,6 +91,32 @@ module _ (nodes first : ℕ) (log : List Transaction) (phases : List Phase) wher
         λ none. listed_none.0 (chosen_none n (enabled_events nodes first log phases) none),
         λ done. ap (chosen n) (listed_none.1 done),
       )
+
+  zeroth : (event : Event) (events : List Event) → chosen 0 (event ∷ events) ≡ Some event
+  zeroth event events = ap (λ (n : ℕ). slice_get (event ∷ events) n) (zero-mod (length (event ∷ events)))
+
+  admits_first : enabled nodes first log phases Admit ≡ true → chosen 0 (enabled_events nodes first log phases) ≡ Some Admit
+  admits_first can = rw can (zeroth Admit (filter (enabled nodes first log phases) (next_steps first phases)))
+
+  -- where Admit is not enabled, the first of the next steps is
+  steps_first : (events : List Event) → enabled nodes first log phases Admit ≡ false → enabled nodes first log phases (first_step events) ≡ true
+      → chosen 0 (filter (enabled nodes first log phases) events) ≡ Some (first_step events)
+  steps_first [] cannot can = absurd (true_false (enabled nodes first log phases Admit) can cannot)
+  steps_first (event ∷ events) cannot can = rw can (zeroth event (filter (enabled nodes first log phases) events))
+
+  chosen_unadmitted : FirstReady → length phases ≤ length log → FitIn nodes log → enabled nodes first log phases Admit ≡ false
+      → (b : Bool) → is_done log phases ≡ b → chosen 0 (enabled_events nodes first log phases) ≡ cond b None (Some (first_step (next_steps first phases)))
+  chosen_unadmitted first_ready within fit cannot true done = (none_chosen first_ready 0 within fit).1 done
+  chosen_unadmitted first_ready within fit cannot false unfinished =
+      rw cannot (steps_first (next_steps first phases) cannot (unfinished_next first_ready nodes first log phases within fit unfinished).0)
+
+  chosen_by : FirstReady → length phases ≤ length log → FitIn nodes log → (b : Bool) → enabled nodes first log phases Admit ≡ b
+      → chosen 0 (enabled_events nodes first log phases) ≡ cond b (Some Admit) (next_event first log phases)
+  chosen_by first_ready within fit true can = admits_first can
+  chosen_by first_ready within fit false cannot = chosen_unadmitted first_ready within fit cannot (is_done log phases) refl
+
+pub first_chosen : FirstReady → FirstChoice
+first_chosen first_ready nodes first log phases within fit = chosen_by nodes first log phases first_ready within fit (enabled nodes first log phases Admit) refl
 
 pub all_listed : FirstReady → EnabledEventsAreListed
 all_listed first_ready = record {

@@ -243,7 +243,7 @@ module _ (first_ready : FirstReady) (nodes first : ℕ) (log : List Transaction)
         true_false (is_settled (Some p)) (each_passes (λ q. is_settled (Some q)) phases place p h.every at) unsettled)
   ]
 
-  unfinished_next : length phases ≤ length log → FitIn nodes log → is_done log phases ≡ false
+  pub unfinished_next : length phases ≤ length log → FitIn nodes log → is_done log phases ≡ false
       → (enabled nodes first log phases (first_step (next_steps first phases)) ≡ true) × IsLeastOpen first phases (number_of (first_step (next_steps first phases)))
   unfinished_next within fit unfinished = elim (first_of first log phases within) [
     | inl rested ↦

@@ -1,5 +1,5 @@
 -- How far all transactions are, and how many steps were made.
-use Rattle.std.proofs.Common.{◌≡◌, ℕ, zero, suc, ◌+◌, ◌*◌, ◌==◌, true, cond, List, [], ◌∷◌, ◌++◌, length, Some, refl, ◌∙◌, ap, arith, slice_get, slice_set}
+use Rattle.std.proofs.Common.{◌≡◌, ℕ, zero, suc, ◌+◌, ◌*◌, ◌≤◌, ◌==◌, true, cond, List, [], ◌∷◌, ◌++◌, length, Some, refl, ◌∙◌, ap, arith, slice_get, slice_set}
 use Rattle.std.specs.Prelude.{count_by}
 use Rattle.std.specs.List.{list_all}
 use Rattle.std.proofs.lemmas.List.Sums.{sum_by-cons}
@@ -81,7 +81,7 @@ module _ (nodes first : ℕ) (log : List Transaction) where
       let (place, numbered, is, is_ready) = lend_from nodes first log phases number can in
       ap progress (ap (λ (n : ℕ). with_number first phases n Out) numbered ∙ with_place first phases place Out) ∙ raised phases place Idle Out is refl
 
-  one_further : (phases : List Phase) (event : Event) → enabled nodes first log phases event ≡ true → progress (step first phases event) ≡ progress phases + 1
+  pub one_further : (phases : List Phase) (event : Event) → enabled nodes first log phases event ≡ true → progress (step first phases event) ≡ progress phases + 1
   unfolding far
   one_further phases Admit can = pushed phases
   one_further phases (Lend number) can = lent_further phases number can
@@ -119,6 +119,18 @@ four_steps nodes first log new events answers played done =
     let all : progress new ≡ 4 * length new = four_each new parts.1 in
     let made : progress new ≡ 0 + count_by is_made answers = made_count nodes first log [] new events answers played in
     omega (arith, same, all, made)
+
+one_most : (p : Phase) → far p ≤ 4
+unfolding far
+one_most Idle = omega arith
+one_most Out = omega arith
+one_most Ran = omega arith
+one_most Settled = omega arith
+
+pub progress_most : (phases : List Phase) → progress phases ≤ 4 * length phases
+progress_most [] = omega arith
+progress_most (p ∷ phases) =
+    let rest = progress_most phases in let one = further p phases in let most = one_most p in omega (arith, rest, one, most)
 
 pub four_steps_each : FourStepsEach
 four_steps_each = record { counted = made_count; four = four_steps }

@@ -216,7 +216,25 @@ pub record EnabledEventsAreListed : Type 0 where
   pub no_choice : (nodes first : ℕ) (log : List Transaction) (phases : List Phase) (n : ℕ) → length phases ≤ length log → FitIn nodes log
       → (chosen n (enabled_events nodes first log phases) ≡ None) ↔ (is_done log phases ≡ true)
 
+-- choice 0 is to admit where that is enabled, and else the next event
+abbrev pub FirstChoice : Type 0
+FirstChoice =
+    (nodes first : ℕ) (log : List Transaction) (phases : List Phase) → length phases ≤ length log → FitIn nodes log
+    → chosen 0 (enabled_events nodes first log phases) ≡ (if enabled nodes first log phases Admit then Some Admit else next_event first log phases)
+
 -- ---- four steps a transaction
+
+-- an enabled event: it brings the state one step further, admits no more than the log has, and what is settled stays settled
+pub record GoesOn (log : List Transaction) (old new : List Phase) : Type 0 where
+  pub further : progress new ≡ progress old + 1
+  pub within : length old ≤ length log → length new ≤ length log
+  pub settled_stays : (place : ℕ) → is_settled (slice_get old place) ≡ true → is_settled (slice_get new place) ≡ true
+
+pub record EachStepGoesOn : Type 0 where
+  pub goes_on : (nodes first : ℕ) (log : List Transaction) (phases : List Phase) (event : Event)
+      → enabled nodes first log phases event ≡ true → GoesOn log phases (step first phases event)
+  -- four steps a transaction are the most
+  pub most : (phases : List Phase) → progress phases ≤ 4 * length phases
 
 pub record FourStepsEach : Type 0 where
   -- as many answers are Made as the state got further

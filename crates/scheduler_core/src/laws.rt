@@ -1,6 +1,6 @@
 //! Laws of the core, as contracts of functions that do nothing.
 
-ghost use Rattle.scheduler_core.specs.Laws.{SerialRunByPlaces, EveryRunIsSerial, EnabledCanBeMade, MachineFollowsSteps, RunOnShownRows, RowsAreSerial, AdmittedAndUnsettledWait, EventsByPlaces, OnePlay, RoomIsKept, NoStuckState, NextEventIsEnabled, EnabledEventsAreListed, FourStepsEach};
+ghost use Rattle.scheduler_core.specs.Laws.{SerialRunByPlaces, EveryRunIsSerial, EnabledCanBeMade, MachineFollowsSteps, RunOnShownRows, RowsAreSerial, AdmittedAndUnsettledWait, EventsByPlaces, OnePlay, RoomIsKept, NoStuckState, NextEventIsEnabled, EnabledEventsAreListed, FirstChoice, EachStepGoesOn, FourStepsEach};
 
 use coarsen::{clashes_are_either_way, locked_rows_conflict};
 use lock_tree::{first_ready, ready_apart};
@@ -96,6 +96,19 @@ pub fn enabled_events_are_listed()
 {
     first_ready();
 }
+
+/// Choice 0 is to admit where that is enabled, and else the next event.
+pub fn first_choice()
+    ensures { FirstChoice }
+{
+    first_ready();
+}
+
+/// Each enabled event brings the state one step further, and what is settled stays settled. Four steps a transaction are the
+/// most.
+pub fn each_step_goes_on()
+    ensures { EachStepGoesOn }
+{}
 
 /// From the start to the end there are four steps a transaction, if none is taken back.
 pub fn four_steps_each()

@@ -1,5 +1,7 @@
 -- What a batch holds.
-use Rattle.std.specs.Prelude.{ℕ, ◌+◌, List, [], ◌∷◌}
+use Rattle.std.specs.Prelude.{◌≡◌, ℕ, ◌+◌, List, [], ◌∷◌}
+use Rattle.std.specs.List.{AllByRecursion}
+use Rattle.values.specs.Shapes.{TableShape}
 use Rattle.proclang.specs.Requests.{Call}
 use Rattle.sequencer.specs.declared.batch.Item.{Item}
 use Rattle.sequencer.specs.declared.batch.Batch.{Batch}
@@ -11,3 +13,7 @@ items_of batch = batch.items.items
 abbrev pub items_from : ℕ → List Call → List Item
 items_from number [] = []
 items_from number (request ∷ requests) = record { client = 0; number = number; request = request } ∷ items_from (number + 1) requests
+
+-- each request is of a procedure over those tables
+abbrev pub AreOver : List TableShape → List Item → Type 0
+AreOver tables items = AllByRecursion (λ item. item.request.proc.tables ≡ tables) items

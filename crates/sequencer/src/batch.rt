@@ -1,11 +1,14 @@
 //! Batches of requests.
 
-ghost use Rattle.std.specs.Prelude.{◌≡◌, ◌<◌, ◌↔◌, IfOk, Err, length};
-ghost use Rattle.sequencer.specs.Batches.{items_from};
+ghost use Rattle.std.specs.Prelude.{◌≡◌, ◌<◌, ◌≤◌, ◌↔◌, List, IfOk, Err, length};
+ghost use Rattle.std.specs.List.{AllByRecursion};
+ghost use Rattle.values.specs.Shapes.{TableShape};
+ghost use Rattle.sequencer.specs.Batches.{items_from, AreOver};
 
 use proclang::Request;
 use std::alloc::Global;
 use thiserror::Error;
+use values::NoMemory;
 
 /// The most requests that a batch has.
 const MOST_REQUESTS: usize = 4096;
@@ -31,6 +34,24 @@ pub enum BatchFault {
     NoMemory,
 }
 
+/// Requests as items, of client 0 and with numbers from 0.
+fn numbered(alloc: Global, requests: Vec<Request>) -> Result<Vec<Item>, NoMemory>
+    requires { length requests.items ≤ 4096 }
+    ensures { IfOk result (λ items. items.items ≡ items_from 0 requests.items) }
+{
+    let mut items = Vec::new(alloc);
+    let mut number = 0;
+    for request in requests {
+        items.push(Item {
+            client: 0,
+            number,
+            request,
+        })?;
+        number += 1;
+    }
+    Ok(items)
+}
+
 /// Requests that are run together, in their order: at most 4,096.
 #[derive(Drop)]
 pub struct Batch {
@@ -43,25 +64,17 @@ impl Batch {
     /// The batch of these requests, of client 0 and with numbers from 0.
     pub fn of(alloc: Global, requests: Vec<Request>) -> Result<Batch, BatchFault>
         ensures items { IfOk result (λ batch. items_of batch ≡ items_from 0 requests.items) }
+        // What holds of each request's tables holds of each item's.
+        ensures over { IfOk result (λ batch. (tables : List TableShape) → AllByRecursion (λ request. request.proc.tables ≡ tables) requests.items → AreOver tables (items_of batch)) }
         ensures too_long { (result ≡ Err BatchFault.TooLong) ↔ (4096 < length requests.items) }
     {
         if requests.len() > MOST_REQUESTS {
             return Err(BatchFault::TooLong);
         }
-        let mut items = Vec::new(alloc);
-        let mut number = 0;
-        for request in requests {
-            let item = Item {
-                client: 0,
-                number,
-                request,
-            };
-            if items.push(item).is_err() {
-                return Err(BatchFault::NoMemory);
-            }
-            number += 1;
+        match numbered(alloc, requests) {
+            Ok(items) => Ok(Batch { items }),
+            Err(NoMemory) => Err(BatchFault::NoMemory),
         }
-        Ok(Batch { items })
     }
 
     /// The requests in order, each with its client and its number.

@@ -6,7 +6,7 @@ ghost use Rattle.footprint.specs.OfCatalogue.{IsFootprintOf};
 ghost use Rattle.meaning.specs.Entries.{footprint_of};
 ghost use Rattle.interp.specs.Entries.{entry_shape, footing_shape};
 ghost use Rattle.interp.specs.Over.{locked_for, IsEntryOver, AreEntriesOver};
-ghost use Rattle.sequencer.specs.Batches.{items_of};
+ghost use Rattle.sequencer.specs.Batches.{items_of, AreOver};
 ghost use Rattle.sequencer.specs.Entries.{prepared};
 
 use crate::batch::Batch;
@@ -49,7 +49,7 @@ pub fn prepare<V: RowView>(
     _procs: &Procs,
     _view: &V,
 ) -> Result<Vec<Entry>, NoMemory>
-    requires { AllByRecursion (λ item. item.request.proc.tables ≡ catalogue.now) (items_of batch.now) }
+    requires { AreOver catalogue.now (items_of batch.now) }
     // Each entry is over the tables of the catalogue.
     ensures tables { IfOk result (λ entries. AllByRecursion (λ entry. entry.request.proc.tables ≡ catalogue.now) entries.items) }
     // And so is its footprint.

@@ -4,7 +4,7 @@ use crate::{Setup, SetupFault, read_setup};
 use std::alloc::Global;
 use std::process::Abort;
 use std::test::Fail;
-use values::Value;
+use values::{Text, Value};
 
 const CATALOGUE: &str = r#"["catalogue",1,[["acct",2,[["bal","int"]]],["ref",1,[["to","int"]]]]]"#;
 
@@ -111,6 +111,51 @@ fn rows(rt: HostRuntime) -> Result<(), Fail> {
     for (rows, want) in table {
         let found = outcome(alloc, read(alloc, CATALOGUE, PROCS, rows)?)?;
         assert_eq!(rt; found.as_str(), want, "{rows}");
+    }
+    Ok(())
+}
+
+/// A table with a text and a number a row.
+const NOTES: &str = r#"["catalogue",1,[["note",1,[["s","text"],["n","int"]]]]]"#;
+
+const NO_PROCS: &str = r#"["procs",1,[]]"#;
+
+#[test]
+fn rows_with_texts(rt: HostRuntime) -> Result<(), Fail> {
+    let alloc = rt.alloc();
+    let mut long = String::new(alloc);
+    for _ in 0..64 {
+        long.push_str("a")?;
+    }
+    let fits = format!(in alloc; r#"["rows",1,[["note",1,["{long}",7]]]]"#)?;
+    let longer = format!(in alloc; r#"["rows",1,[["note",1,["{long}b",7]]]]"#)?;
+    let table = [
+        (
+            r#"["rows",1,[["note",1,["hi",7]],["note",2,["",-7]]]]"#,
+            "ok",
+        ),
+        (fits.as_str(), "ok"),
+        (longer.as_str(), "fault 45"),
+        (r#"["rows",1,[["note",1,["hi","7"]]]]"#, "fault 45"),
+        (r#"["rows",1,[["note",1,[7,7]]]]"#, "fault 45"),
+        (r#"["rows",1,[["note",1,[7,"hi"]]]]"#, "fault 45"),
+        (r#"["rows",1,[["note",1,["hi"]]]]"#, "fault 45"),
+        (r#"["rows",1,[["note",1,[null,7]]]]"#, "fault 45"),
+        (
+            r#"["rows",1,[["note",1,["hi",7]],["note",1,["hi",7]]]]"#,
+            "fault 46",
+        ),
+    ];
+    for (rows, want) in table {
+        let found = outcome(alloc, read(alloc, NOTES, NO_PROCS, rows)?)?;
+        assert_eq!(rt; found.as_str(), want, "{rows}");
+    }
+    let rows = r#"["rows",1,[["note",1,["hi",7]]]]"#;
+    let setup = read(alloc, NOTES, NO_PROCS, rows)??;
+    for (_, _, row) in setup.rows.iter() {
+        let hi = Value::Text(Text::new(alloc, "hi")?);
+        assert_eq!(rt; row.get(0), Some(&hi));
+        assert_eq!(rt; row.get(1), Some(&Value::Int(7)));
     }
     Ok(())
 }

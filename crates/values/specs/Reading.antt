@@ -9,7 +9,7 @@ use Rattle.documents.specs.Reading.{◌>>=◌, formed, rule, each_at}
 use Rattle.values.specs.declared.fault.CatalogueFault.{CatalogueFault}
 use Rattle.values.specs.declared.fault.CatalogueFault.TheVariants.{Shape, DuplicateName, BadName, NoColumn, Limit, Memory}
 use Rattle.values.specs.declared.value.ColType.{ColType}
-use Rattle.values.specs.declared.value.ColType.TheVariants.{Int}
+use Rattle.values.specs.declared.value.ColType.TheVariants.{Int, Text}
 use Rattle.values.specs.declared.table.Table.{Table}
 use Rattle.values.specs.Names.{is_name}
 use Rattle.values.specs.Shapes.{ColumnShape, TableShape, columns_shape}
@@ -22,7 +22,9 @@ is_memory e = false
 
 -- the type that a word stands for
 abbrev pub type_of_word : List ℕ → Option ColType
-type_of_word s = if bytes_eq s (codes "int") then Some Int else None
+type_of_word s =
+    if bytes_eq s (codes "int") then Some Int else
+    (if bytes_eq s (codes "text") then Some Text else None)
 
 -- a name and a type
 unfoldable pub column_form : Data → Option (List ℕ × ColType)

@@ -13,6 +13,7 @@ fn type_of_word(word: &str) -> Option<ColType>
 {
     match word {
         "int" => Some(ColType::Int),
+        "text" => Some(ColType::Text),
         _ => None,
     }
 }

@@ -37,6 +37,13 @@ impl Key {
         }
     }
 
+    /// The least key.
+    pub fn zero() -> Key
+        ensures { result ≡ 0 }
+    {
+        Key { number: 0 }
+    }
+
     /// The key's number.
     pub fn number(&self) -> u64
         ensures same { result ≡ self.now }

@@ -55,6 +55,7 @@ fn keys_are_in_partitions(rt: HostRuntime) -> Result<(), Fail> {
         }
     }
     assert_eq!(rt; (Key::new(-1), Key::new(i64::MIN)), (None, None));
+    assert_eq!(rt; Key::zero().number(), 0);
     Ok(())
 }
 
@@ -88,27 +89,42 @@ fn partitions_have_numbers(rt: HostRuntime) -> Result<(), Fail> {
     Ok(())
 }
 
+/// Which of its two tables the catalogue says to take the values of a document.
+fn taken(alloc: Global, catalogue: &Catalogue, text: &str) -> Result<[bool; 2], Fail> {
+    let mut taken = [false, false];
+    if let Json::Array(documents) = Json::from_str(alloc, text)? {
+        if let Some(values) = read_values(alloc, documents.as_slice())? {
+            for (place, takes) in taken.iter_mut().enumerate() {
+                if place < catalogue.len() {
+                    *takes = catalogue.takes(TableNo::new(place), values.as_slice());
+                }
+            }
+        }
+    }
+    Ok(taken)
+}
+
 #[test]
 fn tables_take_values_of_their_columns(rt: HostRuntime) -> Result<(), Fail> {
     let alloc = rt.alloc();
-    let catalogue = Catalogue::read(alloc, &Json::from_str(alloc, BANK)?)?;
+    let document =
+        r#"["catalogue",1,[["acct",2,[["bal","int"]]],["note",1,[["at","int"],["s","text"]]]]]"#;
+    let catalogue = Catalogue::read(alloc, &Json::from_str(alloc, document)?)?;
     assert!(rt; catalogue.len() == 2);
-    for (text, is_taken) in [
-        ("[7]", true),
-        ("[]", false),
-        ("[7,8]", false),
-        (r#"["ab"]"#, false),
+    let note = TableNo::new(1);
+    assert_eq!(rt; catalogue.column_type(note, 0), Some(ColType::Int));
+    assert_eq!(rt; catalogue.column_type(note, 1), Some(ColType::Text));
+    for (text, want) in [
+        ("[7]", [true, false]),
+        ("[]", [false, false]),
+        ("[7,8]", [false, false]),
+        (r#"["ab"]"#, [false, false]),
+        (r#"[7,"ab"]"#, [false, true]),
+        (r#"[7,""]"#, [false, true]),
+        (r#"["ab",7]"#, [false, false]),
+        (r#"["ab","ab"]"#, [false, false]),
     ] {
-        let Json::Array(documents) = Json::from_str(alloc, text)? else {
-            continue;
-        };
-        match read_values(alloc, documents.as_slice())? {
-            Some(values) => {
-                let takes = catalogue.takes(TableNo::new(0), values.as_slice());
-                assert_eq!(rt; takes, is_taken, "{text}");
-            }
-            None => assert!(rt; false, "{text}"),
-        }
+        assert_eq!(rt; taken(alloc, &catalogue, text)?, want, "{text}");
     }
     Ok(())
 }
@@ -173,6 +189,9 @@ fn wrong_columns(rt: HostRuntime) -> Result<(), Fail> {
     let table = [
         (r#"["acct",1,["bal"]]"#, "fault 1"),
         (r#"["acct",1,[["bal","bool"]]]"#, "fault 1"),
+        (r#"["acct",1,[["bal","Text"]]]"#, "fault 1"),
+        (r#"["acct",1,[["bal","text"]]]"#, "ok"),
+        (r#"["acct",1,[["bal","text"],["bal","int"]]]"#, "fault 2"),
         (r#"["acct",1,[["bal","int"],["bal","int"]]]"#, "fault 2"),
         (
             r#"["acct",1,[["bal","int"]]],["ref",1,[["bal","int"]]]"#,

@@ -33,7 +33,7 @@ const PROCEDURES: &str = r#"["procs",1,[
 
 /// The entry of a call, with the footing that its procedure declares.
 #[tactic(auto, using(crate::proofs::Named::named_over))]
-fn entry_of(
+pub(super) fn entry_of(
     alloc: Global,
     catalogue: &Catalogue,
     procs: &Procs,
@@ -53,7 +53,7 @@ fn entry_of(
 }
 
 /// Runs an entry on the rows that it may touch.
-fn run_entry(alloc: Global, bank: &Bank, entry: &Entry) -> Result<Effect, NoMemory>
+pub(super) fn run_entry(alloc: Global, bank: &Bank, entry: &Entry) -> Result<Effect, NoMemory>
     requires { entry.now.request.proc.tables ≡ bank.now.catalogue }
 {
     let nothing = Footprint::new(alloc);

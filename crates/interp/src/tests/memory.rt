@@ -1,6 +1,6 @@
 //! Rows in memory.
 
-ghost use Rattle.std.specs.Prelude.{◌≡◌, ◌<◌, ◌^◌, option_copied};
+ghost use Rattle.std.specs.Prelude.{◌≡◌, option_copied};
 ghost use Rattle.std.specs.FinMap as map;
 
 use footprint::{Footprint, Right};
@@ -9,8 +9,11 @@ use meaning::Ending;
 use std::collections::BTreeMap;
 use values::{Catalogue, Key, Row, RowName, TableNo};
 
+/// The keys below which there are rows.
+const KEYS: u64 = 64;
+
 /// Rows in memory, of which the names that a footprint covers are shown. It refuses any other name: it answers as if there
-/// were no row. A place without a row counts as no row.
+/// were no row. A place without a row counts as no row, and so does each at a key of 64 or more.
 #[derive(Clone, Copy)]
 pub struct Shown<'a> {
     pub catalogue: &'a Catalogue,
@@ -24,9 +27,11 @@ impl Shown<'_> {
     /// The row with the key of that number.
     #[tactic(auto, using(crate::proofs::Memory::get_rows_in))]
     fn at(&self, table: TableNo, number: u64) -> Option<&Row>
-        requires { number < 2 ^ 63 }
         ensures { option_copied result ≡ map.get (rows_in self.now.rows.now.entries) (record { table = table; key = number }) }
     {
+        if number >= KEYS {
+            return None;
+        }
         let key = Key::new(number as i64)?;
         match self.rows.get(&RowName::new(table, key)) {
             Some(row) => row.as_ref(),
@@ -64,7 +69,7 @@ impl RowView for Shown<'_> {
             Some(key) => key.number() + 1,
             None => 0,
         };
-        for number in first..1 << 63 {
+        for number in first..KEYS {
             let key = Key::new(number as i64)?;
             if part_of(self.catalogue, table, key) == part {
                 if let Some(row) = self.at(table, number) {

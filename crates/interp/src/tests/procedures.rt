@@ -1,6 +1,6 @@
 //! A bank of accounts and references, and the bodies of its procedures.
 
-use proclang_types::{BoolExpr, IntExpr, Stmt, TextExpr, ValueExpr};
+use proclang_types::{BoolExpr, Comparison, IntExpr, IntOperator, Stmt, TextExpr, ValueExpr};
 use serde_json::Value as Document;
 use std::alloc::Global;
 use std::test::Fail;
@@ -41,14 +41,16 @@ fn put(table: usize, key: usize, value: IntExpr) -> Stmt {
 }
 
 fn difference(alloc: Global, left: usize, right: usize) -> Result<IntExpr, NoMemory> {
-    Ok(IntExpr::Subtract(
+    Ok(IntExpr::Binary(
+        IntOperator::Subtract,
         Box::new(alloc, IntExpr::Variable(left))?,
         Box::new(alloc, IntExpr::Variable(right))?,
     ))
 }
 
 fn sum(alloc: Global, left: usize, right: usize) -> Result<IntExpr, NoMemory> {
-    Ok(IntExpr::Add(
+    Ok(IntExpr::Binary(
+        IntOperator::Add,
         Box::new(alloc, IntExpr::Variable(left))?,
         Box::new(alloc, IntExpr::Variable(right))?,
     ))
@@ -65,7 +67,11 @@ pub fn pay(alloc: Global) -> Result<Vec<Stmt>, NoMemory> {
     body.push(get(x, IntExpr::Variable(from)))?;
     body.push(get(y, IntExpr::Variable(to)))?;
     body.push(Stmt::If {
-        test: BoolExpr::Less(IntExpr::Variable(x), IntExpr::Variable(amount)),
+        test: BoolExpr::CompareInts(
+            Comparison::Less,
+            IntExpr::Variable(x),
+            IntExpr::Variable(amount),
+        ),
         first: vec![in alloc; Stmt::Abort(100)]?,
         second: Vec::new(alloc),
     })?;
@@ -132,7 +138,7 @@ pub fn replies_in_blocks(
     let mut body = repeated_reply(alloc, replies, 0)?;
     for _ in 0..blocks {
         body.push(Stmt::If {
-            test: BoolExpr::Less(IntExpr::Number(0), IntExpr::Number(1)),
+            test: BoolExpr::CompareInts(Comparison::Less, IntExpr::Number(0), IntExpr::Number(1)),
             first: repeated_reply(alloc, replies_in_each, 0)?,
             second: Vec::new(alloc),
         })?;

@@ -1,16 +1,17 @@
 use Rattle.std.proofs.Common.{◌≡◌, ◌∙◌, ap, length, map}
+use Rattle.proclang.specs.ProcLists.{ProcsParts}
 use Rattle.meaning.specs.Serial.{serial_replies}
 use Rattle.sequencer.specs.Entries.{prepared}
 use Rattle.report_text.specs.Report.{batch_text, reply_lines}
-use Rattle.calvin.specs.Engines.{tables_of, rows_of, next_of}
+use Rattle.engine.specs.Engines.{tables_of}
 use Rattle.calvin.specs.Hashers.{batch_of}
 use Rattle.calvin.specs.Transcripts.{said_lines, with_batch_line}
-use Rattle.calvin.proofs.Runs.{batch_over, held_fault}
+use Rattle.calvin.proofs.Runs.{held_fault}
 use Rattle.calvin.proofs.Lines.{lines_are, next_is, requests_count, rows_are, text_is}
 use Rattle.calvin.proofs.running.run_batch.Goals as goal
 
 pub execute-requires-after_bounds : goal.execute-requires-after_bounds
-execute-requires-after_bounds g c κs within = batch_over (tables_of c.args.engine.now) c.args.requests.items c.in-Ok.batch c.in-Ok.ensures.items c.requires.tables
+execute-requires-after_bounds g c κs within = c.in-Ok.ensures.over (tables_of c.args.engine.now) c.requires.tables
 
 pub returns-in-Ok-write_batch-clause-rows : goal.returns-in-Ok-write_batch-clause-rows
 returns-in-Ok-write_batch-clause-rows g c = rows_are _ _ c.in-Ok.batch c.in-Ok-execute.done c.args.requests.items c.in-Ok-execute.ensures.done c.in-Ok.ensures.items
@@ -20,37 +21,37 @@ returns-in-Ok-write_batch-clause-next g c = next_is _ _ c.in-Ok.batch c.in-Ok-ex
 
 pub returns-in-Ok-write_batch-clause-said : goal.returns-in-Ok-write_batch-clause-said
 returns-in-Ok-write_batch-clause-said g c = λ m h.
-    let lines : said_lines c.deref.result.now ≡ reply_lines (next_of c.args.engine.now) (serial_replies (map prepared c.args.requests.items) (rows_of c.args.engine.now)) =
+    let lines : said_lines c.deref.result.now ≡ reply_lines c.args.engine.now.next (serial_replies (map prepared c.args.requests.items) c.args.engine.now.rows) =
     ap said_lines c.deref.ensures.value ∙ lines_are _ _ c.in-Ok.batch c.in-Ok-execute.done c.args.requests.items c.in-Ok-execute.ensures.done c.in-Ok.ensures.items in
     rw (← lines) (c.in-Ok-write_batch.ensures.said m h)
 
 pub returns-in-Ok-write_batch-clause-text : goal.returns-in-Ok-write_batch-clause-text
 returns-in-Ok-write_batch-clause-text g c =
-    let lines : said_lines c.deref.result.now ≡ reply_lines (next_of c.args.engine.now) (serial_replies (map prepared c.args.requests.items) (rows_of c.args.engine.now)) =
+    let lines : said_lines c.deref.result.now ≡ reply_lines c.args.engine.now.next (serial_replies (map prepared c.args.requests.items) c.args.engine.now.rows) =
     ap said_lines c.deref.ensures.value ∙ lines_are _ _ c.in-Ok.batch c.in-Ok-execute.done c.args.requests.items c.in-Ok-execute.ensures.done c.in-Ok.ensures.items in
     let text : with_batch_line (batch_of c.args.transcript.now) c.rows.result.now.tables c.rows.result.now.rows (said_lines c.deref.result.now)
-    ≡ batch_text (tables_of c.args.engine.now) (batch_of c.args.transcript.now) (next_of c.args.engine.now) (rows_of c.args.engine.now) (map prepared c.args.requests.items) =
-    text_is _ _ _ _ _ _ _ _ (c.rows.ensures.tables ∙ c.in-Ok-execute.ensures.same.tables)
+    ≡ batch_text (tables_of c.args.engine.now) (batch_of c.args.transcript.now) c.args.engine.now.next c.args.engine.now.rows (map prepared c.args.requests.items) =
+    text_is _ _ _ _ _ _ _ _ (c.rows.ensures.tables ∙ ap (λ (p : ProcsParts). p.tables) c.in-Ok-execute.ensures.same.procs)
     (c.rows.ensures.rows ∙ rows_are _ _ c.in-Ok.batch c.in-Ok-execute.done c.args.requests.items c.in-Ok-execute.ensures.done c.in-Ok.ensures.items) lines in
     rw (← text) c.in-Ok-write_batch.ensures.text
 
 pub returns-in-Ok-write_batch-clause-front : goal.returns-in-Ok-write_batch-clause-front
 returns-in-Ok-write_batch-clause-front g c =
-    let lines : said_lines c.deref.result.now ≡ reply_lines (next_of c.args.engine.now) (serial_replies (map prepared c.args.requests.items) (rows_of c.args.engine.now)) =
+    let lines : said_lines c.deref.result.now ≡ reply_lines c.args.engine.now.next (serial_replies (map prepared c.args.requests.items) c.args.engine.now.rows) =
     ap said_lines c.deref.ensures.value ∙ lines_are _ _ c.in-Ok.batch c.in-Ok-execute.done c.args.requests.items c.in-Ok-execute.ensures.done c.in-Ok.ensures.items in
     let text : with_batch_line (batch_of c.args.transcript.now) c.rows.result.now.tables c.rows.result.now.rows (said_lines c.deref.result.now)
-    ≡ batch_text (tables_of c.args.engine.now) (batch_of c.args.transcript.now) (next_of c.args.engine.now) (rows_of c.args.engine.now) (map prepared c.args.requests.items) =
-    text_is _ _ _ _ _ _ _ _ (c.rows.ensures.tables ∙ c.in-Ok-execute.ensures.same.tables)
+    ≡ batch_text (tables_of c.args.engine.now) (batch_of c.args.transcript.now) c.args.engine.now.next c.args.engine.now.rows (map prepared c.args.requests.items) =
+    text_is _ _ _ _ _ _ _ _ (c.rows.ensures.tables ∙ ap (λ (p : ProcsParts). p.tables) c.in-Ok-execute.ensures.same.procs)
     (c.rows.ensures.rows ∙ rows_are _ _ c.in-Ok.batch c.in-Ok-execute.done c.args.requests.items c.in-Ok-execute.ensures.done c.in-Ok.ensures.items) lines in
     rw (← text) c.write_batch.ensures.front
 
 pub returns-clause-front : goal.returns-clause-front
 returns-clause-front g c =
-    let lines : said_lines c.deref.result.now ≡ reply_lines (next_of c.args.engine.now) (serial_replies (map prepared c.args.requests.items) (rows_of c.args.engine.now)) =
+    let lines : said_lines c.deref.result.now ≡ reply_lines c.args.engine.now.next (serial_replies (map prepared c.args.requests.items) c.args.engine.now.rows) =
     ap said_lines c.deref.ensures.value ∙ lines_are _ _ c.in-Ok.batch c.in-Ok-execute.done c.args.requests.items c.in-Ok-execute.ensures.done c.in-Ok.ensures.items in
     let text : with_batch_line (batch_of c.args.transcript.now) c.rows.result.now.tables c.rows.result.now.rows (said_lines c.deref.result.now)
-    ≡ batch_text (tables_of c.args.engine.now) (batch_of c.args.transcript.now) (next_of c.args.engine.now) (rows_of c.args.engine.now) (map prepared c.args.requests.items) =
-    text_is _ _ _ _ _ _ _ _ (c.rows.ensures.tables ∙ c.in-Ok-execute.ensures.same.tables)
+    ≡ batch_text (tables_of c.args.engine.now) (batch_of c.args.transcript.now) c.args.engine.now.next c.args.engine.now.rows (map prepared c.args.requests.items) =
+    text_is _ _ _ _ _ _ _ _ (c.rows.ensures.tables ∙ ap (λ (p : ProcsParts). p.tables) c.in-Ok-execute.ensures.same.procs)
     (c.rows.ensures.rows ∙ rows_are _ _ c.in-Ok.batch c.in-Ok-execute.done c.args.requests.items c.in-Ok-execute.ensures.done c.in-Ok.ensures.items) lines in
     rw (← text) c.write_batch.ensures.front
 

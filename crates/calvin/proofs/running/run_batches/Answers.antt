@@ -5,7 +5,7 @@ use Rattle.meaning.specs.Serial.{serial_replies}
 use Rattle.batch_log.specs.Reader.{came, position_of}
 use Rattle.batch_log.proofs.Moves.{Moves-none, Moves-trans}
 use Rattle.report_text.specs.Report.{reply_lines}
-use Rattle.calvin.specs.Engines.{procs_of, rows_of, tables_of}
+use Rattle.engine.specs.Engines.{tables_of}
 use Rattle.calvin.proofs.SoFar.{SoFar-start, SoFar-next, SoFar-front, SoFar-front_in_batch}
 use Rattle.calvin.proofs.Stopping.{start}
 use Rattle.calvin.proofs.RunEnds.{or_nothing, run_ends, run_faults, run_stops}
@@ -27,9 +27,9 @@ batches-init g c = record {
 pub returns-in-Ok-None-clause-run : goal.returns-in-Ok-None-clause-run
 returns-in-Ok-None-clause-run g c =
     let s = c.batches.invariant.so_far in
-    let pe : c.procs.result.now ≡ procs_of c.args.engine.now = c.procs.ensures ∙ c.batches.invariant.procs in
-    let t : tables_of c.batches.engine ≡ (procs_of c.args.engine.now).tables = sym c.batches.engine.over ∙ ap (λ (p : ProcsParts). p.tables) c.batches.invariant.procs in
-    let m : List ℕ = reply_lines 0 (serial_replies s.es (rows_of c.args.engine.now)) in
+    let pe : c.procs.result.now ≡ c.args.engine.now.procs = c.procs.ensures ∙ c.batches.invariant.procs in
+    let t : tables_of c.batches.engine ≡ c.args.engine.now.procs.tables = ap (λ (p : ProcsParts). p.tables) c.batches.invariant.procs in
+    let m : List ℕ = reply_lines 0 (serial_replies s.es c.args.engine.now.rows) in
     run_ends c.finish.result _ _ _ _ _ _ _ _ _ _ _ _ _ _ _ (came c.next_batch.new.self) (position_of c.next_batch.new.self) c.last_line.result _ _ _ _ _ s t
     (rw pe at ((rw c.in-Ok-None.field-0-is at c.in-Ok-None.ensures.end) refl)) c.finish.ensures.count (c.finish.ensures.text m s.said_is) (c.finish.ensures.front m s.said_is)
     c.finish.ensures.stops (c.in-Ok-None.ensures.fails c.batches.invariant.no_fault ∙ sym (or_nothing _) ∙ c.batches.invariant.source_works) c.batches.invariant.sink_works c.finish.ensures.fails
@@ -38,20 +38,20 @@ returns-in-Ok-None-clause-run g c =
 pub returns-in-Err-clause-run : goal.returns-in-Err-clause-run
 returns-in-Err-clause-run g c =
     let s = c.batches.invariant.so_far in
-    let pe : c.procs.result.now ≡ procs_of c.args.engine.now = c.procs.ensures ∙ c.batches.invariant.procs in
+    let pe : c.procs.result.now ≡ c.args.engine.now.procs = c.procs.ensures ∙ c.batches.invariant.procs in
     run_faults c.in-Err.fault _ _ _ _ _ _ _ _ _ _ _ _ _ (came c.next_batch.new.self) (position_of c.next_batch.new.self) _ _ _ _ _ s
     (rw pe at (c.in-Err.ensures.fault c.batches.invariant.no_fault)) (c.in-Err.ensures.place c.batches.invariant.no_fault) (c.in-Err.ensures.spent c.batches.invariant.no_fault)
     c.batches.invariant.source_works (c.in-Err.ensures.fails c.batches.invariant.no_fault) c.batches.invariant.sink_works (Moves-trans _ _ _ _ _ _ c.batches.invariant.moves c.next_batch.ensures.moves)
 
 pub run_batch-requires-clause-tables : goal.run_batch-requires-clause-tables
 run_batch-requires-clause-tables g c κs within =
-    rw (ap (λ (p : ProcsParts). p.tables) c.procs.ensures ∙ c.batches.engine.over) at (rw c.in-Ok-Some.field-0-is at c.in-Ok-Some.ensures.tables)
+    rw (ap (λ (p : ProcsParts). p.tables) c.procs.ensures) at (rw c.in-Ok-Some.field-0-is at c.in-Ok-Some.ensures.tables)
 
 pub returns-in-Err-run_batch-clause-run : goal.returns-in-Err-run_batch-clause-run
 returns-in-Err-run_batch-clause-run g c =
     let s = c.batches.invariant.so_far in
-    let pe : c.procs.result.now ≡ procs_of c.args.engine.now = c.procs.ensures ∙ c.batches.invariant.procs in
-    let t : tables_of c.batches.engine ≡ (procs_of c.args.engine.now).tables = sym c.batches.engine.over ∙ ap (λ (p : ProcsParts). p.tables) c.batches.invariant.procs in
+    let pe : c.procs.result.now ≡ c.args.engine.now.procs = c.procs.ensures ∙ c.batches.invariant.procs in
+    let t : tables_of c.batches.engine ≡ c.args.engine.now.procs.tables = ap (λ (p : ProcsParts). p.tables) c.batches.invariant.procs in
     run_stops c.in-Err-run_batch.fault _ _ _ _ _ _ (came c.next_batch.new.self) (position_of c.next_batch.new.self) c.last_line-line.result _ _ _ _ _
     (SoFar-front_in_batch _ _ _ _ _ _ _ _ _ _ _ _ _ _ _ _ _ _ s t (rw pe at (rw c.in-Ok-Some.field-0-is at c.in-Ok-Some.ensures.batch)) c.run_batch.ensures.front)
     c.in-Err-run_batch.ensures.stops (c.in-Ok-Some.ensures.fails c.batches.invariant.no_fault ∙ sym (or_nothing _) ∙ c.batches.invariant.source_works) c.batches.invariant.sink_works
@@ -60,8 +60,8 @@ returns-in-Err-run_batch-clause-run g c =
 pub batches-preserved : goal.batches-preserved
 batches-preserved g c =
     let s = c.batches.invariant.so_far in
-    let pe : c.procs.result.now ≡ procs_of c.args.engine.now = c.procs.ensures ∙ c.batches.invariant.procs in
-    let t : tables_of c.batches.engine ≡ (procs_of c.args.engine.now).tables = sym c.batches.engine.over ∙ ap (λ (p : ProcsParts). p.tables) c.batches.invariant.procs in
+    let pe : c.procs.result.now ≡ c.args.engine.now.procs = c.procs.ensures ∙ c.batches.invariant.procs in
+    let t : tables_of c.batches.engine ≡ c.args.engine.now.procs.tables = ap (λ (p : ProcsParts). p.tables) c.batches.invariant.procs in
     record {
       idle = c.in-Ok.ensures.idle;
       same = search rules;

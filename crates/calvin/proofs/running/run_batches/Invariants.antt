@@ -1,7 +1,7 @@
 use Rattle.std.proofs.Common.{◌≡◌, None, false}
 use Rattle.batch_log.specs.Reader.{calls_read, fault_of, newlines_taken, position_of, source_name, source_of, unread}
 use Rattle.batch_log.specs.Moves.{Moves}
-use Rattle.calvin.specs.Engines.{is_busy, next_of, procs_of, rows_of}
+use Rattle.engine.specs.Engines.{is_busy}
 use Rattle.calvin.specs.Hashers.{batch_of, said_of}
 use Rattle.calvin.proofs.SoFar.{SoFar}
 use Rattle.calvin.proofs.Stopping.{start}
@@ -12,14 +12,14 @@ abbrev pub invariant-batches : goal.invariant-batches
 invariant-batches g l = record {
   idle : is_busy l.engine ≡ false;
   same : source_name l.reader ≡ source_name l.fn.reader;
-  transactions : calls_read l.reader ≡ next_of l.engine;
+  transactions : calls_read l.reader ≡ l.engine.next;
   no_fault : fault_of l.reader ≡ None;
   moves : Moves (unread g.S.Source.left l.fn.reader) (unread g.S.Source.left l.reader) start (position_of l.reader);
   source_works : g.S.Source.failed (source_of l.reader) ≡ g.S.Source.failed (source_of l.fn.reader);
   sink_works : g.K.Sink.broken l.sink ≡ g.K.Sink.broken l.fn.sink;
-  procs : procs_of l.engine ≡ procs_of l.fn.engine;
-  so_far : SoFar (procs_of l.fn.engine) (rows_of l.fn.engine) (batch_of l.transcript) (newlines_taken l.reader) (calls_read l.reader)
-      (next_of l.engine) (rows_of l.engine) (said_of l.transcript)
+  procs : l.engine.procs ≡ l.fn.engine.procs;
+  so_far : SoFar l.fn.engine.procs l.fn.engine.rows (batch_of l.transcript) (newlines_taken l.reader) (calls_read l.reader)
+      l.engine.next l.engine.rows (said_of l.transcript)
       (unread g.S.Source.left l.fn.reader) (unread g.S.Source.left l.reader)
       (g.K.Sink.taken l.fn.sink) (g.K.Sink.taken l.sink);
 }

@@ -1,4 +1,4 @@
-use Rattle.std.proofs.Common.{◌≡◌, ◌≢◌, ℕ, true, map, Some, slice_get, subst}
+use Rattle.std.proofs.Common.{◌≡◌, ◌≢◌, ◌≤◌, ℕ, true, length, map, Some, slice_get, subst}
 use Rattle.coarsen.specs.Clashes.{Conflict}
 use Rattle.jobs.specs.Jobs.{JobOf}
 use Rattle.scheduler_core.specs.Transactions.{Transaction}
@@ -6,6 +6,7 @@ use Rattle.scheduler_core.specs.Phases.{is_out}
 use Rattle.scheduler.specs.declared.slot.Slot.TheVariants.{Held}
 use Rattle.scheduler.specs.Schedules.{Schedule, log_of, phases_of, phase_in, work_of}
 use Rattle.scheduler.specs.Jobs.{IsLentAt}
+use Rattle.scheduler.proofs.Ends.{admitted_within}
 use Rattle.scheduler.proofs.scheduler.Scheduler.observe.Goals as goal
 
 pub returns-clause-jobs : goal.returns-clause-jobs
@@ -20,3 +21,9 @@ returns-clause-apart c =
     subst (λ (s : Schedule). (i k : ℕ) (t u : Transaction) → i ≢ k → slice_get (log_of s.work) i ≡ Some t → slice_get (log_of s.work) k ≡ Some u
     → is_out (slice_get (phases_of s) i) ≡ true → is_out (slice_get (phases_of s) k) ≡ true → Conflict t.plan u.plan → ⊥) c.self.view_is
     (λ i k t u apart at_i at_k out_i out_k. sound.outs_apart (map phase_in c.self.inside.slots.items) c.self.inside.store.rows i k t u c.self.invariant.1.sound apart out_i out_k at_i at_k)
+
+pub returns-clause-within : goal.returns-clause-within
+returns-clause-within c =
+    let w = work_of c.self.inside.catalogue c.self.inside.nodes c.self.inside.first c.self.inside.entries.items c.self.inside.plans.items c.self.inside.start.value.rows in
+    subst (λ (s : Schedule). length s.slots ≤ length s.work.entries) c.self.view_is
+    (admitted_within w c.self.inside.slots.items c.self.inside.store c.self.inside.locks c.self.invariant.0 c.self.invariant.1)

@@ -1,0 +1,72 @@
+//! The command `check`: how much a setup has.
+
+ghost use Rattle.std.specs.Prelude.{◌≡◌, IfOk, string_bytes};
+ghost use Rattle.calvin.specs.CommandEnds.{check_text, counts_text, IsCheckCommand, IsWritten};
+
+use crate::files::Files;
+use crate::inputs::{print, refused, setup_at};
+use crate::run_fault::RunFault;
+use crate::status::DONE;
+use batch_log::{FaultKind, Sink};
+use setup::Setup;
+use std::alloc::{AllocError, Global};
+
+/// The line that says how many tables, procedures and rows there are.
+#[tactic(auto, unfolding(crate::specs::CommandEnds::counts_text))]
+fn counts_text(
+    alloc: Global,
+    tables: usize,
+    procedures: usize,
+    rows: usize,
+) -> Result<String, AllocError>
+    ensures { IfOk result (λ text. string_bytes text ≡ counts_text tables procedures rows) }
+{
+    let mut text = String::new(alloc);
+    writeln!(
+        text,
+        "ok {tables} tables {procedures} procedures {rows} rows"
+    )?;
+    Ok(text)
+}
+
+/// How many of them a setup has.
+fn check_text(alloc: Global, setup: &Setup) -> Result<String, AllocError>
+    ensures { IfOk result (λ text. string_bytes text ≡ check_text setup.now) }
+{
+    let tables = setup.catalogue.len();
+    let procedures = setup.procs.len();
+    counts_text(alloc, tables, procedures, setup.rows.len())
+}
+
+/// Prints how much a setup has, and gives the exit status.
+fn count<K: Sink, E: Sink>(alloc: Global, setup: &Setup, out: &mut K, err: &mut E) -> u8
+    ensures { IsWritten (check_text setup.now)
+        (record { bytes = K.taken out.old; failed = K.broken out.old })
+        (record { bytes = K.taken out.new; failed = K.broken out.new }) 0 result }
+{
+    let Ok(text) = check_text(alloc, setup) else {
+        return refused(alloc, err, RunFault::at(FaultKind::Memory, 0));
+    };
+    match print(alloc, out, err, &text) {
+        Ok(()) => DONE,
+        Err(status) => status,
+    }
+}
+
+/// Reads the setup at a path, and prints how much it has.
+pub(crate) fn check<F: Files, K: Sink, E: Sink>(
+    alloc: Global,
+    path: &str,
+    files: &F,
+    out: &mut K,
+    err: &mut E,
+) -> u8
+    ensures { IsCheckCommand (F.holds files.now path.now)
+        (record { bytes = K.taken out.old; failed = K.broken out.old })
+        (record { bytes = K.taken out.new; failed = K.broken out.new }) result }
+{
+    match setup_at(alloc, files, path, err) {
+        Ok(setup) => count(alloc, &setup, out, err),
+        Err(status) => status,
+    }
+}

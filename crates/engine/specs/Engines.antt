@@ -1,0 +1,57 @@
+-- An engine as contracts see it.
+use Rattle.std.specs.Prelude.{◌≡◌, ℕ, List, Bool, Option, option_map, is_some, true, false, refl, slice_get}
+use Rattle.std.specs.Coded.{Coded, code_by, coded×, coded_ℕ, coded_list, coded_option}
+use Rattle.values.specs.Shapes.{TableShape}
+use Rattle.values.specs.Database.{Database}
+use Rattle.proclang.specs.ProcLists.{ProcsParts}
+use Rattle.proclang.specs.contracts.procs.Procs as procs
+use Rattle.command_line.specs.declared.settings.Settings.{Settings}
+use Rattle.command_line.specs.contracts.settings.Settings as settings
+use Rattle.sequencer.specs.declared.batch.Batch.{Batch}
+use Rattle.sequencer.specs.contracts.batch.Batch as batches
+use Rattle.row_store.specs.Stock.{rows_code}
+use Rattle.scheduler_core.specs.declared.phase.Phase.{Phase}
+use Rattle.scheduler_core.specs.contracts.phase.Phase as phase
+use Rattle.scheduler_core.specs.Phases.{is_out, is_settled}
+
+-- a batch that is unfinished, and how far those of its transactions are that were admitted
+pub record Unfinished : Type 0 where
+  pub batch : Batch
+  pub phases : List Phase
+
+-- the procedures, the settings, the number of the next transaction, the database that the batches which ended have left, and
+-- the batch that is unfinished
+pub record EngineParts : Type 0 where
+  pub procs : ProcsParts
+  pub settings : Settings
+  pub next : ℕ
+  pub rows : Database
+  pub unfinished : Option Unfinished
+
+abbrev pub tables_of : EngineParts → List TableShape
+tables_of engine = engine.procs.tables
+
+abbrev pub held_of : EngineParts → Option Batch
+held_of engine = option_map (λ u. u.batch) engine.unfinished
+
+-- whether a batch is unfinished
+abbrev pub is_busy : EngineParts → Bool
+is_busy engine = is_some engine.unfinished
+
+-- no job is out
+abbrev pub NoneIsOut : List Phase → Type 0
+NoneIsOut phases = (place : ℕ) → is_out (slice_get phases place) ≡ false
+
+-- what is settled stays settled
+abbrev pub StaysSettled : List Phase → List Phase → Type 0
+StaysSettled old new = (place : ℕ) → is_settled (slice_get old place) ≡ true → is_settled (slice_get new place) ≡ true
+
+abbrev pub unfinished_code : Coded Unfinished
+unfinished_code = code_by (Batch × List Phase) (coded× batches.the_row.coded (coded_list phase.the_row.coded)) (λ u. (u.batch, u.phases)) (λ p. record { batch = p.0; phases = p.1 }) (λ _. refl)
+
+abbrev pub engine_code : Coded EngineParts
+engine_code = code_by (ProcsParts × (Settings × (ℕ × (Database × Option Unfinished))))
+    (coded× procs.the_row.coded (coded× settings.the_row.coded (coded× coded_ℕ (coded× rows_code (coded_option unfinished_code)))))
+    (λ e. (e.procs, (e.settings, (e.next, (e.rows, e.unfinished)))))
+    (λ p. record { procs = p.0; settings = p.1.0; next = p.1.1.0; rows = p.1.1.1.0; unfinished = p.1.1.1.1 })
+    (λ _. refl)

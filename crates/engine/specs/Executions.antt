@@ -1,0 +1,66 @@
+-- What executing a batch comes to.
+use Rattle.std.specs.Prelude.{◌≡◌, ◌+◌, ◌<◌, ◌^◌, [], length, map, true, Option, Some, None, ⊤}
+use Rattle.meaning.specs.Serial.{serial_end, serial_replies}
+use Rattle.sequencer.specs.declared.batch.Batch.{Batch}
+use Rattle.sequencer.specs.Batches.{items_of}
+use Rattle.engine.specs.declared.engine.ExecFault.{ExecFault}
+use Rattle.engine.specs.declared.engine.ExecFault.TheVariants.{Busy, LogFull, Spawn, NoMemory}
+use Rattle.engine.specs.declared.replies.BatchDone.{BatchDone}
+use Rattle.engine.specs.Batches.{entries_of}
+use Rattle.engine.specs.Engines.{EngineParts, Unfinished, is_busy, NoneIsOut, StaysSettled}
+use Rattle.engine.specs.Replies.{reply_of, sent_of, sent_from}
+
+-- procedures, with their tables, and settings are as they were
+pub record KeepsSetting (old new : EngineParts) : Type 0 where
+  pub procs : new.procs ≡ old.procs
+  pub settings : new.settings ≡ old.settings
+
+-- the batch was run: its entries one by one on the rows before it give the replies, and leave the rows
+pub record IsRunOf (old new : EngineParts) (batch : Batch) (run : BatchDone) : Type 0 where
+  pub first : run.first ≡ old.next
+  pub sent : map sent_of run.replies.items ≡ sent_from old.next (items_of batch)
+  pub replies : map reply_of run.replies.items ≡ serial_replies (entries_of batch) old.rows
+  pub rows : new.rows ≡ serial_end (entries_of batch) old.rows
+  pub next : new.next ≡ old.next + length (items_of batch)
+  pub idle : new.unfinished ≡ None
+
+-- a batch as it is taken: nothing of it is admitted
+abbrev pub taken : Batch → Unfinished
+taken batch = record { batch = batch; phases = [] }
+
+-- the same batch: no job of it is out, and what was settled of it is settled still
+pub record Waits (old new : Unfinished) : Type 0 where
+  pub batch : new.batch ≡ old.batch
+  pub none_out : NoneIsOut new.phases
+  pub settled : StaysSettled old.phases new.phases
+
+abbrev pub WaitsIn : Option Unfinished → Option Unfinished → Type 0
+WaitsIn None new = ⊥
+WaitsIn (Some old) None = ⊥
+WaitsIn (Some old) (Some new) = Waits old new
+
+-- A batch was not run to its end. Where a thread was refused, nothing of it has run in this call, and where memory was
+-- refused, not all of it. The engine holds it, its transactions have no numbers yet, and the rows before it are kept.
+abbrev pub IsInterruption : EngineParts → Option Unfinished → EngineParts → ExecFault → Type 0
+IsInterruption old unfinished new (Busy back) = ⊥
+IsInterruption old unfinished new (LogFull back) = ⊥
+IsInterruption old unfinished new Spawn = (new.unfinished ≡ unfinished) × (new.next ≡ old.next) × (new.rows ≡ old.rows)
+IsInterruption old unfinished new NoMemory = WaitsIn unfinished new.unfinished × (new.next ≡ old.next) × (new.rows ≡ old.rows)
+
+-- The batch was not run: it comes back from a busy engine, and where the log would have more than 2^48 transactions, and
+-- nothing is changed; or it was taken and interrupted.
+abbrev pub IsRefusal : EngineParts → EngineParts → Batch → ExecFault → Type 0
+IsRefusal old new batch (Busy back) = (back ≡ batch) × (is_busy old ≡ true) × (new ≡ old)
+IsRefusal old new batch (LogFull back) = (back ≡ batch) × (2 ^ 48 < old.next + length (items_of batch)) × (new ≡ old)
+IsRefusal old new batch Spawn = IsInterruption old (Some (taken batch)) new Spawn
+IsRefusal old new batch NoMemory = IsInterruption old (Some (taken batch)) new NoMemory
+
+-- a thread was refused
+abbrev pub IsSpawn : ExecFault → Type 0
+IsSpawn Spawn = ⊤
+IsSpawn fault = ⊥
+
+-- what resuming an unfinished batch comes to
+abbrev pub ResumesTo : EngineParts → EngineParts → Option Unfinished → BatchDone → Type 0
+ResumesTo old new None done = ⊥
+ResumesTo old new (Some unfinished) done = IsRunOf old new unfinished.batch done

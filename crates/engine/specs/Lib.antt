@@ -1,0 +1,5 @@
+pub mod Engines
+pub mod Batches
+pub mod Replies
+pub mod Executions
+pub mod Stages

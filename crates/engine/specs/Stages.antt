@@ -1,0 +1,89 @@
+-- The stages of an engine.
+use Rattle.std.specs.Prelude.{◌≡◌, ◌+◌, ◌≤◌, ◌^◌, ℕ, List, length, map, Option, Some, None}
+use Rattle.std.specs.FinMap.{empty}
+use Rattle.values.specs.Shapes.{TableShape}
+use Rattle.values.specs.Database.{Database}
+use Rattle.row_store.specs.Stock.{Stock}
+use Rattle.sequencer.specs.declared.batch.Batch.{Batch}
+use Rattle.sequencer.specs.Batches.{items_of, AreOver}
+use Rattle.interp.specs.Entries.{entry_shape}
+use Rattle.scheduler.specs.Schedules.{Schedule, phases_of, KeepsItsJobs}
+use Rattle.meaning.specs.Serial.{serial_end, serial_replies}
+use Rattle.engine.specs.declared.stage.Begun.{Begun as BegunOf}
+use Rattle.engine.specs.declared.ending.Ended.{Ended}
+use Rattle.engine.specs.declared.stage.Stage.{Stage}
+use Rattle.engine.specs.declared.stage.Stage.TheVariants.{Idle, Held, Begun}
+use Rattle.engine.specs.Batches.{entries_of}
+use Rattle.engine.specs.Engines.{Unfinished, NoneIsOut}
+use Rattle.engine.specs.Replies.{reply_of, sent_of, sent_from}
+use Rattle.engine.specs.Executions.{taken}
+
+abbrev pub unfinished_of : BegunOf → Unfinished
+unfinished_of begun = record { batch = begun.batch; phases = phases_of begun.scheduler }
+
+-- the batch that is unfinished, and the database before it
+abbrev pub unfinished_in : Option Stage → Option Unfinished
+unfinished_in None = None
+unfinished_in (Some (Idle store)) = None
+unfinished_in (Some (Held batch store)) = Some (taken batch)
+unfinished_in (Some (Begun begun)) = Some (unfinished_of begun)
+
+abbrev pub rows_in : Option Stage → Database
+rows_in None = empty
+rows_in (Some (Idle store)) = store.rows
+rows_in (Some (Held batch store)) = store.rows
+rows_in (Some (Begun begun)) = begun.scheduler.work.start
+
+-- rows over the tables, of which nothing is lent
+pub record IsFree (tables : List TableShape) (store : Stock) : Type 0 where
+  pub over : store.tables ≡ tables
+  pub unlent : store.lent ≡ empty
+
+-- a batch of procedures over the tables, whose transactions are numbered from a first one
+pub record IsBatchFrom (tables : List TableShape) (first : ℕ) (batch : Batch) : Type 0 where
+  pub over : AreOver tables (items_of batch)
+  pub few : first + length (items_of batch) ≤ 2 ^ 48
+
+-- a scheduler of the batch's entries
+pub record IsScheduleOf (tables : List TableShape) (first : ℕ) (batch : Batch) (scheduler : Schedule) : Type 0 where
+  pub over : scheduler.work.tables ≡ tables
+  pub numbered : scheduler.work.first ≡ first
+  pub entries : map entry_shape scheduler.work.entries ≡ entries_of batch
+
+-- no job is with the caller, and none is out
+pub record IsAtRest (scheduler : Schedule) : Type 0 where
+  pub keeps : KeepsItsJobs scheduler
+  pub none_out : NoneIsOut (phases_of scheduler)
+
+pub record IsHeld (tables : List TableShape) (first : ℕ) (batch : Batch) (store : Stock) : Type 0 where
+  pub from : IsBatchFrom tables first batch
+  pub free : IsFree tables store
+
+pub record IsBegun (tables : List TableShape) (first : ℕ) (begun : BegunOf) : Type 0 where
+  pub from : IsBatchFrom tables first begun.batch
+  pub schedule : IsScheduleOf tables first begun.batch begun.scheduler
+  pub rest : IsAtRest begun.scheduler
+
+-- how a stage fits the tables and the number of the next transaction
+abbrev pub Fits : List TableShape → ℕ → Stage → Type 0
+Fits tables next (Idle store) = IsFree tables store × (next ≤ 2 ^ 48)
+Fits tables next (Held batch store) = IsHeld tables next batch store
+Fits tables next (Begun begun) = IsBegun tables next begun
+
+abbrev pub IsInOrder : List TableShape → ℕ → Option Stage → Type 0
+IsInOrder tables next None = ⊥
+IsInOrder tables next (Some stage) = Fits tables next stage
+
+-- the end of a batch: the rows are those that its entries one by one on the rows before it leave, and the replies are theirs
+pub record IsEndOf (tables : List TableShape) (first : ℕ) (batch : Batch) (start : Database) (ended : Ended) : Type 0 where
+  pub free : IsFree tables ended.store
+  pub rows : ended.store.rows ≡ serial_end (entries_of batch) start
+  pub numbered : ended.done.first ≡ first
+  pub sent : map sent_of ended.done.replies.items ≡ sent_from first (items_of batch)
+  pub replies : map reply_of ended.done.replies.items ≡ serial_replies (entries_of batch) start
+  pub count : length ended.done.replies.items ≡ length (items_of batch)
+  pub few : first + length (items_of batch) ≤ 2 ^ 48
+
+abbrev pub EndsBatch : List TableShape → ℕ → Option Unfinished → Database → Ended → Type 0
+EndsBatch tables first None start ended = ⊥
+EndsBatch tables first (Some unfinished) start ended = IsEndOf tables first unfinished.batch start ended

@@ -1,0 +1,42 @@
+//! Beginning a batch.
+
+ghost use Rattle.std.specs.Prelude.{◌≡◌, [], map, IfOk, IfErr};
+ghost use Rattle.row_store.specs.Stock.{Stock};
+ghost use Rattle.engine.specs.Stages.{IsFree, IsBatchFrom, IsScheduleOf};
+
+use command_line::Settings;
+use proclang::Procs;
+use row_store::{RowStore, all_is_free_with_nothing_lent};
+use scheduler::Scheduler;
+use sequencer::{Batch, prepare};
+use std::alloc::Global;
+
+/// A scheduler of a batch's entries on these rows, with nothing admitted. Where memory is refused, the rows come back.
+pub(crate) fn begin(
+    alloc: Global,
+    procs: &Procs,
+    settings: Settings,
+    first: u64,
+    batch: &Batch,
+    store: RowStore,
+) -> Result<Scheduler, RowStore>
+    requires free { IsFree procs.now.tables store }
+    requires from { IsBatchFrom procs.now.tables first batch.now }
+    ensures schedule { IfOk result (IsScheduleOf procs.now.tables first batch.now) }
+    ensures start { IfOk result (λ scheduler. scheduler.work.start ≡ store.rows) }
+    ensures unadmitted { IfOk result (λ scheduler. scheduler.slots ≡ []) }
+    ensures back { IfErr result (λ back. back ≡ store) }
+{
+    all_is_free_with_nothing_lent();
+    let Ok(catalogue) = store.catalogue().clone() else {
+        return Err(store);
+    };
+    let Ok(entries) = prepare(alloc, batch, &catalogue, procs, &store) else {
+        return Err(store);
+    };
+    let Settings { coarsen, arena, .. } = settings;
+    match Scheduler::new(alloc, catalogue, store, entries, first, coarsen, arena) {
+        Ok(scheduler) => Ok(scheduler),
+        Err((_, store, _, _)) => Err(store),
+    }
+}

@@ -1,0 +1,22 @@
+//! The engine: runs batches of calls, one after another, on the rows of a database.
+#![tactic(auto)]
+
+mod alone;
+mod beginning;
+mod ending;
+mod engine;
+mod gate;
+mod replies;
+mod stage;
+mod working;
+
+pub use command_line::Settings;
+pub use engine::{Engine, ExecFault};
+pub use gate::{Gate, OpenGate};
+pub use replies::{BatchDone, Reply};
+pub use sequencer::{Batch, BatchFault, Item};
+
+#[cfg(test)]
+mod test_world;
+#[cfg(test)]
+mod tests;

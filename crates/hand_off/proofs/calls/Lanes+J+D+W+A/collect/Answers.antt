@@ -1,0 +1,14 @@
+use Rattle.std.proofs.Common.{ℕ, ◌+◌, sym, subst, ap, ◌∙◌, arith}
+use Rattle.hand_off.specs.declared.state.LaneState.TheVariants.{Finished}
+use Rattle.hand_off.specs.Notes.{Misses}
+use Rattle.hand_off.specs.Views.{looked, noting}
+use Rattle.hand_off.proofs.Looks.{missed}
+use Rattle.hand_off.proofs.calls.Lanes+J+D+W+A.collect.Goals as goal
+
+pub loop-lane-preserved : goal.loop-lane-preserved
+loop-lane-preserved g c = let none = c.in_default.ensures.none in let inv = c.loop-lane.invariant in let first = c.args.seat.now.me.0 in let lane : ℕ = c.loop-lane.lane in
+    let more = ap (λ m. m.0.notes) none.2 in (
+      c.collect_from.ensures.seat,
+      ap (λ m. m.0) none.2 ∙ ap (λ v. noting v lane none.0) inv.1 ∙ ap (looked first) (sym more),
+      subst (Misses Finished (lane + 1) first.notes) (sym more) (missed Finished none.0 lane (lane + 1) first.notes c.loop-lane.seat.me.0.notes none.1 (omega arith) inv.2),
+    )

@@ -1,0 +1,62 @@
+//! Statements that make a row, or leave none.
+#![tactic(auto, unfolding(meaning::specs::Runs::and_then))]
+
+ghost use Rattle.std.specs.Prelude.{map, OnOk};
+ghost use Rattle.proclang_types.specs.Views.{int_view, value_view};
+ghost use Rattle.meaning.specs.Meaning.{insert_values, delete_key};
+ghost use Rattle.meaning.specs.Entries.{nothing};
+ghost use Rattle.interp_expr.specs.Coverage.{gate_of, ShowsCovered, KeepsCovered};
+ghost use Rattle.interp_expr.specs.States.{seen};
+ghost use Rattle.interp_expr.specs.Answers.{Gives};
+
+use footprint::{AbortCode, Right};
+use interp_expr::{Permit, RowView, Stop, Workspace, access, evaluate_all, evaluate_int, is_there};
+use meaning::Ending;
+use proclang_types::{IntExpr, ValueExpr};
+use std::alloc::Global;
+use values::{Row, TableNo};
+
+/// A new row with a key: one value a column.
+pub(crate) fn insert_values<V: RowView>(
+    alloc: Global,
+    view: &V,
+    permit: &Permit,
+    space: &mut Workspace,
+    table: TableNo,
+    key: &IntExpr,
+    values: &Vec<ValueExpr>,
+) -> Result<(), Stop>
+    requires { ShowsCovered permit.now (V.tables view.now) (V.shows view.now) }
+    ensures gives { Gives (λ _. tt) (seen (V.rows view.now) space.new) result (insert_values nothing (gate_of permit.now) table (int_view key.now) (map value_view values.now.items) (seen (V.rows view.now) space.old)) }
+    ensures kept { OnOk result (KeepsCovered permit.now space.old space.new) }
+{
+    let number = evaluate_int(view, permit, space, key)?;
+    let values = evaluate_all(alloc, view, permit, space, values)?;
+    let name = access(permit, Right::Write, table, number)?;
+    if is_there(view, permit, space, &name) {
+        return Err(Stop::End(Ending::Abort(AbortCode::DuplicateRow)));
+    }
+    space.write(name, Row::new(values))?;
+    Ok(())
+}
+
+/// The row with a key is no more.
+pub(crate) fn delete_key<V: RowView>(
+    view: &V,
+    permit: &Permit,
+    space: &mut Workspace,
+    table: TableNo,
+    key: &IntExpr,
+) -> Result<(), Stop>
+    requires { ShowsCovered permit.now (V.tables view.now) (V.shows view.now) }
+    ensures gives { Gives (λ _. tt) (seen (V.rows view.now) space.new) result (delete_key nothing (gate_of permit.now) table (int_view key.now) (seen (V.rows view.now) space.old)) }
+    ensures kept { OnOk result (KeepsCovered permit.now space.old space.new) }
+{
+    let number = evaluate_int(view, permit, space, key)?;
+    let gone = access(permit, Right::Write, table, number)?;
+    if !is_there(view, permit, space, &gone) {
+        return Err(Stop::End(Ending::Abort(AbortCode::NoRow)));
+    }
+    space.remove(gone)?;
+    Ok(())
+}

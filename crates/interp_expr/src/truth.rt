@@ -1,0 +1,88 @@
+//! Whether expressions are true.
+#![tactic(auto, unfolding(meaning::specs::Runs::and_then))]
+
+ghost use Rattle.std.specs.Prelude.{◌≡◌, OnOk};
+ghost use Rattle.proclang_types.specs.Views.{bool_view};
+ghost use Rattle.meaning.specs.Comparing.{compare, compare_bytes};
+ghost use Rattle.meaning.specs.Meaning.{bool_of};
+ghost use Rattle.meaning.specs.Entries.{nothing};
+ghost use Rattle.interp_expr.specs.Coverage.{gate_of, ShowsCovered, KeepsCovered};
+ghost use Rattle.interp_expr.specs.States.{seen};
+ghost use Rattle.interp_expr.specs.Answers.{Gives};
+
+use crate::expression::{evaluate_int, text_of};
+use crate::permit::Permit;
+use crate::rows::{access, is_there};
+use crate::stop::Stop;
+use crate::view::RowView;
+use crate::workspace::Workspace;
+use footprint::Right;
+use proclang_types::{BoolExpr, Comparison, Equality};
+
+fn compare(test: Comparison, left: i64, right: i64) -> bool
+    ensures { result ≡ compare test left right }
+{
+    match test {
+        Comparison::Equal => left == right,
+        Comparison::Unequal => left != right,
+        Comparison::Less => left < right,
+        Comparison::AtMost => left <= right,
+    }
+}
+
+fn compare_texts(test: Equality, left: &str, right: &str) -> bool
+    ensures { result ≡ compare_bytes test left.now right.now }
+{
+    match test {
+        Equality::Equal => left == right,
+        Equality::Unequal => left != right,
+    }
+}
+
+/// Whether an expression is true.
+pub fn evaluate_bool<V: RowView>(
+    view: &V,
+    permit: &Permit,
+    space: &mut Workspace,
+    expression: &BoolExpr,
+) -> Result<bool, Stop>
+    requires { ShowsCovered permit.now (V.tables view.now) (V.shows view.now) }
+    ensures gives { Gives (λ b. b) (seen (V.rows view.now) space.new) result (bool_of nothing (gate_of permit.now) (bool_view expression.now) (seen (V.rows view.now) space.old)) }
+    ensures kept { OnOk result (KeepsCovered permit.now space.old space.new) }
+{
+    match expression {
+        BoolExpr::CompareInts(test, left, right) => {
+            let left = evaluate_int(view, permit, space, left)?;
+            let right = evaluate_int(view, permit, space, right)?;
+            Ok(compare(*test, left, right))
+        }
+        BoolExpr::CompareTexts(test, left, right) => {
+            let same = compare_texts(*test, text_of(space, left), text_of(space, right));
+            Ok(same)
+        }
+        BoolExpr::And(left, right) => {
+            if evaluate_bool(view, permit, space, left)? {
+                evaluate_bool(view, permit, space, right)
+            } else {
+                Ok(false)
+            }
+        }
+        BoolExpr::Or(left, right) => {
+            if evaluate_bool(view, permit, space, left)? {
+                Ok(true)
+            } else {
+                evaluate_bool(view, permit, space, right)
+            }
+        }
+        BoolExpr::Not(operand) => {
+            let holds = evaluate_bool(view, permit, space, operand)?;
+            Ok(!holds)
+        }
+        BoolExpr::Exists { table, key } => {
+            space.take_step()?;
+            let number = evaluate_int(view, permit, space, key)?;
+            let name = access(permit, Right::Read, *table, number)?;
+            Ok(is_there(view, permit, space, &name))
+        }
+    }
+}

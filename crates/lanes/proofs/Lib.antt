@@ -1,0 +1,4 @@
+pub mod Places
+pub mod Counts
+pub mod Put
+pub mod Work

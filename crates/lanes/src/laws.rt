@@ -1,0 +1,17 @@
+//! Laws of lanes, as contracts of functions that do nothing.
+
+ghost use Rattle.lanes.specs.Laws.{ClaimedAtMostOnce, ClaimedAsPut, HeldAsPut};
+
+use crate::runs::Runs;
+use jobs::{Done, Job};
+
+/// A job is claimed by one worker at most a put, and what is claimed is what was put: in every state of the lanes two
+/// claims of one put are one claim, of the job that the scheduler put into that lane. Until it is delivered, the
+/// scheduler's seat has that job in that lane.
+pub fn claims_are_single()
+    ensures once { ClaimedAtMostOnce }
+    ensures as_put { ClaimedAsPut }
+    ensures held { HeldAsPut }
+{
+    hand_off::claims_are_single::<Job, Done, Runs>();
+}

@@ -1,0 +1,50 @@
+//! Expressions of the types that are asked for.
+
+ghost use Rattle.std.specs.Prelude.{◌≡◌};
+ghost use Rattle.documents.specs.Reading.{Gives};
+ghost use Rattle.proclang_types.specs.Views.{int_view, text_view, bool_view, value_view, expr_view};
+ghost use Rattle.proclang.specs.Paths.{places};
+ghost use Rattle.proclang.specs.Faults.{is_memory};
+ghost use Rattle.proclang.specs.Expressions.{as_int, as_text, as_bool, as_value};
+
+use crate::fault::{FaultKind, ProcFault, fault};
+use crate::path::Path;
+use proclang_types::{BoolExpr, Expr, IntExpr, TextExpr, ValueExpr};
+use std::alloc::Global;
+
+pub(crate) fn as_int(alloc: Global, path: &Path<'_>, expr: Expr) -> Result<IntExpr, ProcFault>
+    ensures { Gives is_memory int_view result (as_int (places path.now) (expr_view expr)) }
+{
+    match expr {
+        Expr::Int(expr) => Ok(expr),
+        _ => Err(fault(alloc, FaultKind::TypeMismatch, path)),
+    }
+}
+
+pub(crate) fn as_text(alloc: Global, path: &Path<'_>, expr: Expr) -> Result<TextExpr, ProcFault>
+    ensures { Gives is_memory text_view result (as_text (places path.now) (expr_view expr)) }
+{
+    match expr {
+        Expr::Text(expr) => Ok(expr),
+        _ => Err(fault(alloc, FaultKind::TypeMismatch, path)),
+    }
+}
+
+pub(crate) fn as_bool(alloc: Global, path: &Path<'_>, expr: Expr) -> Result<BoolExpr, ProcFault>
+    ensures { Gives is_memory bool_view result (as_bool (places path.now) (expr_view expr)) }
+{
+    match expr {
+        Expr::Bool(expr) => Ok(expr),
+        _ => Err(fault(alloc, FaultKind::TypeMismatch, path)),
+    }
+}
+
+pub(crate) fn as_value(alloc: Global, path: &Path<'_>, expr: Expr) -> Result<ValueExpr, ProcFault>
+    ensures { Gives is_memory value_view result (as_value (places path.now) (expr_view expr)) }
+{
+    match expr {
+        Expr::Int(expr) => Ok(ValueExpr::Int(expr)),
+        Expr::Text(expr) => Ok(ValueExpr::Text(expr)),
+        Expr::Bool(_) => Err(fault(alloc, FaultKind::TypeMismatch, path)),
+    }
+}
