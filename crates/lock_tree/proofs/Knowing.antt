@@ -7,7 +7,7 @@ use Rattle.coarsen.specs.Subtrees.{Requests}
 use Rattle.lock_tree.specs.declared.entry.Entry.{Entry}
 use Rattle.lock_tree.specs.Locks.{AreAbove, IsRising}
 use Rattle.lock_tree.specs.Queues.{Queue, has_number}
-use Rattle.lock_tree.specs.Ranks.{place_of}
+use Rattle.lock_tree.specs.Placing.{place_of}
 use Rattle.lock_tree.specs.Views.{waiting_of, all_waiting}
 use Rattle.lock_tree.specs.Known.{granted_in, Knows, AreKnown}
 use Rattle.lock_tree.proofs.Places.{at, some_one, none_some, later_place, no_later_place, same_numbers}

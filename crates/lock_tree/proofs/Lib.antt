@@ -1,6 +1,5 @@
 pub mod Fronts
 pub mod Apart
-pub mod Ranked
 pub mod Places
 pub mod Lines
 pub mod Leaving
@@ -13,3 +12,6 @@ pub mod Opens
 pub mod Marks
 pub mod Nexts
 pub mod Below
+pub mod Holding
+pub mod Extending
+pub mod Standing

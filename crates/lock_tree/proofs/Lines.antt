@@ -1,10 +1,9 @@
 -- The queues of the code.
-use Rattle.std.proofs.Common.{◌≡◌, ℕ, ◌<◌, Bool, true, false, cond, [], Option, None, Some, refl, sym, ◌∙◌, ap, subst, vec_len, vec_capacity, Ordering, Less, Equal, Greater}
-use Rattle.std.specs.Prelude.{Vec}
+use Rattle.std.proofs.Common.{◌≡◌, ◌<◌, ◌==◌, Bool, true, false, cond, [], ◌∷◌, length, arith, Option, None, Some, refl, sym, ◌∙◌, ap, subst, Ordering, Less, Equal, Greater}
 use Rattle.std.specs.Ordering.{is_eq, nat_cmp, ordering_then}
 use Rattle.std.specs.Cmp.{IsTotalOrder}
 use Rattle.std.specs.BTreeMap.{get}
-use Rattle.std.specs.declared.alloc.Global.{Global}
+use Rattle.std.proofs.lemmas.Bool.Decides.{nat_tests}
 use Rattle.std.proofs.lemmas.Map.Lookups.{CmpEqualImpliesEq, exact_unsigned}
 use Rattle.footprint.specs.declared.resource.InPart.TheVariants.{WholePart, Row}
 use Rattle.footprint.specs.declared.resource.InTable.TheVariants.{WholeTable, Part}
@@ -14,9 +13,9 @@ use Rattle.footprint.specs.contracts.resource.ResourceOrd.TheImpl.Laws as laws
 use Rattle.footprint.specs.contracts.resource.InPartOrd.TheImpl as in_part
 use Rattle.footprint.specs.contracts.resource.InTableOrd.TheImpl as in_table
 use Rattle.footprint.specs.Tree.{resource_cmp}
-use Rattle.modes.specs.declared.mode.Mode.{Mode}
 use Rattle.lock_tree.specs.Queues.{Queue}
-use Rattle.lock_tree.specs.Lines.{Lines, requests_in, line, HasPlace, HasRoom, is_same, others}
+use Rattle.lock_tree.specs.LineParts.{LineOf}
+use Rattle.lock_tree.specs.Lines.{Lines, requests_in, line, HasPlace, HasRoom, is_same}
 
 -- ---- resources that are alike are one
 
@@ -61,39 +60,41 @@ same_resource a b h = exact_resources a b (tied (resource_cmp a b) h)
 -- ---- what changes at one resource
 
 abbrev Slot : Type 0
-Slot = Option (Vec (ℕ × Mode) Global)
+Slot = Option LineOf
 
-same_slot : (old new : Slot) (v : Bool) (queue : Vec (ℕ × Mode) Global) → new ≡ cond v (Some queue) old → (v ≡ true → old ≡ None) → queue.items ≡ [] → requests_in new ≡ requests_in old
+same_slot : (old new : Slot) (v : Bool) (queue : LineOf) → new ≡ cond v (Some queue) old → (v ≡ true → old ≡ None) → queue.requests ≡ [] → requests_in new ≡ requests_in old
 same_slot old new true queue is none empty = ap requests_in is ∙ empty ∙ sym (ap requests_in (none refl))
 same_slot old new false queue is none empty = ap requests_in is
 
 -- a new empty queue
-pub same_with_empty : (lines lender new : Lines) (r other : Resource) (queue : Vec (ℕ × Mode) Global) → lender ≡ lines
+pub same_with_empty : (lines lender new : Lines) (r other : Resource) (queue : LineOf) → lender ≡ lines
     → get resource_cmp new other ≡ cond (is_same r other) (Some queue) (get resource_cmp lender other)
-    → None ≡ get resource_cmp lines r → queue.items ≡ [] → line new other ≡ line lines other
+    → None ≡ get resource_cmp lines r → queue.requests ≡ [] → line new other ≡ line lines other
 same_with_empty lines lender new r other queue same is none empty =
     same_slot (get resource_cmp lines other) (get resource_cmp new other) (is_same r other) queue
     (is ∙ ap (λ (m : Lines). cond (is_same r other) (Some queue) (get resource_cmp m other)) same)
     (λ e. ap (get resource_cmp lines) (sym (same_resource r other e)) ∙ sym none) empty
 
-place_kept : (old new : Slot) (v : Bool) (queue : Vec (ℕ × Mode) Global) → new ≡ cond v (Some queue) old → vec_len queue < vec_capacity queue → HasPlace old → HasPlace new
+slot_gone : (old new : Slot) (v : Bool) → new ≡ cond v None old → (v ≡ true → requests_in old ≡ []) → requests_in new ≡ requests_in old
+slot_gone old new true is empty = ap requests_in is ∙ sym (empty refl)
+slot_gone old new false is empty = ap requests_in is
+
+nobody : (queue : Queue) → true ≡ (length queue == 0) → queue ≡ []
+nobody [] h = refl
+nobody (x ∷ queue) h = absurd (grind (arith, nat_tests))
+
+-- an empty queue that goes
+pub same_without_empty : (lines new : Lines) (r other : Resource) → get resource_cmp new other ≡ cond (is_same r other) None (get resource_cmp lines other) → true ≡ (length (line lines r) == 0) → line new other ≡ line lines other
+same_without_empty lines new r other is none =
+    slot_gone (get resource_cmp lines other) (get resource_cmp new other) (is_same r other) is (λ e. ap (line lines) (sym (same_resource r other e)) ∙ nobody (line lines r) none)
+
+place_kept : (old new : Slot) (v : Bool) (queue : LineOf) → new ≡ cond v (Some queue) old → 0 < queue.room → HasPlace old → HasPlace new
 place_kept old new true queue is room place = subst HasPlace (sym is) room
 place_kept old new false queue is room place = subst HasPlace (sym is) place
 
-pub room_kept : (lines lender new : Lines) (r other : Resource) (queue : Vec (ℕ × Mode) Global) → lender ≡ lines
+pub room_kept : (lines lender new : Lines) (r other : Resource) (queue : LineOf) → lender ≡ lines
     → get resource_cmp new other ≡ cond (is_same r other) (Some queue) (get resource_cmp lender other)
-    → vec_len queue < vec_capacity queue → HasRoom lines other → HasRoom new other
+    → 0 < queue.room → HasRoom lines other → HasRoom new other
 room_kept lines lender new r other queue same is room place =
     place_kept (get resource_cmp lines other) (get resource_cmp new other) (is_same r other) queue
     (is ∙ ap (λ (m : Lines). cond (is_same r other) (Some queue) (get resource_cmp m other)) same) room place
-
-same_less_one : (v : Bool) (number : ℕ) (queue : Queue) → (v ≡ true → queue ≡ []) → queue ≡ cond v (others number queue) queue
-same_less_one true number queue none = none refl ∙ sym (ap (others number) (none refl))
-same_less_one false number queue none = refl
-
--- nobody leaves a queue that is not there
-pub none_leaves : (lines lender : Lines) (r other : Resource) (number : ℕ) → lender ≡ lines → None ≡ get resource_cmp lines r
-    → line lender other ≡ cond (is_same other r) (others number (line lines other)) (line lines other)
-none_leaves lines lender r other number same none =
-    ap (λ (m : Lines). line m other) same
-    ∙ same_less_one (is_same other r) number (line lines other) (λ e. ap (line lines) (same_resource other r e) ∙ sym (ap requests_in none))

@@ -4,7 +4,7 @@ use Rattle.std.specs.List.Sorted.{IsPartitionedBy, IsPartitionPoint}
 use Rattle.std.proofs.lemmas.Bool.Decides.{nat_tests}
 use Rattle.lock_tree.specs.declared.entry.Entry.{Entry}
 use Rattle.lock_tree.specs.Locks.{AreAbove, IsRising}
-use Rattle.lock_tree.specs.Ranks.{place_of}
+use Rattle.lock_tree.specs.Placing.{place_of}
 use Rattle.lock_tree.specs.Views.{all_waiting}
 use Rattle.lock_tree.specs.Open.{place_from}
 use Rattle.lock_tree.proofs.Places.{at}

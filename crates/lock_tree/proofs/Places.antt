@@ -5,7 +5,7 @@ use Rattle.std.proofs.lemmas.Bool.Decides.{nat_tests}
 use Rattle.lock_tree.specs.declared.entry.Entry.{Entry}
 use Rattle.lock_tree.specs.Locks.{Waiting, used, plan_of, without, with_mark, AreAbove, IsRising}
 use Rattle.lock_tree.specs.Enqueues.{AreBelow}
-use Rattle.lock_tree.specs.Ranks.{place_of}
+use Rattle.lock_tree.specs.Placing.{place_of}
 use Rattle.lock_tree.specs.Views.{waiting_of, all_waiting}
 
 pub same_numbers : (i k : ℕ) → (i == k) ≡ true → i ≡ k

@@ -11,9 +11,10 @@ use Rattle.modes.specs.declared.mode.Mode.{Mode}
 use Rattle.modes.specs.Modes.{are_compatible}
 use Rattle.coarsen.specs.Subtrees.{Requests}
 use Rattle.lock_tree.specs.declared.entry.Entry.{Entry}
-use Rattle.lock_tree.specs.Queues.{Queue, mode_on, asks, granted_beside, granted, has_number}
+use Rattle.lock_tree.specs.Locks.{Waiting}
+use Rattle.lock_tree.specs.Queues.{Queue, mode_on, asks, queue, granted_beside, granted, has_number}
 use Rattle.lock_tree.specs.Enqueues.{AreBelow}
-use Rattle.lock_tree.specs.Lines.{Lines, HasRoom, is_same}
+use Rattle.lock_tree.specs.Lines.{Lines, HasRoom, is_same, numbers_of, AllUnder}
 use Rattle.lock_tree.specs.Known.{granted_in, Knows, AreKnown}
 use Rattle.lock_tree.specs.Views.{all_waiting}
 use Rattle.lock_tree.proofs.Lines.{same_resource, resources_total}
@@ -63,16 +64,36 @@ still_apart e this rest front sorted = sorted_rest e rest (subst (λ (p : Reques
 abbrev Rooms : Lines → Requests → Type 0
 Rooms lines plan = AllByRecursion (λ request. HasRoom lines request.0) plan
 
-rooms_kept : (r : Resource) (now new : Lines) (plan : Requests) → AllByRecursion (λ x. resource_cmp r x ≡ Less) (keys_of plan)
-    → ((other : Resource) → is_same other r ≡ false → HasRoom now other → HasRoom new other) → Rooms now plan → Rooms new plan
-rooms_kept r now new [] later kept rooms = tt
-rooms_kept r now new (e ∷ plan) later kept rooms = (kept e.0 (other_later r e.0 later.0) rooms.0, rooms_kept r now new plan later.1 kept rooms.1)
+-- what holds of all other resources goes on holding of the later ones
+module _ (before after : Resource → Type 0) where
+  kept_later : (r : Resource) (plan : Requests) → AllByRecursion (λ x. resource_cmp r x ≡ Less) (keys_of plan)
+      → ((other : Resource) → is_same other r ≡ false → before other → after other) → AllByRecursion (λ e. before e.0) plan → AllByRecursion (λ e. after e.0) plan
+  kept_later r [] later kept all = tt
+  kept_later r (e ∷ plan) later kept all = (kept e.0 (other_later r e.0 later.0) all.0, kept_later r plan later.1 kept all.1)
 
-pub still_room : (e : Resource × Mode) (this rest : Requests) (now new : Lines) → this ≡ e ∷ rest → IsStrictlySortedBy resource_cmp (keys_of this)
-    → ((other : Resource) → is_same other e.0 ≡ false → HasRoom now other → HasRoom new other) → Rooms now this → Rooms new rest
-still_room e this rest now new front sorted kept rooms =
-    let later = sorted_first e rest (subst (λ (p : Requests). IsStrictlySortedBy resource_cmp (keys_of p)) front sorted) in
-    rooms_kept e.0 now new rest later kept (subst (Rooms now) front rooms).1
+  pub still_of_later : (e : Resource × Mode) (this rest : Requests) → this ≡ e ∷ rest → IsStrictlySortedBy resource_cmp (keys_of this)
+      → ((other : Resource) → is_same other e.0 ≡ false → before other → after other) → AllByRecursion (λ x. before x.0) this → AllByRecursion (λ x. after x.0) rest
+  still_of_later e this rest front sorted kept all =
+      let later = sorted_first e rest (subst (λ (p : Requests). IsStrictlySortedBy resource_cmp (keys_of p)) front sorted) in
+      kept_later e.0 rest later kept (subst (λ (p : Requests). AllByRecursion (λ x. before x.0) p) front all).1
+
+-- a queue whose numbers are less, where another one changed
+pub under_kept : (number : ℕ) (v : Bool) (now longer new : Queue) → new ≡ cond v longer now → v ≡ false → AllUnder number (numbers_of now) → AllUnder number (numbers_of new)
+under_kept number v now longer new is other under = subst (λ (q : Queue). AllUnder number (numbers_of q)) (sym (is ∙ ap (λ b. cond b longer now) other)) under
+
+-- all numbers of a queue are less than the next one
+under_next : (number : ℕ) (r : Resource) (ws : List Waiting) → AreBelow number ws → AllUnder number (numbers_of (queue r ws))
+under_next number r [] below = tt
+under_next number r (w ∷ ws) below = elim (mode_on r w.plan) as (λ o. AllUnder number (numbers_of (asks w.number o (queue r ws)))) [
+  | None ↦ under_next number r ws below.1
+  | Some mode ↦ (below.0, under_next number r ws below.1)
+]
+
+pub plan_under_next : (number : ℕ) (lines : Resource → Queue) (ws : List Waiting) → ((r : Resource) → lines r ≡ queue r ws) → AreBelow number ws
+    → (plan : Requests) → AllByRecursion (λ e. AllUnder number (numbers_of (lines e.0))) plan
+plan_under_next number lines ws is below [] = tt
+plan_under_next number lines ws is below (e ∷ plan) =
+    (subst (λ (q : Queue). AllUnder number (numbers_of q)) (sym (is e.0)) (under_next number e.0 ws below), plan_under_next number lines ws is below plan)
 
 -- ---- nothing changes for those before
 

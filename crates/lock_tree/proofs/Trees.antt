@@ -11,7 +11,7 @@ use Rattle.lock_tree.specs.Indexed.{IsIndexed}
 use Rattle.lock_tree.specs.Locks.{Waiting, used, plan_of, without, with_mark, AreAbove, IsRising}
 use Rattle.lock_tree.specs.Queues.{Queue, mode_on, asks, queue, granted, has_number}
 use Rattle.lock_tree.specs.Ready.{ready, all_granted}
-use Rattle.lock_tree.specs.Ranks.{place_of}
+use Rattle.lock_tree.specs.Placing.{place_of}
 use Rattle.lock_tree.specs.Views.{waiting_of, all_waiting}
 use Rattle.lock_tree.specs.Lines.{Lines, line, others}
 use Rattle.lock_tree.specs.Sound.{IsTree}

@@ -1,5 +1,6 @@
 -- Transactions with the numbers of the open ones.
-use Rattle.std.specs.Prelude.{◌≡◌, ◌≤◌, ◌<◌, length, vec_len, vec_capacity}
+use Rattle.std.specs.Prelude.{◌≡◌, ◌≤◌, ◌<◌, length}
+use Rattle.std.specs.VecDeque.{deque_len, deque_capacity}
 use Rattle.lock_tree.specs.declared.transactions.Transactions.{Transactions}
 use Rattle.lock_tree.specs.Locks.{IsRising}
 use Rattle.lock_tree.specs.Views.{all_waiting}
@@ -9,9 +10,9 @@ use Rattle.lock_tree.specs.Open.{open_of}
 pub record IsIndexed (t : Transactions) : Type 0 where
   pub rising : IsRising (all_waiting t.entries.items)
   pub open_ones : t.open.items ≡ open_of t.entries.items
-  pub room : length t.entries.items ≤ vec_capacity t.open
+  pub room : length t.entries.items ≤ deque_capacity t.open
 
 -- one more transaction fits
 pub record HasPlace (t : Transactions) : Type 0 where
-  pub entries : vec_len t.entries < vec_capacity t.entries
-  pub open_ones : length t.entries.items < vec_capacity t.open
+  pub entries : deque_len t.entries < deque_capacity t.entries
+  pub open_ones : length t.entries.items < deque_capacity t.open

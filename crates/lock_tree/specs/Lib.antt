@@ -3,9 +3,12 @@ pub mod Queues
 pub mod Ready
 pub mod Laws
 pub mod Views
-pub mod Ranks
+pub mod Placing
 pub mod Enqueues
+pub mod LineParts
 pub mod Lines
+pub mod Held
+pub mod Kept
 pub mod Known
 pub mod Sound
 pub mod Open

@@ -7,7 +7,7 @@ ghost use Rattle.std.specs.List.Sorted.{IsStrictlySortedBy};
 ghost use Rattle.footprint.specs.declared.resource.Resource.{Resource as AnyResource};
 ghost use Rattle.footprint.specs.Tree.{resource_cmp};
 ghost use Rattle.lock_tree.specs.Queues.{asks, mode_on};
-ghost use Rattle.lock_tree.specs.Lines.{line, HasRoom};
+ghost use Rattle.lock_tree.specs.Lines.{line, HasRoom, AllUnder, numbers_of};
 ghost use Rattle.lock_tree.specs.Enqueues.{AreBelow};
 ghost use Rattle.lock_tree.specs.Indexed.{IsIndexed, HasPlace};
 ghost use Rattle.lock_tree.specs.Known.{AreKnown};
@@ -41,6 +41,7 @@ pub(crate) fn make_room_for(
 fn join_all(queues: &mut Queues, plan: &[(Resource, Mode)], number: u64)
     requires room { AllByRecursion (λ request. HasRoom queues.old request.0) plan.now }
     requires apart { IsStrictlySortedBy resource_cmp (keys_of plan.now) }
+    requires above { AllByRecursion (λ request. AllUnder number (numbers_of (line queues.old request.0))) plan.now }
     ensures { (other : AnyResource) → line queues.new other ≡ line queues.old other ++ asks number (mode_on other plan.now) [] }
 {
     for (resource, mode) in plan {
@@ -55,6 +56,7 @@ pub(crate) fn join(queues: &mut Queues, transactions: &mut Transactions, mut ent
     requires place { HasPlace transactions.old }
     requires apart { IsStrictlySortedBy resource_cmp (keys_of entry.plan.items) }
     requires below { AreBelow entry.number (all_waiting transactions.old.entries.items) }
+    requires above { AllByRecursion (λ request. AllUnder entry.number (numbers_of (line queues.old request.0))) entry.plan.items }
     requires known { AreKnown (line queues.old) [] transactions.old.entries.items }
     ensures indexed { IsIndexed transactions.new }
     ensures joined { (other : AnyResource) → line queues.new other ≡ line queues.old other ++ asks entry.number (mode_on other entry.plan.items) [] }

@@ -3,11 +3,13 @@
 
 mod entry;
 mod grants;
+mod held;
 mod joining;
 mod laws;
 mod noting;
 mod opening;
 mod queues;
+mod request_line;
 mod room;
 #[cfg(test)]
 mod tests;

@@ -1,17 +1,17 @@
 //! Transactions that leave their queues, and who gets ready.
 
-ghost use Rattle.std.specs.Prelude.{◌≡◌, [], ◌∷◌, ◌==◌, false, None, if◌then◌else◌};
+ghost use Rattle.std.specs.Prelude.{◌≡◌, drop, [], ◌∷◌, ◌==◌, false, None, if◌then◌else◌};
 ghost use Rattle.std.specs.List.{AllByRecursion};
 ghost use Rattle.footprint.specs.declared.resource.Resource.{Resource as AnyResource};
 ghost use Rattle.modes.specs.declared.mode.Mode.{Mode as AnyMode};
 ghost use Rattle.lock_tree.specs.Indexed.{IsIndexed};
-ghost use Rattle.lock_tree.specs.Queues.{Queue, mode_on};
+ghost use Rattle.lock_tree.specs.Queues.{Queue, granted, mode_on};
 ghost use Rattle.lock_tree.specs.Lines.{line, is_same, others};
 ghost use Rattle.lock_tree.specs.Known.{AreKnown};
 ghost use Rattle.lock_tree.specs.Views.{all_waiting};
 
-use crate::grants::{are_granted, count_others, front, granted_behind};
-use crate::queues::{Queues, line, remove};
+use crate::grants::are_granted;
+use crate::queues::{Queues, granted_at, remove};
 use crate::transactions::{Transactions, place_of};
 use footprint::Resource;
 use modes::Mode;
@@ -23,22 +23,24 @@ fn note(queues: &Queues, transactions: &mut Transactions, number: u64)
     ensures same { all_waiting transactions.new.entries.items ≡ all_waiting transactions.old.entries.items }
     ensures noted { (mode : AnyMode) (lately : Queue) → AreKnown (line queues.now) ((number, mode) ∷ lately) transactions.old.entries.items → AreKnown (line queues.now) lately transactions.new.entries.items }
 {
-    if let Some(place) = place_of(transactions.entries.as_slice(), number) {
+    if let Some(place) = place_of(&transactions.entries, number) {
         let ready = are_granted(queues, transactions.entries[place].plan.as_slice(), number);
         transactions.set_ready(place, ready);
     }
 }
 
-/// Notes which of the transactions of these requests are ready.
-fn note_all(queues: &Queues, transactions: &mut Transactions, lately: &[(u64, Mode)])
+/// Notes which of the transactions are ready whose requests on a resource are granted, from a place on.
+fn note_granted(queues: &Queues, transactions: &mut Transactions, resource: &Resource, first: usize)
     requires indexed { IsIndexed transactions.old }
-    requires known { AreKnown (line queues.now) lately.now transactions.old.entries.items }
+    requires known { AreKnown (line queues.now) (drop first (granted (line queues.now resource.now))) transactions.old.entries.items }
     ensures indexed { IsIndexed transactions.new }
     ensures same { all_waiting transactions.new.entries.items ≡ all_waiting transactions.old.entries.items }
     ensures known { AreKnown (line queues.now) [] transactions.new.entries.items }
 {
-    for (number, _) in lately {
-        note(queues, transactions, *number);
+    let mut place = first;
+    while let Some(number) = granted_at(queues, resource, place) {
+        note(queues, transactions, number);
+        place += 1;
     }
 }
 
@@ -52,13 +54,8 @@ fn leave_one(queues: &mut Queues, transactions: &mut Transactions, resource: &Re
     ensures same { all_waiting transactions.new.entries.items ≡ all_waiting transactions.old.entries.items }
     ensures known { AreKnown (line queues.new) [] transactions.new.entries.items }
 {
-    let stay = count_others(front(line(queues, resource)), number);
-    remove(queues, resource, number);
-    note_all(
-        queues,
-        transactions,
-        granted_behind(line(queues, resource), stay),
-    );
+    let stay = remove(queues, resource, number);
+    note_granted(queues, transactions, resource, stay);
 }
 
 /// Takes a transaction off the queues of a plan, and notes who gets ready.

@@ -1,37 +1,40 @@
 //! Rising numbers.
 
-ghost use Rattle.std.specs.Prelude.{◌≡◌, ◌≤◌, true, false, length, slice_get, vec_capacity};
+ghost use Rattle.std.specs.Prelude.{◌≡◌, ◌≤◌, true, false, length, slice_get};
+ghost use Rattle.std.specs.VecDeque.{deque_capacity};
 ghost use Rattle.lock_tree.specs.Open.{places_before, placed, AreRising};
 
+use std::collections::VecDeque;
+
 /// How many of the numbers are less.
-fn places_before(numbers: &[u64], number: u64) -> usize
-    requires { AreRising numbers.now }
-    ensures exact { result ≡ places_before number numbers.now }
-    ensures within { result ≤ length numbers.now }
+fn places_before(numbers: &VecDeque<u64>, number: u64) -> usize
+    requires { AreRising numbers.now.items }
+    ensures exact { result ≡ places_before number numbers.now.items }
+    ensures within { result ≤ length numbers.now.items }
 {
     numbers.partition_point(|other| *other < number)
 }
 
 /// Takes a number out of rising ones.
-pub(crate) fn take_out(numbers: &mut Vec<u64>, number: u64)
+pub(crate) fn take_out(numbers: &mut VecDeque<u64>, number: u64)
     requires { AreRising numbers.old.items }
     ensures items { numbers.new.items ≡ placed number false numbers.old.items }
-    ensures capacity { vec_capacity numbers.new ≡ vec_capacity numbers.old }
+    ensures capacity { deque_capacity numbers.new ≡ deque_capacity numbers.old }
 {
-    let place = places_before(numbers.as_slice(), number);
+    let place = places_before(numbers, number);
     if place < numbers.len() && numbers[place] == number {
         numbers.remove(place);
     }
 }
 
 /// Puts a number among rising ones. There is room for it.
-pub(crate) fn put(numbers: &mut Vec<u64>, number: u64)
+pub(crate) fn put(numbers: &mut VecDeque<u64>, number: u64)
     requires rising { AreRising numbers.old.items }
-    requires room { length (placed number true numbers.old.items) ≤ vec_capacity numbers.old }
+    requires room { length (placed number true numbers.old.items) ≤ deque_capacity numbers.old }
     ensures items { numbers.new.items ≡ placed number true numbers.old.items }
-    ensures capacity { vec_capacity numbers.old ≤ vec_capacity numbers.new }
+    ensures capacity { deque_capacity numbers.old ≤ deque_capacity numbers.new }
 {
-    let place = places_before(numbers.as_slice(), number);
+    let place = places_before(numbers, number);
     if place < numbers.len() && numbers[place] == number {
         return;
     }
@@ -39,8 +42,8 @@ pub(crate) fn put(numbers: &mut Vec<u64>, number: u64)
 }
 
 /// The least of rising numbers, `None` where there is none.
-pub(crate) fn least(numbers: &[u64]) -> Option<u64>
-    ensures { result ≡ slice_get numbers.now 0 }
+pub(crate) fn least(numbers: &VecDeque<u64>) -> Option<u64>
+    ensures { result ≡ slice_get numbers.now.items 0 }
 {
-    numbers.first().copied()
+    numbers.front().copied()
 }

@@ -1,9 +1,11 @@
 //! The queues of resources.
 
-ghost use Rattle.std.specs.Prelude.{◌≡◌, [], ◌∷◌, ◌++◌, false, OnOk, if◌then◌else◌};
+ghost use Rattle.std.specs.Prelude.{◌≡◌, ◌<◌, ◌+◌, ◌^◌, [], ◌∷◌, ◌++◌, ◌==◌, false, length, slice_get, option_map, IfSome, OnOk, if◌then◌else◌};
 ghost use Rattle.footprint.specs.declared.resource.Resource.{Resource as AnyResource};
-ghost use Rattle.lock_tree.specs.Lines.{line, HasRoom, is_same, others};
+ghost use Rattle.lock_tree.specs.Queues.{granted, has_number};
+ghost use Rattle.lock_tree.specs.Lines.{line, HasRoom, AllUnder, numbers_of, is_same, others};
 
+use crate::request_line::RequestLine;
 use footprint::Resource;
 use modes::Mode;
 use std::alloc::Global;
@@ -11,15 +13,26 @@ use std::collections::BTreeMap;
 use values::NoMemory;
 
 /// The requests on each resource, in order. A resource that none asks for may have an empty queue.
-pub(crate) type Queues = BTreeMap<Resource, Vec<(u64, Mode)>>;
+pub(crate) type Queues = BTreeMap<Resource, RequestLine>;
 
-/// The queue of a resource.
-pub(crate) fn line<'a>(queues: &'a Queues, resource: &Resource) -> &'a [(u64, Mode)]
-    ensures { result.now ≡ line queues.now resource.now }
+/// Whether a transaction's request on a resource is granted.
+pub(crate) fn is_granted(queues: &Queues, resource: &Resource, number: u64) -> bool
+    ensures { result ≡ has_number number (granted (line queues.now resource.now)) }
 {
     match queues.get(resource) {
-        Some(queue) => queue.as_slice(),
-        None => &[],
+        Some(line) => line.is_granted(number),
+        None => false,
+    }
+}
+
+/// The number of the granted request at a place of a resource's queue, `None` where none is granted there.
+pub(crate) fn granted_at(queues: &Queues, resource: &Resource, place: usize) -> Option<u64>
+    ensures within { IfSome result (λ _. place + 1 < 2 ^ 64) }
+    ensures number { result ≡ option_map (λ request. request.0) (slice_get (granted (line queues.now resource.now)) place) }
+{
+    match queues.get(resource) {
+        Some(line) => line.granted_at(place),
+        None => None,
     }
 }
 
@@ -33,39 +46,45 @@ pub(crate) fn make_room(
     ensures room { OnOk result (HasRoom queues.new resource) }
     ensures kept { (other : AnyResource) → HasRoom queues.old other → HasRoom queues.new other }
 {
-    if let Some(queue) = queues.get_mut(&resource) {
-        queue.reserve(1)?;
+    if let Some(line) = queues.get_mut(&resource) {
+        line.make_place()?;
         return Ok(());
     }
-    let queue = Vec::with_capacity(alloc, 1)?;
-    queues.insert(resource, queue)?;
+    let line = RequestLine::with_place(alloc)?;
+    queues.insert(resource, line)?;
     Ok(())
 }
 
 /// Puts a request behind the others on its resource.
 pub(crate) fn push(queues: &mut Queues, resource: &Resource, number: u64, mode: Mode)
-    requires { HasRoom queues.old resource.now }
+    requires room { HasRoom queues.old resource.now }
+    requires above { AllUnder number (numbers_of (line queues.old resource.now)) }
     ensures pushed { (other : AnyResource) → line queues.new other ≡ (if is_same other resource.now then line queues.old other ++ (number, mode) ∷ [] else line queues.old other) }
     ensures room { (other : AnyResource) → is_same other resource.now ≡ false → HasRoom queues.old other → HasRoom queues.new other }
 {
-    if let Some(queue) = queues.get_mut(resource) {
-        queue.push_reserved((number, mode));
+    if let Some(line) = queues.get_mut(resource) {
+        line.push(number, mode);
     }
 }
 
-/// Takes a transaction off a queue.
-fn leave(queue: &mut Vec<(u64, Mode)>, number: u64)
-    ensures { queue.new.items ≡ others number queue.old.items }
+/// Takes a transaction off a resource's queue: how many of the others were granted before.
+fn leave_line(queues: &mut Queues, resource: &Resource, number: u64) -> usize
+    ensures left { (other : AnyResource) → line queues.new other ≡ (if is_same other resource.now then others number (line queues.old other) else line queues.old other) }
+    ensures stay { result ≡ length (others number (granted (line queues.old resource.now))) }
 {
-    queue.retain(|request| request.0 != number);
+    match queues.get_mut(resource) {
+        Some(line) => line.leave(number),
+        None => 0,
+    }
 }
 
-/// Takes a transaction off a resource's queue.
-fn leave_line(queues: &mut Queues, resource: &Resource, number: u64)
-    ensures { (other : AnyResource) → line queues.new other ≡ (if is_same other resource.now then others number (line queues.old other) else line queues.old other) }
+/// Whether none asks for a resource.
+fn is_unasked(queues: &Queues, resource: &Resource) -> bool
+    ensures { result ≡ (length (line queues.now resource.now) == 0) }
 {
-    if let Some(queue) = queues.get_mut(resource) {
-        leave(queue, number);
+    match queues.get(resource) {
+        Some(line) => line.is_empty(),
+        None => true,
     }
 }
 
@@ -73,15 +92,18 @@ fn leave_line(queues: &mut Queues, resource: &Resource, number: u64)
 fn forget_empty(queues: &mut Queues, resource: &Resource)
     ensures { (other : AnyResource) → line queues.new other ≡ line queues.old other }
 {
-    if line(queues, resource).is_empty() {
+    if is_unasked(queues, resource) {
         queues.remove(resource);
     }
 }
 
-/// Takes a transaction off a resource's queue, and forgets the resource where none asks for it.
-pub(crate) fn remove(queues: &mut Queues, resource: &Resource, number: u64)
-    ensures { (other : AnyResource) → line queues.new other ≡ (if is_same other resource.now then others number (line queues.old other) else line queues.old other) }
+/// Takes a transaction off a resource's queue, and forgets the resource where none asks for it: how many of the others
+/// were granted before.
+pub(crate) fn remove(queues: &mut Queues, resource: &Resource, number: u64) -> usize
+    ensures left { (other : AnyResource) → line queues.new other ≡ (if is_same other resource.now then others number (line queues.old other) else line queues.old other) }
+    ensures stay { result ≡ length (others number (granted (line queues.old resource.now))) }
 {
-    leave_line(queues, resource, number);
+    let stay = leave_line(queues, resource, number);
     forget_empty(queues, resource);
+    stay
 }

@@ -1,39 +1,41 @@
 //! The transactions that are enqueued and not released, in the order of their numbers.
 
-ghost use Rattle.std.specs.Prelude.{◌≡◌, ◌<◌, ◌≤◌, [], ◌∷◌, ◌++◌, if◌then◌else◌, true, length, IfSome, OnOk, slice_set, slice_index_or, vec_len, vec_capacity, remove};
+ghost use Rattle.std.specs.Prelude.{◌≡◌, ◌<◌, ◌≤◌, [], ◌∷◌, ◌++◌, if◌then◌else◌, true, length, IfSome, OnOk, slice_set, slice_index_or, remove};
+ghost use Rattle.std.specs.VecDeque.{deque_len, deque_capacity};
 ghost use Rattle.lock_tree.specs.declared.entry.Entry.{Entry as AnyEntry};
 ghost use Rattle.lock_tree.specs.Locks.{IsRising};
 ghost use Rattle.lock_tree.specs.Enqueues.{AreBelow};
-ghost use Rattle.lock_tree.specs.Ranks.{place_of};
+ghost use Rattle.lock_tree.specs.Placing.{place_of};
 ghost use Rattle.lock_tree.specs.Views.{all_waiting};
 ghost use Rattle.lock_tree.specs.Open.{place_from, is_open, placed, AreRising};
 
 use crate::entry::Entry;
 use crate::opening::{put, take_out};
 use std::alloc::Global;
+use std::collections::VecDeque;
 use values::NoMemory;
 
 /// The transactions, and the numbers of the open ones: those that are ready and not marked.
 #[derive(Drop)]
 pub(crate) struct Transactions {
-    pub(crate) entries: Vec<Entry>,
-    pub(crate) open: Vec<u64>,
+    pub(crate) entries: VecDeque<Entry>,
+    pub(crate) open: VecDeque<u64>,
 }
 
 /// How many transactions have lesser numbers.
-fn place_from(entries: &[Entry], number: u64) -> usize
-    requires { IsRising (all_waiting entries.now) }
-    ensures exact { result ≡ place_from number entries.now }
-    ensures within { result ≤ length entries.now }
+fn place_from(entries: &VecDeque<Entry>, number: u64) -> usize
+    requires { IsRising (all_waiting entries.now.items) }
+    ensures exact { result ≡ place_from number entries.now.items }
+    ensures within { result ≤ length entries.now.items }
 {
     entries.partition_point(|entry| entry.number < number)
 }
 
 /// The place of the transaction with a number, `None` exactly where none has it.
-pub(crate) fn place_of(entries: &[Entry], number: u64) -> Option<usize>
-    requires { IsRising (all_waiting entries.now) }
-    ensures exact { result ≡ place_of number (all_waiting entries.now) }
-    ensures within { IfSome result (λ place. place < length entries.now) }
+pub(crate) fn place_of(entries: &VecDeque<Entry>, number: u64) -> Option<usize>
+    requires { IsRising (all_waiting entries.now.items) }
+    ensures exact { result ≡ place_of number (all_waiting entries.now.items) }
+    ensures within { IfSome result (λ place. place < length entries.now.items) }
 {
     let place = place_from(entries, number);
     if place < entries.len() && entries[place].number == number {
@@ -43,11 +45,11 @@ pub(crate) fn place_of(entries: &[Entry], number: u64) -> Option<usize>
 }
 
 /// Notes whether a transaction is open.
-fn note_open(numbers: &mut Vec<u64>, entry: &Entry)
+fn note_open(numbers: &mut VecDeque<u64>, entry: &Entry)
     requires rising { AreRising numbers.old.items }
-    requires room { is_open entry.now ≡ true → length (placed entry.now.number true numbers.old.items) ≤ vec_capacity numbers.old }
+    requires room { is_open entry.now ≡ true → length (placed entry.now.number true numbers.old.items) ≤ deque_capacity numbers.old }
     ensures items { numbers.new.items ≡ placed entry.now.number (is_open entry.now) numbers.old.items }
-    ensures capacity { vec_capacity numbers.old ≤ vec_capacity numbers.new }
+    ensures capacity { deque_capacity numbers.old ≤ deque_capacity numbers.new }
 {
     if entry.is_open() {
         put(numbers, entry.number);
@@ -57,13 +59,13 @@ fn note_open(numbers: &mut Vec<u64>, entry: &Entry)
 }
 
 /// Notes whether a transaction that comes behind the others is open.
-fn push_open(numbers: &mut Vec<u64>, entry: &Entry)
-    requires { vec_len numbers.old < vec_capacity numbers.old }
+fn push_open(numbers: &mut VecDeque<u64>, entry: &Entry)
+    requires { deque_len numbers.old < deque_capacity numbers.old }
     ensures items { numbers.new.items ≡ numbers.old.items ++ (if is_open entry.now then entry.now.number ∷ [] else []) }
-    ensures capacity { vec_capacity numbers.new ≡ vec_capacity numbers.old }
+    ensures capacity { deque_capacity numbers.new ≡ deque_capacity numbers.old }
 {
     if entry.is_open() {
-        numbers.push_reserved(entry.number);
+        numbers.push_back_reserved(entry.number);
     }
 }
 
@@ -76,8 +78,8 @@ impl Transactions {
         ensures entries { result.entries.items ≡ [] }
     {
         Transactions {
-            entries: Vec::new(alloc),
-            open: Vec::new(alloc),
+            entries: VecDeque::new(alloc),
+            open: VecDeque::new(alloc),
         }
     }
 
@@ -103,7 +105,7 @@ impl Transactions {
         ensures entries { self.new.entries.items ≡ self.old.entries.items ++ entry ∷ [] }
     {
         push_open(&mut self.open, &entry);
-        self.entries.push_reserved(entry);
+        self.entries.push_back_reserved(entry);
     }
 
     /// Notes whether the transaction at a place is ready.
@@ -136,7 +138,9 @@ impl Transactions {
         ensures value { result ≡ slice_index_or self.old.entries.items place result }
         ensures entries { self.new.entries.items ≡ remove self.old.entries.items place }
     {
-        let entry = self.entries.remove(place);
+        let Some(entry) = self.entries.remove(place) else {
+            unreachable!()
+        };
         take_out(&mut self.open, entry.number);
         entry
     }

@@ -90,7 +90,7 @@ impl LockTree {
     pub fn is_ready(&self, number: u64) -> bool
         ensures { result ≡ ready self.now.waiting number }
     {
-        match place_of(self.transactions.entries.as_slice(), number) {
+        match place_of(&self.transactions.entries, number) {
             Some(place) => self.transactions.entries[place].ready,
             None => false,
         }
@@ -100,7 +100,7 @@ impl LockTree {
     pub fn next_ready(&self) -> Option<u64>
         ensures { IsNextReady self.now.waiting result }
     {
-        least(self.transactions.open.as_slice())
+        least(&self.transactions.open)
     }
 
     /// Marks a transaction.
@@ -122,7 +122,7 @@ impl LockTree {
     fn set_mark(&mut self, number: u64, mark: bool)
         ensures { self.new ≡ record self.old { waiting = with_mark number mark self.old.waiting } }
     {
-        if let Some(place) = place_of(self.transactions.entries.as_slice(), number) {
+        if let Some(place) = place_of(&self.transactions.entries, number) {
             self.transactions.set_mark(place, mark);
         }
     }
@@ -132,7 +132,7 @@ impl LockTree {
         requires { IsSome (plan_of self.old.waiting number) }
         ensures { self.new ≡ record self.old { waiting = without number self.old.waiting } }
     {
-        if let Some(place) = place_of(self.transactions.entries.as_slice(), number) {
+        if let Some(place) = place_of(&self.transactions.entries, number) {
             let entry = self.transactions.remove(place);
             self.free += entry.plan.len();
             leave_all(

@@ -1,9 +1,9 @@
-use Rattle.std.proofs.Common.{◌≡◌, ◌+◌, ◌∷◌, ◌∙◌, drop, ap, sym}
+use Rattle.std.proofs.Common.{◌≡◌, ◌+◌, ◌∷◌, ◌++◌, [], ◌∙◌, drop, ap, sym}
 use Rattle.footprint.specs.declared.resource.Resource.{Resource}
 use Rattle.modes.specs.declared.mode.Mode.{Mode}
-use Rattle.lock_tree.specs.Lines.{line}
+use Rattle.lock_tree.specs.Lines.{line, HasRoom, AllUnder, numbers_of, is_same}
 use Rattle.lock_tree.proofs.Dropping.{drop_more}
-use Rattle.lock_tree.proofs.Queueing.{more_joined, still_apart, still_room}
+use Rattle.lock_tree.proofs.Queueing.{more_joined, still_apart, still_of_later, under_kept}
 use Rattle.lock_tree.proofs.joining.join_all.Goals as goal
 
 pub loop-resource-preserved : goal.loop-resource-preserved
@@ -16,6 +16,9 @@ loop-resource-preserved c =
       joined = λ other.
           more_joined c.args.number other e (drop i c.args.plan.now) (drop (i + 1) c.args.plan.now) (line c.loop-resource.queues other) (line c.push.new.queues other) _
           front c.loop-resource.invariant.apart (c.push.ensures.pushed other) (c.loop-resource.invariant.joined other);
-      room = still_room e (drop i c.args.plan.now) (drop (i + 1) c.args.plan.now) c.loop-resource.queues c.push.new.queues front c.loop-resource.invariant.apart c.push.ensures.room c.loop-resource.invariant.room;
+      room = still_of_later (HasRoom c.loop-resource.queues) (HasRoom c.push.new.queues) e (drop i c.args.plan.now) (drop (i + 1) c.args.plan.now) front c.loop-resource.invariant.apart c.push.ensures.room c.loop-resource.invariant.room;
+      above = still_of_later (λ r. AllUnder c.args.number (numbers_of (line c.loop-resource.queues r))) (λ r. AllUnder c.args.number (numbers_of (line c.push.new.queues r))) e (drop i c.args.plan.now) (drop (i + 1) c.args.plan.now) front c.loop-resource.invariant.apart
+          (λ other apart under. under_kept c.args.number (is_same other e.0) (line c.loop-resource.queues other) (line c.loop-resource.queues other ++ (c.args.number, e.1) ∷ []) (line c.push.new.queues other) (c.push.ensures.pushed other) apart under)
+          c.loop-resource.invariant.above;
       apart = still_apart e (drop i c.args.plan.now) (drop (i + 1) c.args.plan.now) front c.loop-resource.invariant.apart;
     }

@@ -1,8 +1,6 @@
-use Rattle.std.proofs.Common.{List, sym, ap, ◌∙◌}
-use Rattle.lock_tree.specs.declared.entry.Entry.{Entry}
+use Rattle.std.proofs.Common.{refl, sym, ap, ◌∙◌}
 use Rattle.lock_tree.specs.Locks.{Locks}
 use Rattle.lock_tree.specs.Ready.{ready}
-use Rattle.lock_tree.specs.Ranks.{place_of}
 use Rattle.lock_tree.specs.Views.{all_waiting}
 use Rattle.lock_tree.proofs.Places.{no_plan}
 use Rattle.lock_tree.proofs.Trees.{ready_flag, not_ready}
@@ -10,11 +8,11 @@ use Rattle.lock_tree.proofs.tree.LockTree.is_ready.Goals as goal
 
 pub returns-in-Some : goal.returns-in-Some
 returns-in-Some c =
-    ready_flag c.self.inside.queues c.as_slice.result.now c.self.inside.transactions.entries.items c.args.self.now.waiting c.args.number c.in-Some.place c.index.result.now c.as_slice.ensures.value
+    ready_flag c.self.inside.queues c.self.inside.transactions.entries.items c.self.inside.transactions.entries.items c.args.self.now.waiting c.args.number c.in-Some.place c.index.result.now refl
     (ap (λ (l : Locks). l.waiting) c.self.view_is) c.self.invariant.lines c.self.invariant.known c.in-Some.ensures.exact c.in-Some.ensures.within c.index.ensures
 
 pub returns-in-None : goal.returns-in-None
 returns-in-None c =
     sym (not_ready c.args.number (all_waiting c.self.inside.transactions.entries.items)
-    (no_plan c.args.number (all_waiting c.self.inside.transactions.entries.items) (ap (λ (xs : List Entry). place_of c.args.number (all_waiting xs)) (sym c.as_slice.ensures.value) ∙ sym c.in-None.ensures.exact)))
+    (no_plan c.args.number (all_waiting c.self.inside.transactions.entries.items) (sym c.in-None.ensures.exact)))
     ∙ ap (λ (l : Locks). ready l.waiting c.args.number) c.self.view_is

@@ -1,4 +1,4 @@
-use Rattle.std.proofs.Common.{ℕ, List, slice_get, ap, sym, ◌∙◌, subst}
+use Rattle.std.proofs.Common.{ap, sym, subst}
 use Rattle.lock_tree.specs.Locks.{Locks}
 use Rattle.lock_tree.specs.Ready.{IsNextReady}
 use Rattle.lock_tree.proofs.Nexts.{next_is}
@@ -6,6 +6,6 @@ use Rattle.lock_tree.proofs.tree.LockTree.next_ready.Goals as goal
 
 pub returns : goal.returns
 returns c =
-    subst (IsNextReady c.args.self.now.waiting) (sym (c.least.ensures ∙ ap (λ (xs : List ℕ). slice_get xs 0) c.as_slice.ensures.value))
+    subst (IsNextReady c.args.self.now.waiting) (sym c.least.ensures)
     (next_is c.self.inside.queues c.self.inside.transactions.entries.items c.args.self.now.waiting (ap (λ (l : Locks). l.waiting) c.self.view_is) c.self.invariant.indexed.rising c.self.invariant.lines c.self.invariant.known
     c.self.inside.transactions.open.items c.self.invariant.indexed.open_ones)

@@ -1,8 +1,8 @@
-use Rattle.std.proofs.Common.{◌≡◌, ℕ, ◌+◌, ◌==◌, false, List, [], Some, sym, ap, ◌∙◌, subst, arith, length}
+use Rattle.std.proofs.Common.{◌≡◌, ℕ, ◌+◌, ◌==◌, false, List, [], Some, refl, sym, ap, ◌∙◌, subst, arith, length}
 use Rattle.std.specs.List.{AllByRecursion, remove}
 use Rattle.lock_tree.specs.declared.entry.Entry.{Entry}
 use Rattle.lock_tree.specs.Locks.{Locks, Waiting, used, plan_of, without, IsRising}
-use Rattle.lock_tree.specs.Ranks.{place_of}
+use Rattle.lock_tree.specs.Placing.{place_of}
 use Rattle.lock_tree.specs.Views.{all_waiting}
 use Rattle.lock_tree.specs.Lines.{line, others}
 use Rattle.lock_tree.specs.Known.{AreKnown}
@@ -30,14 +30,14 @@ plan_taken k i es seen d same h is =
 
 pub overflow_add-self : goal.overflow_add-self
 overflow_add-self c =
-    let u = freed c.args.number c.in-Some.place c.self.inside.transactions.entries.items c.as_slice.result.now c.remove-entry.result c.as_slice.ensures.value c.self.invariant.indexed.rising (sym c.in-Some.ensures.exact) c.remove-entry.ensures.value in
+    let u = freed c.args.number c.in-Some.place c.self.inside.transactions.entries.items c.self.inside.transactions.entries.items c.remove-entry.result refl c.self.invariant.indexed.rising (sym c.in-Some.ensures.exact) c.remove-entry.ensures.value in
     let n : c.len.result ≡ length c.remove-entry.result.plan.items = c.len.ensures ∙ c.remove-entry.result.plan.ok.0 in
     let all = c.self.invariant.room in
     omega (arith, u, n, all, c.self.ranges)
 
 pub leave_all-requires-clause-others : goal.leave_all-requires-clause-others
 leave_all-requires-clause-others c =
-    let same = left c.args.number c.in-Some.place c.self.inside.transactions.entries.items c.as_slice.result.now c.remove-entry.new.self.entries.items c.as_slice.ensures.value c.self.invariant.indexed.rising (sym c.in-Some.ensures.exact) c.remove-entry.ensures.entries in
+    let same = left c.args.number c.in-Some.place c.self.inside.transactions.entries.items c.self.inside.transactions.entries.items c.remove-entry.new.self.entries.items refl c.self.invariant.indexed.rising (sym c.in-Some.ensures.exact) c.remove-entry.ensures.entries in
     subst (AllByRecursion (λ (w : Waiting). (w.number == c.args.number) ≡ false)) (sym same) (others_without c.args.number (all_waiting c.self.inside.transactions.entries.items))
 
 pub leave_all-requires-clause-known : goal.leave_all-requires-clause-known
@@ -48,15 +48,15 @@ pub leave_all-requires-clause-elsewhere : goal.leave_all-requires-clause-elsewhe
 leave_all-requires-clause-elsewhere c = λ other none.
     let k = c.args.number in
     let ws = all_waiting c.self.inside.transactions.entries.items in
-    let plan = plan_taken k c.in-Some.place c.self.inside.transactions.entries.items c.as_slice.result.now c.remove-entry.result c.as_slice.ensures.value (sym c.in-Some.ensures.exact) c.remove-entry.ensures.value in
+    let plan = plan_taken k c.in-Some.place c.self.inside.transactions.entries.items c.self.inside.transactions.entries.items c.remove-entry.result refl (sym c.in-Some.ensures.exact) c.remove-entry.ensures.value in
     ap (others k) (c.self.invariant.lines other)
-    ∙ queue_elsewhere other k ws c.remove-entry.result.plan.items c.self.invariant.indexed.rising plan (ap (mode_on other) (sym c.as_slice-in-Some.ensures.value) ∙ none)
+    ∙ queue_elsewhere other k ws c.remove-entry.result.plan.items c.self.invariant.indexed.rising plan (ap (mode_on other) (sym c.as_slice.ensures.value) ∙ none)
     ∙ sym (c.self.invariant.lines other)
 
 pub invariant_of-self : goal.invariant_of-self
 invariant_of-self c =
-    let same = left c.args.number c.in-Some.place c.self.inside.transactions.entries.items c.as_slice.result.now c.remove-entry.new.self.entries.items c.as_slice.ensures.value c.self.invariant.indexed.rising (sym c.in-Some.ensures.exact) c.remove-entry.ensures.entries in
-    let u = freed c.args.number c.in-Some.place c.self.inside.transactions.entries.items c.as_slice.result.now c.remove-entry.result c.as_slice.ensures.value c.self.invariant.indexed.rising (sym c.in-Some.ensures.exact) c.remove-entry.ensures.value in
+    let same = left c.args.number c.in-Some.place c.self.inside.transactions.entries.items c.self.inside.transactions.entries.items c.remove-entry.new.self.entries.items refl c.self.invariant.indexed.rising (sym c.in-Some.ensures.exact) c.remove-entry.ensures.entries in
+    let u = freed c.args.number c.in-Some.place c.self.inside.transactions.entries.items c.self.inside.transactions.entries.items c.remove-entry.result refl c.self.invariant.indexed.rising (sym c.in-Some.ensures.exact) c.remove-entry.ensures.value in
     let n : c.len.result ≡ length c.remove-entry.result.plan.items = c.len.ensures ∙ c.remove-entry.result.plan.ok.0 in
     left_tree c.self.inside.nodes c.self.inside.free c.len.result c.args.number c.self.inside.transactions c.leave_all.new.transactions c.self.inside.queues c.leave_all.new.queues c.self.invariant
     (omega (arith, u, n)) (c.leave_all.ensures.same ∙ same) c.leave_all.ensures.indexed c.leave_all.ensures.left c.leave_all.ensures.known
@@ -64,12 +64,12 @@ invariant_of-self c =
 pub returns-in-Some : goal.returns-in-Some
 returns-in-Some c =
     ap (λ (ws : List Waiting). record { nodes = c.self.inside.nodes; waiting = ws })
-    (c.leave_all.ensures.same ∙ left c.args.number c.in-Some.place c.self.inside.transactions.entries.items c.as_slice.result.now c.remove-entry.new.self.entries.items c.as_slice.ensures.value c.self.invariant.indexed.rising (sym c.in-Some.ensures.exact) c.remove-entry.ensures.entries)
+    (c.leave_all.ensures.same ∙ left c.args.number c.in-Some.place c.self.inside.transactions.entries.items c.self.inside.transactions.entries.items c.remove-entry.new.self.entries.items refl c.self.invariant.indexed.rising (sym c.in-Some.ensures.exact) c.remove-entry.ensures.entries)
     ∙ ap (λ (l : Locks). record { nodes = l.nodes; waiting = without c.args.number l.waiting }) c.self.view_is
 
 pub returns-in_default : goal.returns-in_default
 returns-in_default c =
     sym c.self.view_is
     ∙ ap (λ (ws : List Waiting). record { nodes = c.self.inside.nodes; waiting = ws })
-    (sym (no_without c.args.number (all_waiting c.self.inside.transactions.entries.items) (ap (λ (xs : List Entry). place_of c.args.number (all_waiting xs)) (sym c.as_slice.ensures.value) ∙ sym c.place_of.ensures.exact ∙ c.in_default.is)))
+    (sym (no_without c.args.number (all_waiting c.self.inside.transactions.entries.items) (sym c.place_of.ensures.exact ∙ c.in_default.is)))
     ∙ ap (λ (l : Locks). record { nodes = l.nodes; waiting = without c.args.number l.waiting }) c.self.view_is

@@ -1,0 +1,8 @@
+-- The places of transactions.
+use Rattle.std.specs.Prelude.{ℕ, ◌+◌, ◌==◌, if◌then◌else◌, List, [], ◌∷◌, Option, Some, None, option_map}
+use Rattle.lock_tree.specs.Locks.{Waiting}
+
+-- the place of the transaction with a number
+abbrev pub place_of : ℕ → List Waiting → Option ℕ
+place_of number [] = None
+place_of number (w ∷ ws) = if w.number == number then Some 0 else option_map (λ n. n + 1) (place_of number ws)

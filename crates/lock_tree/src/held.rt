@@ -1,0 +1,95 @@
+//! The modes that are held on a resource.
+
+ghost use Rattle.std.specs.Prelude.{◌≡◌, ◌<◌, ◌^◌, [], ◌∷◌, length, List};
+ghost use Rattle.std.specs.List.{list_all};
+ghost use Rattle.modes.specs.declared.mode.Mode.{Mode as AnyMode};
+ghost use Rattle.modes.specs.Modes.{are_compatible};
+ghost use Rattle.lock_tree.specs.Held.{AreHeld, times, spares};
+
+use modes::{Mode, compatible};
+
+/// How many requests are granted in each mode.
+#[derive(Drop)]
+pub(crate) struct Held {
+    intention_shared: usize,
+    intention_exclusive: usize,
+    shared: usize,
+    shared_intention_exclusive: usize,
+    exclusive: usize,
+}
+
+/// Whether none of so many requests in a mode bars another mode.
+fn spares(count: usize, held: Mode, mode: Mode) -> bool
+    ensures { result ≡ spares count held mode }
+{
+    count == 0 || compatible(held, mode)
+}
+
+/// Whether none of the modes that are counted bars another.
+fn all_spare(counts: &[(usize, Mode)], mode: Mode) -> bool
+    ensures { result ≡ list_all (λ count. spares count.0 count.1 mode) counts.now }
+{
+    counts
+        .iter()
+        .all(|(count, held)| spares(*count, *held, mode))
+}
+
+impl Held {
+    /// None is held.
+    pub(crate) fn none() -> Held
+        ensures { AreHeld result [] }
+    {
+        Held {
+            intention_shared: 0,
+            intention_exclusive: 0,
+            shared: 0,
+            shared_intention_exclusive: 0,
+            exclusive: 0,
+        }
+    }
+
+    /// One more request is granted in a mode.
+    pub(crate) fn add(&mut self, mode: Mode)
+        requires { (held : List AnyMode) × AreHeld self.old held × (length held < 2 ^ 63) }
+        ensures { (held more : List AnyMode) → AreHeld self.old held → ((m : AnyMode) → times m more ≡ times m (mode ∷ held)) → AreHeld self.new more }
+    {
+        match mode {
+            Mode::IntentionShared => self.intention_shared += 1,
+            Mode::IntentionExclusive => self.intention_exclusive += 1,
+            Mode::Shared => self.shared += 1,
+            Mode::SharedIntentionExclusive => self.shared_intention_exclusive += 1,
+            Mode::Exclusive => self.exclusive += 1,
+        }
+    }
+
+    /// One request less is granted in a mode.
+    pub(crate) fn take(&mut self, mode: Mode)
+        requires { (held : List AnyMode) × AreHeld self.old held × (0 < times mode held) }
+        ensures { (held rest : List AnyMode) → AreHeld self.old held → ((m : AnyMode) → times m held ≡ times m (mode ∷ rest)) → AreHeld self.new rest }
+    {
+        match mode {
+            Mode::IntentionShared => self.intention_shared -= 1,
+            Mode::IntentionExclusive => self.intention_exclusive -= 1,
+            Mode::Shared => self.shared -= 1,
+            Mode::SharedIntentionExclusive => self.shared_intention_exclusive -= 1,
+            Mode::Exclusive => self.exclusive -= 1,
+        }
+    }
+
+    /// Whether a mode is compatible with all that is held.
+    pub(crate) fn fits(&self, mode: Mode) -> bool
+        ensures { (held : List AnyMode) → AreHeld self.now held → result ≡ list_all (λ h. are_compatible h mode) held }
+    {
+        let counts = [
+            (self.intention_shared, Mode::IntentionShared),
+            (self.intention_exclusive, Mode::IntentionExclusive),
+            (self.shared, Mode::Shared),
+            (
+                self.shared_intention_exclusive,
+                Mode::SharedIntentionExclusive,
+            ),
+            (self.exclusive, Mode::Exclusive),
+        ];
+        all_spare(&counts, mode)
+    }
+}
