@@ -3,7 +3,9 @@
 //! No call waits, and none but `new` takes memory.
 #![tactic(auto)]
 
-mod calls;
+mod first_finished;
+mod first_free;
+mod first_waiting;
 mod laws;
 mod plays;
 mod state;

@@ -1,6 +1,6 @@
 -- What the scheduler's calls come to, as its seat is seen.
-use Rattle.std.proofs.Common.{◌≡◌, ℕ, zero, suc, ◌+◌, ◌<◌, ◌↔◌, Bool, List, [], ◌∷◌, ◌++◌, length, map, get_or, set, replicate, sym, refl, ap, ◌∙◌, subst, arith, true, false}
-use Rattle.std.specs.Prelude.{Option, Some, None, Result, Ok, Err, IfOk, IfErr, IfSome, IsErr, slice_get}
+use Rattle.std.proofs.Common.{◌≡◌, ℕ, zero, suc, ◌+◌, ◌<◌, ◌↔◌, Bool, List, [], ◌∷◌, ◌++◌, length, map, get_or, set, replicate, sym, refl, ap, ◌∙◌, arith, true, false}
+use Rattle.std.specs.Prelude.{Option, Some, None, Result, Ok, Err, IfOk, IfErr, IfSome, IsErr}
 use Rattle.std.proofs.lemmas.List.{map-set}
 use lib.ListN.{length-map}
 use Rattle.atomic_table.specs.Seated.{TableId}
@@ -17,7 +17,7 @@ use Rattle.jobs.specs.Jobs.{JobOf, DoneOf, IsDoneOf}
 use Rattle.lanes.specs.Seats.{LanesOf, SchedulerSeatOf, jobs_in, opened, puts_in}
 use Rattle.lanes.specs.Calls.{IsLowestFree, Collects}
 use Rattle.lanes.specs.Kept.{job_of, seen_by_scheduler}
-use Rattle.lanes.proofs.Counts.{one_more, one_less, with_room, all_full, none_in, at_map, or_map, put_there}
+use Rattle.lanes.proofs.Counts.{one_more, one_less, with_room, all_full, at_map, or_map, put_there}
 
 abbrev pub Raw : Type 0
 Raw = Me (Option (Load JobOf DoneOf)) (View JobOf)

@@ -1,7 +1,7 @@
 -- What a worker's calls come to, as its seat is seen.
-use Rattle.std.proofs.Common.{◌≡◌, ◌≢◌, ℕ, zero, suc, ◌+◌, ◌<◌, ◌≤◌, List, [], ◌∷◌, ◌++◌, length, map, get_or, set, drop, sym, refl, ap, ◌∙◌, subst, arith, length-set, get_or-set_same, get_or-set_other}
+use Rattle.std.proofs.Common.{◌≡◌, ℕ, zero, suc, ◌+◌, ◌<◌, ◌≤◌, List, [], ◌∷◌, length, get_or, set, drop, sym, refl, ap, ◌∙◌, subst, arith, length-set, get_or-set_same, get_or-set_other}
 use Rattle.std.specs.Prelude.{Option, Some, None, is_some, count_by, Contains, slice_get, MatchOption}
-use Rattle.std.proofs.lemmas.Option.{none-some, slice_get-get_or, slice_get_within, get_or_from_slice_get}
+use Rattle.std.proofs.lemmas.Option.{none-some, slice_get-get_or}
 use native.Mathlib.Decide.{ℕ_discrete}
 use mathlib.Core.Logic.{dite}
 use Rattle.atomic_table.specs.Seated.{TableId}
@@ -9,11 +9,11 @@ use Rattle.hand_off.specs.declared.state.LaneState.TheVariants.{Waiting}
 use Rattle.hand_off.specs.declared.state.Note.{Note}
 use Rattle.hand_off.specs.declared.view.View.{View}
 use Rattle.hand_off.specs.Notes.{Misses}
-use Rattle.hand_off.specs.Views.{looked, claiming, delivering}
+use Rattle.hand_off.specs.Views.{looked, claiming}
 use Rattle.jobs.specs.Jobs.{JobOf}
 use Rattle.lanes.specs.Calls.{Claims}
-use Rattle.lanes.specs.Kept.{seen_by_worker, empties}
-use Rattle.lanes.proofs.Counts.{one_more, one_less, with_room}
+use Rattle.lanes.specs.Kept.{seen_by_worker}
+use Rattle.lanes.proofs.Counts.{with_room}
 use Rattle.lanes.proofs.Places.{rest_holds}
 use Rattle.lanes.proofs.Put.{Raw}
 

@@ -1,5 +1,5 @@
 -- How seats keep what they know.
-use Rattle.std.specs.Prelude.{◌≡◌, ◌≤◌, ◌<◌, ℕ, List, [], ◌∷◌, map, length, Option, None, Some, is_some, count_by, Contains, slice_index_or}
+use Rattle.std.specs.Prelude.{◌≡◌, ◌≤◌, ℕ, List, [], map, length, Option, None, Some, is_some, count_by, Contains, slice_index_or}
 use Rattle.atomic_table.specs.Seated.{TableId}
 use Rattle.std.specs.VecDeque.{deque_capacity, deque_len}
 use Rattle.hand_off.specs.declared.view.Known.{Known}

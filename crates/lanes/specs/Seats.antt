@@ -2,7 +2,6 @@
 use Rattle.std.specs.Prelude.{ℕ, List, [], ◌∷◌, ◌++◌, Option, None, Some, is_some, count_by, replicate, slice_set, refl}
 use Rattle.std.specs.Coded.{Coded, code_by, coded×, coded_ℕ, coded_list, coded_option}
 use Rattle.atomic_table.specs.Seated.{TableId, table_id_coded}
-use Rattle.hand_off.specs.declared.state.LaneState.{LaneState}
 use Rattle.hand_off.specs.declared.state.Note.{Note}
 use Rattle.hand_off.specs.declared.view.Claim.{Claim}
 use Rattle.hand_off.specs.contracts.state.Note as notes

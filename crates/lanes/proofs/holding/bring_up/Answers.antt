@@ -1,4 +1,4 @@
-use Rattle.std.proofs.Common.{rules, ◌≡◌, ◌≢◌, ℕ, ◌<◌, get_or, sym, ap, ◌∙◌, subst, arith}
+use Rattle.std.proofs.Common.{rules, ◌≢◌, get_or, ap, ◌∙◌}
 use Rattle.atomic_table.specs.Table.{turned}
 use Rattle.lanes.proofs.Places.{one_turn}
 use Rattle.lanes.proofs.holding.bring_up.Goals as goal

@@ -1,4 +1,4 @@
-use Rattle.std.proofs.Common.{◌≡◌, ℕ, ◌+◌, ◌<◌, ◌≤◌, ◌∷◌, sym, ap, ◌∙◌, subst, arith, length, get_or, length-set}
+use Rattle.std.proofs.Common.{◌≡◌, ℕ, ◌+◌, ◌<◌, ◌∷◌, sym, ap, ◌∙◌, subst, arith, length, get_or, length-set}
 use Rattle.std.specs.Prelude.{Some, None, is_some, count_by, Contains}
 use Rattle.std.specs.VecDeque.{deque_len, deque_capacity}
 use Rattle.lanes.specs.Calls.{Claims}

@@ -1,4 +1,4 @@
-use Rattle.std.proofs.Common.{◌≡◌, sym, ap, ◌∙◌, subst, length}
+use Rattle.std.proofs.Common.{sym, ap, ◌∙◌, subst}
 use Rattle.lanes.specs.Calls.{Collects}
 use Rattle.lanes.specs.Kept.{seen_by_scheduler}
 use Rattle.lanes.proofs.Put.{collects, both_some}

@@ -1,6 +1,6 @@
-use Rattle.std.proofs.Common.{rules, ◌≡◌, ℕ, ◌+◌, ◌<◌, ◌≤◌, ◌∷◌, sym, ap, ◌∙◌, subst, arith, length, drop, get_or, set as slice_set, length-set}
+use Rattle.std.proofs.Common.{◌≡◌, ℕ, ◌<◌, sym, ap, ◌∙◌, subst, arith, length, get_or, set as slice_set, length-set}
 use Rattle.std.specs.Prelude.{Some, None, is_some, count_by, Contains}
-use Rattle.std.specs.VecDeque.{deque_len, deque_capacity}
+use Rattle.std.specs.VecDeque.{deque_len}
 use Rattle.std.proofs.lemmas.Option.{slice_get_within, get_or_from_slice_get}
 use Rattle.atomic_table.specs.Table.{rest}
 use Rattle.lanes.specs.Kept.{empties}

@@ -1,5 +1,5 @@
-use Rattle.std.proofs.Common.{◌≡◌, sym, ap, ◌∙◌, map}
-use Rattle.lanes.specs.Seats.{LanesOf, jobs_in}
+use Rattle.std.proofs.Common.{sym, ap, ◌∙◌, map}
+use Rattle.lanes.specs.Seats.{jobs_in}
 use Rattle.lanes.specs.Kept.{job_of}
 use Rattle.lanes.proofs.Put.{opened_is, none_there}
 use Rattle.lanes.proofs.Counts.{none_in}

@@ -1,4 +1,4 @@
-use Rattle.std.proofs.Common.{◌≡◌, ◌↔◌, ℕ, ◌+◌, sym, ap, ◌∙◌, subst, map, length}
+use Rattle.std.proofs.Common.{◌≡◌, ◌↔◌, ℕ, ◌+◌, sym, ap, ◌∙◌, subst, map}
 use Rattle.std.specs.Prelude.{IsErr}
 use Rattle.lanes.specs.Seats.{jobs_in, puts_in}
 use Rattle.lanes.specs.Calls.{IsLowestFree}

@@ -3,7 +3,7 @@ use Rattle.hand_off.specs.declared.state.LaneState.TheVariants.{Finished}
 use Rattle.hand_off.specs.Notes.{Misses}
 use Rattle.hand_off.specs.Views.{looked, noting}
 use Rattle.hand_off.proofs.Looks.{missed}
-use Rattle.hand_off.proofs.calls.Lanes+J+D+W+A.collect.Goals as goal
+use Rattle.hand_off.proofs.first_finished.Lanes+J+D+W+A.collect.Goals as goal
 
 pub loop-lane-preserved : goal.loop-lane-preserved
 loop-lane-preserved g c = let none = c.in_default.ensures.none in let inv = c.loop-lane.invariant in let first = c.args.seat.now.me.0 in let lane : ℕ = c.loop-lane.lane in
