@@ -98,11 +98,12 @@ impl Sink for Narrow {
     }
 }
 
-/// A reader and writer of std that is interrupted before each call that it serves.
+/// A reader and writer of std that answers errors of a kind before each call that it serves.
 #[derive(Drop)]
 struct Nervous<'a> {
     bytes: &'a [u8],
     taken: usize,
+    kind: ErrorKind,
     interruptions: u64,
     left: u64,
 }
@@ -121,7 +122,7 @@ impl Nervous<'_> {
 impl Read for Nervous<'_> {
     fn read(&mut self, buf: &mut [u8]) -> io::Result<usize> {
         if self.is_interrupted() {
-            return Err(io::Error::from(ErrorKind::Interrupted));
+            return Err(io::Error::from(self.kind));
         }
         self.bytes.read(buf)
     }
@@ -130,7 +131,7 @@ impl Read for Nervous<'_> {
 impl Write for Nervous<'_> {
     fn write(&mut self, piece: &[u8]) -> io::Result<usize> {
         if self.is_interrupted() {
-            return Err(io::Error::from(ErrorKind::Interrupted));
+            return Err(io::Error::from(self.kind));
         }
         self.taken = self.taken.saturating_add(piece.len());
         Ok(piece.len())
@@ -246,6 +247,7 @@ fn tries_again_where_interrupted(rt: HostRuntime) {
         let nervous = |bytes| Nervous {
             bytes,
             taken: 0,
+            kind: ErrorKind::Interrupted,
             interruptions,
             left: interruptions,
         };
@@ -257,4 +259,20 @@ fn tries_again_where_interrupted(rt: HostRuntime) {
         assert_eq!(rt; written.is_ok(), works);
         assert_eq!(rt; sink.into_inner().taken, if works { 3 } else { 0 });
     }
+}
+
+#[test]
+fn another_error_is_not_tried_again(rt: HostRuntime) {
+    let broken = |bytes| Nervous {
+        bytes,
+        taken: 0,
+        kind: ErrorKind::BrokenPipe,
+        interruptions: 1,
+        left: 1,
+    };
+    let mut source = ReadSource::new(broken(b"ab".as_slice()));
+    assert_eq!(rt; source.read(&mut [0; 8]), Err(DeviceFailed));
+    let mut sink = WriteSink::new(broken(b"".as_slice()));
+    assert_eq!(rt; write_all(&mut sink, b"abc"), Err(DeviceFailed));
+    assert_eq!(rt; sink.into_inner().taken, 0);
 }
