@@ -13,9 +13,12 @@ use batch_log::{Sink, Source};
 use command_line::{Command, Line, Settings};
 use engine::OpenGate;
 use std::alloc::Global;
+use std::sync::Wait;
+use std::thread::Threads;
 
 /// Prints the report of the log on the setup at a path.
-fn run<F: Files, S: Source, K: Sink, E: Sink>(
+fn run<R: Threads + Wait + Sync, F: Files, S: Source, K: Sink, E: Sink>(
+    rt: &R,
     alloc: Global,
     execution: Execution,
     settings: Settings,
@@ -35,7 +38,9 @@ fn run<F: Files, S: Source, K: Sink, E: Sink>(
         Ok(setup) => setup,
         Err(status) => return status,
     };
-    match run_log(alloc, execution, setup, settings, &OpenGate, source, out) {
+    match run_log(
+        rt, alloc, execution, setup, settings, &OpenGate, source, out,
+    ) {
         Ok(_) => DONE,
         Err(fault) => refused(alloc, err, fault),
     }
@@ -67,7 +72,8 @@ fn locks<F: Files, S: Source, K: Sink, E: Sink>(
 
 /// Does what a command line asks for, and gives the exit status: 0; 1 where the setup or the log is refused; 3 where memory
 /// was refused; 4 where a device failed or a file can't be read; 5 where reports differ. A fault goes to `err` in a line.
-pub fn command<F: Files, S: Source, K: Sink, E: Sink>(
+pub fn command<R: Threads + Wait + Sync, F: Files, S: Source, K: Sink, E: Sink>(
+    rt: &R,
     alloc: Global,
     line: &Line,
     files: &F,
@@ -89,12 +95,14 @@ pub fn command<F: Files, S: Source, K: Sink, E: Sink>(
             } else {
                 Execution::Workers
             };
-            run(alloc, execution, settings, setup, files, source, out, err)
+            run(
+                rt, alloc, execution, settings, setup, files, source, out, err,
+            )
         }
         Command::Locks { setup } => locks(alloc, settings, setup, files, source, out, err),
         Command::Check { setup } => check(alloc, setup, files, out, err),
         Command::Replicas { setup, report } => replicas(
-            alloc, settings, setup, report, files, source, out, err,
+            rt, alloc, settings, setup, report, files, source, out, err,
         ),
     }
 }

@@ -4,8 +4,9 @@ use crate::test_world::{
     BANK, Folder, Left, Narrow, ONE_BATCH, Slow, TWO_BATCH_REPORT, TWO_BATCHES, left_with, words_of,
 };
 use crate::{ReadSource, program};
-use std::alloc::Global;
+use std::sync::Wait;
 use std::test::Fail;
+use std::thread::Threads;
 
 const FILES: Folder<'static> = Folder {
     setup: BANK,
@@ -28,11 +29,17 @@ fn newlines(text: &[u8]) -> u64 {
 }
 
 /// What the program leaves on the log of two batches with such an output.
-fn left_by_output(alloc: Global, line: &str, mut out: Narrow) -> Result<Left, Fail> {
+fn left_by_output<R: Threads + Wait + Sync + AllocGlobal>(
+    rt: &R,
+    line: &str,
+    mut out: Narrow,
+) -> Result<Left, Fail> {
+    let alloc = rt.alloc();
     let words = words_of(alloc, line)?;
     let mut err = Narrow::new(alloc, 1000, false);
     let mut source = ReadSource::new(TWO_BATCHES.as_bytes());
     let status = program(
+        rt,
         alloc,
         words.as_slice(),
         &FILES,
@@ -50,7 +57,7 @@ fn left_by_output(alloc: Global, line: &str, mut out: Narrow) -> Result<Left, Fa
 #[test]
 fn reads_a_byte_at_a_time(rt: HostRuntime) -> Result<(), Fail> {
     let mut source = Slow::new(TWO_BATCHES.as_bytes(), 0);
-    let left = left_with(rt.alloc(), "run bank.json", &FILES, &mut source)?;
+    let left = left_with(&rt, "run bank.json", &FILES, &mut source)?;
     assert!(rt; left.is(0, TWO_BATCH_REPORT, ""));
     Ok(())
 }
@@ -62,7 +69,7 @@ fn stops_where_a_read_fails(rt: HostRuntime) -> Result<(), Fail> {
     let mut call: u64 = 1;
     for taken in 0..=log.len() {
         let mut source = Slow::new(log, call);
-        let left = left_with(alloc, "run bank.json", &FILES, &mut source)?;
+        let left = left_with(&rt, "run bank.json", &FILES, &mut source)?;
         let line = newlines(&log[..taken]).saturating_add(1);
         let fault = format!(in alloc; "fault 36 line {line}\n")?;
         let report = if taken < FIRST_BATCH { "" } else { ONE_BATCH };
@@ -85,17 +92,13 @@ fn stops_where_a_write_fails(rt: HostRuntime) -> Result<(), Fail> {
         };
         for takes_none in [false, true] {
             let out = Narrow::new(alloc, room, takes_none);
-            let left = left_by_output(alloc, "run bank.json", out)?;
+            let left = left_by_output(&rt, "run bank.json", out)?;
             assert_eq!(rt; left.status, 4, "at room {room}");
             assert!(rt; left.out.as_slice() == &report[..room], "at room {room}");
             assert!(rt; left.err.as_slice() == fault.as_bytes(), "at room {room}");
         }
     }
-    let whole = left_by_output(
-        alloc,
-        "run bank.json",
-        Narrow::new(alloc, report.len(), true),
-    )?;
+    let whole = left_by_output(&rt, "run bank.json", Narrow::new(alloc, report.len(), true))?;
     assert!(rt; whole.is(0, TWO_BATCH_REPORT, ""));
     Ok(())
 }

@@ -52,7 +52,7 @@ fn prints_the_plans_of_the_first_batch(rt: HostRuntime) -> Result<(), Fail> {
             is_full: false,
         };
         let mut source = ReadSource::new(log.as_bytes());
-        let left = left_with(rt.alloc(), line, &files, &mut source)?;
+        let left = left_with(&rt, line, &files, &mut source)?;
         assert!(rt; left.is(0, answer, ""), "by {line} of {log}");
     }
     Ok(())
@@ -74,7 +74,7 @@ fn prints_nothing_with_a_fault(rt: HostRuntime) -> Result<(), Fail> {
             is_full: false,
         };
         let mut source = ReadSource::new(log.as_bytes());
-        let left = left_with(rt.alloc(), "locks bank.json", &files, &mut source)?;
+        let left = left_with(&rt, "locks bank.json", &files, &mut source)?;
         assert!(rt; left.is(1, "", fault), "for {fault}");
     }
     Ok(())

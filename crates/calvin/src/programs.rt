@@ -10,11 +10,14 @@ use crate::status::{COMMAND_LINE, MEMORY};
 use batch_log::{Sink, Source, write_all};
 use command_line::{LineFault, read_line};
 use std::alloc::Global;
+use std::sync::Wait;
+use std::thread::Threads;
 
 /// Reads a command line from the words behind the program's name, does what it asks for, and gives the exit status: those of
 /// `command`; 2 where the words are no command line that is served, with a text for the user on `err`; 3 where memory was
 /// refused meanwhile.
-pub fn program<F: Files, S: Source, K: Sink, E: Sink>(
+pub fn program<R: Threads + Wait + Sync, F: Files, S: Source, K: Sink, E: Sink>(
+    rt: &R,
     alloc: Global,
     words: &[String],
     files: &F,
@@ -29,7 +32,7 @@ pub fn program<F: Files, S: Source, K: Sink, E: Sink>(
         (record { bytes = K.taken out.new; failed = K.broken out.new }) result }
 {
     match read_line(alloc, words) {
-        Ok(line) => command(alloc, &line, files, source, out, err),
+        Ok(line) => command(rt, alloc, &line, files, source, out, err),
         Err(LineFault::Refused(text)) => {
             let _ = write_all(err, text.as_bytes());
             COMMAND_LINE

@@ -13,6 +13,8 @@ use batch_log::{FaultKind, Sink, Source};
 use command_line::Settings;
 use engine::OpenGate;
 use std::alloc::{AllocError, Global};
+use std::sync::Wait;
+use std::thread::Threads;
 
 /// The line that says where two reports differ.
 fn answer_text(alloc: Global, difference: Option<usize>) -> Result<String, AllocError>
@@ -58,7 +60,8 @@ fn answer<K: Sink, E: Sink>(
 }
 
 /// Compares the report of the log on the setup at a path with the file at another, which is read first.
-pub(crate) fn replicas<F: Files, S: Source, K: Sink, E: Sink>(
+pub(crate) fn replicas<R: Threads + Wait + Sync, F: Files, S: Source, K: Sink, E: Sink>(
+    rt: &R,
     alloc: Global,
     settings: Settings,
     path: &str,
@@ -85,7 +88,7 @@ pub(crate) fn replicas<F: Files, S: Source, K: Sink, E: Sink>(
     let mut kept = KeptReport::new(alloc);
     let execution = Execution::Workers;
     match run_log(
-        alloc, execution, setup, settings, &OpenGate, source, &mut kept,
+        rt, alloc, execution, setup, settings, &OpenGate, source, &mut kept,
     ) {
         Ok(_) => answer(alloc, kept.bytes(), &other, out, err),
         Err(fault) => refused(alloc, err, kept.fault_of(fault)),

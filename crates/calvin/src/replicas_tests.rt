@@ -29,7 +29,7 @@ fn compares_reports(rt: HostRuntime) -> Result<(), Fail> {
             is_full: false,
         };
         let mut source = ReadSource::new(log.as_bytes());
-        let left = left_with(alloc, REPLICAS, &files, &mut source)?;
+        let left = left_with(&rt, REPLICAS, &files, &mut source)?;
         assert!(rt; left.is(status, answer, ""), "for {answer}");
     }
     Ok(())
@@ -47,7 +47,7 @@ fn compares_under_any_settings(rt: HostRuntime) -> Result<(), Fail> {
         "replicas --workers 16 --lanes 64 --coarsen 65535 --arena 1048576 bank.json report.txt",
     ] {
         let mut source = ReadSource::new(TWO_BATCHES.as_bytes());
-        let left = left_with(rt.alloc(), line, &files, &mut source)?;
+        let left = left_with(&rt, line, &files, &mut source)?;
         assert!(rt; left.is(0, "same\n", ""), "by {line}");
     }
     Ok(())
@@ -94,7 +94,7 @@ fn compares_nothing_with_a_fault(rt: HostRuntime) -> Result<(), Fail> {
             is_full: false,
         };
         let mut source = ReadSource::new(log.as_bytes());
-        let left = left_with(alloc, line, &files, &mut source)?;
+        let left = left_with(&rt, line, &files, &mut source)?;
         assert!(rt; left.is(status, "", fault), "for {fault}");
     }
     let full = Folder {
@@ -103,7 +103,7 @@ fn compares_nothing_with_a_fault(rt: HostRuntime) -> Result<(), Fail> {
         is_full: true,
     };
     let mut source = ReadSource::new(b"".as_slice());
-    let left = left_with(alloc, REPLICAS, &full, &mut source)?;
+    let left = left_with(&rt, REPLICAS, &full, &mut source)?;
     assert!(rt; left.is(3, "", "fault 47\n"));
     Ok(())
 }
@@ -123,6 +123,7 @@ fn says_that_an_answer_was_not_written(rt: HostRuntime) -> Result<(), Fail> {
             let mut out = Narrow::new(alloc, room, false);
             let mut err = Narrow::new(alloc, 1000, false);
             let status = program(
+                &rt,
                 alloc,
                 words.as_slice(),
                 &files,

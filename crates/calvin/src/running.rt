@@ -29,11 +29,13 @@ use proclang::Request;
 use sequencer::{Batch, BatchFault};
 use setup::Setup;
 use std::alloc::Global;
+use std::sync::Wait;
+use std::thread::Threads;
 
 /// How batches are executed.
 #[derive(Clone, Copy, Debug, PartialEq, Eq)]
 pub(crate) enum Execution {
-    /// As worker threads come to it.
+    /// On worker threads.
     Workers,
     /// On one thread, without choices of steps.
     Alone,
@@ -53,7 +55,8 @@ fn exec_fault(fault: &ExecFault, line: u64) -> RunFault
 }
 
 /// Executes a batch.
-fn execute<G: Gate>(
+fn execute<R: Threads + Wait + Sync, G: Gate>(
+    rt: &R,
     alloc: Global,
     execution: Execution,
     engine: &mut Engine,
@@ -67,13 +70,14 @@ fn execute<G: Gate>(
     ensures refused { IfErr result (IsRefusal engine.old engine.new batch) }
 {
     match execution {
-        Execution::Workers => engine.execute(alloc, batch, gate),
+        Execution::Workers => engine.execute(rt, alloc, batch, gate),
         Execution::Alone => engine.run_alone(alloc, batch, &[]),
     }
 }
 
 /// Executes the requests of a batch and writes its report. The line is the last one read.
-fn run_batch<G: Gate, K: Sink>(
+fn run_batch<R: Threads + Wait + Sync, G: Gate, K: Sink>(
+    rt: &R,
     alloc: Global,
     execution: Execution,
     engine: &mut Engine,
@@ -106,7 +110,7 @@ fn run_batch<G: Gate, K: Sink>(
         Err(BatchFault::TooLong) => unreachable!(),
         Err(BatchFault::NoMemory) => return Err(RunFault::at(FaultKind::Memory, line)),
     };
-    let done = match execute(alloc, execution, engine, gate, batch) {
+    let done = match execute(rt, alloc, execution, engine, gate, batch) {
         Ok(done) => done,
         Err(fault) => return Err(exec_fault(&fault, line)),
     };
@@ -141,7 +145,8 @@ fn finish<K: Sink>(
 }
 
 /// Runs the batches of a log, of which nothing was read, and writes its report into a sink.
-fn run_batches<G: Gate, S: Source, K: Sink>(
+fn run_batches<R: Threads + Wait + Sync, G: Gate, S: Source, K: Sink>(
+    rt: &R,
     alloc: Global,
     execution: Execution,
     engine: &mut Engine,
@@ -168,6 +173,7 @@ fn run_batches<G: Gate, S: Source, K: Sink>(
         };
         let line = reader.last_line();
         match run_batch(
+            rt,
             alloc,
             execution,
             engine,
@@ -185,7 +191,8 @@ fn run_batches<G: Gate, S: Source, K: Sink>(
 }
 
 /// Runs the log that a source gives on an engine that has run none.
-fn run_on<G: Gate, S: Source, K: Sink>(
+fn run_on<R: Threads + Wait + Sync, G: Gate, S: Source, K: Sink>(
+    rt: &R,
     alloc: Global,
     execution: Execution,
     engine: &mut Engine,
@@ -202,13 +209,14 @@ fn run_on<G: Gate, S: Source, K: Sink>(
         (record { bytes = K.taken sink.new; failed = K.broken sink.new }) result }
 {
     let mut reader = LogReader::new(source);
-    let ended = run_batches(alloc, execution, engine, gate, &mut reader, sink);
+    let ended = run_batches(rt, alloc, execution, engine, gate, &mut reader, sink);
     let _source = reader.into_source();
     ended
 }
 
 /// Runs the log that a source gives on a setup, and writes its report into a sink.
-pub(crate) fn run_log<G: Gate, S: Source, K: Sink>(
+pub(crate) fn run_log<R: Threads + Wait + Sync, G: Gate, S: Source, K: Sink>(
+    rt: &R,
     alloc: Global,
     execution: Execution,
     setup: Setup,
@@ -224,18 +232,19 @@ pub(crate) fn run_log<G: Gate, S: Source, K: Sink>(
         (record { bytes = K.taken sink.new; failed = K.broken sink.new }) result }
 {
     match Engine::new(alloc, setup, settings) {
-        Ok(mut engine) => run_on(alloc, execution, &mut engine, gate, source, sink),
+        Ok(mut engine) => run_on(rt, alloc, execution, &mut engine, gate, source, sink),
         Err(_) => Err(RunFault::at(FaultKind::Memory, 0)),
     }
 }
 
-/// Runs the log that a source gives on a setup, and writes its report into a sink: for each batch a reply line a call and a
-/// batch line, and then the end line. The answer is the number of transactions.
+/// Runs the log that a source gives on a setup, on worker threads, and writes its report into a sink: for each batch a reply
+/// line a call and a batch line, and then the end line. The answer is the number of transactions.
 ///
 /// A batch is read whole before it runs, and its report is written after it ended. A fault ends the run: one of a line of
 /// the log (31 to 35), a failed device (36), want of memory (37), or a refused thread (38). What was written then is a
 /// beginning of the report.
-pub fn run_text<G: Gate, S: Source, K: Sink>(
+pub fn run_text<R: Threads + Wait + Sync, G: Gate, S: Source, K: Sink>(
+    rt: &R,
     alloc: Global,
     setup: Setup,
     settings: Settings,
@@ -258,6 +267,7 @@ pub fn run_text<G: Gate, S: Source, K: Sink>(
     ensures line { S.failed source.old ≡ false → IfErr result (λ e. IfOfMachine e (IsLineOf (S.failed source.new) (S.left source.old) (S.left source.new))) }
 {
     run_log(
+        rt,
         alloc,
         Execution::Workers,
         setup,

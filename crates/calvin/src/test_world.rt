@@ -4,7 +4,9 @@ ghost use Rattle.std.specs.Prelude.{None, ⊤};
 
 use crate::{DeviceFailed, FileFault, Files, ReadSource, Sink, Source, WriteSink, program};
 use std::alloc::Global;
+use std::sync::Wait;
 use std::test::Fail;
+use std::thread::Threads;
 
 pub(crate) const BANK: &str = r#"["setup",1,
 ["catalogue",1,[["acct",2,[["bal","int"]]],["ref",1,[["to","int"]]]]],
@@ -203,16 +205,25 @@ pub(crate) fn words_of(alloc: Global, line: &str) -> Result<Vec<String>, Fail> {
 }
 
 /// What the program leaves with these files and this source.
-pub(crate) fn left_with<S: Source>(
-    alloc: Global,
+pub(crate) fn left_with<R: Threads + Wait + Sync + AllocGlobal, S: Source>(
+    rt: &R,
     line: &str,
     files: &Folder<'_>,
     source: &mut S,
 ) -> Result<Left, Fail> {
+    let alloc = rt.alloc();
     let words = words_of(alloc, line)?;
     let mut out = WriteSink::new(Vec::new(alloc));
     let mut err = WriteSink::new(Vec::new(alloc));
-    let status = program(alloc, words.as_slice(), files, source, &mut out, &mut err);
+    let status = program(
+        rt,
+        alloc,
+        words.as_slice(),
+        files,
+        source,
+        &mut out,
+        &mut err,
+    );
     Ok(Left {
         status,
         out: out.into_inner(),
@@ -221,11 +232,16 @@ pub(crate) fn left_with<S: Source>(
 }
 
 /// What the program leaves on a setup and a log.
-pub(crate) fn left_by(alloc: Global, line: &str, setup: &str, log: &str) -> Result<Left, Fail> {
+pub(crate) fn left_by<R: Threads + Wait + Sync + AllocGlobal>(
+    rt: &R,
+    line: &str,
+    setup: &str,
+    log: &str,
+) -> Result<Left, Fail> {
     let files = Folder {
         setup,
         report: "",
         is_full: false,
     };
-    left_with(alloc, line, &files, &mut ReadSource::new(log.as_bytes()))
+    left_with(rt, line, &files, &mut ReadSource::new(log.as_bytes()))
 }

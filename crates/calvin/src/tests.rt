@@ -10,7 +10,7 @@ use std::test::Fail;
 #[test]
 fn reports_two_pays(rt: HostRuntime) -> Result<(), Fail> {
     for line in ["run --workers 2 bank.json", "run --alone bank.json"] {
-        let left = left_by(rt.alloc(), line, BANK, TWO_PAYS)?;
+        let left = left_by(&rt, line, BANK, TWO_PAYS)?;
         assert!(rt; left.is(0, REPORT, ""), "at {line}");
     }
     Ok(())
@@ -18,7 +18,7 @@ fn reports_two_pays(rt: HostRuntime) -> Result<(), Fail> {
 
 #[test]
 fn reports_an_empty_log(rt: HostRuntime) -> Result<(), Fail> {
-    let left = left_by(rt.alloc(), "run bank.json", NO_ROWS, "")?;
+    let left = left_by(&rt, "run bank.json", NO_ROWS, "")?;
     assert!(rt; left.is(0, NOTHING, ""));
     Ok(())
 }
@@ -33,7 +33,7 @@ fn reports_replies(rt: HostRuntime) -> Result<(), Fail> {
         (r#"["call","peek",[-1]]"#, "0 abort 5\n"),
         (r#"["call","bad5",[]]"#, "0 abort 9\n"),
     ] {
-        let left = left_by(rt.alloc(), "run bank.json", BANK, log)?;
+        let left = left_by(&rt, "run bank.json", BANK, log)?;
         assert_eq!(rt; left.status, 0, "at {log}");
         assert!(rt;
             left.out.as_slice().starts_with(reply.as_bytes()),
@@ -54,7 +54,7 @@ fn reports_batches(rt: HostRuntime) -> Result<(), Fail> {
         (LATE_FAULT, 1, ONE_BATCH, "fault 34 line 4\n"),
     ] {
         for line in ["run --workers 2 bank.json", "run --alone bank.json"] {
-            let left = left_by(alloc, line, BANK, log)?;
+            let left = left_by(&rt, line, BANK, log)?;
             assert!(rt; left.is(status, report, fault), "at {log} by {line}");
         }
     }
@@ -68,7 +68,7 @@ fn refuses_a_batch_that_is_too_long(rt: HostRuntime) -> Result<(), Fail> {
     for _ in 0..4097 {
         log.push_str("[\"call\",\"peek\",[1]]\n")?;
     }
-    let left = left_by(alloc, "run bank.json", BANK, log.as_str())?;
+    let left = left_by(&rt, "run bank.json", BANK, log.as_str())?;
     assert!(rt; left.is(1, "", "fault 35 line 4097\n"));
     Ok(())
 }
@@ -81,7 +81,7 @@ fn refuses_logs(rt: HostRuntime) -> Result<(), Fail> {
         ("[\"call\",\"peek\",[1]]\n\n", "fault 31 line 2\n"),
         (r#"["call","gone",[]]"#, "fault 33 line 1\n"),
     ] {
-        let left = left_by(rt.alloc(), "run bank.json", BANK, log)?;
+        let left = left_by(&rt, "run bank.json", BANK, log)?;
         assert!(rt; left.is(1, "", fault), "at {log}");
     }
     Ok(())
@@ -90,9 +90,9 @@ fn refuses_logs(rt: HostRuntime) -> Result<(), Fail> {
 #[test]
 fn refuses_setups(rt: HostRuntime) -> Result<(), Fail> {
     let alloc = rt.alloc();
-    let twice = left_by(alloc, "run bank.json", TWO_TABLES_OF_ONE_NAME, TWO_PAYS)?;
+    let twice = left_by(&rt, "run bank.json", TWO_TABLES_OF_ONE_NAME, TWO_PAYS)?;
     assert!(rt; twice.is(1, "", "fault 2\n"));
-    let gone = left_by(alloc, "run gone.json", BANK, TWO_PAYS)?;
+    let gone = left_by(&rt, "run gone.json", BANK, TWO_PAYS)?;
     assert!(rt; gone.is(4, "", "cannot read gone.json\n"));
     let files = Folder {
         setup: BANK,
@@ -100,7 +100,7 @@ fn refuses_setups(rt: HostRuntime) -> Result<(), Fail> {
         is_full: true,
     };
     let mut source = ReadSource::new(TWO_PAYS.as_bytes());
-    let full = left_with(alloc, "run bank.json", &files, &mut source)?;
+    let full = left_with(&rt, "run bank.json", &files, &mut source)?;
     assert!(rt; full.is(3, "", "fault 47\n"));
     Ok(())
 }
@@ -108,7 +108,7 @@ fn refuses_setups(rt: HostRuntime) -> Result<(), Fail> {
 #[test]
 fn refuses_other_words(rt: HostRuntime) -> Result<(), Fail> {
     for line in ["", "nix bank.json", "run", "run --workers 17 bank.json"] {
-        let left = left_by(rt.alloc(), line, BANK, TWO_PAYS)?;
+        let left = left_by(&rt, line, BANK, TWO_PAYS)?;
         assert_eq!(rt; left.status, 2, "at {line}");
         assert!(rt; left.out.is_empty(), "at {line}");
         assert!(rt; !left.err.is_empty(), "at {line}");
@@ -123,7 +123,15 @@ fn runs_a_text(rt: HostRuntime) -> Result<(), Fail> {
     let settings = Settings::new(2, 8, 64, 65_536)?;
     let mut source = ReadSource::new(TWO_PAYS.as_bytes());
     let mut out = WriteSink::new(Vec::new(alloc));
-    let count = run_text(alloc, setup, settings, &OpenGate, &mut source, &mut out);
+    let count = run_text(
+        &rt,
+        alloc,
+        setup,
+        settings,
+        &OpenGate,
+        &mut source,
+        &mut out,
+    );
     assert_eq!(rt; count, Ok(2));
     assert_eq!(rt; out.into_inner().as_slice(), REPORT.as_bytes());
     Ok(())

@@ -31,6 +31,7 @@ fn main(rt: HostRuntime) -> io::Result<ExitCode> {
     let alloc = rt.alloc();
     let words: Vec<String> = env::args(&rt)?.collect(alloc)?;
     let status = program(
+        &rt,
         alloc,
         words.get(1..).unwrap_or(&[]),
         &Machine { rt: &rt },

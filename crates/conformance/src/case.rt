@@ -6,6 +6,8 @@ use crate::outputs::Output;
 use crate::stored::CaseFiles;
 use calvin::{FileFault, Files, ReadSource, program};
 use std::alloc::{AllocError, Global};
+use std::sync::Wait;
+use std::thread::Threads;
 use std::{io, rt};
 
 /// A setup and a log, and what the program must make of them.
@@ -39,10 +41,42 @@ impl Files for SetupFile<'_> {
 }
 
 /// The words of a run, and how many bytes its outputs take a write.
-const RUNS: [(&str, &[&str], usize); 3] = [
+const RUNS: [(&str, &[&str], usize); 5] = [
     (
         "--workers 2",
-        &["run", "--workers", "2", "setup.json"],
+        &["run", "--workers", "2", "--lanes", "8", "setup.json"],
+        4096,
+    ),
+    (
+        "least settings",
+        &[
+            "run",
+            "--workers",
+            "1",
+            "--lanes",
+            "1",
+            "--coarsen",
+            "0",
+            "--arena",
+            "1",
+            "setup.json",
+        ],
+        4096,
+    ),
+    (
+        "greatest settings",
+        &[
+            "run",
+            "--workers",
+            "16",
+            "--lanes",
+            "64",
+            "--coarsen",
+            "65535",
+            "--arena",
+            "1048576",
+            "setup.json",
+        ],
         4096,
     ),
     ("--alone", &["run", "--alone", "setup.json"], 4096),
@@ -75,11 +109,18 @@ impl Case {
     }
 
     /// Whether the program, with these words, writes what is stored and ends with the status that is stored.
-    fn agrees(&self, alloc: Global, words: &[&str], most: usize) -> Result<bool, AllocError> {
+    fn agrees<R: Threads + Wait + Sync + AllocGlobal>(
+        &self,
+        rt: &R,
+        words: &[&str],
+        most: usize,
+    ) -> Result<bool, AllocError> {
+        let alloc = rt.alloc();
         let words = owned(alloc, words)?;
         let mut out = Output::new(Vec::new(alloc), most);
         let mut err = Output::new(Vec::new(alloc), most);
         let status = program(
+            rt,
             alloc,
             &words,
             &SetupFile { bytes: &self.setup },
@@ -96,10 +137,13 @@ impl Case {
     }
 
     /// The runs in which the program does otherwise than is stored.
-    pub(crate) fn differing(&self, alloc: Global) -> Result<Vec<&'static str>, AllocError> {
-        let mut runs = Vec::new(alloc);
+    pub(crate) fn differing<R: Threads + Wait + Sync + AllocGlobal>(
+        &self,
+        rt: &R,
+    ) -> Result<Vec<&'static str>, AllocError> {
+        let mut runs = Vec::new(rt.alloc());
         for (name, words, most) in RUNS {
-            if !self.agrees(alloc, words, most)? {
+            if !self.agrees(rt, words, most)? {
                 runs.push(name)?;
             }
         }

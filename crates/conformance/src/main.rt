@@ -1,7 +1,7 @@
 //! Runs the cases in `data/` through the program, with devices in memory, and says how many there are and which differ.
 //!
-//! The index `cases.txt` names a case a line. Each is run with `--workers 2`, with `--alone`, and with `--workers 2` into
-//! outputs that take one byte a write. Each time standard output, standard error and the exit status must be those that are
+//! The index `cases.txt` names a case a line. Each is run with `--workers 2`, with the least and with the greatest of all
+//! settings, with `--alone`, and with `--workers 2` into outputs that take one byte a write. Each time standard output, standard error and the exit status must be those that are
 //! stored with the case.
 #![tactic(auto)]
 
@@ -26,7 +26,7 @@ fn main(rt: HostRuntime) -> io::Result<()> {
         };
         count = count.saturating_add(1);
         let case = Case::read(&CaseFiles { rt: &rt }, alloc, name)?;
-        for run in case.differing(alloc)? {
+        for run in case.differing(&rt)? {
             failed = failed.saturating_add(1);
             println!(rt; "{name} {run}")?;
         }

@@ -4,7 +4,9 @@ use crate::case::{SetupFile, owned};
 use crate::outputs::Output;
 use calvin::{ReadSource, program};
 use std::alloc::Global;
+use std::sync::Wait;
 use std::test::Fail;
+use std::thread::Threads;
 
 const BANK: &str = r#"["setup",1,
 ["catalogue",1,[["acct",2,[["bal","int"]]],["ref",1,[["to","int"]]]]],
@@ -58,8 +60,27 @@ fn log_of_calls(alloc: Global) -> Result<String, Fail> {
     Ok(log)
 }
 
+/// 500 payments, each between the accounts 1 and 2 one way or the other.
+fn payments_in_conflict(alloc: Global) -> Result<String, Fail> {
+    let mut log = String::new(alloc);
+    for place in 0..500u32 {
+        let amount = place % 7;
+        if place % 3 == 0 {
+            writeln!(log, "[\"call\",\"pay\",[2,1,{amount}]]")?;
+        } else {
+            writeln!(log, "[\"call\",\"pay\",[1,2,{amount}]]")?;
+        }
+    }
+    Ok(log)
+}
+
 /// What the program reports of a log with these words.
-fn report(alloc: Global, log: &str, words: &[&str]) -> Result<Vec<u8>, Fail> {
+fn report<R: Threads + Wait + Sync + AllocGlobal>(
+    rt: &R,
+    log: &str,
+    words: &[&str],
+) -> Result<Vec<u8>, Fail> {
+    let alloc = rt.alloc();
     let words = owned(alloc, words)?;
     let mut out = Output::new(Vec::new(alloc), 4096);
     let mut err = Output::new(Vec::new(alloc), 4096);
@@ -67,7 +88,7 @@ fn report(alloc: Global, log: &str, words: &[&str]) -> Result<Vec<u8>, Fail> {
         bytes: BANK.as_bytes(),
     };
     let mut source = ReadSource::new(log.as_bytes());
-    let status = program(alloc, &words, &setup, &mut source, &mut out, &mut err);
+    let status = program(rt, alloc, &words, &setup, &mut source, &mut out, &mut err);
     if status == 0 && err.bytes.is_empty() {
         Ok(out.bytes)
     } else {
@@ -84,7 +105,7 @@ fn value(is_greatest: bool, least: &'static str, greatest: &'static str) -> &'st
 fn no_setting_shows_in_the_report(rt: HostRuntime) -> Result<(), Fail> {
     let alloc = rt.alloc();
     let log = log_of_calls(alloc)?;
-    let alone = report(alloc, &log, &["run", "--alone", "setup.json"])?;
+    let alone = report(&rt, &log, &["run", "--alone", "setup.json"])?;
     assert!(rt; alone.as_slice().ends_with(END.as_bytes()));
     for number in 0..16u32 {
         let words = [
@@ -99,8 +120,28 @@ fn no_setting_shows_in_the_report(rt: HostRuntime) -> Result<(), Fail> {
             value(number / 8 % 2 == 1, "1", "1048576"),
             "setup.json",
         ];
-        let left = report(alloc, &log, words.as_slice())?;
+        let left = report(&rt, &log, words.as_slice())?;
         assert!(rt; left == alone, "setting {number}");
     }
+    Ok(())
+}
+
+#[test]
+fn many_workers_report_as_one_where_all_is_in_conflict(rt: HostRuntime) -> Result<(), Fail> {
+    let alloc = rt.alloc();
+    let log = payments_in_conflict(alloc)?;
+    let one = report(&rt, &log, &["run", "--workers", "1", "setup.json"])?;
+    let words = [
+        "run",
+        "--workers",
+        "16",
+        "--lanes",
+        "1",
+        "--arena",
+        "1",
+        "setup.json",
+    ];
+    let many = report(&rt, &log, words.as_slice())?;
+    assert!(rt; many == one);
     Ok(())
 }

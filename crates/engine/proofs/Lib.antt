@@ -1,2 +1,5 @@
 pub mod Rests
 pub mod Ends
+pub mod InLanes
+pub mod Stops
+pub mod Sent

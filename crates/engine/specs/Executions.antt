@@ -5,6 +5,8 @@ use Rattle.sequencer.specs.declared.batch.Batch.{Batch}
 use Rattle.sequencer.specs.Batches.{items_of}
 use Rattle.engine.specs.declared.engine.ExecFault.{ExecFault}
 use Rattle.engine.specs.declared.engine.ExecFault.TheVariants.{Busy, LogFull, Spawn, NoMemory}
+use Rattle.engine.specs.declared.pool.Refusal.{Refusal}
+use Rattle.engine.specs.declared.pool.Refusal.TheVariants.{Thread, Memory}
 use Rattle.engine.specs.declared.replies.BatchDone.{BatchDone}
 use Rattle.engine.specs.Batches.{entries_of}
 use Rattle.engine.specs.Engines.{EngineParts, Unfinished, is_busy, NoneIsOut, StaysSettled}
@@ -64,3 +66,8 @@ IsSpawn fault = ⊥
 abbrev pub ResumesTo : EngineParts → EngineParts → Option Unfinished → BatchDone → Type 0
 ResumesTo old new None done = ⊥
 ResumesTo old new (Some unfinished) done = IsRunOf old new unfinished.batch done
+
+-- what is answered where the system refused something
+abbrev pub fault_of : Refusal → ExecFault
+fault_of Thread = Spawn
+fault_of Memory = NoMemory

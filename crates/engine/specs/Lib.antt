@@ -3,3 +3,4 @@ pub mod Batches
 pub mod Replies
 pub mod Executions
 pub mod Stages
+pub mod HandedOut

@@ -16,7 +16,10 @@ use Rattle.engine.specs.declared.stage.Stage.TheVariants.{Idle, Held, Begun}
 use Rattle.engine.specs.Batches.{entries_of}
 use Rattle.engine.specs.Engines.{Unfinished, NoneIsOut}
 use Rattle.engine.specs.Replies.{reply_of, sent_of, sent_from}
-use Rattle.engine.specs.Executions.{taken}
+use Rattle.engine.specs.declared.pool.Refusal.{Refusal}
+use Rattle.engine.specs.declared.pool.Refusal.TheVariants.{Thread, Memory}
+use Rattle.engine.specs.declared.working.Stop.{Stop}
+use Rattle.engine.specs.Executions.{taken, WaitsIn}
 
 abbrev pub unfinished_of : BegunOf → Unfinished
 unfinished_of begun = record { batch = begun.batch; phases = phases_of begun.scheduler }
@@ -87,3 +90,14 @@ pub record IsEndOf (tables : List TableShape) (first : ℕ) (batch : Batch) (sta
 abbrev pub EndsBatch : List TableShape → ℕ → Option Unfinished → Database → Ended → Type 0
 EndsBatch tables first None start ended = ⊥
 EndsBatch tables first (Some unfinished) start ended = IsEndOf tables first unfinished.batch start ended
+
+-- where a stop leaves an unfinished batch: where memory was refused no job of it is out and what was settled of it is settled
+-- still, and where a thread was refused, nothing has changed
+abbrev pub Stopped : Refusal → Option Unfinished → Option Unfinished → Type 0
+Stopped Memory old new = WaitsIn old new
+Stopped Thread old new = new ≡ old
+
+pub record IsStop (tables : List TableShape) (first : ℕ) (old : Stage) (stop : Stop) : Type 0 where
+  pub fits : Fits tables first stop.stage
+  pub rows : rows_in (Some stop.stage) ≡ rows_in (Some old)
+  pub batch : Stopped stop.refusal (unfinished_in (Some old)) (unfinished_in (Some stop.stage))

@@ -7,7 +7,6 @@ ghost use Rattle.scheduler_core.specs.Phases.{is_done, progress};
 ghost use Rattle.scheduler.specs.Schedules.{log_of, phases_of, KeepsItsJobs, IsChoice};
 ghost use Rattle.engine.specs.Engines.{NoneIsOut, StaysSettled};
 
-use crate::gate::Gate;
 use scheduler::{Event, Scheduler, StepAnswer};
 use scheduler_core::each_step_goes_on;
 use values::NoMemory;
@@ -24,9 +23,8 @@ fn chosen_event(scheduler: &Scheduler, choice: Option<&u64>) -> Result<Option<Ev
     }
 }
 
-/// Makes an enabled event; before a transaction is run, the gate is entered with its number. Where memory is refused nothing
-/// has changed.
-fn make<G: Gate>(scheduler: &mut Scheduler, event: Event, gate: &G) -> Result<(), NoMemory>
+/// Makes an enabled event. Where memory is refused nothing has changed.
+fn make(scheduler: &mut Scheduler, event: Event) -> Result<(), NoMemory>
     requires keeps { KeepsItsJobs scheduler.old }
     requires enabled { enabled scheduler.old.work.nodes scheduler.old.work.first (log_of scheduler.old.work) (phases_of scheduler.old) event ≡ true }
     ensures work { scheduler.new.work ≡ scheduler.old.work }
@@ -34,9 +32,6 @@ fn make<G: Gate>(scheduler: &mut Scheduler, event: Event, gate: &G) -> Result<()
     ensures made { OnOk result (phases_of scheduler.new ≡ step scheduler.old.work.first (phases_of scheduler.old) event) }
     ensures err { OnErr result (phases_of scheduler.new ≡ phases_of scheduler.old) }
 {
-    if let Event::Run(number) = event {
-        gate.enter(number);
-    }
     match scheduler.step(event) {
         StepAnswer::Made => Ok(()),
         StepAnswer::NoMemory => Err(NoMemory),
@@ -46,7 +41,7 @@ fn make<G: Gate>(scheduler: &mut Scheduler, event: Event, gate: &G) -> Result<()
 
 /// Makes an enabled event as `make` does: the state is one of at most four steps a transaction further, and what is settled
 /// stays settled.
-fn go_on<G: Gate>(scheduler: &mut Scheduler, event: Event, gate: &G) -> Result<(), NoMemory>
+fn go_on(scheduler: &mut Scheduler, event: Event) -> Result<(), NoMemory>
     requires keeps { KeepsItsJobs scheduler.old }
     requires enabled { enabled scheduler.old.work.nodes scheduler.old.work.first (log_of scheduler.old.work) (phases_of scheduler.old) event ≡ true }
     ensures work { scheduler.new.work ≡ scheduler.old.work }
@@ -56,13 +51,13 @@ fn go_on<G: Gate>(scheduler: &mut Scheduler, event: Event, gate: &G) -> Result<(
     ensures settled { StaysSettled (phases_of scheduler.old) (phases_of scheduler.new) }
 {
     each_step_goes_on();
-    let made = make(scheduler, event, gate);
+    let made = make(scheduler, event);
     scheduler.observe();
     made
 }
 
 /// Makes the events of the choices, and those of choice 0 after the last, until all is done or memory is refused.
-fn make_all<G: Gate>(scheduler: &mut Scheduler, choices: &[u64], gate: &G) -> Result<(), NoMemory>
+fn make_all(scheduler: &mut Scheduler, choices: &[u64]) -> Result<(), NoMemory>
     requires { KeepsItsJobs scheduler.old }
     ensures work { scheduler.new.work ≡ scheduler.old.work }
     ensures keeps { KeepsItsJobs scheduler.new }
@@ -71,18 +66,14 @@ fn make_all<G: Gate>(scheduler: &mut Scheduler, choices: &[u64], gate: &G) -> Re
 {
     let mut choices = choices.iter();
     'steps: while let Some(event) = chosen_event(scheduler, choices.next())? {
-        go_on(scheduler, event, gate)?;
+        go_on(scheduler, event)?;
     }
     Ok(())
 }
 
 /// Runs the transactions that are left: each step makes the event that the next choice gives, and choice 0 after the last.
 /// Where memory is refused, what was run is settled, and the rows of what was only lent are taken back.
-pub(crate) fn run_left<G: Gate>(
-    scheduler: &mut Scheduler,
-    choices: &[u64],
-    gate: &G,
-) -> Result<(), NoMemory>
+pub(crate) fn run_left(scheduler: &mut Scheduler, choices: &[u64]) -> Result<(), NoMemory>
     requires { KeepsItsJobs scheduler.old }
     ensures work { scheduler.new.work ≡ scheduler.old.work }
     ensures keeps { KeepsItsJobs scheduler.new }
@@ -90,7 +81,7 @@ pub(crate) fn run_left<G: Gate>(
     ensures done { OnOk result (is_done (log_of scheduler.new.work) (phases_of scheduler.new) ≡ true) }
     ensures none_out { NoneIsOut (phases_of scheduler.new) }
 {
-    let ended = make_all(scheduler, choices, gate);
+    let ended = make_all(scheduler, choices);
     if ended.is_err() {
         scheduler.settle_held();
     }

@@ -6,10 +6,11 @@ ghost use Rattle.row_store.specs.Stock.{with_rows};
 ghost use Rattle.sequencer.specs.Batches.{items_of, AreOver};
 
 use crate::ending::Ended;
-use crate::gate::{Gate, OpenGate};
+use crate::gate::Gate;
+use crate::pool::Refusal;
 use crate::replies::BatchDone;
 use crate::stage::Stage;
-use crate::working::work_alone;
+use crate::working::{Stop, work_alone, work_on_workers};
 use command_line::Settings;
 use proclang::Procs;
 use row_store::RowStore;
@@ -17,6 +18,8 @@ use sequencer::Batch;
 use setup::Setup;
 use std::alloc::Global;
 use std::marker::Model;
+use std::sync::Wait;
+use std::thread::Threads;
 use values::NoMemory;
 
 /// The most transactions that a log has.
@@ -57,6 +60,19 @@ impl Model for Engine {
     ghost view = { λ e. record { procs = e.procs; settings = e.settings; next = e.next; rows = rows_in e.stage; unfinished = unfinished_in e.stage } };
 
     ghost invariant = { λ e. IsInOrder e.procs.tables e.next e.stage };
+}
+
+/// Takes over the rows that a batch left, and counts its transactions.
+fn leave(next: &mut u64, stage: &mut Option<Stage>, ended: Ended) -> BatchDone
+    requires { next.old + length ended.done.replies.items ≤ 2 ^ 48 }
+    ensures next { next.new ≡ next.old + length ended.done.replies.items }
+    ensures stage { stage.new ≡ Some (Stage.Idle ended.store) }
+    ensures done { result ≡ ended.done }
+{
+    let Ended { store, done } = ended;
+    *next += done.replies.len() as u64;
+    *stage = Some(Stage::Idle(store));
+    done
 }
 
 impl Engine {
@@ -156,46 +172,63 @@ impl Engine {
     }
 
     /// Goes on with the unfinished batch on one thread, by these choices of events.
-    fn go_on_alone<G: Gate>(
-        &mut self,
-        alloc: Global,
-        choices: &[u64],
-        gate: &G,
-    ) -> Result<BatchDone, NoMemory>
+    fn go_on_alone(&mut self, alloc: Global, choices: &[u64]) -> Result<BatchDone, ExecFault>
         requires { is_busy self.old ≡ true }
         ensures same { KeepsSetting self.old self.new }
         ensures done { IfOk result (ResumesTo self.old self.new self.old.unfinished) }
-        ensures waits { OnErr result (IsInterruption self.old self.old.unfinished self.new ExecFault.NoMemory) }
+        ensures refused { IfErr result (IsInterruption self.old self.old.unfinished self.new) }
+        ensures threadless { IfErr result (λ fault. ¬ IsSpawn fault) }
     {
         let Some(stage) = self.stage.take() else {
             unreachable!()
         };
-        match work_alone(
+        match work_alone(alloc, &self.procs, self.settings, self.next, stage, choices) {
+            Ok(ended) => Ok(leave(&mut self.next, &mut self.stage, ended)),
+            Err(Stop { stage, refusal }) => {
+                self.stage = Some(stage);
+                Err(ExecFault::from(refusal))
+            }
+        }
+    }
+
+    /// Goes on with the unfinished batch on worker threads.
+    fn go_on_workers<R: Threads + Wait + Sync, G: Gate>(
+        &mut self,
+        rt: &R,
+        alloc: Global,
+        gate: &G,
+    ) -> Result<BatchDone, ExecFault>
+        requires { is_busy self.old ≡ true }
+        ensures same { KeepsSetting self.old self.new }
+        ensures done { IfOk result (ResumesTo self.old self.new self.old.unfinished) }
+        ensures refused { IfErr result (IsInterruption self.old self.old.unfinished self.new) }
+    {
+        let Some(stage) = self.stage.take() else {
+            unreachable!()
+        };
+        match work_on_workers(
+            rt,
             alloc,
             &self.procs,
             self.settings,
             self.next,
             stage,
-            choices,
             gate,
         ) {
-            Ok(Ended { store, done }) => {
-                self.next += done.replies.len() as u64;
-                self.stage = Some(Stage::Idle(store));
-                Ok(done)
-            }
-            Err(stage) => {
+            Ok(ended) => Ok(leave(&mut self.next, &mut self.stage, ended)),
+            Err(Stop { stage, refusal }) => {
                 self.stage = Some(stage);
-                Err(NoMemory)
+                Err(ExecFault::from(refusal))
             }
         }
     }
 
-    /// Runs a batch: its transactions by the events that choice 0 gives, each after the gate was entered with its number.
+    /// Runs a batch on worker threads, over lanes. A worker passes the gate once for each job that it claimed, before it runs it.
     ///
     /// The replies are those of the batch's entries one by one on the rows before it, and the rows afterwards are theirs.
-    pub fn execute<G: Gate>(
+    pub fn execute<R: Threads + Wait + Sync, G: Gate>(
         &mut self,
+        rt: &R,
         alloc: Global,
         batch: Batch,
         gate: &G,
@@ -206,28 +239,27 @@ impl Engine {
         // While an earlier batch is unfinished the batch comes back, and so it does where the log would be too long.
         ensures busy { is_busy self.old ≡ true → result ≡ Err (ExecFault.Busy batch) }
         ensures full { is_busy self.old ≡ false → 2 ^ 48 < self.old.next + length (items_of batch) → result ≡ Err (ExecFault.LogFull batch) }
-        // No other batch comes back. Where a thread or memory is refused the engine holds the batch, no job of it is out, and
-        // what is settled stays settled.
+        // No other batch comes back. Where a thread is refused nothing has run. Where a thread or memory is refused the engine
+        // holds the batch, no job of it is out, and what is settled stays settled.
         ensures refused { IfErr result (IsRefusal self.old self.new batch) }
     {
         self.take(batch)?;
-        match self.go_on_alone(alloc, &[], gate) {
-            Ok(done) => Ok(done),
-            Err(NoMemory) => Err(ExecFault::NoMemory),
-        }
+        self.go_on_workers(rt, alloc, gate)
     }
 
-    /// Goes on with the unfinished batch, and gives the replies of the whole batch.
-    pub fn resume<G: Gate>(&mut self, alloc: Global, gate: &G) -> Result<BatchDone, ExecFault>
+    /// Goes on with the unfinished batch on worker threads, and gives the replies of the whole batch.
+    pub fn resume<R: Threads + Wait + Sync, G: Gate>(
+        &mut self,
+        rt: &R,
+        alloc: Global,
+        gate: &G,
+    ) -> Result<BatchDone, ExecFault>
         requires { is_busy self.old ≡ true }
         ensures same { KeepsSetting self.old self.new }
         ensures done { IfOk result (ResumesTo self.old self.new self.old.unfinished) }
         ensures refused { IfErr result (IsInterruption self.old self.old.unfinished self.new) }
     {
-        match self.go_on_alone(alloc, &[], gate) {
-            Ok(done) => Ok(done),
-            Err(NoMemory) => Err(ExecFault::NoMemory),
-        }
+        self.go_on_workers(rt, alloc, gate)
     }
 
     /// Runs a batch on one thread, without a gate: each step makes the event that `choose` gives for the next choice, and for 0
@@ -248,9 +280,19 @@ impl Engine {
         ensures threadless { IfErr result (λ fault. ¬ IsSpawn fault) }
     {
         self.take(batch)?;
-        match self.go_on_alone(alloc, choices, &OpenGate) {
-            Ok(done) => Ok(done),
-            Err(NoMemory) => Err(ExecFault::NoMemory),
+        self.go_on_alone(alloc, choices)
+    }
+}
+
+impl From<Refusal> for ExecFault {
+    ghost use Rattle.engine.specs.Executions.{fault_of};
+
+    ghost from_gives = { λ refusal given. given ≡ fault_of refusal };
+
+    fn from(refusal: Refusal) -> ExecFault {
+        match refusal {
+            Refusal::Thread => ExecFault::Spawn,
+            Refusal::Memory => ExecFault::NoMemory,
         }
     }
 }

@@ -6,8 +6,11 @@ mod beginning;
 mod ending;
 mod engine;
 mod gate;
+mod handing;
+mod pool;
 mod replies;
 mod stage;
+mod worker;
 mod working;
 
 pub use command_line::Settings;
@@ -16,6 +19,10 @@ pub use gate::{Gate, OpenGate};
 pub use replies::{BatchDone, Reply};
 pub use sequencer::{Batch, BatchFault, Item};
 
+#[cfg(test)]
+mod gate_tests;
+#[cfg(test)]
+mod resume_tests;
 #[cfg(test)]
 mod test_world;
 #[cfg(test)]

@@ -1,8 +1,16 @@
-//! What the tests run: the bank.
+//! What the tests run: the bank, logs of its calls, and gates that note who passes.
 
-use crate::{Engine, Settings};
+ghost use Rattle.std.specs.Prelude.{◌≡◌, IfOk};
+ghost use Rattle.std.specs.List.{AllByRecursion};
+ghost use Rattle.sequencer.specs.Batches.{items_of, AreOver};
+ghost use Rattle.engine.specs.Engines.{tables_of};
+
+use crate::{Batch, Engine, Gate, Settings};
+use batch_log::{LogReader, ReadSource};
+use proclang::Request;
 use setup::{Setup, read_setup};
 use std::alloc::Global;
+use std::sync::atomic::{AtomicU64, Ordering};
 use std::test::Fail;
 
 const BANK: &str = r#"["setup",1,
@@ -19,9 +27,11 @@ const BANK: &str = r#"["setup",1,
  [["get","x","acct","k","bal"],["reply","x"]]],
 ["bad5",[],["declared",["row","r","acct",1],["row","r","acct",3]],
  [["get","x","acct",5,"bal"],["reply","x"]]]]],
-["rows",1,[["acct",1,[100]],["acct",2,[100]],["ref",1,[2]]]]]"#;
+["rows",1,[["acct",1,[100]],["acct",2,[100]],["acct",3,[100]],["acct",4,[100]],["ref",1,[2]]]]]"#;
 
-/// The bank: the accounts 1 and 2 with 100 each.
+pub(crate) const TWO_PAYS: &str = "[\"call\",\"pay\",[1,2,30]]\n[\"call\",\"pay\",[1,2,30]]\n";
+
+/// The bank: the accounts 1 to 4 with 100 each.
 pub(crate) fn bank(alloc: Global) -> Result<Setup, Fail> {
     Ok(read_setup(alloc, BANK.as_bytes())?)
 }
@@ -29,4 +39,56 @@ pub(crate) fn bank(alloc: Global) -> Result<Setup, Fail> {
 /// An engine on the bank.
 pub(crate) fn engine(alloc: Global, settings: Settings) -> Result<Engine, Fail> {
     Ok(Engine::new(alloc, bank(alloc)?, settings)?)
+}
+
+/// The batch of requests over an engine's tables.
+fn batch_over(alloc: Global, _engine: &Engine, requests: Vec<Request>) -> Result<Batch, Fail>
+    requires { AllByRecursion (λ request. request.proc.tables ≡ tables_of _engine.now) requests.items }
+    ensures { IfOk result (λ batch. AreOver (tables_of _engine.now) (items_of batch)) }
+{
+    Ok(Batch::of(alloc, requests)?)
+}
+
+/// The batch of a log's calls of an engine's procedures.
+pub(crate) fn batch_of(alloc: Global, engine: &Engine, log: &str) -> Result<Batch, Fail>
+    ensures { IfOk result (λ batch. AreOver (tables_of engine.now) (items_of batch)) }
+{
+    let mut source = ReadSource::new(log.as_bytes());
+    let mut reader = LogReader::new(&mut source);
+    let Some(requests) = reader.next_batch(alloc, engine.procs())? else {
+        return Err(Fail::from("no calls"));
+    };
+    batch_over(alloc, engine, requests)
+}
+
+/// Counts who passes, and whether each has the next number.
+#[derive(Drop)]
+pub(crate) struct InOrder {
+    next: AtomicU64,
+    wrong: AtomicU64,
+}
+
+impl InOrder {
+    pub(crate) fn new() -> InOrder {
+        InOrder {
+            next: AtomicU64::new(0),
+            wrong: AtomicU64::new(0),
+        }
+    }
+
+    /// How many passed, and how many of them had another number.
+    pub(crate) fn passed(&self) -> (u64, u64) {
+        (
+            self.next.load(Ordering::Relaxed),
+            self.wrong.load(Ordering::Relaxed),
+        )
+    }
+}
+
+impl Gate for InOrder {
+    fn enter(&self, no: u64) {
+        if self.next.fetch_add(1, Ordering::Relaxed) != no {
+            self.wrong.fetch_add(1, Ordering::Relaxed);
+        }
+    }
 }

@@ -1,18 +1,38 @@
 //! Working at a batch until it ends.
 
 ghost use Rattle.std.specs.Prelude.{◌≡◌, true, is_some, Some, IfOk, IfErr};
-ghost use Rattle.engine.specs.Engines.{Unfinished};
 ghost use Rattle.engine.specs.Executions.{WaitsIn};
-ghost use Rattle.engine.specs.Stages.{Fits, EndsBatch, IsBegun, rows_in, unfinished_in, unfinished_of};
+ghost use Rattle.engine.specs.Stages.{Fits, EndsBatch, IsBegun, IsStop, rows_in, unfinished_in, unfinished_of};
 
 use crate::alone::run_left;
 use crate::beginning::begin;
 use crate::ending::{Ended, end};
 use crate::gate::Gate;
+use crate::pool::{Refusal, Run, run_on_workers};
 use crate::stage::{Begun, Stage};
 use command_line::Settings;
 use proclang::Procs;
 use std::alloc::Global;
+use std::sync::Wait;
+use std::thread::Threads;
+
+/// Where a batch is that was not run to its end, and why.
+#[derive(Drop)]
+pub(crate) struct Stop {
+    pub stage: Stage,
+    pub refusal: Refusal,
+}
+
+/// A stop for want of memory.
+fn no_memory(stage: Stage) -> Stop
+    ensures stage { result.stage ≡ stage }
+    ensures refusal { result.refusal ≡ Refusal.Memory }
+{
+    Stop {
+        stage,
+        refusal: Refusal::Memory,
+    }
+}
 
 /// An unfinished batch with the scheduler of its entries, which is made where nothing of it has begun. Where memory is refused,
 /// the stage comes back.
@@ -27,7 +47,7 @@ fn begun(
     requires busy { is_some (unfinished_in (Some stage)) ≡ true }
     ensures begun { IfOk result (IsBegun procs.now.tables first) }
     ensures start { IfOk result (λ begun. begun.scheduler.work.start ≡ rows_in (Some stage)) }
-    ensures waits { IfOk result (λ begun. WaitsIn (unfinished_in (Some stage)) (Some (unfinished_of begun))) }
+    ensures same { IfOk result (λ begun. Some (unfinished_of begun) ≡ unfinished_in (Some stage)) }
     ensures back { IfErr result (λ back. back ≡ stage) }
 {
     match stage {
@@ -42,28 +62,60 @@ fn begun(
 
 /// Works at an unfinished batch on one thread, by these choices of events. Where memory is refused, the stage that it has then
 /// comes back.
-pub(crate) fn work_alone<G: Gate>(
+pub(crate) fn work_alone(
     alloc: Global,
     procs: &Procs,
     settings: Settings,
     first: u64,
     stage: Stage,
     choices: &[u64],
-    gate: &G,
-) -> Result<Ended, Stage>
+) -> Result<Ended, Stop>
     requires fits { Fits procs.now.tables first stage }
     requires busy { is_some (unfinished_in (Some stage)) ≡ true }
-    ensures ended { IfOk result (λ ended. EndsBatch procs.now.tables first (unfinished_in (Some stage)) (rows_in (Some stage)) ended) }
-    ensures fits { IfErr result (Fits procs.now.tables first) }
-    ensures rows { IfErr result (λ back. rows_in (Some back) ≡ rows_in (Some stage)) }
-    ensures waits { IfErr result (λ back. WaitsIn (unfinished_in (Some stage)) (unfinished_in (Some back))) }
+    ensures ended { IfOk result (EndsBatch procs.now.tables first (unfinished_in (Some stage)) (rows_in (Some stage))) }
+    ensures stop { IfErr result (IsStop procs.now.tables first stage) }
+    ensures threadless { IfErr result (λ stop. stop.refusal ≡ Refusal.Memory) }
 {
-    let mut begun = begun(alloc, procs, settings, first, stage)?;
-    if run_left(&mut begun.scheduler, choices, gate).is_err() {
-        return Err(Stage::Begun(begun));
+    let mut begun = match begun(alloc, procs, settings, first, stage) {
+        Ok(begun) => begun,
+        Err(stage) => return Err(no_memory(stage)),
+    };
+    if run_left(&mut begun.scheduler, choices).is_err() {
+        return Err(no_memory(Stage::Begun(begun)));
     }
     match end(alloc, first, begun) {
         Ok(ended) => Ok(ended),
-        Err(begun) => Err(Stage::Begun(begun)),
+        Err(begun) => Err(no_memory(Stage::Begun(begun))),
+    }
+}
+
+/// Works at an unfinished batch on worker threads. Where memory or a thread is refused, the stage that it has then comes back.
+pub(crate) fn work_on_workers<R: Threads + Wait + Sync, G: Gate>(
+    rt: &R,
+    alloc: Global,
+    procs: &Procs,
+    settings: Settings,
+    first: u64,
+    stage: Stage,
+    gate: &G,
+) -> Result<Ended, Stop>
+    requires fits { Fits procs.now.tables first stage }
+    requires busy { is_some (unfinished_in (Some stage)) ≡ true }
+    ensures ended { IfOk result (EndsBatch procs.now.tables first (unfinished_in (Some stage)) (rows_in (Some stage))) }
+    ensures stop { IfErr result (IsStop procs.now.tables first stage) }
+{
+    let Begun { batch, scheduler } = match begun(alloc, procs, settings, first, stage) {
+        Ok(begun) => begun,
+        Err(stage) => return Err(no_memory(stage)),
+    };
+    let Run { scheduler, ended } = run_on_workers(rt, alloc, settings, scheduler, gate);
+    let begun = Begun { batch, scheduler };
+    if let Err(refusal) = ended {
+        let stage = Stage::Begun(begun);
+        return Err(Stop { stage, refusal });
+    }
+    match end(alloc, first, begun) {
+        Ok(ended) => Ok(ended),
+        Err(begun) => Err(no_memory(Stage::Begun(begun))),
     }
 }

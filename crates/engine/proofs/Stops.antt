@@ -1,0 +1,53 @@
+-- Where a batch stops.
+use Rattle.std.proofs.Common.{◌≡◌, ℕ, List, map, Option, Some, refl, sym, ap, ◌∙◌, subst}
+use Rattle.values.specs.Shapes.{TableShape}
+use Rattle.interp.specs.Entries.{entry_shape}
+use Rattle.scheduler.specs.Schedules.{Schedule, Work, phases_of}
+use Rattle.engine.specs.declared.pool.Refusal.{Refusal}
+use Rattle.engine.specs.declared.pool.Refusal.TheVariants.{Thread, Memory}
+use Rattle.engine.specs.declared.stage.Begun.{Begun as BegunOf}
+use Rattle.engine.specs.declared.stage.Stage.{Stage}
+use Rattle.engine.specs.declared.stage.Stage.TheVariants.{Begun}
+use Rattle.engine.specs.declared.working.Stop.{Stop}
+use Rattle.engine.specs.Engines.{Unfinished, NoneIsOut, StaysSettled}
+use Rattle.engine.specs.Executions.{WaitsIn}
+use Rattle.engine.specs.Stages.{IsBegun, IsStop, rows_in, unfinished_in, unfinished_of}
+use Rattle.engine.proofs.InLanes.{none_kept}
+
+module _ (tables : List TableShape) (first : ℕ) (old : Stage) (b : BegunOf) (s : Schedule) (h : IsBegun tables first b) (start : b.scheduler.work.start ≡ rows_in (Some old))
+    (same : Some (unfinished_of b) ≡ unfinished_in (Some old)) (work : s.work ≡ b.scheduler.work) (none : NoneIsOut (phases_of s)) (settled : StaysSettled (phases_of b.scheduler) (phases_of s)) where
+  abbrev now : BegunOf
+  now = record { batch = b.batch; scheduler = s }
+
+  pub over : s.work.tables ≡ tables
+  over = ap (λ (w : Work). w.tables) work ∙ h.schedule.over
+
+  pub begun_on : IsBegun tables first now
+  begun_on = record {
+    from = h.from;
+    schedule = record {
+      over = over;
+      numbered = ap (λ (w : Work). w.first) work ∙ h.schedule.numbered;
+      entries = ap (λ (w : Work). map entry_shape w.entries) work ∙ h.schedule.entries;
+    };
+    rest = record { keeps = none_kept s none; none_out = none };
+  }
+
+  waits_on : WaitsIn (unfinished_in (Some old)) (Some (unfinished_of now))
+  waits_on = subst (λ (u : Option Unfinished). WaitsIn u (Some (unfinished_of now))) same (record { batch = refl; none_out = none; settled = settled })
+
+  rows : s.work.start ≡ rows_in (Some old)
+  rows = ap (λ (w : Work). w.start) work ∙ start
+
+  pub stop_by : (refusal : Refusal) → (refusal ≡ Thread → s ≡ b.scheduler) → IsStop tables first old (record { stage = Begun now; refusal = refusal })
+  stop_by Memory nothing = record { fits = begun_on; rows = rows; batch = waits_on }
+  stop_by Thread nothing = record {
+    fits = begun_on;
+    rows = rows;
+    batch = ap (λ (t : Schedule). Some (unfinished_of (record { batch = b.batch; scheduler = t }))) (nothing refl) ∙ same;
+  }
+
+  pub stop_of : (stop : Stop) → stop.stage ≡ Begun now → stop.refusal ≡ Memory → IsStop tables first old stop
+  stop_of stop stage refusal =
+      subst (λ (st : Stage). IsStop tables first old (record { stage = st; refusal = stop.refusal })) (sym stage)
+      (subst (λ (r : Refusal). IsStop tables first old (record { stage = Begun now; refusal = r })) (sym refusal) (record { fits = begun_on; rows = rows; batch = waits_on }))

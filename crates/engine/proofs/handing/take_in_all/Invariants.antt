@@ -1,0 +1,15 @@
+use Rattle.std.proofs.Common.{◌≡◌, ◌-◌, length}
+use Rattle.scheduler.specs.Schedules.{phases_of}
+use Rattle.lanes.specs.Seats.{SchedulerSeatOf, jobs_in}
+use Rattle.engine.specs.Engines.{StaysSettled}
+use Rattle.engine.specs.HandedOut.{AreInLanes}
+use Rattle.engine.proofs.handing.take_in_all.Given as goal
+
+-- so many jobs are out, and they are in the lanes
+abbrev pub invariant-loop : goal.invariant-loop
+invariant-loop g l =
+    (l.seat.lanes ≡ l.lanes)
+    × AreInLanes l.scheduler l.seat
+    × (l.scheduler.work ≡ l.fn.scheduler.work)
+    × StaysSettled (phases_of l.fn.scheduler) (phases_of l.scheduler)
+    × (l.out ≡ jobs_in l.seat.jobs)

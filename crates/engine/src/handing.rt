@@ -1,0 +1,189 @@
+//! What the scheduler's thread does beside its workers.
+
+ghost use Rattle.std.specs.Prelude.{◌≡◌, ◌+◌, ◌<◌, true, if◌then◌else◌, replicate, None, IfOk, OnOk, OnErr};
+ghost use Rattle.scheduler_core.specs.Phases.{is_done};
+ghost use Rattle.scheduler.specs.Schedules.{log_of, phases_of};
+ghost use Rattle.lanes.specs.Seats.{SchedulerSeatOf, jobs_in};
+ghost use Rattle.engine.specs.Engines.{NoneIsOut, StaysSettled};
+ghost use Rattle.engine.specs.HandedOut.{AreInLanes};
+
+use lanes::{Lanes, SchedulerSeat};
+use scheduler::{AdmitFault, Scheduler};
+use std::sync::Wait;
+use std::thread;
+use values::NoMemory;
+
+/// Admits transactions while there are more and there is room.
+fn admit_all(scheduler: &mut Scheduler) -> Result<(), NoMemory>
+    ensures work { scheduler.new.work ≡ scheduler.old.work }
+    ensures lanes { (seat : SchedulerSeatOf) → AreInLanes scheduler.old seat → AreInLanes scheduler.new seat }
+    ensures settled { StaysSettled (phases_of scheduler.old) (phases_of scheduler.new) }
+{
+    'admits: loop {
+        match scheduler.admit() {
+            Ok(_) => {}
+            Err(AdmitFault::AllAdmitted | AdmitFault::Full) => return Ok(()),
+            Err(AdmitFault::NoMemory) => return Err(NoMemory),
+        }
+    }
+}
+
+/// Lends its rows to the next ready transaction, and puts the job into a lane; `false` where none is ready. A lane is free.
+fn hand_out(
+    scheduler: &mut Scheduler,
+    lanes: &Lanes,
+    seat: &mut SchedulerSeat,
+) -> Result<bool, NoMemory>
+    requires seat { seat.old.lanes ≡ lanes.now }
+    requires lanes { AreInLanes scheduler.old seat.old }
+    requires room { jobs_in seat.old.jobs < lanes.now.count }
+    ensures seat { seat.new.lanes ≡ lanes.now }
+    ensures work { scheduler.new.work ≡ scheduler.old.work }
+    ensures lanes { AreInLanes scheduler.new seat.new }
+    ensures settled { StaysSettled (phases_of scheduler.old) (phases_of scheduler.new) }
+    ensures more { IfOk result (λ more. jobs_in seat.new.jobs ≡ (if more then jobs_in seat.old.jobs + 1 else jobs_in seat.old.jobs)) }
+    ensures err { OnErr result (seat.new ≡ seat.old) }
+{
+    let Some(job) = scheduler.lend()? else {
+        return Ok(false);
+    };
+    match lanes.put(seat, job) {
+        Ok(_) => Ok(true),
+        Err(_) => unreachable!(),
+    }
+}
+
+/// Admits what can be admitted, and hands out jobs until each lane has one or none is ready. So many jobs are out.
+fn hand_out_all(
+    scheduler: &mut Scheduler,
+    lanes: &Lanes,
+    seat: &mut SchedulerSeat,
+    count: usize,
+    out: &mut usize,
+) -> Result<(), NoMemory>
+    requires seat { seat.old.lanes ≡ lanes.now }
+    requires lanes { AreInLanes scheduler.old seat.old }
+    requires count { count ≡ lanes.now.count }
+    requires out { out.old ≡ jobs_in seat.old.jobs }
+    ensures seat { seat.new.lanes ≡ lanes.now }
+    ensures work { scheduler.new.work ≡ scheduler.old.work }
+    ensures lanes { AreInLanes scheduler.new seat.new }
+    ensures settled { StaysSettled (phases_of scheduler.old) (phases_of scheduler.new) }
+    ensures out { out.new ≡ jobs_in seat.new.jobs }
+{
+    admit_all(scheduler)?;
+    'jobs: while *out < count {
+        if !hand_out(scheduler, lanes, seat)? {
+            return Ok(());
+        }
+        *out += 1;
+    }
+    Ok(())
+}
+
+/// Settles what a worker delivered, if anything was found. An error says that a job came back without a run, for want of
+/// memory.
+fn take_in(
+    scheduler: &mut Scheduler,
+    lanes: &Lanes,
+    seat: &mut SchedulerSeat,
+    out: &mut usize,
+) -> Result<(), NoMemory>
+    requires seat { seat.old.lanes ≡ lanes.now }
+    requires lanes { AreInLanes scheduler.old seat.old }
+    requires out { out.old ≡ jobs_in seat.old.jobs }
+    ensures seat { seat.new.lanes ≡ lanes.now }
+    ensures work { scheduler.new.work ≡ scheduler.old.work }
+    ensures lanes { AreInLanes scheduler.new seat.new }
+    ensures settled { StaysSettled (phases_of scheduler.old) (phases_of scheduler.new) }
+    ensures out { out.new ≡ jobs_in seat.new.jobs }
+{
+    let Some((_, done)) = lanes.collect(seat) else {
+        thread::yield_now();
+        return Ok(());
+    };
+    let is_run = done.is_run();
+    scheduler.settle(done);
+    *out -= 1;
+    if is_run { Ok(()) } else { Err(NoMemory) }
+}
+
+/// Hands out jobs and takes in what comes of them, until all is done or memory is refused.
+fn hand_over<R: Wait>(
+    rt: &R,
+    scheduler: &mut Scheduler,
+    lanes: &Lanes,
+    seat: &mut SchedulerSeat,
+    count: usize,
+    out: &mut usize,
+) -> Result<(), NoMemory>
+    requires seat { seat.old.lanes ≡ lanes.now }
+    requires lanes { AreInLanes scheduler.old seat.old }
+    requires count { count ≡ lanes.now.count }
+    requires out { out.old ≡ jobs_in seat.old.jobs }
+    ensures seat { seat.new.lanes ≡ lanes.now }
+    ensures work { scheduler.new.work ≡ scheduler.old.work }
+    ensures lanes { AreInLanes scheduler.new seat.new }
+    ensures settled { StaysSettled (phases_of scheduler.old) (phases_of scheduler.new) }
+    ensures out { out.new ≡ jobs_in seat.new.jobs }
+    ensures done { OnOk result (is_done (log_of scheduler.new.work) (phases_of scheduler.new) ≡ true) }
+{
+    for _ in rt.forever() {
+        hand_out_all(scheduler, lanes, seat, count, out)?;
+        take_in(scheduler, lanes, seat, out)?;
+        if scheduler.is_done() {
+            break;
+        }
+    }
+    Ok(())
+}
+
+/// Takes in what comes of the jobs that are out, until none is.
+#[tactic(auto, using(crate::proofs::InLanes::empty_rests))]
+fn take_in_all<R: Wait>(
+    rt: &R,
+    scheduler: &mut Scheduler,
+    lanes: &Lanes,
+    seat: &mut SchedulerSeat,
+    out: &mut usize,
+)
+    requires seat { seat.old.lanes ≡ lanes.now }
+    requires lanes { AreInLanes scheduler.old seat.old }
+    requires out { out.old ≡ jobs_in seat.old.jobs }
+    ensures work { scheduler.new.work ≡ scheduler.old.work }
+    ensures settled { StaysSettled (phases_of scheduler.old) (phases_of scheduler.new) }
+    ensures none_out { NoneIsOut (phases_of scheduler.new) }
+{
+    for _ in rt.forever() {
+        if *out == 0 {
+            break;
+        }
+        let _ = take_in(scheduler, lanes, seat, out);
+    }
+}
+
+/// Hands the transactions that are left to the workers, and settles them as they come back. Where memory is refused, no more
+/// are handed out, and those that are out are taken in first. The seat has put nothing.
+pub(crate) fn schedule<R: Wait>(
+    rt: &R,
+    scheduler: &mut Scheduler,
+    lanes: &Lanes,
+    seat: &mut SchedulerSeat,
+    count: usize,
+) -> Result<(), NoMemory>
+    requires seat { seat.old.lanes ≡ lanes.now }
+    requires count { count ≡ lanes.now.count }
+    requires empty { seat.old.jobs ≡ replicate count None }
+    requires none_out { NoneIsOut (phases_of scheduler.old) }
+    ensures work { scheduler.new.work ≡ scheduler.old.work }
+    ensures settled { StaysSettled (phases_of scheduler.old) (phases_of scheduler.new) }
+    ensures none_out { NoneIsOut (phases_of scheduler.new) }
+    ensures done { OnOk result (is_done (log_of scheduler.new.work) (phases_of scheduler.new) ≡ true) }
+{
+    let mut out = 0;
+    let ended = hand_over(rt, scheduler, lanes, seat, count, &mut out);
+    if ended.is_err() {
+        take_in_all(rt, scheduler, lanes, seat, &mut out);
+    }
+    ended
+}

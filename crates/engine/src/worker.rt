@@ -1,0 +1,58 @@
+//! What a worker does.
+
+ghost use Rattle.std.specs.Prelude.{◌≡◌};
+
+use crate::gate::Gate;
+use lanes::{Lanes, WorkerSeat};
+use scheduler::run_job;
+use std::sync::Wait;
+use std::sync::atomic::{AtomicBool, Ordering};
+use std::thread;
+use std::thread::Scope;
+
+/// What a thread does until it ends.
+pub(crate) trait Duty {
+    fn serve<R: Wait, G: Gate>(self, rt: &R, gate: &G);
+}
+
+/// A worker on its seat at the lanes, and the flag that ends it.
+#[derive(Drop)]
+pub(crate) struct Worker<'a, 'b> {
+    pub lanes: &'a Lanes,
+    pub seat: WorkerSeat,
+    pub ended: &'b AtomicBool,
+    ghost seated: { seat.lanes ≡ lanes.now },
+}
+
+impl Duty for Worker<'_, '_> {
+    /// Claims jobs and delivers what comes of each, until it finds none after the flag was set. It passes the gate once for each
+    /// job that it claimed, before it runs it.
+    fn serve<R: Wait, G: Gate>(self, rt: &R, gate: &G) {
+        let Worker { lanes, seat, ended } = self;
+        let mut seat = seat;
+        for _ in rt.forever() {
+            match lanes.claim(&mut seat) {
+                Some((lane, job)) => {
+                    gate.enter(job.no());
+                    lanes.deliver(&mut seat, lane, run_job(job));
+                }
+                None => {
+                    if ended.load(Ordering::SeqCst) {
+                        break;
+                    }
+                    thread::yield_now();
+                }
+            }
+        }
+    }
+}
+
+/// Starts a thread in a scope for a duty; `false` where the system refuses it.
+pub(crate) fn start<'s, 'r: 's, 'g: 's, E, R: Wait + Sync, G: Gate, D: Duty + Send + Drop + 's>(
+    rt: &'r R,
+    scope: &Scope<'s, E>,
+    gate: &'g G,
+    duty: D,
+) -> bool {
+    scope.spawn(move || duty.serve(rt, gate)).is_ok()
+}
