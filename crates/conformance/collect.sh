@@ -11,7 +11,8 @@
 #     stderr       what it must write to standard error
 #     status       the exit status that it must end with, in decimal, on a line
 #
-# and perhaps further files, which other commands must write. A set named first with a case 007 is
+# and perhaps further files, which other commands must write where the log has no fault; those of a case
+# whose status is not 0 are left out. A set named first with a case 007 is
 # copied to data/first/007/, in the place of any set of that name that was there. Then the index
 # data/cases.txt is written anew, over all sets in data/: one line a case, in order of name, which has
 # the case's name, `first/007`, and after it the names of its further files, each after one space.
@@ -50,7 +51,12 @@ for case in */*/; do
     line=${case%/}
     for path in "$case"*; do
         file=${path##*/}
-        [[ " ${files[*]} " == *" $file "* ]] || line+=" $file"
+        [[ " ${files[*]} " == *" $file "* ]] && continue
+        if [[ $(<"${case}status") == 0 ]]; then
+            line+=" $file"
+        else
+            rm -- "$path"
+        fi
     done
     printf '%s\n' "$line"
 done >cases.txt

@@ -27,7 +27,11 @@ pub use running::run_text;
 pub use setup::{Setup, SetupFault, read_setup};
 
 #[cfg(test)]
+mod checking_tests;
+#[cfg(test)]
 mod device_tests;
+#[cfg(test)]
+mod language_tests;
 #[cfg(test)]
 mod locks_tests;
 #[cfg(test)]

@@ -108,18 +108,19 @@ impl Case {
         })
     }
 
-    /// Whether the program, with these words, writes what is stored and ends with the status that is stored.
-    fn agrees<R: Threads + Wait + Sync + AllocGlobal>(
+    /// Whether the program, with these words, writes these texts and ends with this status.
+    fn gives<R: Threads + Wait + Sync + AllocGlobal>(
         &self,
         rt: &R,
         words: &[&str],
         most: usize,
+        (stdout, stderr, status): (&[u8], &[u8], &[u8]),
     ) -> Result<bool, AllocError> {
         let alloc = rt.alloc();
         let words = owned(alloc, words)?;
         let mut out = Output::new(Vec::new(alloc), most);
         let mut err = Output::new(Vec::new(alloc), most);
-        let status = program(
+        let ended = program(
             rt,
             alloc,
             &words,
@@ -128,11 +129,11 @@ impl Case {
             &mut out,
             &mut err,
         );
-        let status = format!(in alloc; "{status}\n")?;
+        let ended = format!(in alloc; "{ended}\n")?;
         Ok(
-            out.bytes == self.stdout
-                && err.bytes == self.stderr
-                && status.as_bytes() == self.status.as_slice(),
+            out.bytes.as_slice() == stdout
+                && err.bytes.as_slice() == stderr
+                && ended.as_bytes() == status,
         )
     }
 
@@ -142,12 +143,36 @@ impl Case {
         rt: &R,
     ) -> Result<Vec<&'static str>, AllocError> {
         let mut runs = Vec::new(rt.alloc());
+        let stored = (
+            self.stdout.as_slice(),
+            self.stderr.as_slice(),
+            self.status.as_slice(),
+        );
         for (name, words, most) in RUNS {
-            if !self.agrees(rt, words, most)? {
+            if !self.gives(rt, words, most, stored)? {
                 runs.push(name)?;
             }
         }
         Ok(runs)
+    }
+
+    /// Whether `locks`, with this threshold and this room, prints these plans.
+    pub(crate) fn has_plans<R: Threads + Wait + Sync + AllocGlobal>(
+        &self,
+        rt: &R,
+        (coarsen, arena): (&str, &str),
+        plans: &[u8],
+    ) -> Result<bool, AllocError> {
+        let words = [
+            "locks",
+            "--coarsen",
+            coarsen,
+            "--arena",
+            arena,
+            "setup.json",
+        ];
+        let nothing = b"".as_slice();
+        self.gives(rt, &words, 4096, (plans, nothing, b"0\n".as_slice()))
     }
 }
 
