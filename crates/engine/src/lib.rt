@@ -22,6 +22,10 @@ pub use sequencer::{Batch, BatchFault, Item};
 #[cfg(test)]
 mod gate_tests;
 #[cfg(test)]
+mod plain;
+#[cfg(test)]
+mod plain_tests;
+#[cfg(test)]
 mod resume_tests;
 #[cfg(test)]
 mod test_world;

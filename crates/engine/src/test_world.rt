@@ -7,7 +7,7 @@ ghost use Rattle.engine.specs.Engines.{tables_of};
 
 use crate::{Batch, Engine, Gate, Settings};
 use batch_log::{LogReader, ReadSource};
-use proclang::Request;
+use proclang::{Procs, Request};
 use setup::{Setup, read_setup};
 use std::alloc::Global;
 use std::sync::atomic::{AtomicU64, Ordering};
@@ -25,13 +25,17 @@ const BANK: &str = r#"["setup",1,
   ["reply",["-","x","n"]]]],
 ["peek",[["k","int"]],["declared",["row","r","acct","k"]],
  [["get","x","acct","k","bal"],["reply","x"]]],
+["ins",[["k","int"],["v","int"]],["declared",["row","w","acct","k"]],
+ [["insert","acct","k",["v"]]]],
+["cnt",[],["declared",["part","r","acct",0]],
+ [["reply",["count","acct",0]]]],
 ["bad5",[],["declared",["row","r","acct",1],["row","r","acct",3]],
  [["get","x","acct",5,"bal"],["reply","x"]]]]],
-["rows",1,[["acct",1,[100]],["acct",2,[100]],["acct",3,[100]],["acct",4,[100]],["ref",1,[2]]]]]"#;
+["rows",1,[["acct",1,[100]],["acct",2,[100]],["ref",1,[2]]]]]"#;
 
 pub(crate) const TWO_PAYS: &str = "[\"call\",\"pay\",[1,2,30]]\n[\"call\",\"pay\",[1,2,30]]\n";
 
-/// The bank: the accounts 1 to 4 with 100 each.
+/// The bank: the accounts 1 and 2 with 100 each.
 pub(crate) fn bank(alloc: Global) -> Result<Setup, Fail> {
     Ok(read_setup(alloc, BANK.as_bytes())?)
 }
@@ -41,24 +45,31 @@ pub(crate) fn engine(alloc: Global, settings: Settings) -> Result<Engine, Fail> 
     Ok(Engine::new(alloc, bank(alloc)?, settings)?)
 }
 
-/// The batch of requests over an engine's tables.
-fn batch_over(alloc: Global, _engine: &Engine, requests: Vec<Request>) -> Result<Batch, Fail>
-    requires { AllByRecursion (λ request. request.proc.tables ≡ tables_of _engine.now) requests.items }
-    ensures { IfOk result (λ batch. AreOver (tables_of _engine.now) (items_of batch)) }
+/// The batch of requests over the tables of procedures.
+fn batch_over(alloc: Global, _procs: &Procs, requests: Vec<Request>) -> Result<Batch, Fail>
+    requires { AllByRecursion (λ request. request.proc.tables ≡ _procs.now.tables) requests.items }
+    ensures { IfOk result (λ batch. AreOver _procs.now.tables (items_of batch)) }
 {
     Ok(Batch::of(alloc, requests)?)
+}
+
+/// The batch of a log's calls of procedures.
+pub(crate) fn batch_from(alloc: Global, procs: &Procs, log: &str) -> Result<Batch, Fail>
+    ensures { IfOk result (λ batch. AreOver procs.now.tables (items_of batch)) }
+{
+    let mut source = ReadSource::new(log.as_bytes());
+    let mut reader = LogReader::new(&mut source);
+    let Some(requests) = reader.next_batch(alloc, procs)? else {
+        return Err(Fail::from("no calls"));
+    };
+    batch_over(alloc, procs, requests)
 }
 
 /// The batch of a log's calls of an engine's procedures.
 pub(crate) fn batch_of(alloc: Global, engine: &Engine, log: &str) -> Result<Batch, Fail>
     ensures { IfOk result (λ batch. AreOver (tables_of engine.now) (items_of batch)) }
 {
-    let mut source = ReadSource::new(log.as_bytes());
-    let mut reader = LogReader::new(&mut source);
-    let Some(requests) = reader.next_batch(alloc, engine.procs())? else {
-        return Err(Fail::from("no calls"));
-    };
-    batch_over(alloc, engine, requests)
+    batch_from(alloc, engine.procs(), log)
 }
 
 /// Counts who passes, and whether each has the next number.

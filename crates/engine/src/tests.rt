@@ -147,3 +147,41 @@ fn each_transaction_passes_the_gate_once(rt: HostRuntime) -> Result<(), Fail> {
     assert_eq!(rt; gate.passed(), (3, 0));
     Ok(())
 }
+
+/// Counts the accounts of partition 0, inserts one there, and counts them again, by these choices of events.
+fn count_around_an_insert(rt: &impl Abort, alloc: Global, choices: &[u64]) -> Result<(), Fail> {
+    let log = "[\"call\",\"cnt\",[]]\n[\"call\",\"ins\",[4,7]]\n[\"call\",\"cnt\",[]]";
+    let mut engine = engine(alloc, Settings::new(2, 8, 64, 65_536)?)?;
+    let batch = batch_of(alloc, &engine, log)?;
+    let Ok(done) = engine.run_alone(alloc, batch, choices) else {
+        return Err(Fail::from("not executed"));
+    };
+    let counts = [
+        Outcome::Commit(vec![in alloc; Value::Int(1)]?),
+        Outcome::Commit(Vec::new(alloc)),
+        Outcome::Commit(vec![in alloc; Value::Int(2)]?),
+    ];
+    assert_eq!(rt; done.replies.len(), 3);
+    for (reply, count) in done.replies.iter().zip(&counts) {
+        assert!(rt; reply.outcome == *count, "{choices:?}");
+    }
+    Ok(())
+}
+
+#[test]
+fn a_count_and_an_insert_are_in_log_order_whatever_the_choices(
+    rt: HostRuntime,
+) -> Result<(), Fail> {
+    for seed in 0..64u64 {
+        let choices = [
+            seed % 2,
+            seed / 2 % 2,
+            seed / 4 % 2,
+            seed / 8 % 2,
+            seed / 16 % 2,
+            seed / 32,
+        ];
+        count_around_an_insert(&rt, rt.alloc(), &choices)?;
+    }
+    Ok(())
+}
