@@ -6,9 +6,9 @@ use Rattle.setup.specs.declared.fault.SetupFault.{SetupFault}
 use Rattle.setup.specs.declared.setup.Setup.{Setup}
 use Rattle.setup.specs.Faults.{is_memory}
 use Rattle.setup.specs.FirstFault.{BreaksFirst}
-use Rattle.calvin.specs.declared.run_fault.RunFault.{RunFault}
+use Rattle.running.specs.declared.run_fault.RunFault.{RunFault}
 use Rattle.calvin.specs.CommandEnds.{AreReplicas, IsAnswered, IsCompared, IsRunAt, IsSetupAt, IsWithoutSetup, kept_status, run_status, setup_status}
-use Rattle.calvin.specs.Runs.{Device, IsRunOfLog}
+use Rattle.running.specs.Runs.{Device, IsRunOfLog}
 
 -- a text that is no setup, or memory was refused
 pub without_setup : (holds : Option (List ℕ) → Type 0) (text : List ℕ) (fault : SetupFault) (status : ℕ) → holds (Some text) → (is_memory fault ≡ false → BreaksFirst text fault) → status ≡ setup_status fault →

@@ -17,12 +17,12 @@ use Rattle.command_line.specs.CommandLine.{IsAskedFor}
 use Rattle.command_line.specs.declared.line.Command.{Command}
 use Rattle.command_line.specs.declared.line.Command.TheVariants.{Run, Replicas, Check}
 use Rattle.command_line.specs.declared.line.Line.{Line}
-use Rattle.calvin.specs.declared.run_fault.RunFault.{RunFault}
-use Rattle.calvin.specs.declared.run_fault.RunFault.TheVariants as runs
+use Rattle.running.specs.declared.run_fault.RunFault.{RunFault}
+use Rattle.running.specs.declared.run_fault.RunFault.TheVariants as runs
 use Rattle.calvin.specs.Comparisons.{IsFirstDifference}
-use Rattle.calvin.specs.Reports.{report_of}
-use Rattle.calvin.specs.Runs.{Device, IsRunOfLog}
-use Rattle.calvin.specs.Stops.{is_of_device}
+use Rattle.running.specs.Reports.{report_of}
+use Rattle.running.specs.Runs.{Device, IsRunOfLog}
+use Rattle.running.specs.Stops.{is_of_device}
 
 -- what a machine may hold at a path: a text, or nothing that can be read
 abbrev pub Holding : Type 1
@@ -124,10 +124,10 @@ pub record AreReplicas (holds holds_other : Holding) (source spent sink filled :
   pub whole : OnOk result (IfSome source.bytes (λ log. report ≡ report_of setup.procs (with_rows map_of.empty setup.rows.items) log))
   pub ends : IsCompared result is_full report other sink filled status
 
--- Without a setup, or without the other report, nothing is read of the log, and nothing is written.
+-- The other report is read first, and then the setup. Without either nothing is read of the log, and nothing is written.
 abbrev pub IsReplicasCommand : Holding → Holding → Device → Device → Device → Device → ℕ → Type 0
 IsReplicasCommand holds holds_other source spent sink filled status =
-    ((IsWithoutSetup holds status ⊎ ((status ≡ 4) × holds_other None)) × (spent ≡ source) × (filled ≡ sink))
+    ((((status ≡ 4) × holds_other None) ⊎ ((status ≡ 3) ⊎ ((other : List ℕ) × holds_other (Some other) × IsWithoutSetup holds status))) × (spent ≡ source) × (filled ≡ sink))
     ⊎ AreReplicas holds holds_other source spent sink filled status
 
 -- ---- the command `check`

@@ -1,7 +1,2 @@
-pub mod Reports
-pub mod Transcripts
-pub mod Hashers
-pub mod Stops
-pub mod Runs
 pub mod Comparisons
 pub mod CommandEnds

@@ -5,9 +5,9 @@ ghost use Rattle.calvin.specs.CommandEnds.{check_text, counts_text, IsCheckComma
 
 use crate::files::Files;
 use crate::inputs::{print, refused, setup_at};
-use crate::run_fault::RunFault;
 use crate::status::DONE;
 use batch_log::{FaultKind, Sink};
+use running::RunFault;
 use setup::Setup;
 use std::alloc::{AllocError, Global};
 

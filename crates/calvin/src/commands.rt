@@ -1,26 +1,54 @@
 //! The commands of the program.
 
+ghost use Rattle.std.specs.FinMap as map_of;
+ghost use Rattle.row_store.specs.Stock.{with_rows};
+ghost use Rattle.running.specs.Runs.{IsRunOfLog};
 ghost use Rattle.calvin.specs.CommandEnds.{Does, IsRunCommand};
 
 use crate::checking::check;
+use crate::executing::{run_alone, run_on_workers};
 use crate::files::Files;
 use crate::inputs::{print, refused, setup_at};
 use crate::locks::plans_of;
 use crate::replicas::replicas;
-use crate::running::{Execution, run_log};
 use crate::status::DONE;
 use batch_log::{Sink, Source};
 use command_line::{Command, Line, Settings};
 use engine::OpenGate;
+use running::RunFault;
+use setup::Setup;
 use std::alloc::Global;
 use std::sync::Wait;
 use std::thread::Threads;
+
+/// Runs the log on a setup, alone on this thread or on worker threads.
+fn run_setup<R: Threads + Wait + Sync, S: Source, K: Sink>(
+    rt: &R,
+    alloc: Global,
+    alone: bool,
+    setup: Setup,
+    settings: Settings,
+    source: &mut S,
+    out: &mut K,
+) -> Result<u64, RunFault>
+    ensures { IsRunOfLog setup.procs (with_rows map_of.empty setup.rows.items)
+        (record { bytes = S.left source.old; failed = S.failed source.old })
+        (record { bytes = S.left source.new; failed = S.failed source.new })
+        (record { bytes = K.taken out.old; failed = K.broken out.old })
+        (record { bytes = K.taken out.new; failed = K.broken out.new }) result }
+{
+    if alone {
+        run_alone(alloc, setup, settings, source, out)
+    } else {
+        run_on_workers(rt, alloc, setup, settings, &OpenGate, source, out)
+    }
+}
 
 /// Prints the report of the log on the setup at a path.
 fn run<R: Threads + Wait + Sync, F: Files, S: Source, K: Sink, E: Sink>(
     rt: &R,
     alloc: Global,
-    execution: Execution,
+    alone: bool,
     settings: Settings,
     path: &str,
     files: &F,
@@ -38,9 +66,7 @@ fn run<R: Threads + Wait + Sync, F: Files, S: Source, K: Sink, E: Sink>(
         Ok(setup) => setup,
         Err(status) => return status,
     };
-    match run_log(
-        rt, alloc, execution, setup, settings, &OpenGate, source, out,
-    ) {
+    match run_setup(rt, alloc, alone, setup, settings, source, out) {
         Ok(_) => DONE,
         Err(fault) => refused(alloc, err, fault),
     }
@@ -90,14 +116,7 @@ pub fn command<R: Threads + Wait + Sync, F: Files, S: Source, K: Sink, E: Sink>(
     let settings = line.settings;
     match &line.command {
         Command::Run { alone, setup } => {
-            let execution = if *alone {
-                Execution::Alone
-            } else {
-                Execution::Workers
-            };
-            run(
-                rt, alloc, execution, settings, setup, files, source, out, err,
-            )
+            run(rt, alloc, *alone, settings, setup, files, source, out, err)
         }
         Command::Locks { setup } => locks(alloc, settings, setup, files, source, out, err),
         Command::Check { setup } => check(alloc, setup, files, out, err),

@@ -3,8 +3,8 @@
 ghost use Rattle.std.specs.Prelude.{◌≡◌, Some, [], false};
 ghost use Rattle.calvin.specs.Comparisons.{IsFirstDifference};
 
-use crate::run_fault::RunFault;
 use batch_log::{DeviceFailed, FaultKind, LogFault, Sink};
+use running::RunFault;
 use std::alloc::Global;
 
 /// A report that is kept in memory.

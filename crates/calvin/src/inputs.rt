@@ -6,9 +6,9 @@ ghost use Rattle.devices.specs.Devices.{AppendsFront};
 ghost use Rattle.calvin.specs.CommandEnds.{fault_status, IsSetupAt, IsWithoutSetup};
 
 use crate::files::{FileFault, Files};
-use crate::run_fault::RunFault;
 use crate::status::{DEVICE, MEMORY, run_status, setup_status};
 use batch_log::{FaultKind, Sink, write_all};
+use running::RunFault;
 use setup::{Setup, read_setup};
 use std::alloc::{AllocError, Global};
 use std::fmt::Display;

@@ -4,15 +4,13 @@
 mod checking;
 mod commands;
 mod comparison;
+mod executing;
 mod files;
 mod inputs;
 mod locks;
 mod programs;
 mod replicas;
-mod run_fault;
-mod running;
 mod status;
-mod transcript;
 
 pub use batch_log::{
     DeviceFailed, FaultKind, LogFault, LogReader, ReadSource, Sink, Source, WriteSink,
@@ -20,10 +18,10 @@ pub use batch_log::{
 pub use command_line::{BadSetting, Command, Line, LineFault, Settings, read_line};
 pub use commands::command;
 pub use engine::{Batch, BatchDone, BatchFault, Engine, ExecFault, Gate, Item, OpenGate, Reply};
+pub use executing::run_text;
 pub use files::{FileFault, Files};
 pub use programs::program;
-pub use run_fault::RunFault;
-pub use running::run_text;
+pub use running::RunFault;
 pub use setup::{Setup, SetupFault, read_setup};
 
 #[cfg(test)]

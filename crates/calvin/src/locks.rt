@@ -3,7 +3,6 @@
 ghost use Rattle.std.specs.Prelude.{◌≡◌, ◌≤◌, length};
 ghost use Rattle.std.specs.List.{AllByRecursion};
 
-use crate::run_fault::RunFault;
 use batch_log::{FaultKind, LogReader, Source};
 use coarsen::Plan;
 use command_line::Settings;
@@ -12,6 +11,7 @@ use interp::Entry;
 use plan_text::push_plan;
 use proclang::Request;
 use row_store::RowStore;
+use running::RunFault;
 use sequencer::{Batch, BatchFault, prepare};
 use setup::Setup;
 use std::alloc::Global;

@@ -4,14 +4,14 @@ ghost use Rattle.std.specs.Prelude.{◌≡◌, IfOk, string_bytes};
 ghost use Rattle.calvin.specs.CommandEnds.{answer_status, answer_text, IsAnswered, IsReplicasCommand};
 
 use crate::comparison::{KeptReport, first_difference};
+use crate::executing::run_on_workers;
 use crate::files::Files;
 use crate::inputs::{file_at, print, refused, setup_at};
-use crate::run_fault::RunFault;
-use crate::running::{Execution, run_log};
 use crate::status::{DIFFERENT, DONE};
 use batch_log::{FaultKind, Sink, Source};
 use command_line::Settings;
 use engine::OpenGate;
+use running::RunFault;
 use std::alloc::{AllocError, Global};
 use std::sync::Wait;
 use std::thread::Threads;
@@ -86,10 +86,7 @@ pub(crate) fn replicas<R: Threads + Wait + Sync, F: Files, S: Source, K: Sink, E
         Err(status) => return status,
     };
     let mut kept = KeptReport::new(alloc);
-    let execution = Execution::Workers;
-    match run_log(
-        rt, alloc, execution, setup, settings, &OpenGate, source, &mut kept,
-    ) {
+    match run_on_workers(rt, alloc, setup, settings, &OpenGate, source, &mut kept) {
         Ok(_) => answer(alloc, kept.bytes(), &other, out, err),
         Err(fault) => refused(alloc, err, kept.fault_of(fault)),
     }

@@ -3,9 +3,9 @@
 ghost use Rattle.std.specs.Prelude.{◌≡◌};
 ghost use Rattle.calvin.specs.CommandEnds.{fault_status, setup_status};
 
-use crate::run_fault::RunFault;
 use batch_log::FaultKind;
 use proclang::ProcFault;
+use running::RunFault;
 use setup::SetupFault;
 use values::CatalogueFault;
 

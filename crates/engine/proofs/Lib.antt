@@ -3,3 +3,4 @@ pub mod Ends
 pub mod InLanes
 pub mod Stops
 pub mod Sent
+pub mod Worked

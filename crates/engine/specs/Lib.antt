@@ -4,3 +4,4 @@ pub mod Replies
 pub mod Executions
 pub mod Stages
 pub mod HandedOut
+pub mod Workers

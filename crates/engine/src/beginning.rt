@@ -2,6 +2,7 @@
 
 ghost use Rattle.std.specs.Prelude.{◌≡◌, [], map, IfOk, IfErr};
 ghost use Rattle.row_store.specs.Stock.{Stock};
+ghost use Rattle.scheduler.specs.Logs.{ArePlansOf};
 ghost use Rattle.engine.specs.Stages.{IsFree, IsBatchFrom, IsScheduleOf};
 
 use command_line::Settings;
@@ -25,6 +26,9 @@ pub(crate) fn begin(
     ensures schedule { IfOk result (IsScheduleOf procs.now.tables first batch.now) }
     ensures start { IfOk result (λ scheduler. scheduler.work.start ≡ store.rows) }
     ensures unadmitted { IfOk result (λ scheduler. scheduler.slots ≡ []) }
+    // The locks are coarsened, and find room, as the settings say.
+    ensures plans { IfOk result (λ scheduler. ArePlansOf settings.coarsen settings.arena scheduler.work.entries scheduler.work.plans) }
+    ensures room { IfOk result (λ scheduler. scheduler.work.nodes ≡ settings.arena) }
     ensures back { IfErr result (λ back. back ≡ store) }
 {
     all_is_free_with_nothing_lent();

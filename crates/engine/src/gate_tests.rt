@@ -56,15 +56,16 @@ impl Gate for Meeting {
     }
 }
 
-/// The values that the transactions of a log reply, one each, on two workers with so many lanes.
+/// The values that the transactions of a log reply, one each, on so many workers with so many lanes.
 fn replies<R: Threads + Wait + Sync + AllocGlobal>(
     rt: &R,
     log: &str,
+    workers: usize,
     lanes: usize,
     gate: &Meeting,
 ) -> Result<Vec<i64>, Fail> {
     let alloc = rt.alloc();
-    let mut engine = engine(alloc, Settings::new(2, lanes, 64, 65_536)?)?;
+    let mut engine = engine(alloc, Settings::new(workers, lanes, 64, 65_536)?)?;
     let batch = batch_of(alloc, &engine, log)?;
     let Ok(done) = engine.execute(rt, alloc, batch, gate) else {
         return Err(Fail::from("not executed"));
@@ -86,7 +87,7 @@ fn replies<R: Threads + Wait + Sync + AllocGlobal>(
 fn jobs_without_a_conflict_are_run_at_once(rt: HostRuntime) -> Result<(), Fail> {
     let log = "[\"call\",\"peek\",[1]]\n[\"call\",\"ins\",[4,7]]";
     let gate = Meeting::new(1, 1_000_000);
-    assert!(rt; replies(&rt, log, 2, &gate)?.as_slice() == [100].as_slice());
+    assert!(rt; replies(&rt, log, 2, 2, &gate)?.as_slice() == [100].as_slice());
     assert!(rt; gate.was_seen());
     Ok(())
 }
@@ -95,7 +96,7 @@ fn jobs_without_a_conflict_are_run_at_once(rt: HostRuntime) -> Result<(), Fail> 
 fn jobs_in_conflict_are_run_one_after_the_other(rt: HostRuntime) -> Result<(), Fail> {
     let log = "[\"call\",\"pay\",[1,2,30]]\n[\"call\",\"pay\",[2,1,30]]";
     let gate = Meeting::new(1, 1_000);
-    assert!(rt; replies(&rt, log, 2, &gate)?.as_slice() == [70, 100].as_slice());
+    assert!(rt; replies(&rt, log, 2, 2, &gate)?.as_slice() == [70, 100].as_slice());
     assert!(rt; !gate.was_seen());
     Ok(())
 }
@@ -104,11 +105,24 @@ fn jobs_in_conflict_are_run_one_after_the_other(rt: HostRuntime) -> Result<(), F
 fn readers_wait_for_a_lane_alone(rt: HostRuntime) -> Result<(), Fail> {
     let peek = "[\"call\",\"peek\",[1]]\n";
     let log = format!(in rt.alloc(); "{peek}{peek}{peek}{peek}")?;
-    for (lanes, turns, is_seen) in [(8, 1_000_000, true), (1, 1_000, false)] {
+    for (lanes, turns, is_seen) in [
+        (8, 1_000_000, true),
+        (2, 1_000_000, true),
+        (1, 1_000, false),
+    ] {
         let gate = Meeting::new(3, turns);
-        let found = replies(&rt, &log, lanes, &gate)?;
+        let found = replies(&rt, &log, 2, lanes, &gate)?;
         assert!(rt; found.as_slice() == [100, 100, 100, 100].as_slice());
         assert_eq!(rt; gate.was_seen(), is_seen);
     }
+    Ok(())
+}
+
+#[test]
+fn one_worker_runs_one_job_at_a_time(rt: HostRuntime) -> Result<(), Fail> {
+    let log = "[\"call\",\"peek\",[1]]\n[\"call\",\"peek\",[2]]";
+    let gate = Meeting::new(1, 1_000);
+    assert!(rt; replies(&rt, log, 1, 8, &gate)?.as_slice() == [100, 100].as_slice());
+    assert!(rt; !gate.was_seen());
     Ok(())
 }

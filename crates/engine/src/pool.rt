@@ -15,7 +15,8 @@ use std::alloc::Global;
 use std::sync::Wait;
 use std::sync::atomic::{AtomicBool, Ordering};
 use std::thread;
-use std::thread::Threads;
+use std::thread::{Scope, Threads};
+use values::NoMemory;
 
 /// What the system refused.
 #[derive(Clone, Copy, Debug, PartialEq, Eq)]
@@ -24,12 +25,50 @@ pub(crate) enum Refusal {
     Memory,
 }
 
+impl From<NoMemory> for Refusal {
+    ghost use Rattle.engine.specs.declared.pool.Refusal.TheVariants.{Memory};
+
+    ghost from_gives = { λ _ refusal. refusal ≡ Memory };
+
+    fn from(_: NoMemory) -> Refusal {
+        Refusal::Memory
+    }
+}
+
 /// Where a run of the transactions that are left came to.
 #[derive(Drop)]
 pub(crate) struct Run {
     pub scheduler: Scheduler,
     /// Why not all are done; nothing has run where a thread was refused.
     pub ended: Result<(), Refusal>,
+}
+
+/// Starts so many workers at the lanes. Where one is refused, those before it are at work.
+#[tactic(auto, using(crate::proofs::Worked::none_at_first))]
+fn hire<'s, 'r: 's, 'g: 's, E, R: Wait + Sync, G: Gate>(
+    rt: &'r R,
+    scope: &Scope<'s, E>,
+    gate: &'g G,
+    bench: &'s Lanes,
+    desk: &mut SchedulerSeat,
+    ended: &'s AtomicBool,
+    workers: usize,
+) -> Result<(), Refusal>
+    requires { desk.old.lanes ≡ bench.now }
+    ensures { desk.new ≡ desk.old }
+{
+    for _ in 0..workers {
+        let seat = bench.worker_seat(desk)?;
+        let worker = Worker {
+            lanes: bench,
+            seat,
+            ended,
+        };
+        if !start(rt, scope, gate, worker) {
+            return Err(Refusal::Thread);
+        }
+    }
+    Ok(())
 }
 
 /// Runs the transactions that are left on worker threads, which are joined at the end. Where memory is refused, no job is out
@@ -49,11 +88,14 @@ pub(crate) fn run_on_workers<R: Threads + Wait + Sync, G: Gate>(
     ensures thread { result.ended ≡ Err Refusal.Thread → result.scheduler ≡ scheduler }
 {
     let Settings { workers, lanes, .. } = settings;
-    let Ok((bench, desk)) = Lanes::new(alloc, lanes) else {
-        return Run {
-            scheduler,
-            ended: Err(Refusal::Memory),
-        };
+    let (bench, desk) = match Lanes::new(alloc, lanes) {
+        Ok(made) => made,
+        Err(fault) => {
+            return Run {
+                scheduler,
+                ended: Err(Refusal::from(fault)),
+            };
+        }
     };
     let flag = AtomicBool::new(false);
     let (bench, ended) = (&bench, &flag);
@@ -70,36 +112,17 @@ pub(crate) fn run_on_workers<R: Threads + Wait + Sync, G: Gate>(
         {
             let mut desk = desk;
             let mut scheduler = scheduler;
-            for _ in 0..workers {
-                let Ok(seat) = bench.worker_seat(&mut desk) else {
-                    ended.store(true, Ordering::SeqCst);
-                    return Run {
-                        scheduler,
-                        ended: Err(Refusal::Memory),
-                    };
-                };
-                if !start(
-                    rt,
-                    scope,
-                    gate,
-                    Worker {
-                        lanes: bench,
-                        seat,
-                        ended,
-                    },
-                ) {
-                    ended.store(true, Ordering::SeqCst);
-                    return Run {
-                        scheduler,
-                        ended: Err(Refusal::Thread),
-                    };
-                }
-            }
-            let done = schedule(rt, &mut scheduler, bench, &mut desk, lanes);
+            let done = match hire(rt, scope, gate, bench, &mut desk, ended, workers) {
+                Ok(()) => schedule(rt, &mut scheduler, bench, &mut desk, lanes).map_err(
+                    Refusal::from,
+                ),
+                Err(refusal) => Err(refusal),
+            };
+            // However it went, the workers end, and the scope with them.
             ended.store(true, Ordering::SeqCst);
             Run {
                 scheduler,
-                ended: done.map_err(|_| Refusal::Memory),
+                ended: done,
             }
         },
     )

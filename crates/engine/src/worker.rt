@@ -1,6 +1,7 @@
 //! What a worker does.
 
 ghost use Rattle.std.specs.Prelude.{◌≡◌};
+ghost use Rattle.engine.specs.Workers.{HoldsNoJob};
 
 use crate::gate::Gate;
 use lanes::{Lanes, WorkerSeat};
@@ -10,24 +11,28 @@ use std::sync::atomic::{AtomicBool, Ordering};
 use std::thread;
 use std::thread::Scope;
 
-/// What a thread does until it ends.
+/// What a thread does at a worker's seat until it ends.
 pub(crate) trait Duty {
-    fn serve<R: Wait, G: Gate>(self, rt: &R, gate: &G);
+    /// Comes back with the seat, at which no job is.
+    fn serve<R: Wait, G: Gate>(self, rt: &R, gate: &G) -> WorkerSeat
+        ensures { HoldsNoJob result };
 }
 
-/// A worker on its seat at the lanes, and the flag that ends it.
+/// A worker on its seat at the lanes, at which no job is, and the flag that ends it.
 #[derive(Drop)]
 pub(crate) struct Worker<'a, 'b> {
     pub lanes: &'a Lanes,
     pub seat: WorkerSeat,
     pub ended: &'b AtomicBool,
     ghost seated: { seat.lanes ≡ lanes.now },
+    ghost free: { HoldsNoJob seat },
 }
 
 impl Duty for Worker<'_, '_> {
-    /// Claims jobs and delivers what comes of each, until it finds none after the flag was set. It passes the gate once for each
-    /// job that it claimed, before it runs it.
-    fn serve<R: Wait, G: Gate>(self, rt: &R, gate: &G) {
+    /// Claims jobs and delivers what comes of each before it claims the next, until it finds none after the flag was set. It
+    /// passes the gate once for each job that it claimed, before it runs it.
+    #[tactic(auto, using(crate::proofs::Worked::delivered, crate::proofs::Worked::none_claimed))]
+    fn serve<R: Wait, G: Gate>(self, rt: &R, gate: &G) -> WorkerSeat {
         let Worker { lanes, seat, ended } = self;
         let mut seat = seat;
         for _ in rt.forever() {
@@ -44,6 +49,7 @@ impl Duty for Worker<'_, '_> {
                 }
             }
         }
+        seat
     }
 }
 
@@ -54,5 +60,9 @@ pub(crate) fn start<'s, 'r: 's, 'g: 's, E, R: Wait + Sync, G: Gate, D: Duty + Se
     gate: &'g G,
     duty: D,
 ) -> bool {
-    scope.spawn(move || duty.serve(rt, gate)).is_ok()
+    scope
+        .spawn(move || {
+            let _seat = duty.serve(rt, gate);
+        })
+        .is_ok()
 }

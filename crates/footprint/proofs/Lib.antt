@@ -5,3 +5,4 @@ pub mod InOrder
 pub mod OfCatalogue
 pub mod StandIns
 pub mod Divisions
+pub mod TreeOrder

@@ -6,3 +6,4 @@ pub mod Declaration
 pub mod Stops
 pub mod Tables
 pub mod OfCatalogue
+pub mod TreeOrder

@@ -15,6 +15,6 @@ pub use abort_code::AbortCode;
 pub use arithmetic::compute;
 pub use declare::declared;
 pub use footprint::Footprint;
-pub use laws::{quotients_are_rounded_towards_zero, stand_in_never_shows};
+pub use laws::{quotients_are_rounded_towards_zero, stand_in_never_shows, stands_in_tree_order};
 pub use proclang_types::Right;
 pub use resource::{InPart, InTable, Resource};

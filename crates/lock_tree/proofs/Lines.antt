@@ -1,6 +1,6 @@
 -- The queues of the code.
 use Rattle.std.proofs.Common.{◌≡◌, ◌<◌, ◌==◌, Bool, true, false, cond, [], ◌∷◌, length, arith, Option, None, Some, refl, sym, ◌∙◌, ap, subst, Ordering, Less, Equal, Greater}
-use Rattle.std.specs.Ordering.{is_eq, nat_cmp, ordering_then}
+use Rattle.std.specs.Ordering.{is_eq, nat_cmp, ordering_then, ordering_reverse}
 use Rattle.std.specs.Cmp.{IsTotalOrder}
 use Rattle.std.specs.BTreeMap.{get}
 use Rattle.std.proofs.lemmas.Bool.Decides.{nat_tests}
@@ -57,6 +57,14 @@ tied Greater h = absurd (cc)
 pub same_resource : (a b : Resource) → is_same a b ≡ true → a ≡ b
 same_resource a b h = exact_resources a b (tied (resource_cmp a b) h)
 
+own_order : (o : Ordering) → o ≡ ordering_reverse o → o ≡ Equal
+own_order Less h = absurd (cc)
+own_order Equal h = refl
+own_order Greater h = absurd (cc)
+
+itself : (r : Resource) → is_same r r ≡ true
+itself r = ap is_eq (own_order (resource_cmp r r) (resources_total.antisymm r r))
+
 -- ---- what changes at one resource
 
 abbrev Slot : Type 0
@@ -87,6 +95,18 @@ nobody (x ∷ queue) h = absurd (grind (arith, nat_tests))
 pub same_without_empty : (lines new : Lines) (r other : Resource) → get resource_cmp new other ≡ cond (is_same r other) None (get resource_cmp lines other) → true ≡ (length (line lines r) == 0) → line new other ≡ line lines other
 same_without_empty lines new r other is none =
     slot_gone (get resource_cmp lines other) (get resource_cmp new other) (is_same r other) is (λ e. ap (line lines) (sym (same_resource r other e)) ∙ nobody (line lines r) none)
+
+-- nothing is there of it any more
+pub gone_itself : (lines new : Lines) (r : Resource) → get resource_cmp new r ≡ cond (is_same r r) None (get resource_cmp lines r) → get resource_cmp new r ≡ None
+gone_itself lines new r is = is ∙ ap (λ b. cond b None (get resource_cmp lines r)) (itself r)
+
+somebody : (queue : Queue) → false ≡ (length queue == 0) → queue ≡ [] → ⊥
+somebody [] h e = cc
+somebody (x ∷ queue) h e = cc
+
+-- somebody asks for it
+pub asked_still : (lines : Lines) (r : Resource) → false ≡ (length (line lines r) == 0) → line lines r ≡ [] → get resource_cmp lines r ≡ None
+asked_still lines r asked empty = absurd (somebody (line lines r) asked empty)
 
 place_kept : (old new : Slot) (v : Bool) (queue : LineOf) → new ≡ cond v (Some queue) old → 0 < queue.room → HasPlace old → HasPlace new
 place_kept old new true queue is room place = subst HasPlace (sym is) room

@@ -1,5 +1,5 @@
 -- The code's queues as the queues that contracts see.
-use Rattle.std.specs.Prelude.{◌<◌, ◌==◌, ℕ, Bool, not, ⊤, List, [], ◌∷◌, map, filter, Option, Some, None}
+use Rattle.std.specs.Prelude.{◌≡◌, ◌<◌, ◌==◌, ℕ, Bool, not, ⊤, List, [], ◌∷◌, map, filter, Option, Some, None}
 use Rattle.std.specs.Ordering.{eq_by_cmp}
 use Rattle.std.specs.BTreeMap.{BTreeMap, get}
 use Rattle.footprint.specs.declared.resource.Resource.{Resource}
@@ -26,6 +26,10 @@ HasPlace (Some line) = 0 < line.room
 -- one more request fits into the queue of a resource
 abbrev pub HasRoom : Lines → Resource → Type 0
 HasRoom lines resource = HasPlace (get resource_cmp lines resource)
+
+-- nothing is kept of a resource that none asks for
+abbrev pub IsKeptForRequests : Lines → Resource → Type 0
+IsKeptForRequests lines resource = line lines resource ≡ [] → get resource_cmp lines resource ≡ None
 
 abbrev pub is_same : Resource → Resource → Bool
 is_same a b = eq_by_cmp resource_cmp a b

@@ -3,7 +3,7 @@
 ghost use Rattle.std.specs.Prelude.{◌≡◌, ◌<◌, ◌+◌, ◌^◌, [], ◌∷◌, ◌++◌, ◌==◌, false, length, slice_get, option_map, IfSome, OnOk, if◌then◌else◌};
 ghost use Rattle.footprint.specs.declared.resource.Resource.{Resource as AnyResource};
 ghost use Rattle.lock_tree.specs.Queues.{granted, has_number};
-ghost use Rattle.lock_tree.specs.Lines.{line, HasRoom, AllUnder, numbers_of, is_same, others};
+ghost use Rattle.lock_tree.specs.Lines.{line, HasRoom, AllUnder, numbers_of, is_same, others, IsKeptForRequests};
 
 use crate::request_line::RequestLine;
 use footprint::Resource;
@@ -90,7 +90,8 @@ fn is_unasked(queues: &Queues, resource: &Resource) -> bool
 
 /// Forgets a resource that none asks for.
 fn forget_empty(queues: &mut Queues, resource: &Resource)
-    ensures { (other : AnyResource) → line queues.new other ≡ line queues.old other }
+    ensures same { (other : AnyResource) → line queues.new other ≡ line queues.old other }
+    ensures kept { IsKeptForRequests queues.new resource.now }
 {
     if is_unasked(queues, resource) {
         queues.remove(resource);
@@ -102,6 +103,7 @@ fn forget_empty(queues: &mut Queues, resource: &Resource)
 pub(crate) fn remove(queues: &mut Queues, resource: &Resource, number: u64) -> usize
     ensures left { (other : AnyResource) → line queues.new other ≡ (if is_same other resource.now then others number (line queues.old other) else line queues.old other) }
     ensures stay { result ≡ length (others number (granted (line queues.old resource.now))) }
+    ensures kept { IsKeptForRequests queues.new resource.now }
 {
     let stay = leave_line(queues, resource, number);
     forget_empty(queues, resource);

@@ -5,3 +5,4 @@ pub mod Named
 pub mod Catalogues
 pub mod Tables
 pub mod FirstFault
+pub mod NameOrder

@@ -8,3 +8,4 @@ pub mod Rows
 pub mod Database
 pub mod Tables
 pub mod Said
+pub mod NameOrder

@@ -1,4 +1,4 @@
-use Rattle.std.proofs.Common.{◌≡◌, refl}
+use Rattle.std.proofs.Common.{refl}
 use Rattle.calvin.proofs.commands.command.Goals as goal
 
 pub returns-in-Check : goal.returns-in-Check

@@ -1,5 +1,0 @@
-use Rattle.calvin.proofs.RunEnds.{nothing_run}
-use Rattle.calvin.proofs.running.run_log.Goals as goal
-
-pub returns-in-Err : goal.returns-in-Err
-returns-in-Err g c = nothing_run c.at.result _ _ _ _ _ _ c.at.ensures

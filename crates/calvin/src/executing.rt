@@ -1,0 +1,99 @@
+//! Running a log on worker threads, or on one thread.
+
+ghost use Rattle.std.specs.Prelude.{◌≡◌, ◌||◌, [], Some, None, length, IfOk, IfErr, IfSome, OnOk, false};
+ghost use Rattle.std.specs.FinMap as map_of;
+ghost use Rattle.std.specs.Io.KnownBytes.{Appends};
+ghost use Rattle.devices.specs.Devices.{AppendsFront};
+ghost use Rattle.row_store.specs.Stock.{with_rows};
+ghost use Rattle.sequencer.specs.Batches.{items_of, AreOver};
+ghost use Rattle.report_text.specs.Report.{all_entries};
+ghost use Rattle.engine.specs.Engines.{tables_of};
+ghost use Rattle.running.specs.Executors.{IsExecution};
+ghost use Rattle.running.specs.Reports.{batches_in, fault_in, report_of};
+ghost use Rattle.running.specs.Runs.{IsRunOfLog};
+ghost use Rattle.running.specs.Stops.{ends_in_io, IfOfLine, IfOfMachine, IsLineOf};
+
+use batch_log::{Sink, Source};
+use command_line::Settings;
+use engine::{Batch, BatchDone, Engine, ExecFault, Gate};
+use running::{RunFault, run_log};
+use setup::Setup;
+use std::alloc::Global;
+use std::sync::Wait;
+use std::thread::Threads;
+
+/// Runs the log that a source gives on a setup, on one thread, and writes its report into a sink.
+pub(crate) fn run_alone<S: Source, K: Sink>(
+    alloc: Global,
+    setup: Setup,
+    settings: Settings,
+    source: &mut S,
+    sink: &mut K,
+) -> Result<u64, RunFault>
+    ensures { IsRunOfLog setup.procs (with_rows map_of.empty setup.rows.items)
+        (record { bytes = S.left source.old; failed = S.failed source.old })
+        (record { bytes = S.left source.new; failed = S.failed source.new })
+        (record { bytes = K.taken sink.old; failed = K.broken sink.old })
+        (record { bytes = K.taken sink.new; failed = K.broken sink.new }) result }
+{
+    let executor = move |engine: &mut Engine, batch: Batch| -> Result<BatchDone, ExecFault>
+        requires { AreOver (tables_of engine.old) (items_of batch) }
+        ensures { IsExecution engine.old batch result engine.new }
+    { engine.run_alone(alloc, batch, &[]) };
+    run_log(alloc, &executor, setup, settings, source, sink)
+}
+
+/// Runs the log that a source gives on a setup, on worker threads, and writes its report into a sink.
+pub(crate) fn run_on_workers<R: Threads + Wait + Sync, G: Gate, S: Source, K: Sink>(
+    rt: &R,
+    alloc: Global,
+    setup: Setup,
+    settings: Settings,
+    gate: &G,
+    source: &mut S,
+    sink: &mut K,
+) -> Result<u64, RunFault>
+    ensures { IsRunOfLog setup.procs (with_rows map_of.empty setup.rows.items)
+        (record { bytes = S.left source.old; failed = S.failed source.old })
+        (record { bytes = S.left source.new; failed = S.failed source.new })
+        (record { bytes = K.taken sink.old; failed = K.broken sink.old })
+        (record { bytes = K.taken sink.new; failed = K.broken sink.new }) result }
+{
+    let executor = move |engine: &mut Engine, batch: Batch| -> Result<BatchDone, ExecFault>
+        requires { AreOver (tables_of engine.old) (items_of batch) }
+        ensures { IsExecution engine.old batch result engine.new }
+    { engine.execute(rt, alloc, batch, gate) };
+    run_log(alloc, &executor, setup, settings, source, sink)
+}
+
+/// Runs the log that a source gives on a setup, on worker threads, and writes its report into a sink: for each batch a reply
+/// line a call and a batch line, and then the end line. The answer is the number of transactions.
+///
+/// A batch is read whole before it runs, and its report is written after it ended. A fault ends the run: one of a line of
+/// the log (31 to 35), a failed device (36), want of memory (37), or a refused thread (38). What was written then is a
+/// beginning of the report.
+pub fn run_text<R: Threads + Wait + Sync, G: Gate, S: Source, K: Sink>(
+    rt: &R,
+    alloc: Global,
+    setup: Setup,
+    settings: Settings,
+    gate: &G,
+    source: &mut S,
+    sink: &mut K,
+) -> Result<u64, RunFault>
+    // `Ok`: the log has no fault, all of it was read, and its report was written.
+    ensures count { IfOk result (λ n. IfSome (S.left source.old) (λ log. n ≡ length (all_entries (batches_in setup.procs log)))) }
+    ensures sound { OnOk result (IfSome (S.left source.old) (λ log. fault_in setup.procs log ≡ None)) }
+    ensures read { OnOk result (IfSome (S.left source.old) (λ _. S.left source.new ≡ Some [])) }
+    ensures ok { OnOk result (IfSome (S.left source.old) (λ log. Appends (K.taken sink.old) (K.taken sink.new) (report_of setup.procs (with_rows map_of.empty setup.rows.items) log))) }
+    // A fault of a line is the log's first, and the report of the batches before it was written.
+    ensures fault { IfErr result (λ e. IfOfLine e (λ fault. IfSome (S.left source.old) (λ log. fault_in setup.procs log ≡ Some fault))) }
+    ensures until { IfErr result (λ e. IfOfLine e (λ fault. IfSome (S.left source.old) (λ log. Appends (K.taken sink.old) (K.taken sink.new) (report_of setup.procs (with_rows map_of.empty setup.rows.items) log)))) }
+    // However it ends, what was written is a beginning of the report.
+    ensures front { IfSome (S.left source.old) (λ log. AppendsFront (K.taken sink.old) (K.taken sink.new) (report_of setup.procs (with_rows map_of.empty setup.rows.items) log)) }
+    // The fault of a device comes only where one has failed meanwhile. Each fault names its line.
+    ensures devices { (S.failed source.new || K.broken sink.new) ≡ ((S.failed source.old || K.broken sink.old) || ends_in_io result) }
+    ensures line { S.failed source.old ≡ false → IfErr result (λ e. IfOfMachine e (IsLineOf (S.failed source.new) (S.left source.old) (S.left source.new))) }
+{
+    run_on_workers(rt, alloc, setup, settings, gate, source, sink)
+}

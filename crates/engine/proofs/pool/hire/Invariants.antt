@@ -1,0 +1,6 @@
+use Rattle.std.proofs.Common.{◌≡◌}
+use Rattle.engine.proofs.pool.hire.Given as goal
+
+-- the scheduler's seat stays as it is
+abbrev pub invariant-loop : goal.invariant-loop
+invariant-loop g l = (l.desk ≡ l.initial.desk) × (l.bench ≡ l.initial.bench)

@@ -1,0 +1,95 @@
+//! The bank whose calls are tried: its setup, the text of the log, and what is made of them.
+
+ghost use Rattle.std.specs.Prelude.{◌≡◌, ◌≤◌, IfSome, length};
+ghost use Rattle.std.specs.List.{AllByRecursion};
+ghost use Rattle.sequencer.specs.Batches.{items_of, AreOver};
+
+use crate::reckoning::{Call, TURNED, calls};
+use calvin::{Batch, LogReader, ReadSource, Setup, read_setup};
+use proclang::{Procs, Request};
+use std::alloc::{AllocError, Global};
+
+/// A setup with each kind of statement.
+pub(crate) const BANK: &str = r#"["setup",1,
+["catalogue",1,[["acct",2,[["bal","int"]]],["note",1,[["of","int"],["s","text"]]]]],
+["procs",1,[
+["pay",[["a","int"],["b","int"],["n","int"]],
+ ["declared",["row","w","acct","a"],["row","w","acct","b"]],
+ [["get","x","acct","a","bal"],["get","y","acct","b","bal"],
+  ["if",["<","x","n"],[["abort",100]],[]],
+  ["put","acct","a","bal",["-","x","n"]],
+  ["put","acct","b","bal",["+","y","n"]],
+  ["reply",["-","x","n"]]]],
+["peek",[["k","int"]],["declared",["row","r","acct","k"]],
+ [["get","x","acct","k","bal"],["reply","x"]]],
+["turn",[["s","text"]],["declared",["table","w","note"]],
+ [["let","c",0],
+  ["each","k","note",0,[["get","n","note","k","of"],["let","c",["+","c","n"]],["delete","note","k"]]],
+  ["for","i",1,2,[["insert","note","i",[["*","i",10],"s"]]]],
+  ["if",["exists","note",9],[["abort",101]],[["put","note",1,"of",["+","c",1]]]],
+  ["reply","c",["count","note",0],["sum","note",0,"of"],"s"]]]]],
+["rows",1,[["acct",1,[100]],["acct",2,[100]],["acct",3,[100]],["acct",4,[100]],["acct",5,[100]],["acct",6,[100]],
+ ["note",7,[1,"paid"]],["note",8,[2,""]]]]]"#;
+
+/// Appends the line of a call.
+fn push_call(log: &mut String, call: Call) -> Result<(), AllocError> {
+    match call {
+        Call::Pay { from, to, amount } => {
+            let (from, to) = (from.saturating_add(1), to.saturating_add(1));
+            writeln!(log, "[\"call\",\"pay\",[{from},{to},{amount}]]")?
+        }
+        Call::Peek { account } => {
+            let account = account.saturating_add(1);
+            writeln!(log, "[\"call\",\"peek\",[{account}]]")?
+        }
+        Call::Turn => writeln!(log, "[\"call\",\"turn\",[\"{TURNED}\"]]")?,
+    }
+    Ok(())
+}
+
+/// The text of the log. With a cut, it is two batches of 50 calls, and else one of 100.
+pub(crate) fn log_text(alloc: Global, with_cut: bool) -> Result<String, AllocError> {
+    let mut log = String::new(alloc);
+    for (place, call) in calls(alloc)?.iter().enumerate() {
+        if with_cut && place == 50 {
+            log.push_str("[\"cut\"]\n")?;
+        }
+        push_call(&mut log, *call)?;
+    }
+    Ok(log)
+}
+
+/// The bank's setup.
+pub(crate) fn bank(alloc: Global) -> Option<Setup> {
+    read_setup(alloc, BANK.as_bytes()).ok()
+}
+
+/// The requests of the log.
+pub(crate) fn requests(alloc: Global, procs: &Procs) -> Option<Vec<Request>>
+    ensures tables { IfSome result (λ requests. AllByRecursion (λ request. request.proc.tables ≡ procs.now.tables) requests.items) }
+    ensures few { IfSome result (λ requests. length requests.items ≤ 4096) }
+{
+    let log = log_text(alloc, false).ok()?;
+    let mut source = ReadSource::new(log.as_bytes());
+    let mut reader = LogReader::new(&mut source);
+    reader.next_batch(alloc, procs).ok()?
+}
+
+/// The batch of these requests.
+pub(crate) fn batch_of(alloc: Global, _procs: &Procs, requests: Vec<Request>) -> Option<Batch>
+    requires { AllByRecursion (λ request. request.proc.tables ≡ _procs.now.tables) requests.items }
+    ensures { IfSome result (λ batch. AreOver _procs.now.tables (items_of batch)) }
+{
+    match Batch::of(alloc, requests) {
+        Ok(batch) => Some(batch),
+        Err(_) => None,
+    }
+}
+
+/// The batch of the log.
+pub(crate) fn batch(alloc: Global, procs: &Procs) -> Option<Batch>
+    ensures { IfSome result (λ batch. AreOver procs.now.tables (items_of batch)) }
+{
+    let requests = requests(alloc, procs)?;
+    batch_of(alloc, procs, requests)
+}

@@ -1,0 +1,131 @@
+//! The engine's calls: a batch that is executed, and gone on with where memory or a thread was refused.
+
+use crate::answer::Answer;
+use crate::bank::{bank, batch};
+use crate::reckoning::{CALLS, Reckoned, reckon};
+use crate::refusal::Refusal;
+use crate::rows::are_as_in;
+use calvin::{BatchDone, Engine, ExecFault, OpenGate, Settings, Setup};
+use meaning::Outcome;
+use std::alloc::{AllocError, Global};
+use std::sync::Wait;
+use std::thread::Threads;
+
+/// An engine on a setup, with so many workers.
+fn engine_on(alloc: Global, setup: Setup, workers: usize) -> Option<Engine> {
+    let settings = Settings::new(workers, 8, 64, 65_536).ok()?;
+    Engine::new(alloc, setup, settings).ok()
+}
+
+/// Whether these are the replies to the log.
+fn are_replies(done: &BatchDone, outcomes: &[Outcome]) -> bool {
+    if done.first != 0 || done.replies.len() != outcomes.len() {
+        return false;
+    }
+    let mut no = 0u64;
+    for (reply, outcome) in done.replies.iter().zip(outcomes) {
+        if reply.no != no || reply.client != 0 || reply.number != no || reply.outcome != *outcome {
+            return false;
+        }
+        no = no.saturating_add(1);
+    }
+    true
+}
+
+/// Whether the log was run as it was reckoned, to its end.
+fn is_run(engine: &Engine, done: &BatchDone, reckoned: &Reckoned) -> bool {
+    !engine.is_busy()
+        && engine.transactions() == CALLS as u64
+        && are_replies(done, &reckoned.outcomes)
+        && are_as_in(engine.rows(), &reckoned.books)
+}
+
+/// Whether an engine on this setup runs the log as it was reckoned.
+pub(crate) fn runs_on(alloc: Global, setup: Setup) -> Option<bool> {
+    let mut engine = engine_on(alloc, setup, 1)?;
+    let batch = batch(alloc, engine.procs())?;
+    let reckoned = reckon(alloc).ok()?;
+    match engine.run_alone(alloc, batch, &[]) {
+        Ok(done) => Some(is_run(&engine, &done, &reckoned)),
+        Err(_) => Some(false),
+    }
+}
+
+/// What comes of an execution that ended so, and is gone on with where memory or a thread was refused.
+fn gone_on_with<R: Threads + Wait + Sync + AllocGlobal>(
+    rt: &R,
+    engine: &mut Engine,
+    ended: Result<BatchDone, ExecFault>,
+) -> Option<Answer> {
+    let alloc = rt.alloc();
+    let reckoned = reckon(alloc).ok()?;
+    match ended {
+        Ok(done) => Some(Answer::Right.if_right(is_run(engine, &done, &reckoned))),
+        Err(ExecFault::NoMemory | ExecFault::Spawn) if engine.is_busy() => {
+            match engine.resume(rt, alloc, &OpenGate) {
+                Ok(done) => Some(Answer::Refused.if_right(is_run(engine, &done, &reckoned))),
+                Err(_) => Some(Answer::Wrong),
+            }
+        }
+        Err(_) => Some(Answer::Wrong),
+    }
+}
+
+/// So many choices of events, which lie far apart.
+fn choices(alloc: Global, count: usize) -> Result<Vec<u64>, AllocError> {
+    let mut choices = Vec::new(alloc);
+    let mut number: u32 = 7;
+    for _ in 0..count {
+        number = number.wrapping_mul(1_664_525).wrapping_add(1_013_904_223);
+        choices.push(u64::from(number >> 3))?;
+    }
+    Ok(choices)
+}
+
+/// The log on one thread, by so many choices of events.
+pub(crate) fn try_alone<R: Threads + Wait + Sync + AllocGlobal>(
+    rt: &R,
+    refusal: &mut Refusal,
+    count: usize,
+) -> Option<Answer> {
+    let alloc = rt.alloc();
+    let mut engine = engine_on(alloc, bank(alloc)?, 1)?;
+    let batch = batch(alloc, engine.procs())?;
+    let choices = choices(alloc, count).ok()?;
+    refusal.approach();
+    let ended = engine.run_alone(alloc, batch, &choices);
+    refusal.pass();
+    gone_on_with(rt, &mut engine, ended)
+}
+
+/// The log on so many workers.
+pub(crate) fn try_workers<R: Threads + Wait + Sync + AllocGlobal>(
+    rt: &R,
+    refusal: &mut Refusal,
+    workers: usize,
+) -> Option<Answer> {
+    let alloc = rt.alloc();
+    let mut engine = engine_on(alloc, bank(alloc)?, workers)?;
+    let batch = batch(alloc, engine.procs())?;
+    refusal.approach();
+    let ended = engine.execute(rt, alloc, batch, &OpenGate);
+    refusal.pass();
+    gone_on_with(rt, &mut engine, ended)
+}
+
+/// The log on two workers, gone on with where a thread was refused at first; where none was, it is run as usual.
+pub(crate) fn try_resume<R: Threads + Wait + Sync + AllocGlobal>(
+    rt: &R,
+    refusal: &mut Refusal,
+) -> Option<Answer> {
+    let alloc = rt.alloc();
+    let mut engine = engine_on(alloc, bank(alloc)?, 2)?;
+    let batch = batch(alloc, engine.procs())?;
+    let mut ended = engine.execute(rt, alloc, batch, &OpenGate);
+    if ended.is_err() && engine.is_busy() {
+        refusal.approach();
+        ended = engine.resume(rt, alloc, &OpenGate);
+        refusal.pass();
+    }
+    gone_on_with(rt, &mut engine, ended)
+}

@@ -1,0 +1,64 @@
+//! Tries the calls that may want memory, on a setup with every kind of statement and on a log of 100 calls, where the system
+//! refuses one allocation.
+//!
+//! Each argument is the name of a step, and may have, behind a colon, how many allocations are made and let go before it: the
+//! more they are, the earlier in the step is the one that is refused. For each it prints what came of the step, how many
+//! allocations were made before it, and how many could be made after it until one was refused, or `none` where none was.
+#![tactic(auto)]
+
+mod answer;
+mod bank;
+mod executing;
+mod outputs;
+mod planning;
+mod reading;
+mod reckoning;
+mod refusal;
+mod reporting;
+mod rows;
+mod scheduling;
+
+use answer::Answer;
+use refusal::Refusal;
+use std::sync::Wait;
+use std::thread::Threads;
+use std::{env, io};
+
+/// What comes of the step with a name; `None` where there is no such step, or what it stands on could not be made.
+fn tried<R: Threads + Wait + Sync + AllocGlobal>(
+    rt: &R,
+    refusal: &mut Refusal,
+    step: &str,
+) -> Option<Answer> {
+    let alloc = rt.alloc();
+    match step {
+        "read_setup" => reading::try_setup(alloc, refusal),
+        "next_batch" => reading::try_log(alloc, refusal),
+        "declared" => planning::try_declared(alloc, refusal),
+        "plan" => planning::try_plan(alloc, refusal),
+        "admit" => scheduling::try_admit(alloc, refusal),
+        "lend_and_run" => scheduling::try_lend_and_run(alloc, refusal),
+        "run_alone" => executing::try_alone(rt, refusal, 0),
+        "run_alone_by_choices" => executing::try_alone(rt, refusal, 1_000),
+        "execute_1" => executing::try_workers(rt, refusal, 1),
+        "execute_2" => executing::try_workers(rt, refusal, 2),
+        "resume" => executing::try_resume(rt, refusal),
+        "run_text" => reporting::try_text(rt, refusal),
+        _ => None,
+    }
+}
+
+fn main(rt: HostRuntime) -> io::Result<()> {
+    let alloc = rt.alloc();
+    let words: Vec<String> = env::args(&rt)?.collect(alloc)?;
+    for word in words.get(1..).unwrap_or(&[]) {
+        let text = word.as_str();
+        let (step, before) = text.split_once(':').unwrap_or((text, "0"));
+        let mut refusal = Refusal::new(alloc, before.parse::<u64>().unwrap_or(0));
+        match tried(&rt, &mut refusal, step) {
+            Some(answer) => println!(rt; "{step} {answer} {refusal}")?,
+            None => println!(rt; "{step} untried {refusal}")?,
+        }
+    }
+    Ok(())
+}

@@ -1,0 +1,124 @@
+//! The scheduler's calls, one by one.
+
+use crate::answer::Answer;
+use crate::bank::{bank, batch};
+use crate::reckoning::{CALLS, reckon};
+use crate::refusal::Refusal;
+use crate::rows::are_as_in;
+use calvin::Setup;
+use meaning::Outcome;
+use row_store::{RowStore, all_is_free_with_nothing_lent};
+use scheduler::{AdmitFault, Scheduler, lent_jobs_come_back, run_job};
+use sequencer::prepare;
+use std::alloc::Global;
+use values::NoMemory;
+
+/// A scheduler of the log, with nothing admitted.
+fn scheduler(alloc: Global) -> Option<Scheduler> {
+    let Setup {
+        catalogue,
+        procs,
+        rows,
+    } = bank(alloc)?;
+    let batch = batch(alloc, &procs)?;
+    let store = RowStore::new(alloc, &catalogue, rows).ok()?;
+    all_is_free_with_nothing_lent();
+    let entries = prepare(alloc, &batch, &catalogue, &procs, &store).ok()?;
+    if entries.len() > 4096 {
+        return None;
+    }
+    Scheduler::new(alloc, catalogue, store, entries, 0, 64, 65_536).ok()
+}
+
+/// Admits each call of the log. Where memory is refused, it is admitted once more.
+fn admit_all(scheduler: &mut Scheduler) -> Answer {
+    let mut answer = Answer::Right;
+    for number in 0..CALLS as u64 {
+        let mut admitted = scheduler.admit();
+        if admitted == Err(AdmitFault::NoMemory) {
+            answer = Answer::Refused;
+            admitted = scheduler.admit();
+        }
+        if admitted != Ok(number) {
+            return Answer::Wrong;
+        }
+    }
+    answer
+}
+
+/// Lends its rows to the next call, runs it and settles it; `None` where no call is ready. Where memory is refused, the call
+/// comes next again.
+fn settle_next(scheduler: &mut Scheduler) -> Result<Option<Answer>, NoMemory> {
+    lent_jobs_come_back();
+    let Some(job) = scheduler.lend()? else {
+        return Ok(None);
+    };
+    let done = run_job(job);
+    let answer = if done.is_run() {
+        Answer::Right
+    } else {
+        Answer::Refused
+    };
+    scheduler.settle(done);
+    Ok(Some(answer))
+}
+
+/// Settles what is admitted, call by call.
+fn settle_all(scheduler: &mut Scheduler) -> Answer {
+    let mut answer = Answer::Right;
+    for _ in 0..2 * CALLS {
+        match settle_next(scheduler) {
+            Ok(Some(Answer::Right)) => {}
+            Ok(Some(other)) => answer = other,
+            Ok(None) => return answer,
+            Err(NoMemory) => answer = Answer::Refused,
+        }
+    }
+    Answer::Wrong
+}
+
+/// Whether the outcomes are kept as they were reckoned.
+fn are_kept(scheduler: &Scheduler, outcomes: &[Outcome]) -> bool {
+    let mut number = 0;
+    for outcome in outcomes {
+        if scheduler.reply(number) != Some(outcome) {
+            return false;
+        }
+        number = number.saturating_add(1);
+    }
+    true
+}
+
+/// Whether all calls are settled as they were reckoned.
+fn is_settled(alloc: Global, scheduler: Scheduler) -> Option<bool> {
+    let reckoned = reckon(alloc).ok()?;
+    if !scheduler.is_done() || !are_kept(&scheduler, &reckoned.outcomes) {
+        return Some(false);
+    }
+    let finished = scheduler.into_finished();
+    Some(are_as_in(&finished.rows, &reckoned.books))
+}
+
+/// The calls of the log are admitted.
+pub(crate) fn try_admit(alloc: Global, refusal: &mut Refusal) -> Option<Answer> {
+    let mut scheduler = scheduler(alloc)?;
+    refusal.approach();
+    let answer = admit_all(&mut scheduler);
+    refusal.pass();
+    if settle_all(&mut scheduler) != Answer::Right {
+        return Some(Answer::Wrong);
+    }
+    Some(answer.if_right(is_settled(alloc, scheduler)?))
+}
+
+/// The calls of the log are lent their rows, run and settled.
+pub(crate) fn try_lend_and_run(alloc: Global, refusal: &mut Refusal) -> Option<Answer> {
+    let mut scheduler = scheduler(alloc)?;
+    if admit_all(&mut scheduler) != Answer::Right {
+        return None;
+    }
+    refusal.approach();
+    let answer = settle_all(&mut scheduler);
+    refusal.pass();
+    Some(answer.if_right(is_settled(alloc, scheduler)?))
+}

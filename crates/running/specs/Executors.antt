@@ -1,0 +1,22 @@
+-- What executes batches.
+use Rattle.std.specs.Prelude.{Result, IfOk, IfErr}
+use denote.Ref.{MutBor}
+use denote.Param.Members.{Shared}
+use Rattle.sequencer.specs.declared.batch.Batch.{Batch}
+use Rattle.sequencer.specs.Batches.{items_of, AreOver}
+use Rattle.engine.specs.declared.engine.ExecFault.{ExecFault}
+use Rattle.engine.specs.declared.replies.BatchDone.{BatchDone}
+use Rattle.engine.specs.Engines.{EngineParts, tables_of}
+use Rattle.engine.specs.Executions.{IsRefusal, IsRunOf, KeepsSetting}
+
+-- what comes of a batch that is given to an engine: it was run, or it was refused
+pub record IsExecution (old : EngineParts) (batch : Batch) (result : Result BatchDone ExecFault) (new : EngineParts) : Type 0 where
+  pub same : KeepsSetting old new
+  pub done : IfOk result (IsRunOf old new batch)
+  pub refused : IfErr result (IsRefusal old new batch)
+
+-- a call that an executor is: on each engine it takes any batch over the engine's tables, and executes it there
+pub record Executes {X : Type 0} (calls : Shared X (MutBor EngineParts × (Batch × Unit {0})) (Result BatchDone ExecFault × (MutBor EngineParts × Unit {0}))) (executor : X) : Type 0 where
+  pub takes : (engine : MutBor EngineParts) (batch : Batch) → AreOver (tables_of engine.now) (items_of batch) → calls.pre executor (engine, (batch, tt))
+  pub gives : (engine : MutBor EngineParts) (batch : Batch) (result : Result BatchDone ExecFault) (left : MutBor EngineParts) →
+      calls.post executor (engine, (batch, tt)) (result, (left, tt)) → IsExecution engine.now batch result left.now

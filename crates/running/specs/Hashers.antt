@@ -1,0 +1,12 @@
+-- What a clause sees of a transcript.
+use Rattle.std.specs.Prelude.{ℕ}
+use Rattle.sha2.specs.declared.Sha256.{Sha256}
+use Rattle.running.specs.declared.transcript.Transcript.{Transcript}
+
+-- the number of the next batch
+abbrev pub batch_of : Transcript → ℕ
+batch_of t = t.batch
+
+-- all reply lines, by their hasher
+abbrev pub said_of : Transcript → Sha256
+said_of t = t.said

@@ -1,0 +1,6 @@
+pub mod Reports
+pub mod Transcripts
+pub mod Hashers
+pub mod Stops
+pub mod Runs
+pub mod Executors

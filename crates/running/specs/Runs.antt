@@ -1,0 +1,32 @@
+-- What comes of running a log.
+use Rattle.std.specs.Prelude.{◌≡◌, ℕ, ◌||◌, List, [], length, Bool, false, Option, Some, None, Result, IfOk, IfErr, OnOk, IfSome}
+use Rattle.std.specs.Io.KnownBytes.{Appends}
+use Rattle.devices.specs.Devices.{AppendsFront}
+use Rattle.values.specs.Database.{Database}
+use Rattle.proclang.specs.ProcLists.{ProcsParts}
+use Rattle.report_text.specs.Report.{all_entries}
+use Rattle.running.specs.declared.run_fault.RunFault.{RunFault}
+use Rattle.running.specs.Reports.{batches_in, fault_in, report_of}
+use Rattle.running.specs.Stops.{ends_in_io, IfOfLine, IfOfMachine, IsLineOf}
+
+-- a device as a clause sees it: its bytes, which may be unknown, and whether it has failed
+pub record Device : Type 0 where
+  pub bytes : Option (List ℕ)
+  pub failed : Bool
+
+-- A run of the log that a source has left, into a sink, on procedures and starting rows: devices before and after it, and how
+-- it ended.
+pub record IsRunOfLog (procs : ProcsParts) (db : Database) (source spent sink filled : Device) (result : Result ℕ RunFault) : Type 0 where
+  -- Where it ended well, the log has no fault, all of it was read, its report was written, and the transactions were counted.
+  pub count : IfOk result (λ n. IfSome source.bytes (λ log. n ≡ length (all_entries (batches_in procs log))))
+  pub sound : OnOk result (IfSome source.bytes (λ log. fault_in procs log ≡ None))
+  pub read : OnOk result (IfSome source.bytes (λ log. spent.bytes ≡ Some []))
+  pub ok : OnOk result (IfSome source.bytes (λ log. Appends sink.bytes filled.bytes (report_of procs db log)))
+  -- A fault of a line is the log's first, and the report of the batches before it was written.
+  pub fault : IfErr result (λ e. IfOfLine e (λ fault. IfSome source.bytes (λ log. fault_in procs log ≡ Some fault)))
+  pub until : IfErr result (λ e. IfOfLine e (λ fault. IfSome source.bytes (λ log. Appends sink.bytes filled.bytes (report_of procs db log))))
+  -- However it ended, what was written is a beginning of the report.
+  pub front : IfSome source.bytes (λ log. AppendsFront sink.bytes filled.bytes (report_of procs db log))
+  -- The fault of a device comes exactly where one has failed meanwhile. Each fault names its line.
+  pub devices : (spent.failed || filled.failed) ≡ ((source.failed || sink.failed) || ends_in_io result)
+  pub line : source.failed ≡ false → IfErr result (λ e. IfOfMachine e (IsLineOf spent.failed source.bytes spent.bytes))

@@ -1,0 +1,223 @@
+//! Running a log: from its bytes to the bytes of its report.
+
+ghost use Rattle.std.specs.Prelude.{◌≡◌, ◌+◌, ◌≤◌, ◌^◌, ◌++◌, ◌||◌, List, ℕ, [], Some, None, length, map, IfOk, IfErr, IfSome, OnOk, false};
+ghost use Rattle.std.specs.List.{AllByRecursion};
+ghost use Rattle.std.specs.FinMap as map_of;
+ghost use Rattle.std.specs.Io.KnownBytes.{Appends};
+ghost use Rattle.sha2.specs.Hashers.{Holds256};
+ghost use Rattle.devices.specs.Devices.{AppendsFront};
+ghost use Rattle.meaning.specs.Serial.{serial_end, serial_replies};
+ghost use Rattle.row_store.specs.Stock.{with_rows};
+ghost use Rattle.sequencer.specs.Batches.{items_of, AreOver};
+ghost use Rattle.sequencer.specs.Entries.{prepared};
+ghost use Rattle.report_text.specs.Texts.{digest, end_line, row_text};
+ghost use Rattle.report_text.specs.Report.{batch_text, next_batch, reply_lines, all_entries};
+ghost use Rattle.batch_log.specs.Reader.{calls_read, fault_of, position_of, source_name, source_of, unread};
+ghost use Rattle.engine.specs.Engines.{tables_of, is_busy};
+ghost use Rattle.engine.specs.Executions.{IsRefusal, IsRunOf, KeepsSetting};
+ghost use Rattle.running.specs.Executors.{Executes};
+ghost use Rattle.running.specs.Hashers.{batch_of, said_of};
+ghost use Rattle.running.specs.Reports.{batches_in, fault_in, report_of};
+ghost use Rattle.running.specs.Runs.{IsRunOfLog};
+ghost use Rattle.running.specs.Stops.{ends_in_io, is_of_device, IfOfLine, IfOfMachine, IsHeld, IsLineOf, IsMachineFault};
+
+use crate::run_fault::RunFault;
+use crate::transcript::Transcript;
+use batch_log::{FaultKind, LogReader, Sink, Source};
+use command_line::Settings;
+use engine::{BatchDone, Engine, ExecFault};
+use proclang::Request;
+use sequencer::{Batch, BatchFault};
+use setup::Setup;
+use std::alloc::Global;
+
+/// The fault of a run whose batch the engine holds.
+fn exec_fault(fault: &ExecFault, line: u64) -> RunFault
+    requires { IsHeld fault.now }
+    ensures stops { IsMachineFault line result }
+    ensures works { is_of_device result ≡ false }
+{
+    match fault {
+        ExecFault::Busy(_) | ExecFault::LogFull(_) => unreachable!(),
+        ExecFault::Spawn => RunFault::Spawn { line },
+        ExecFault::NoMemory => RunFault::at(FaultKind::Memory, line),
+    }
+}
+
+/// Executes a batch.
+fn execute<X: Fn(&mut Engine, Batch) -> Result<BatchDone, ExecFault>>(
+    executor: &X,
+    engine: &mut Engine,
+    batch: Batch,
+) -> Result<BatchDone, ExecFault>
+    requires executes { Executes X.Fn executor.now }
+    requires over { AreOver (tables_of engine.old) (items_of batch) }
+    ensures same { KeepsSetting engine.old engine.new }
+    ensures done { IfOk result (IsRunOf engine.old engine.new batch) }
+    ensures idle { OnOk result (is_busy engine.new ≡ false) }
+    ensures refused { IfErr result (IsRefusal engine.old engine.new batch) }
+{
+    executor(engine, batch)
+}
+
+/// Executes the requests of a batch and writes its report. The line is the last one read.
+fn run_batch<X: Fn(&mut Engine, Batch) -> Result<BatchDone, ExecFault>, K: Sink>(
+    alloc: Global,
+    executor: &X,
+    engine: &mut Engine,
+    requests: Vec<Request>,
+    transcript: &mut Transcript,
+    sink: &mut K,
+    line: u64,
+) -> Result<(), RunFault>
+    requires executes { Executes X.Fn executor.now }
+    requires tables { AllByRecursion (λ request. request.proc.tables ≡ tables_of engine.old) requests.items }
+    requires few { length requests.items ≤ 4096 }
+    requires idle { is_busy engine.old ≡ false }
+    requires room { engine.old.next + length requests.items ≤ 2 ^ 48 }
+    ensures same { KeepsSetting engine.old engine.new }
+    ensures idle { OnOk result (is_busy engine.new ≡ false) }
+    ensures rows { OnOk result (engine.new.rows ≡ serial_end (map prepared requests.items) engine.old.rows) }
+    ensures next { OnOk result (engine.new.next ≡ engine.old.next + length requests.items) }
+    ensures batch { OnOk result (batch_of transcript.new ≡ next_batch (batch_of transcript.old)) }
+    ensures said { OnOk result ((m : List ℕ) → Holds256 (said_of transcript.old) m
+        → Holds256 (said_of transcript.new) (m ++ reply_lines engine.old.next (serial_replies (map prepared requests.items) engine.old.rows))) }
+    ensures text { OnOk result (Appends (K.taken sink.old) (K.taken sink.new)
+        (batch_text (tables_of engine.old) (batch_of transcript.old) engine.old.next engine.old.rows (map prepared requests.items))) }
+    ensures front { AppendsFront (K.taken sink.old) (K.taken sink.new)
+        (batch_text (tables_of engine.old) (batch_of transcript.old) engine.old.next engine.old.rows (map prepared requests.items)) }
+    ensures stops { IfErr result (IsMachineFault line) }
+    ensures fails { K.broken sink.new ≡ (K.broken sink.old || ends_in_io result) }
+{
+    let batch = match Batch::of(alloc, requests) {
+        Ok(batch) => batch,
+        Err(BatchFault::TooLong) => unreachable!(),
+        Err(BatchFault::NoMemory) => return Err(RunFault::at(FaultKind::Memory, line)),
+    };
+    let done = match execute(executor, engine, batch) {
+        Ok(done) => done,
+        Err(fault) => return Err(exec_fault(&fault, line)),
+    };
+    match transcript.write_batch(alloc, sink, engine.rows(), &done.replies) {
+        Ok(()) => Ok(()),
+        Err(kind) => Err(RunFault::at(kind, line)),
+    }
+}
+
+/// Writes the end line. The line is the last one read.
+fn finish<K: Sink>(
+    alloc: Global,
+    engine: &Engine,
+    transcript: Transcript,
+    sink: &mut K,
+    line: u64,
+) -> Result<u64, RunFault>
+    requires { is_busy engine.now ≡ false }
+    ensures count { IfOk result (λ n. n ≡ engine.now.next) }
+    ensures text { (m : List ℕ) → Holds256 (said_of transcript) m → OnOk result (Appends (K.taken sink.old) (K.taken sink.new)
+        (end_line engine.now.next (digest (row_text (tables_of engine.now) engine.now.rows)) (digest m))) }
+    ensures front { (m : List ℕ) → Holds256 (said_of transcript) m → AppendsFront (K.taken sink.old) (K.taken sink.new)
+        (end_line engine.now.next (digest (row_text (tables_of engine.now) engine.now.rows)) (digest m)) }
+    ensures stops { IfErr result (IsMachineFault line) }
+    ensures fails { K.broken sink.new ≡ (K.broken sink.old || ends_in_io result) }
+{
+    let count = engine.transactions();
+    match transcript.write_end(alloc, sink, engine.rows(), count) {
+        Ok(()) => Ok(count),
+        Err(kind) => Err(RunFault::at(kind, line)),
+    }
+}
+
+/// Runs the batches of a log, of which nothing was read, and writes its report into a sink.
+fn run_batches<X: Fn(&mut Engine, Batch) -> Result<BatchDone, ExecFault>, S: Source, K: Sink>(
+    alloc: Global,
+    executor: &X,
+    engine: &mut Engine,
+    reader: &mut LogReader<'_, S>,
+    sink: &mut K,
+) -> Result<u64, RunFault>
+    requires executes { Executes X.Fn executor.now }
+    requires idle { is_busy engine.old ≡ false }
+    requires unused { engine.old.next ≡ 0 }
+    requires unread { (position_of reader.old ≡ record { newlines = 0; begun = 0 }) × (calls_read reader.old ≡ 0) × (fault_of reader.old ≡ None) }
+    ensures same { source_name reader.new ≡ source_name reader.old }
+    ensures run { IsRunOfLog engine.old.procs engine.old.rows
+        (record { bytes = unread S.left reader.old; failed = S.failed (source_of reader.old) })
+        (record { bytes = S.left (source_of reader.new); failed = S.failed (source_of reader.new) })
+        (record { bytes = K.taken sink.old; failed = K.broken sink.old })
+        (record { bytes = K.taken sink.new; failed = K.broken sink.new }) result }
+{
+    let mut transcript = Transcript::new();
+    'batches: for _ in 0..u64::MAX {
+        let requests = match reader.next_batch(alloc, engine.procs()) {
+            Ok(Some(requests)) => requests,
+            Ok(None) => return finish(alloc, engine, transcript, sink, reader.last_line()),
+            Err(fault) => return Err(RunFault::Log(fault)),
+        };
+        let line = reader.last_line();
+        match run_batch(
+            alloc,
+            executor,
+            engine,
+            requests,
+            &mut transcript,
+            sink,
+            line,
+        ) {
+            Ok(()) => {}
+            Err(fault) => return Err(fault),
+        }
+    }
+    Err(RunFault::at(FaultKind::Memory, reader.last_line()))
+}
+
+/// Runs the log that a source gives on an engine that has run none.
+fn run_on<X: Fn(&mut Engine, Batch) -> Result<BatchDone, ExecFault>, S: Source, K: Sink>(
+    alloc: Global,
+    executor: &X,
+    engine: &mut Engine,
+    source: &mut S,
+    sink: &mut K,
+) -> Result<u64, RunFault>
+    requires executes { Executes X.Fn executor.now }
+    requires idle { is_busy engine.old ≡ false }
+    requires unused { engine.old.next ≡ 0 }
+    ensures { IsRunOfLog engine.old.procs engine.old.rows
+        (record { bytes = S.left source.old; failed = S.failed source.old })
+        (record { bytes = S.left source.new; failed = S.failed source.new })
+        (record { bytes = K.taken sink.old; failed = K.broken sink.old })
+        (record { bytes = K.taken sink.new; failed = K.broken sink.new }) result }
+{
+    let mut reader = LogReader::new(source);
+    let ended = run_batches(alloc, executor, engine, &mut reader, sink);
+    let _source = reader.into_source();
+    ended
+}
+
+/// Runs the log that a source gives on a setup, and writes its report into a sink: for each batch a reply line a call and a
+/// batch line, and then the end line. Each batch is executed by `executor`, which decides on how many threads. The answer is
+/// the number of transactions.
+///
+/// A batch is read whole before it runs, and its report is written after it ended. A fault ends the run: one of a line of
+/// the log (31 to 35), a failed device (36), want of memory (37), or a refused thread (38). What was written then is a
+/// beginning of the report.
+pub fn run_log<X: Fn(&mut Engine, Batch) -> Result<BatchDone, ExecFault>, S: Source, K: Sink>(
+    alloc: Global,
+    executor: &X,
+    setup: Setup,
+    settings: Settings,
+    source: &mut S,
+    sink: &mut K,
+) -> Result<u64, RunFault>
+    requires executes { Executes X.Fn executor.now }
+    ensures { IsRunOfLog setup.procs (with_rows map_of.empty setup.rows.items)
+        (record { bytes = S.left source.old; failed = S.failed source.old })
+        (record { bytes = S.left source.new; failed = S.failed source.new })
+        (record { bytes = K.taken sink.old; failed = K.broken sink.old })
+        (record { bytes = K.taken sink.new; failed = K.broken sink.new }) result }
+{
+    match Engine::new(alloc, setup, settings) {
+        Ok(mut engine) => run_on(alloc, executor, &mut engine, source, sink),
+        Err(_) => Err(RunFault::at(FaultKind::Memory, 0)),
+    }
+}

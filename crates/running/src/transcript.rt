@@ -1,0 +1,144 @@
+//! The report of a run, as it is written.
+
+ghost use Rattle.std.specs.Prelude.{◌≡◌, ◌++◌, ◌||◌, List, ℕ, [], IfOk, IfErr, OnOk, string_bytes};
+ghost use Rattle.std.specs.FinMap as map_of;
+ghost use Rattle.std.specs.Io.KnownBytes.{Appends};
+ghost use Rattle.sha2.specs.Hashers.{Holds256};
+ghost use Rattle.devices.specs.Devices.{AppendsFront};
+ghost use Rattle.report_text.specs.Texts.{digest, end_line, row_text};
+ghost use Rattle.report_text.specs.Report.{next_batch};
+ghost use Rattle.running.specs.Transcripts.{said_lines, with_batch_line, write_failed, IsOfMachine};
+
+use batch_log::{FaultKind, Sink, write_all};
+use engine::Reply;
+use report_text::{digest_of, digest_text, push_batch_line, push_end_line, push_reply_line};
+use row_store::{RowStore, all_is_free_with_nothing_lent};
+use row_text::rows_digest;
+use sha2::{Digest, Sha256};
+use std::alloc::{AllocError, Global};
+
+/// What was reported so far.
+#[derive(Drop)]
+pub(crate) struct Transcript {
+    /// The number of the next batch, from 1.
+    batch: u64,
+    /// All reply lines, by their hasher.
+    said: Sha256,
+}
+
+/// The reply lines of a batch.
+fn reply_lines(alloc: Global, replies: &[Reply]) -> Result<String, AllocError>
+    ensures { IfOk result (λ lines. string_bytes lines ≡ said_lines replies.now) }
+{
+    let mut lines = String::new(alloc);
+    for reply in replies {
+        push_reply_line(alloc, &mut lines, reply.no, &reply.outcome)?;
+    }
+    Ok(lines)
+}
+
+/// Reply lines, and behind them the batch line.
+#[tactic(auto, unfolding(crate::specs::Transcripts::with_batch_line))]
+fn batch_text(alloc: Global, batch: u64, rows: &RowStore, lines: &str) -> Result<String, AllocError>
+    requires { rows.now.lent ≡ map_of.empty }
+    ensures { IfOk result (λ text. string_bytes text ≡ with_batch_line batch rows.now.tables rows.now.rows lines.now) }
+{
+    all_is_free_with_nothing_lent();
+    let rows = rows_digest(alloc, rows.catalogue(), rows)?;
+    let replies = digest_text(alloc, lines.as_bytes())?;
+    let mut text = String::from_str(alloc, lines)?;
+    push_batch_line(&mut text, batch, &rows, &replies)?;
+    Ok(text)
+}
+
+/// The end line, from the reply lines by their hasher.
+fn end_text(alloc: Global, count: u64, rows: &RowStore, said: Sha256) -> Result<String, AllocError>
+    requires { rows.now.lent ≡ map_of.empty }
+    ensures { (m : List ℕ) → Holds256 said m → IfOk result (λ text. string_bytes text ≡ end_line count (digest (row_text rows.now.tables rows.now.rows)) (digest m)) }
+{
+    all_is_free_with_nothing_lent();
+    let rows = rows_digest(alloc, rows.catalogue(), rows)?;
+    let replies = digest_of(alloc, said)?;
+    let mut text = String::new(alloc);
+    push_end_line(&mut text, count, &rows, &replies)?;
+    Ok(text)
+}
+
+/// Writes a text that was made, and tells what failed.
+fn write_text<K: Sink>(sink: &mut K, text: &str) -> Result<(), FaultKind>
+    ensures text { OnOk result (Appends (K.taken sink.old) (K.taken sink.new) text.now) }
+    ensures front { AppendsFront (K.taken sink.old) (K.taken sink.new) text.now }
+    ensures kind { IfErr result IsOfMachine }
+    ensures fails { K.broken sink.new ≡ (K.broken sink.old || write_failed result) }
+{
+    match write_all(sink, text.as_bytes()) {
+        Ok(()) => Ok(()),
+        Err(_) => Err(FaultKind::Io),
+    }
+}
+
+impl Transcript {
+    ghost use Rattle.running.specs.Hashers.{batch_of, said_of};
+
+    /// Nothing was reported.
+    pub(crate) fn new() -> Transcript
+        ensures batch { batch_of result ≡ 1 }
+        ensures said { Holds256 (said_of result) [] }
+    {
+        Transcript {
+            batch: 1,
+            said: Sha256::new(),
+        }
+    }
+
+    /// Writes the report of a batch.
+    pub(crate) fn write_batch<K: Sink>(
+        &mut self,
+        alloc: Global,
+        sink: &mut K,
+        rows: &RowStore,
+        replies: &[Reply],
+    ) -> Result<(), FaultKind>
+        requires { rows.now.lent ≡ map_of.empty }
+        ensures batch { OnOk result (batch_of self.new ≡ next_batch (batch_of self.old)) }
+        ensures said { OnOk result ((m : List ℕ) → Holds256 (said_of self.old) m → Holds256 (said_of self.new) (m ++ said_lines replies.now)) }
+        ensures text { OnOk result (Appends (K.taken sink.old) (K.taken sink.new) (with_batch_line (batch_of self.old) rows.now.tables rows.now.rows (said_lines replies.now))) }
+        ensures front { AppendsFront (K.taken sink.old) (K.taken sink.new) (with_batch_line (batch_of self.old) rows.now.tables rows.now.rows (said_lines replies.now)) }
+        ensures kind { IfErr result IsOfMachine }
+        ensures fails { K.broken sink.new ≡ (K.broken sink.old || write_failed result) }
+    {
+        let Ok(lines) = reply_lines(alloc, replies) else {
+            return Err(FaultKind::Memory);
+        };
+        let Ok(text) = batch_text(alloc, self.batch, rows, &lines) else {
+            return Err(FaultKind::Memory);
+        };
+        match write_text(sink, &text) {
+            Ok(()) => {}
+            Err(kind) => return Err(kind),
+        }
+        self.said.update(lines.as_bytes());
+        self.batch = self.batch.saturating_add(1);
+        Ok(())
+    }
+
+    /// Writes the end line, for so many transactions.
+    pub(crate) fn write_end<K: Sink>(
+        self,
+        alloc: Global,
+        sink: &mut K,
+        rows: &RowStore,
+        count: u64,
+    ) -> Result<(), FaultKind>
+        requires { rows.now.lent ≡ map_of.empty }
+        ensures text { (m : List ℕ) → Holds256 (said_of self) m → OnOk result (Appends (K.taken sink.old) (K.taken sink.new) (end_line count (digest (row_text rows.now.tables rows.now.rows)) (digest m))) }
+        ensures front { (m : List ℕ) → Holds256 (said_of self) m → AppendsFront (K.taken sink.old) (K.taken sink.new) (end_line count (digest (row_text rows.now.tables rows.now.rows)) (digest m)) }
+        ensures kind { IfErr result IsOfMachine }
+        ensures fails { K.broken sink.new ≡ (K.broken sink.old || write_failed result) }
+    {
+        let Ok(text) = end_text(alloc, count, rows, self.said) else {
+            return Err(FaultKind::Memory);
+        };
+        write_text(sink, &text)
+    }
+}
