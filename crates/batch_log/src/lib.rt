@@ -12,6 +12,3 @@ pub use devices::{DeviceFailed, ReadSource, Sink, Source, WriteSink, write_all};
 pub use fault::{FaultKind, LogFault};
 pub use laws::{batches_end_at_cuts, lines_are_exact};
 pub use reader::LogReader;
-
-#[cfg(test)]
-mod tests;

@@ -23,18 +23,3 @@ pub use files::{FileFault, Files};
 pub use programs::program;
 pub use running::RunFault;
 pub use setup::{Setup, SetupFault, read_setup};
-
-#[cfg(test)]
-mod checking_tests;
-#[cfg(test)]
-mod device_tests;
-#[cfg(test)]
-mod language_tests;
-#[cfg(test)]
-mod locks_tests;
-#[cfg(test)]
-mod replicas_tests;
-#[cfg(test)]
-mod test_world;
-#[cfg(test)]
-mod tests;

@@ -7,6 +7,3 @@ pub mod settings;
 
 pub use line::{Command, Line, LineFault, read_line};
 pub use settings::{BadSetting, Settings};
-
-#[cfg(test)]
-mod tests;

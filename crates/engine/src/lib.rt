@@ -18,16 +18,3 @@ pub use engine::{Engine, ExecFault};
 pub use gate::{Gate, OpenGate};
 pub use replies::{BatchDone, Reply};
 pub use sequencer::{Batch, BatchFault, Item};
-
-#[cfg(test)]
-mod gate_tests;
-#[cfg(test)]
-mod plain;
-#[cfg(test)]
-mod plain_tests;
-#[cfg(test)]
-mod resume_tests;
-#[cfg(test)]
-mod test_world;
-#[cfg(test)]
-mod tests;

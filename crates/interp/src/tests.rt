@@ -1,6 +1,7 @@
 //! Runs of bodies over rows in memory.
 
 mod calls;
+mod expressions;
 mod language;
 mod memory;
 mod procedures;

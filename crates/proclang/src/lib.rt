@@ -22,8 +22,6 @@ mod read_values;
 mod request;
 mod scope;
 mod stmt_form;
-#[cfg(test)]
-mod tests;
 mod typed;
 
 pub use fault::{FaultKind, Places, ProcFault};

@@ -5,8 +5,6 @@ mod fault;
 mod reading;
 mod rows;
 mod setup;
-#[cfg(test)]
-mod tests;
 
 pub use fault::SetupFault;
 pub use reading::read_setup;

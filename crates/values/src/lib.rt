@@ -14,8 +14,6 @@ mod reading;
 mod row;
 mod said;
 mod table;
-#[cfg(test)]
-mod tests;
 mod text;
 mod value;
 
