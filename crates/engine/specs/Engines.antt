@@ -1,5 +1,5 @@
 -- An engine as contracts see it.
-use Rattle.std.specs.Prelude.{◌≡◌, ℕ, List, Bool, Option, option_map, is_some, true, false, refl, slice_get}
+use Rattle.std.specs.Prelude.{◌≡◌, ℕ, List, Bool, Option, is_some, true, false, refl, slice_get}
 use Rattle.std.specs.Coded.{Coded, code_by, coded×, coded_ℕ, coded_list, coded_option}
 use Rattle.values.specs.Shapes.{TableShape}
 use Rattle.values.specs.Database.{Database}
@@ -30,9 +30,6 @@ pub record EngineParts : Type 0 where
 
 abbrev pub tables_of : EngineParts → List TableShape
 tables_of engine = engine.procs.tables
-
-abbrev pub held_of : EngineParts → Option Batch
-held_of engine = option_map (λ u. u.batch) engine.unfinished
 
 -- whether a batch is unfinished
 abbrev pub is_busy : EngineParts → Bool

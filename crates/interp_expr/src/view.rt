@@ -4,7 +4,8 @@ ghost use Rattle.std.specs.Prelude.{◌≡◌, IsTrue, option_map, option_copied
 
 use values::{Key, Row, TableNo};
 
-/// Some of the rows of a database over the tables of a catalogue. Each row has one value a column, of the column's type.
+/// Some of the rows of a database over the tables of a catalogue. Nothing is asked of how many values a row has, or of which
+/// types.
 pub trait RowView {
     ghost use Rattle.std.specs.Prelude.{Bool, List};
     ghost use Rattle.std.specs.FinMap as map;

@@ -175,8 +175,8 @@ impl Scheduler {
         Ok(Some(job))
     }
 
-    /// Settles a job that came back: its transaction is settled with its outcome, or, where it was not run, is ready again and
-    /// not out. It takes no memory.
+    /// Settles a job that came back: its transaction is settled with its outcome, or, where it was not run, is not out any
+    /// more, and can be lent again once it is the least that is ready. It takes no memory.
     pub fn settle(&mut self, done: Done)
         requires { ComesBack self.old done }
         ensures settled { IfSome done.outcome (λ outcome. self.new ≡ record self.old { slots = slice_set self.old.slots (done.job.number - self.old.work.first) (Slot.Settled outcome) }) }
