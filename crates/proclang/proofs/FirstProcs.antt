@@ -207,6 +207,9 @@ procs_first tables d = formed_first (At Shape []) (versioned_list (codes "procs"
 fault_of : {A : Type 0} (e : ProcFault) (r : Result A ProcFault) (fs : List ProcFault) → IsFirst r fs → r ≡ Err e → first fs ≡ Some e
 fault_of {A} e r fs i h = subst (λ (q : Result A ProcFault). IsFirst q fs) h i
 
+pub none_broken : {A : Type 0} (x : A) (r : Result A ProcFault) (fs : List ProcFault) → r ≡ Ok x → IsFirst r fs → fs ≡ []
+none_broken {A} x r fs h i = subst (λ (q : Result A ProcFault). IsFirst q fs) h i
+
 pub fault_first : {A : Type 0} (e : ProcFault) (r : Result A ProcFault) (fs : List ProcFault) → (is_memory e ≡ false → r ≡ Err e) → IsFirst r fs → (e ≡ Memory) ⊎ (first fs ≡ Some e)
 fault_first Memory r fs h i = inl refl
 fault_first (At kind path) r fs h i = inr (fault_of (At kind path) r fs i (h refl))

@@ -1,6 +1,6 @@
 //! The procedures of a setup.
 
-ghost use Rattle.std.specs.Prelude.{◌≡◌, ◌⊎◌, List, Some, Ok, map, IfOk, IfErr, IsOkUnless, [], ◌∷◌};
+ghost use Rattle.std.specs.Prelude.{◌≡◌, ◌⊎◌, List, Some, Ok, map, IfOk, IfErr, OnOk, IsOkUnless, [], ◌∷◌};
 ghost use Rattle.serde_json.specs.View.{view};
 ghost use Rattle.documents.specs.FirstFault.{first};
 ghost use Rattle.documents.specs.Reading.{Gives};
@@ -139,7 +139,8 @@ pub fn read_procs(
     ensures only { (ps : List ProcSyntax) → SaysProcs catalogue.now (view document.now) ps → Gives is_memory (λ p. map proc_syntax p.procs) result (Ok ps) }
     // The fault is the first rule that the document breaks, with its path.
     ensures first { IfErr result (λ e. (e ≡ Memory) ⊎ (first (broken_rules catalogue.now (view document.now)) ≡ Some e)) }
-    // A document that breaks no rule is read, unless memory runs out.
+    // A document that is read breaks no rule, and one that breaks none is read, unless memory runs out.
+    ensures unbroken { OnOk result (broken_rules catalogue.now (view document.now) ≡ []) }
     ensures none { broken_rules catalogue.now (view document.now) ≡ [] → IsOkUnless result Memory }
     ensures exact { Gives is_memory (λ p. map proc_syntax p.procs) result (procs_at catalogue.now (view document.now)) }
 {

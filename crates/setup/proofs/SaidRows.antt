@@ -166,6 +166,9 @@ unfolding rows_at
 rows_first tables d = formed_first Shape (versioned_list (codes "rows") d) _ (in_rows_form tables) refl (λ ds.
     each_first place_of (row_at tables) (place_said tables) (in_row tables) (row_first tables) (place_so tables) [] ds)
 
+pub none_broken : {A : Type 0} (x : A) (r : Result A SetupFault) (fs : List SetupFault) → r ≡ Ok x → IsFirst r fs → fs ≡ []
+none_broken {A} x r fs h i = subst (λ (q : Result A SetupFault). IsFirst q fs) h i
+
 pub fault_first : {A : Type 0} (e : SetupFault) (r : Result A SetupFault) (fs : List SetupFault) → IsFirst r fs → r ≡ Err e → first fs ≡ Some e
 fault_first {A} e r fs i h = subst (λ (q : Result A SetupFault). IsFirst q fs) h i
 

@@ -1,7 +1,7 @@
 -- What a setup's document says, and where it breaks a rule first, from what its parts say.
 use Rattle.std.proofs.Common.{◌≡◌, ◌⊎◌, inl, inr, ℕ, ℤ, pos, negsuc, Bool, true, false, if◌then◌else◌, ◌&&◌, List, [], ◌∷◌, Option, Some, None, option_and_then, Result, Ok, Err, refl, sym, ap, ◌∙◌, subst}
 use Rattle.std.specs.Prelude.{codes}
-use Rattle.std.specs.Result.{IsErrAnd, IfOk, IfErr}
+use Rattle.std.specs.Result.{IsErrAnd, IfOk, IfErr, OnOk}
 use Rattle.std.specs.Str.{bytes_eq, IsUtf8, is_utf8}
 use Rattle.std.proofs.lemmas.Bool.{eqb-true}
 use Rattle.std.proofs.lemmas.Str.{IsUtf8-from_is_utf8, is_utf8-from_IsUtf8}
@@ -15,6 +15,7 @@ use Rattle.documents.specs.FirstFault.{first}
 use Rattle.documents.specs.Reading.{Gives}
 use Rattle.documents.proofs.Said.{string_said, elements_said}
 use Rattle.documents.proofs.Steps.{and_then_ok}
+use Rattle.values.specs.Broken as catalogue_rules
 use Rattle.values.specs.Reading as catalogues
 use Rattle.values.specs.Rules.{SaysCatalogue, IsCatalogue}
 use Rattle.values.specs.Shapes.{TableShape}
@@ -29,9 +30,9 @@ use Rattle.setup.specs.declared.fault.SetupFault.{SetupFault}
 use Rattle.setup.specs.declared.fault.SetupFault.TheVariants.{Procedure}
 use Rattle.setup.specs.declared.setup.Setup.{Setup}
 use Rattle.setup.specs.Faults.{is_memory}
-use Rattle.setup.specs.FirstFault.{InDocument, BreaksFirst, broken_rules}
+use Rattle.setup.specs.FirstFault.{InForm, InDocument, BreaksFirst, broken_rules}
 use Rattle.setup.specs.Rows.{RowAt}
-use Rattle.setup.specs.Says.{SaysRows, SpellsSetup, SaysDocument, IsJson, SaysSetup}
+use Rattle.setup.specs.Says.{SaysRows, SpellsSetup, SaysDocument, IsJson, IsNotJson, SaysSetup}
 use Rattle.setup.specs.Setups.{SetupDocument, SetupShape, parts_of, setup_form, setup_view}
 
 -- ---- the outer form
@@ -175,6 +176,31 @@ module _ (d : Data) (form : SetupDocument) (tables : List TableShape) where
       → SaysDocument d (record { tables = tables; procs = procs; rows = rows })
   found_parts procs rows e says is are there = record { form = form; is_form = form_said d form e; catalogue = says; is_catalogue = is; procs = are; rows = there }
 
+nothing_first : {F B : Type 0} (fs : List F) (f : F) → fs ≡ [] → first fs ≡ Some f → B
+nothing_first fs f none h = absurd (let g = sym (ap first none) ∙ h in cc)
+
+-- a document whose parts break no rule breaks none
+pub no_break : (d : Data) (form : SetupDocument) (tables : List TableShape) → setup_form d ≡ Some form
+    → ((ts : List TableShape) → IsCatalogue ts → SaysCatalogue form.catalogue ts → ◌≡◌ {A = Result (List TableShape) CatalogueFault} (Ok ts) (Ok tables))
+    → catalogue_rules.broken_rules form.catalogue ≡ [] → procedure_rules.broken_rules tables form.procs ≡ [] → broken_rules tables form.rows ≡ []
+    → (fault : SetupFault) → InDocument d fault → ⊥
+no_break d form tables e only c p r fault (inl shape) = none_is (sym shape.1 ∙ e)
+no_break d form tables e only c p r fault (inr (other, is, h)) = by (subst (λ (x : SetupDocument). InForm x fault) (same other form (sym is ∙ e)) h)
+  where
+    same : (x y : SetupDocument) → Some x ≡ Some y → x ≡ y
+    same x y q = cc
+
+    are : (ts : List TableShape) → IsCatalogue ts → SaysCatalogue form.catalogue ts → ts ≡ tables
+    are ts is says = same_tables ts tables (only ts is says)
+
+    by : InForm form fault → ⊥
+    by (inl h) = nothing_first (catalogue_rules.broken_rules form.catalogue) h.rule c h.is_first
+    by (inr (inl h)) =
+        nothing_first (procedure_rules.broken_rules h.tables form.procs) h.rule
+        (ap (λ (ts : List TableShape). procedure_rules.broken_rules ts form.procs) (are h.tables h.is_catalogue h.catalogue) ∙ p) h.is_first
+    by (inr (inr h)) =
+        nothing_first (broken_rules h.tables form.rows) fault (ap (λ (ts : List TableShape). broken_rules ts form.rows) (are h.tables h.is_catalogue h.catalogue) ∙ r) h.is_first
+
 -- ---- texts
 
 pub not_utf8 : (text : List ℕ) → (IsUtf8 text → ⊥) → is_utf8 text ≡ false
@@ -197,6 +223,22 @@ text_found text bytes d (Err f) same utf8 e h = tt
 pub text_first : (text bytes : List ℕ) (d : Data) (r : Result Setup SetupFault) → bytes ≡ text → IsUtf8 text → read bytes ≡ Some d → IfErr r (λ f. is_memory f ≡ false → InDocument d f) → IfErr r (λ f. is_memory f ≡ false → BreaksFirst text f)
 text_first text bytes d (Ok s) same utf8 e h = tt
 text_first text bytes d (Err f) same utf8 e h = λ known. inr (d, json_of text bytes d same utf8 e, h known)
+
+pub text_unbroken : (text bytes : List ℕ) (d : Data) (r : Result Setup SetupFault) → bytes ≡ text → IsUtf8 text → read bytes ≡ Some d
+    → OnOk r ((fault : SetupFault) → InDocument d fault → ⊥) → OnOk r ((fault : SetupFault) → BreaksFirst text fault → ⊥)
+text_unbroken text bytes d (Ok s) same utf8 e h = λ fault there. by fault there
+  where
+    json : IsJson text d
+    json = json_of text bytes d same utf8 e
+
+    is : (x y : Data) → Some x ≡ Some y → x ≡ y
+    is x y q = cc
+
+    by : (fault : SetupFault) → BreaksFirst text fault → ⊥
+    by fault (inl (is_fault, inl not)) = let g = sym json.utf8 ∙ not in cc
+    by fault (inl (is_fault, inr none)) = let g = sym json.json ∙ none in cc
+    by fault (inr (other, says, h2)) = h fault (subst (λ (x : Data). InDocument x fault) (is other d (sym says.json ∙ json.json)) h2)
+text_unbroken text bytes d (Err f) same utf8 e h = tt
 
 pub unbroken : {P : Type 0} (e : SetupFault) → (is_memory e ≡ false → P) → (P → ⊥) → is_memory e ≡ true
 unbroken e h never = by (is_memory e) refl

@@ -1,6 +1,6 @@
 //! Reading setups.
 
-ghost use Rattle.std.specs.Prelude.{◌≡◌, true, false, option_map, Ok, IfOk, IfErr};
+ghost use Rattle.std.specs.Prelude.{◌≡◌, true, false, option_map, Ok, IfOk, IfErr, OnOk};
 ghost use Rattle.serde_json.specs.View.{view};
 ghost use Rattle.documents.specs.Reading.{Gives};
 ghost use Rattle.setup.specs.Faults.{is_memory};
@@ -36,6 +36,7 @@ fn read_document(alloc: Global, document: &Value) -> Result<Setup, SetupFault>
     ensures found { IfOk result (λ s. SaysDocument (view document.now) (setup_view s)) }
     ensures only { (s : SetupShape) → SaysDocument (view document.now) s → Gives is_memory setup_view result (Ok s) }
     ensures first { IfErr result (λ e. is_memory e ≡ false → InDocument (view document.now) e) }
+    ensures unbroken { OnOk result ((e : SetupFault) → InDocument (view document.now) e → ⊥) }
     ensures exact { Gives is_memory setup_view result (setup_at (view document.now)) }
 {
     let (catalogue, procs, rows) = setup_form(document).ok_or(SetupFault::Shape)?;
@@ -54,6 +55,7 @@ fn read_text(alloc: Global, text: &[u8]) -> Result<Setup, SetupFault>
     ensures found { IfOk result (λ s. SaysSetup text.now (setup_view s)) }
     ensures only { (s : SetupShape) → SaysSetup text.now s → Gives is_memory setup_view result (Ok s) }
     ensures first { IfErr result (λ e. is_memory e ≡ false → BreaksFirst text.now e) }
+    ensures unbroken { OnOk result ((e : SetupFault) → BreaksFirst text.now e → ⊥) }
     ensures exact { Gives is_memory setup_view result (setup_said text.now) }
 {
     let Ok(text) = str::from_utf8(text) else {
@@ -75,7 +77,8 @@ pub fn read_setup(alloc: Global, text: &[u8]) -> Result<Setup, SetupFault>
     ensures only { (s : SetupShape) → SaysSetup text.now s → Gives is_memory setup_view result (Ok s) }
     // The fault is that of the first rule that the text breaks.
     ensures first { IfErr result (λ e. is_memory e ≡ false → BreaksFirst text.now e) }
-    // A text that breaks no rule is read, unless memory runs out.
+    // A text that is read breaks no rule, and one that breaks none is read, unless memory runs out.
+    ensures unbroken { OnOk result ((e : SetupFault) → BreaksFirst text.now e → ⊥) }
     ensures none { ((e : SetupFault) → BreaksFirst text.now e → ⊥) → IfErr result (λ e. is_memory e ≡ true) }
     ensures exact { Gives is_memory setup_view result (setup_said text.now) }
 {

@@ -1,6 +1,6 @@
 //! Reading starting rows.
 
-ghost use Rattle.std.specs.Prelude.{◌≡◌, ◌<◌, true, false, List, [], length, map, Some, Ok, IfOk, IfErr};
+ghost use Rattle.std.specs.Prelude.{◌≡◌, ◌<◌, true, false, List, [], length, map, Some, Ok, IfOk, IfErr, OnOk};
 ghost use Rattle.serde_json.specs.View.{view};
 ghost use Rattle.documents.specs.FirstFault.{first};
 ghost use Rattle.documents.specs.Reading.{Gives};
@@ -84,7 +84,8 @@ pub fn read_rows(
     ensures only { (rows : List RowAt) → SaysRows catalogue.now (view document.now) rows → Gives is_memory (λ v. v.items) result (Ok rows) }
     // The fault is the first rule that the document breaks.
     ensures first { IfErr result (λ e. is_memory e ≡ false → first (broken_rules catalogue.now (view document.now)) ≡ Some e) }
-    // A document that breaks no rule is read, unless memory runs out.
+    // A document that is read breaks no rule, and one that breaks none is read, unless memory runs out.
+    ensures unbroken { OnOk result (broken_rules catalogue.now (view document.now) ≡ []) }
     ensures none { broken_rules catalogue.now (view document.now) ≡ [] → IfErr result (λ e. is_memory e ≡ true) }
     ensures exact { Gives is_memory (λ v. v.items) result (rows_at catalogue.now (view document.now)) }
 {

@@ -97,6 +97,9 @@ catalogue_first d = formed_first Shape (catalogue_form d) _ in_catalogue_form re
 fault_of : {A : Type 0} (e : CatalogueFault) (r : Result A CatalogueFault) (fs : List CatalogueFault) → IsFirst r fs → r ≡ Err e → first fs ≡ Some e
 fault_of {A} e r fs i h = subst (λ (q : Result A CatalogueFault). IsFirst q fs) h i
 
+pub none_broken : {A : Type 0} (x : A) (r : Result A CatalogueFault) (fs : List CatalogueFault) → r ≡ Ok x → IsFirst r fs → fs ≡ []
+none_broken {A} x r fs h i = subst (λ (q : Result A CatalogueFault). IsFirst q fs) h i
+
 pub fault_first : {A : Type 0} (e : CatalogueFault) (r : Result A CatalogueFault) (fs : List CatalogueFault) → (is_memory e ≡ false → r ≡ Err e) → IsFirst r fs → (e ≡ Memory) ⊎ (first fs ≡ Some e)
 fault_first Memory r fs h i = inl refl
 fault_first Shape r fs h i = inr (fault_of Shape r fs i (h refl))

@@ -1,6 +1,6 @@
 //! The catalogue: tables in declared order, each with its partitions and columns.
 
-ghost use Rattle.std.specs.Prelude.{◌≡◌, ◌⊎◌, ◌<◌, ◌≤◌, [], false, IfErr, IsOkUnless, ℕ, length, option_map, IfOk, Ok, List, slice_get, Some, IfSome, map};
+ghost use Rattle.std.specs.Prelude.{◌≡◌, ◌⊎◌, ◌<◌, ◌≤◌, [], false, IfErr, OnOk, IsOkUnless, ℕ, length, option_map, IfOk, Ok, List, slice_get, Some, IfSome, map};
 ghost use Rattle.values.specs.Shapes.{tables_shape, columns_shape, table_shape, TableShape};
 ghost use Rattle.values.specs.Keys.{table_named, column_named, partition_of, partition_numbered};
 ghost use Rattle.values.specs.Tables.{IsTableAt};
@@ -64,7 +64,8 @@ impl Catalogue {
         ensures only { (c : List TableShape) → IsCatalogue c → SaysCatalogue (view document.now) c → Gives is_memory (λ x. x) result (Ok c) }
         // The fault is the first rule that the document breaks.
         ensures first { IfErr result (λ e. (e ≡ Memory) ⊎ (first (broken_rules (view document.now)) ≡ Some e)) }
-        // A document that breaks no rule is read, unless memory runs out.
+        // A document that is read breaks no rule, and one that breaks none is read, unless memory runs out.
+        ensures unbroken { OnOk result (broken_rules (view document.now) ≡ []) }
         ensures none { broken_rules (view document.now) ≡ [] → IsOkUnless result Memory }
         ensures exact { Gives is_memory (λ x. x) result (catalogue_at (view document.now)) }
     {

@@ -3,7 +3,7 @@ use Rattle.serde_json.specs.View.{view}
 use Rattle.proclang_types.specs.Procedures.{proc_syntax}
 use Rattle.proclang.specs.BrokenProcs.{broken_rules}
 use Rattle.proclang.specs.Procs.{procs_at}
-use Rattle.proclang.proofs.FirstProcs.{procs_first, fault_first, fault_none}
+use Rattle.proclang.proofs.FirstProcs.{procs_first, fault_first, fault_none, none_broken}
 use Rattle.proclang.proofs.SaidProcs.{procs_found, procs_read}
 use Rattle.proclang.proofs.procs.read_procs.Goals as goal
 
@@ -21,3 +21,6 @@ returns-in-Err-clause-first c = fault_first c.in-Err.fault (procs_at c.args.cata
 
 pub returns-in-Err-clause-none : goal.returns-in-Err-clause-none
 returns-in-Err-clause-none c = fault_none c.in-Err.fault (procs_at c.args.catalogue.now (view c.args.document.now)) (broken_rules c.args.catalogue.now (view c.args.document.now)) c.in-Err.ensures.exact (procs_first c.args.catalogue.now (view c.args.document.now))
+
+pub returns-in-Ok-clause-unbroken : goal.returns-in-Ok-clause-unbroken
+returns-in-Ok-clause-unbroken c = none_broken (map proc_syntax c.in-Ok.procs.procs) (procs_at c.args.catalogue.now (view c.args.document.now)) (broken_rules c.args.catalogue.now (view c.args.document.now)) c.in-Ok.ensures.exact (procs_first c.args.catalogue.now (view c.args.document.now))

@@ -3,7 +3,7 @@ use Rattle.serde_json.specs.View.{view}
 use Rattle.proclang_types.specs.Procedures.{proc_syntax}
 use Rattle.setup.specs.declared.fault.SetupFault.TheVariants.{Catalogue, Procedure}
 use Rattle.setup.specs.Setups.{setup_form}
-use Rattle.setup.proofs.SaidSetups.{form_again, refused, breaks, no_catalogue, no_procs, no_rows, in_procs, in_rows, found_parts, only_parts, none_is}
+use Rattle.setup.proofs.SaidSetups.{form_again, refused, breaks, no_catalogue, no_procs, no_rows, in_procs, in_rows, found_parts, only_parts, none_is, no_break}
 use Rattle.setup.proofs.reading.read_document.Goals as goal
 
 pub returns-in_err-catalogue-clause-only : goal.returns-in_err-catalogue-clause-only
@@ -50,3 +50,8 @@ pub returns-clause-only : goal.returns-clause-only
 returns-clause-only c = λ s says.
     let form : setup_form (view c.args.document.now) ≡ Some (record { catalogue = view c.in_ok-catalogue.catalogue.now; procs = view c.in_ok-catalogue.procs.now; rows = view c.in_ok-catalogue.rows.now }) = rw (← c.setup_form.ensures, c.in_ok-catalogue.ensures.ok_part) refl in
     only_parts (view c.args.document.now) _ s c.in_ok-catalogue-2.catalogue (map proc_syntax c.in_ok-procs.procs.procs) c.in_ok-rows.rows.items form says c.in_ok-catalogue-2.ensures.only c.in_ok-procs.ensures.only c.in_ok-rows.ensures.only
+
+pub returns-clause-unbroken : goal.returns-clause-unbroken
+returns-clause-unbroken c =
+    let form : setup_form (view c.args.document.now) ≡ Some (record { catalogue = view c.in_ok-catalogue.catalogue.now; procs = view c.in_ok-catalogue.procs.now; rows = view c.in_ok-catalogue.rows.now }) = rw (← c.setup_form.ensures, c.in_ok-catalogue.ensures.ok_part) refl in
+    no_break (view c.args.document.now) _ c.in_ok-catalogue-2.catalogue form c.in_ok-catalogue-2.ensures.only c.in_ok-catalogue-2.ensures.unbroken c.in_ok-procs.ensures.unbroken c.in_ok-rows.ensures.unbroken

@@ -1,6 +1,6 @@
 use Rattle.std.proofs.Common.{inl, refl}
 use Rattle.serde_json.specs.View.{view}
-use Rattle.setup.proofs.SaidSetups.{not_utf8, says_nothing, text_found, text_first}
+use Rattle.setup.proofs.SaidSetups.{not_utf8, says_nothing, text_found, text_first, text_unbroken}
 use Rattle.setup.proofs.reading.read_text.Goals as goal
 
 pub returns-in_default-clause-only : goal.returns-in_default-clause-only
@@ -14,3 +14,6 @@ returns-in-Ok-from_str-clause-found c = text_found c.args.text.now c.in-Ok.text.
 
 pub returns-in-Ok-from_str-clause-first : goal.returns-in-Ok-from_str-clause-first
 returns-in-Ok-from_str-clause-first c = text_first c.args.text.now c.in-Ok.text.now (view c.in-Ok-from_str.document) c.read_document.result c.in-Ok.ensures.cases.0 c.in-Ok.ensures.cases.1 c.in-Ok-from_str.ensures.ok c.read_document.ensures.first
+
+pub returns-in-Ok-from_str-clause-unbroken : goal.returns-in-Ok-from_str-clause-unbroken
+returns-in-Ok-from_str-clause-unbroken c = text_unbroken c.args.text.now c.in-Ok.text.now (view c.in-Ok-from_str.document) c.read_document.result c.in-Ok.ensures.cases.0 c.in-Ok.ensures.cases.1 c.in-Ok-from_str.ensures.ok c.read_document.ensures.unbroken

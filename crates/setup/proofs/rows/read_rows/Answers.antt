@@ -2,7 +2,7 @@ use Rattle.std.proofs.Common.{sym, ◌∙◌}
 use Rattle.serde_json.specs.View.{view}
 use Rattle.setup.specs.FirstFault.{broken_rules}
 use Rattle.setup.specs.Rows.{rows_at}
-use Rattle.setup.proofs.SaidRows.{rows_found, rows_read, rows_first, fault_first, fault_none}
+use Rattle.setup.proofs.SaidRows.{rows_found, rows_read, rows_first, fault_first, fault_none, none_broken}
 use Rattle.setup.proofs.rows.read_rows.Goals as goal
 
 pub returns-in-Ok-clause-found : goal.returns-in-Ok-clause-found
@@ -19,3 +19,6 @@ returns-in-Err-clause-first c = λ known. fault_first c.in-Err.fault (rows_at c.
 
 pub returns-in-Err-clause-none : goal.returns-in-Err-clause-none
 returns-in-Err-clause-none c = fault_none c.in-Err.fault (rows_at c.args.catalogue.now (view c.args.document.now)) (broken_rules c.args.catalogue.now (view c.args.document.now)) c.in-Err.ensures (rows_first c.args.catalogue.now (view c.args.document.now))
+
+pub returns-in-Ok-clause-unbroken : goal.returns-in-Ok-clause-unbroken
+returns-in-Ok-clause-unbroken c = none_broken c.in-Ok.rows.items (rows_at c.args.catalogue.now (view c.args.document.now)) (broken_rules c.args.catalogue.now (view c.args.document.now)) c.in-Ok.ensures (rows_first c.args.catalogue.now (view c.args.document.now))

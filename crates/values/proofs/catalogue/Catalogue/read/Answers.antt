@@ -4,7 +4,7 @@ use Rattle.serde_json.specs.View.{view}
 use Rattle.values.specs.Shapes.{tables_shape}
 use Rattle.values.specs.Reading.{catalogue_at}
 use Rattle.values.specs.Broken.{broken_rules}
-use Rattle.values.proofs.FirstFault.{catalogue_first, fault_first, fault_none}
+use Rattle.values.proofs.FirstFault.{catalogue_first, fault_first, fault_none, none_broken}
 use Rattle.values.proofs.Catalogues.{catalogue_found, catalogue_read}
 use Rattle.values.proofs.catalogue.Catalogue.read.Goals as goal
 
@@ -31,3 +31,8 @@ pub returns-in-Ok-new-clause-only : goal.returns-in-Ok-new-clause-only
 returns-in-Ok-new-clause-only c = λ ts is says.
     let read : catalogue_at (view c.args.document.now) ≡ Ok (tables_shape (arc_value c.in-Ok-new.tables).entries) = rw c.in-Ok-new.ensures.ok c.in-Ok.ensures in
     sym (catalogue_read (view c.args.document.now) ts says is) ∙ read
+
+pub returns-in-Ok-new-clause-unbroken : goal.returns-in-Ok-new-clause-unbroken
+returns-in-Ok-new-clause-unbroken c =
+    let read : catalogue_at (view c.args.document.now) ≡ Ok (tables_shape (arc_value c.in-Ok-new.tables).entries) = rw c.in-Ok-new.ensures.ok c.in-Ok.ensures in
+    none_broken (tables_shape (arc_value c.in-Ok-new.tables).entries) (catalogue_at (view c.args.document.now)) (broken_rules (view c.args.document.now)) read (catalogue_first (view c.args.document.now))
