@@ -1,55 +1,36 @@
 //! Runs of batches of the bank on an engine.
 
-ghost use Rattle.std.specs.Prelude.{◌≡◌, OnOk, false};
-ghost use Rattle.sequencer.specs.Batches.{items_of, AreOver};
-ghost use Rattle.engine.specs.Engines.{tables_of, is_busy};
-
-use crate::test_world::{InOrder, TWO_PAYS, batch_of, engine};
-use engine::{Batch, BatchDone, Engine, ExecFault, OpenGate, Settings};
+use crate::test_world::{InOrder, TWO_PAYS, engine, execute, execute_nothing, run_alone};
+use engine::{BatchDone, Engine, OpenGate, Reply, Settings};
 use footprint::AbortCode;
 use interp_expr::RowView;
 use meaning::Outcome;
 use row_store::all_is_free_with_nothing_lent;
 use std::alloc::Global;
 use std::process::Abort;
-use std::sync::Wait;
 use std::test::Fail;
-use std::thread::Threads;
 use values::{Key, TableNo, Value};
 
 const LOOK_AND_PAY_BACK: &str = "[\"call\",\"peek\",[2]]\n[\"call\",\"pay\",[2,1,50]]";
 
-/// The replies are commits with one value each; of each its number, its number in the batch, and the value.
-fn replies_are(
-    rt: &impl Abort,
-    alloc: Global,
-    done: Result<BatchDone, ExecFault>,
-    replies: &[(u64, u64, i64)],
-) -> Result<(), Fail> {
-    let Ok(done) = done else {
-        return Err(Fail::from("not executed"));
+/// Whether a reply is a commit with one value, and has these numbers.
+fn is_commit(reply: &Reply, no: u64, number: u64, value: i64) -> bool {
+    let Outcome::Commit(values) = &reply.outcome else {
+        return false;
     };
-    assert_eq!(rt; done.replies.len(), replies.len());
-    for (reply, (no, number, value)) in done.replies.iter().zip(replies) {
-        assert_eq!(rt; (reply.no, reply.client, reply.number), (*no, 0, *number));
-        let outcome = Outcome::Commit(vec![in alloc; Value::Int(*value)]?);
-        assert!(rt; reply.outcome == outcome, "at {no}");
-    }
-    Ok(())
+    let want = Value::Int(value);
+    reply.no == no
+        && reply.client == 0
+        && reply.number == number
+        && values.as_slice() == [want].as_slice()
 }
 
-/// A batch without calls was run, whose number is that of the next transaction.
-fn nothing_was_run(
-    rt: &impl Abort,
-    done: Result<BatchDone, ExecFault>,
-    first: u64,
-) -> Result<(), Fail> {
-    let Ok(done) = done else {
-        return Err(Fail::from("not executed"));
-    };
-    assert_eq!(rt; done.first, first);
-    assert!(rt; done.replies.is_empty());
-    Ok(())
+/// The replies are commits with one value each; of each its number, its number in the batch, and the value.
+fn replies_are(rt: &impl Abort, done: &BatchDone, replies: &[(u64, u64, i64)]) {
+    assert!(rt; done.replies.len() == replies.len());
+    for (reply, (no, number, value)) in done.replies.iter().zip(replies) {
+        assert!(rt; is_commit(reply, *no, *number, *value), "at {no}");
+    }
 }
 
 /// The rows with these names have these values, and no row has the key 7; of each row the place of its table, its key, and
@@ -88,14 +69,13 @@ fn an_engine_begins_with_the_rows_of_its_setup(rt: HostRuntime) -> Result<(), Fa
 fn workers_execute_batches(rt: HostRuntime) -> Result<(), Fail> {
     let alloc = rt.alloc();
     let mut engine = engine(alloc, Settings::new(2, 8, 64, 65_536)?)?;
-    let pays = batch_of(alloc, &engine, TWO_PAYS)?;
-    let done = engine.execute(&rt, alloc, pays, &OpenGate);
-    replies_are(&rt, alloc, done, &[(0, 0, 70), (1, 1, 40)])?;
-    let empty = Batch::of(alloc, Vec::new(alloc))?;
-    nothing_was_run(&rt, engine.execute(&rt, alloc, empty, &OpenGate), 2)?;
-    let back = batch_of(alloc, &engine, LOOK_AND_PAY_BACK)?;
-    let done = engine.execute(&rt, alloc, back, &OpenGate);
-    replies_are(&rt, alloc, done, &[(2, 0, 160), (3, 1, 110)])?;
+    let done = execute(&rt, &mut engine, TWO_PAYS, &OpenGate)?;
+    replies_are(&rt, &done, &[(0, 0, 70), (1, 1, 40)]);
+    let nothing = execute_nothing(&rt, &mut engine)?;
+    assert_eq!(rt; nothing.first, 2);
+    assert!(rt; nothing.replies.is_empty());
+    let done = execute(&rt, &mut engine, LOOK_AND_PAY_BACK, &OpenGate)?;
+    replies_are(&rt, &done, &[(2, 0, 160), (3, 1, 110)]);
     assert_eq!(rt; engine.transactions(), 4);
     rows_are(&rt, &engine, &[(0, 1, 90), (0, 2, 110), (1, 1, 2)])
 }
@@ -103,12 +83,10 @@ fn workers_execute_batches(rt: HostRuntime) -> Result<(), Fail> {
 /// Runs two batches on one thread, by these choices of events.
 fn run_by_choices(rt: &impl Abort, alloc: Global, choices: &[u64]) -> Result<(), Fail> {
     let mut engine = engine(alloc, Settings::new(2, 8, 64, 65_536)?)?;
-    let pays = batch_of(alloc, &engine, TWO_PAYS)?;
-    let done = engine.run_alone(alloc, pays, choices);
-    replies_are(rt, alloc, done, &[(0, 0, 70), (1, 1, 40)])?;
-    let back = batch_of(alloc, &engine, LOOK_AND_PAY_BACK)?;
-    let done = engine.run_alone(alloc, back, choices);
-    replies_are(rt, alloc, done, &[(2, 0, 160), (3, 1, 110)])?;
+    let done = run_alone(alloc, &mut engine, TWO_PAYS, choices)?;
+    replies_are(rt, &done, &[(0, 0, 70), (1, 1, 40)]);
+    let done = run_alone(alloc, &mut engine, LOOK_AND_PAY_BACK, choices)?;
+    replies_are(rt, &done, &[(2, 0, 160), (3, 1, 110)]);
     rows_are(rt, &engine, &[(0, 1, 90), (0, 2, 110), (1, 1, 2)])
 }
 
@@ -119,18 +97,21 @@ fn batches_are_run_on_one_thread(rt: HostRuntime) -> Result<(), Fail> {
     run_by_choices(&rt, alloc, &[1, 7, 3, 100, 2, 2, 9])
 }
 
+/// The outcomes are these, in order.
+fn outcomes_are(rt: &impl Abort, done: &BatchDone, outcomes: &[Outcome]) {
+    assert_eq!(rt; done.replies.len(), outcomes.len());
+    for (reply, outcome) in done.replies.iter().zip(outcomes) {
+        assert!(rt; reply.outcome == *outcome);
+    }
+}
+
 #[test]
 fn a_row_outside_the_footprint_is_refused_whatever_is_locked(rt: HostRuntime) -> Result<(), Fail> {
     let alloc = rt.alloc();
     for threshold in [0, 1, 65_535] {
         let mut engine = engine(alloc, Settings::new(2, 8, threshold, 65_536)?)?;
-        let batch = batch_of(alloc, &engine, "[\"call\",\"bad5\",[]]")?;
-        let Ok(done) = engine.run_alone(alloc, batch, &[]) else {
-            return Err(Fail::from("not executed"));
-        };
-        for reply in done.replies {
-            assert!(rt; reply.outcome == Outcome::Abort(AbortCode::Uncovered));
-        }
+        let done = run_alone(alloc, &mut engine, "[\"call\",\"bad5\",[]]", &[])?;
+        outcomes_are(&rt, &done, &[Outcome::Abort(AbortCode::Uncovered)]);
     }
     Ok(())
 }
@@ -140,10 +121,9 @@ fn each_transaction_passes_the_gate_once(rt: HostRuntime) -> Result<(), Fail> {
     let alloc = rt.alloc();
     let mut engine = engine(alloc, Settings::new(1, 1, 64, 65_536)?)?;
     let log = "[\"call\",\"peek\",[2]]\n[\"call\",\"pay\",[2,1,60]]\n[\"call\",\"peek\",[1]]";
-    let batch = batch_of(alloc, &engine, log)?;
     let gate = InOrder::new();
-    let done = engine.execute(&rt, alloc, batch, &gate);
-    replies_are(&rt, alloc, done, &[(0, 0, 100), (1, 1, 40), (2, 2, 160)])?;
+    let done = execute(&rt, &mut engine, log, &gate)?;
+    replies_are(&rt, &done, &[(0, 0, 100), (1, 1, 40), (2, 2, 160)]);
     assert_eq!(rt; gate.passed(), (3, 0));
     Ok(())
 }
@@ -152,19 +132,13 @@ fn each_transaction_passes_the_gate_once(rt: HostRuntime) -> Result<(), Fail> {
 fn count_around_an_insert(rt: &impl Abort, alloc: Global, choices: &[u64]) -> Result<(), Fail> {
     let log = "[\"call\",\"cnt\",[]]\n[\"call\",\"ins\",[4,7]]\n[\"call\",\"cnt\",[]]";
     let mut engine = engine(alloc, Settings::new(2, 8, 64, 65_536)?)?;
-    let batch = batch_of(alloc, &engine, log)?;
-    let Ok(done) = engine.run_alone(alloc, batch, choices) else {
-        return Err(Fail::from("not executed"));
-    };
+    let done = run_alone(alloc, &mut engine, log, choices)?;
     let counts = [
         Outcome::Commit(vec![in alloc; Value::Int(1)]?),
         Outcome::Commit(Vec::new(alloc)),
         Outcome::Commit(vec![in alloc; Value::Int(2)]?),
     ];
-    assert_eq!(rt; done.replies.len(), 3);
-    for (reply, count) in done.replies.iter().zip(&counts) {
-        assert!(rt; reply.outcome == *count, "{choices:?}");
-    }
+    outcomes_are(rt, &done, &counts);
     Ok(())
 }
 

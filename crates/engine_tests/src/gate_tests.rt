@@ -1,8 +1,9 @@
 //! Jobs that meet at a gate, or don't.
 
-use crate::test_world::{batch_of, engine};
-use engine::{Gate, Settings};
+use crate::test_world::{engine, execute};
+use engine::{BatchDone, Gate, Settings};
 use meaning::Outcome;
+use std::alloc::Global;
 use std::sync::Wait;
 use std::sync::atomic::{AtomicBool, Ordering};
 use std::test::Fail;
@@ -56,7 +57,29 @@ impl Gate for Meeting {
     }
 }
 
-/// The values that the transactions of a log reply, one each, on so many workers with so many lanes.
+/// The first value that a transaction replies, which is a number.
+fn number_in(outcome: &Outcome) -> Option<i64> {
+    let Outcome::Commit(values) = outcome else {
+        return None;
+    };
+    match values.first() {
+        Some(Value::Int(number)) => Some(*number),
+        _ => None,
+    }
+}
+
+/// The numbers that the transactions of a batch reply; those that reply none are left out.
+fn numbers_of(alloc: Global, done: &BatchDone) -> Result<Vec<i64>, Fail> {
+    let mut numbers = Vec::new(alloc);
+    for reply in &done.replies {
+        if let Some(number) = number_in(&reply.outcome) {
+            numbers.push(number)?;
+        }
+    }
+    Ok(numbers)
+}
+
+/// The numbers that the transactions of a log reply, on so many workers with so many lanes.
 fn replies<R: Threads + Wait + Sync + AllocGlobal>(
     rt: &R,
     log: &str,
@@ -66,21 +89,8 @@ fn replies<R: Threads + Wait + Sync + AllocGlobal>(
 ) -> Result<Vec<i64>, Fail> {
     let alloc = rt.alloc();
     let mut engine = engine(alloc, Settings::new(workers, lanes, 64, 65_536)?)?;
-    let batch = batch_of(alloc, &engine, log)?;
-    let Ok(done) = engine.execute(rt, alloc, batch, gate) else {
-        return Err(Fail::from("not executed"));
-    };
-    let mut values = Vec::new(alloc);
-    for reply in done.replies {
-        if let Outcome::Commit(replied) = reply.outcome {
-            for value in replied {
-                if let Value::Int(number) = value {
-                    values.push(number)?;
-                }
-            }
-        }
-    }
-    Ok(values)
+    let done = execute(rt, &mut engine, log, gate)?;
+    numbers_of(alloc, &done)
 }
 
 #[test]

@@ -4,8 +4,8 @@ ghost use Rattle.std.specs.Prelude.{◌≡◌, IfOk};
 ghost use Rattle.std.specs.FinMap as map_of;
 
 use crate::plain::run_serially;
-use crate::test_world::{bank, batch_from, engine};
-use engine::{BatchDone, Engine, Settings};
+use crate::test_world::{bank, batch_from, engine, run_alone};
+use engine::{Engine, Settings};
 use interp_expr::RowView;
 use meaning::Outcome;
 use proclang::Procs;
@@ -128,11 +128,8 @@ fn run_batch(
     choices: &[u64],
     outcomes: &mut Vec<Outcome>,
 ) -> Result<(), Fail> {
-    let batch = batch_from(alloc, engine.procs(), &calls(alloc, number)?)?;
-    let Ok(BatchDone { replies, .. }) = engine.run_alone(alloc, batch, choices) else {
-        return Err(Fail::from("not executed"));
-    };
-    for reply in replies {
+    let done = run_alone(alloc, engine, &calls(alloc, number)?, choices)?;
+    for reply in done.replies {
         outcomes.push(reply.outcome)?;
     }
     Ok(())

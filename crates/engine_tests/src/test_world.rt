@@ -6,12 +6,14 @@ ghost use Rattle.sequencer.specs.Batches.{items_of, AreOver};
 ghost use Rattle.engine.specs.Engines.{tables_of};
 
 use batch_log::{LogReader, ReadSource};
-use engine::{Batch, Engine, Gate, Settings};
+use engine::{Batch, BatchDone, Engine, ExecFault, Gate, OpenGate, Settings};
 use proclang::{Procs, Request};
 use setup::{Setup, read_setup};
 use std::alloc::Global;
+use std::sync::Wait;
 use std::sync::atomic::{AtomicU64, Ordering};
 use std::test::Fail;
+use std::thread::Threads;
 
 const BANK: &str = r#"["setup",1,
 ["catalogue",1,[["acct",2,[["bal","int"]]],["ref",1,[["to","int"]]]]],
@@ -70,6 +72,45 @@ pub(crate) fn batch_of(alloc: Global, engine: &Engine, log: &str) -> Result<Batc
     ensures { IfOk result (λ batch. AreOver (tables_of engine.now) (items_of batch)) }
 {
     batch_from(alloc, engine.procs(), log)
+}
+
+/// What a batch came to, which was executed.
+fn executed(done: Result<BatchDone, ExecFault>) -> Result<BatchDone, Fail> {
+    match done {
+        Ok(done) => Ok(done),
+        Err(_) => Err(Fail::from("not executed")),
+    }
+}
+
+/// Executes the calls of a log on worker threads.
+pub(crate) fn execute<R: Threads + Wait + Sync + AllocGlobal, G: Gate>(
+    rt: &R,
+    engine: &mut Engine,
+    log: &str,
+    gate: &G,
+) -> Result<BatchDone, Fail> {
+    let batch = batch_of(rt.alloc(), engine, log)?;
+    executed(engine.execute(rt, rt.alloc(), batch, gate))
+}
+
+/// Executes a batch without calls on worker threads.
+pub(crate) fn execute_nothing<R: Threads + Wait + Sync + AllocGlobal>(
+    rt: &R,
+    engine: &mut Engine,
+) -> Result<BatchDone, Fail> {
+    let batch = batch_over(rt.alloc(), engine.procs(), Vec::new(rt.alloc()))?;
+    executed(engine.execute(rt, rt.alloc(), batch, &OpenGate))
+}
+
+/// Runs the calls of a log on one thread, by these choices of events.
+pub(crate) fn run_alone(
+    alloc: Global,
+    engine: &mut Engine,
+    log: &str,
+    choices: &[u64],
+) -> Result<BatchDone, Fail> {
+    let batch = batch_of(alloc, engine, log)?;
+    executed(engine.run_alone(alloc, batch, choices))
 }
 
 /// Counts who passes, and whether each has the next number.

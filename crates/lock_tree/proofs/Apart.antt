@@ -25,7 +25,7 @@ resources_total = laws.lawful.total
 same_itself : (k : ℕ) → (k == k) ≡ true
 same_itself k = grind (arith, nat_tests)
 
-same_numbers : (i k : ℕ) → (i == k) ≡ true → i ≡ k
+pub same_numbers : (i k : ℕ) → (i == k) ≡ true → i ≡ k
 same_numbers i k h = grind (arith, nat_tests)
 
 other_numbers : (i k : ℕ) → i < k → (i == k) ≡ false
@@ -35,7 +35,7 @@ cases : (b : Bool) → (b ≡ true) ⊎ (b ≡ false)
 cases true = inl refl
 cases false = inr refl
 
-both : (a b : Bool) → (a && b) ≡ true → (a ≡ true) × (b ≡ true)
+pub both : (a b : Bool) → (a && b) ≡ true → (a ≡ true) × (b ≡ true)
 both true b h = (refl, h)
 both false b h = absurd (cc)
 
@@ -79,7 +79,7 @@ asked (e ∷ es) x o (suc n, l, is) =
 
 -- ---- past requests of others
 
-head_fits : (held : List Mode) (q : ℕ × Mode) (qs : Queue) (k : ℕ) → has_number k (granted_beside held (q ∷ qs)) ≡ true
+pub head_fits : (held : List Mode) (q : ℕ × Mode) (qs : Queue) (k : ℕ) → has_number k (granted_beside held (q ∷ qs)) ≡ true
     → (list_all (λ h. are_compatible h q.1) held ≡ true) × (((q.0 == k) ≡ true) ⊎ (has_number k (granted_beside (q.1 ∷ held) qs) ≡ true))
 head_fits held q qs k = elim (list_all (λ h. are_compatible h q.1) held) as (λ v. has_number k (cond v (q ∷ granted_beside (q.1 ∷ held) qs) []) ≡ true → (v ≡ true) × (((q.0 == k) ≡ true) ⊎ (has_number k (granted_beside (q.1 ∷ held) qs) ≡ true))) [
   | true ↦ λ h. (refl, or_parts (q.0 == k) (has_number k (granted_beside (q.1 ∷ held) qs)) h)

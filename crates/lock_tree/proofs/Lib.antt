@@ -15,3 +15,4 @@ pub mod Below
 pub mod Holding
 pub mod Extending
 pub mod Standing
+pub mod Staying

@@ -1,12 +1,12 @@
 -- Laws of queues and of readiness.
-use Rattle.std.specs.Prelude.{◌≡◌, ◌<◌, ℕ, true, false, List, ◌∷◌, ◌++◌, Some}
+use Rattle.std.specs.Prelude.{◌≡◌, ◌≢◌, ◌<◌, ℕ, Bool, true, false, List, [], ◌∷◌, ◌++◌, Some}
 use Rattle.std.specs.List.{Contains, AllPairs}
 use Rattle.modes.specs.declared.mode.Mode.{Mode}
 use Rattle.modes.specs.Modes.{are_compatible}
 use Rattle.coarsen.specs.Subtrees.{Requests}
 use Rattle.coarsen.specs.Plans.{IsSound}
 use Rattle.coarsen.specs.Clashes.{Conflict}
-use Rattle.lock_tree.specs.Locks.{Waiting, plan_of, IsRising}
+use Rattle.lock_tree.specs.Locks.{Waiting, plan_of, without, with_mark, IsRising}
 use Rattle.lock_tree.specs.Queues.{Queue, granted}
 use Rattle.lock_tree.specs.Ready.{ready}
 
@@ -29,3 +29,10 @@ ReadyApart =
 -- the first of all is ready
 abbrev pub FirstReady : Type 0
 FirstReady = (w : Waiting) (ws : List Waiting) → ready (w ∷ ws) w.number ≡ true
+
+-- a ready transaction stays ready until it is released: when one more is enqueued, when any is marked or not any more, and when
+-- another is released
+pub record ReadyStays : Type 0 where
+  pub enqueued : (waiting : List Waiting) (more : Waiting) (number : ℕ) → ready waiting number ≡ true → ready (waiting ++ more ∷ []) number ≡ true
+  pub marked : (waiting : List Waiting) (other : ℕ) (mark : Bool) (number : ℕ) → ready waiting number ≡ true → ready (with_mark other mark waiting) number ≡ true
+  pub released : (waiting : List Waiting) (other number : ℕ) → other ≢ number → ready waiting number ≡ true → ready (without other waiting) number ≡ true

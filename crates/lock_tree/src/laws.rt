@@ -1,6 +1,6 @@
 //! Laws of queues and of readiness, as contracts of functions that do nothing.
 
-ghost use Rattle.lock_tree.specs.Laws.{GrantsLongestFront, ReadyApart, FirstReady};
+ghost use Rattle.lock_tree.specs.Laws.{GrantsLongestFront, ReadyApart, FirstReady, ReadyStays};
 
 /// What is granted of a queue is its longest front whose members are pairwise compatible.
 pub fn granted_is_longest_front()
@@ -15,4 +15,9 @@ pub fn ready_apart()
 /// The transaction that was enqueued before all others is ready.
 pub fn first_ready()
     ensures { FirstReady }
+{}
+
+/// A transaction that is ready stays ready until it is released.
+pub fn ready_stays()
+    ensures { ReadyStays }
 {}

@@ -16,5 +16,5 @@ mod tests;
 mod transactions;
 mod tree;
 
-pub use laws::{first_ready, granted_is_longest_front, ready_apart};
+pub use laws::{first_ready, granted_is_longest_front, ready_apart, ready_stays};
 pub use tree::{EnqueueFault, LockTree};

@@ -1,5 +1,5 @@
 -- Jobs that come back.
-use Rattle.std.proofs.Common.{◌≡◌, ◌<◌, ◌≤◌, ◌+◌, ◌-◌, ℕ, nat_le, true, false, List, length, map, Option, Some, IsSome, slice_get, refl, sym, ap, ◌∙◌, subst, arith, if◌then◌else◌}
+use Rattle.std.proofs.Common.{◌≡◌, ◌<◌, ◌≤◌, ◌+◌, ◌-◌, ℕ, nat_le, ◌&&◌, true, false, List, length, map, Option, Some, IsSome, slice_get, slice_set, refl, sym, ap, ◌∙◌, subst, arith, if◌then◌else◌}
 use Rattle.std.proofs.lemmas.Option.{slice_get_within}
 use Rattle.std.specs.FinMap.{get}
 use Rattle.values.specs.declared.name.RowName.{RowName}
@@ -11,21 +11,25 @@ use Rattle.coarsen.specs.Clashes.{locks_row}
 use Rattle.footprint.specs.Tree.{row_resource}
 use Rattle.std.proofs.lemmas.Bool.Decides.{nat_tests}
 use Rattle.lock_tree.specs.Locks.{Locks, plan_of}
+use Rattle.lock_tree.specs.Ready.{ready}
 use Rattle.meaning.specs.declared.outcome.Outcome.{Outcome}
 use Rattle.meaning.specs.Outcomes.{as_reply}
 use Rattle.row_store.specs.Stock.{Stock}
 use Rattle.jobs.specs.Jobs.{JobOf, DoneOf, ComesOf, IsDoneOf, transaction_of}
+use Rattle.scheduler_core.specs.declared.event.Event.TheVariants.{Lend}
 use Rattle.scheduler_core.specs.declared.phase.Phase.{Phase}
+use Rattle.scheduler_core.specs.declared.phase.Phase.TheVariants as phase
 use Rattle.scheduler_core.specs.Transactions.{Transaction}
-use Rattle.scheduler_core.specs.Phases.{is_out, is_settled}
-use Rattle.scheduler_core.specs.Events.{waiting}
+use Rattle.scheduler_core.specs.Phases.{is_idle, is_out, is_settled}
+use Rattle.scheduler_core.specs.Events.{waiting, enabled}
 use Rattle.scheduler_core.specs.Sound as core
-use Rattle.scheduler_core.specs.Laws.{StaysSound, FollowsPhases}
+use Rattle.scheduler_core.specs.Laws.{StaysSound, FollowsPhases, AreByPlaces}
 use Rattle.scheduler.specs.declared.slot.Slot.{Slot}
-use Rattle.scheduler.specs.declared.slot.Slot.TheVariants.{Lent}
+use Rattle.scheduler.specs.declared.slot.Slot.TheVariants.{Idle, Lent}
 use Rattle.scheduler.specs.Schedules.{Work, Schedule, log_of, phase_in}
 use Rattle.scheduler.specs.Jobs.{IsJobAt, IsLentAt, IsRunAt, ComesBack}
 use Rattle.scheduler.specs.Scheduled.{IsScheduled}
+use Rattle.scheduler.proofs.Places.{set_here, map_set}
 use Rattle.scheduler.proofs.Slots.{phase_at}
 use Rattle.scheduler.proofs.Numbers.{lent_here}
 
@@ -111,3 +115,17 @@ module _ (w : Work) (place : ℕ) (sound : StaysSound w.tables w.first (log_of w
           ∙ sym (sound.out_rows (map phase_in slots) stock.rows place (transaction_of job) s.sound (ap (λ (o : Option Phase). is_out o) was ∙ out) j.transaction name read)
       | false ↦ λ _. refl
     ] refl
+
+    -- where it is given back, its transaction can be lent its rows again
+    pub can_be_lent : AreByPlaces w.nodes w.first (log_of w) (map phase_in (slice_set slots place Idle)) → (number : ℕ) → number ≡ w.first + place
+        → enabled w.nodes w.first (log_of w) (map phase_in (slice_set slots place Idle)) (Lend number) ≡ true
+    can_be_lent by number e =
+        let ps = map phase_in (slice_set slots place Idle) in
+        let idle : slice_get ps place ≡ Some phase.Idle = phase_at (slice_set slots place Idle) place Idle (set_here slots place old Idle at) in
+        let is_ready : ready (waiting w.first (log_of w) ps) (w.first + place) ≡ true =
+        ap (λ (qs : List Phase). ready (waiting w.first (log_of w) qs) (w.first + place)) (map_set phase_in slots place Idle)
+        ∙ follows.stays_ready.gives_back (map phase_in slots) place (ap (λ (o : Option Phase). is_out o) was ∙ out) s.ready in
+        ap (λ (n : ℕ). enabled w.nodes w.first (log_of w) ps (Lend n)) e
+        ∙ by.lend place
+        ∙ ap (λ (o : Option Phase). is_idle o && ready (waiting w.first (log_of w) ps) (w.first + place)) idle
+        ∙ is_ready

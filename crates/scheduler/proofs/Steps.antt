@@ -20,7 +20,7 @@ use Rattle.scheduler_core.specs.declared.phase.Phase.{Phase}
 use Rattle.scheduler_core.specs.declared.phase.Phase.TheVariants as phase
 use Rattle.scheduler_core.specs.Transactions.{Transaction}
 use Rattle.scheduler_core.specs.Phases.{is_out}
-use Rattle.scheduler_core.specs.Events.{waiting}
+use Rattle.scheduler_core.specs.Events.{waiting, OutAreReady}
 use Rattle.scheduler_core.specs.Sound as core
 use Rattle.scheduler_core.specs.Laws.{StaysSound, FollowsPhases}
 use Rattle.scheduler.specs.declared.slot.Slot.{Slot}
@@ -91,6 +91,9 @@ module _ (w : Work) (sound : StaysSound w.tables w.first (log_of w) w.start) (fo
   tree_same : (ps qs : List Phase) → ps ≡ qs → tree_at ps ≡ tree_at qs
   tree_same ps qs e = ap tree_at e
 
+  still_ready : {ps qs : List Phase} → qs ≡ ps → OutAreReady w.first (log_of w) ps → OutAreReady w.first (log_of w) qs
+  still_ready e ready = subst (OutAreReady w.first (log_of w)) (sym e) ready
+
   pub admitted : (slots : List Slot) (stock : Stock) (tree new : Locks) (t : Transaction) (number : ℕ) → Good slots stock tree → slice_get (log_of w) (length slots) ≡ Some t → number ≡ w.first + length slots
       → new ≡ record tree { waiting = tree.waiting ++ record { number = number; plan = t.plan; marked = false } ∷ [] } → Good (slots ++ Idle ∷ []) stock new
   admitted slots stock tree new t number s at n is =
@@ -103,6 +106,7 @@ module _ (w : Work) (sound : StaysSound w.tables w.first (log_of w) w.start) (fo
       record {
         tables = s.tables;
         sound = subst (λ (qs : List Phase). core.IsSound w.tables (log_of w) w.start qs stock.rows) (sym more) (sound.admits ps stock.rows s.sound less);
+        ready = still_ready more (follows.stays_ready.admits ps t at_end s.ready);
         kept = kept_more w slots s.kept;
         tree_is =
             is ∙ ap (λ (l : Locks). record { nodes = l.nodes; waiting = l.waiting ++ record { number = number; plan = t.plan; marked = false } ∷ [] }) s.tree_is
@@ -126,6 +130,7 @@ module _ (w : Work) (sound : StaysSound w.tables w.first (log_of w) w.start) (fo
         tables = tables ∙ s.tables;
         sound = subst (λ (qs : List Phase). core.IsSound w.tables (log_of w) w.start qs new.rows) (sym set)
             (subst (λ (d : Database). core.IsSound w.tables (log_of w) w.start (slice_set ps place phase.Out) d) (sym rows) (sound.lends ps stock.rows place s.sound idle r2));
+        ready = still_ready set (follows.stays_ready.lends ps place idle r2 s.ready);
         kept = kept_set w slots place Idle slot s.kept is fits;
         tree_is =
             later_is ∙ ap (λ (l : Locks). record { nodes = l.nodes; waiting = with_mark (w.first + place) true l.waiting }) s.tree_is
@@ -147,6 +152,7 @@ module _ (w : Work) (sound : StaysSound w.tables w.first (log_of w) w.start) (fo
       record {
         tables = s.tables;
         sound = subst (λ (qs : List Phase). core.IsSound w.tables (log_of w) w.start qs stock.rows) (sym set) (sound.runs ps stock.rows place s.sound was);
+        ready = still_ready set (follows.stays_ready.runs ps place was s.ready);
         kept = kept_set w slots place old slot s.kept is fits;
         tree_is =
             s.tree_is ∙ ap (λ (ws : List Waiting). record { nodes = w.nodes; waiting = ws }) (sym (follows.runs ps place was))
@@ -171,6 +177,7 @@ module _ (w : Work) (sound : StaysSound w.tables w.first (log_of w) w.start) (fo
         tables = tables ∙ s.tables;
         sound = subst (λ (qs : List Phase). core.IsSound w.tables (log_of w) w.start qs new.rows) (sym set)
             (sound.same_rows (slice_set ps place phase.Idle) stock.rows new.rows (sound.takes_back ps stock.rows place s.sound is_out_there) rows);
+        ready = still_ready set (follows.stays_ready.takes_back ps place is_out_there s.ready);
         kept = kept_set w slots place old Idle s.kept is tt;
         tree_is =
             later_is ∙ ap (λ (l : Locks). record { nodes = l.nodes; waiting = with_mark (w.first + place) false l.waiting }) s.tree_is
@@ -201,6 +208,7 @@ module _ (w : Work) (sound : StaysSound w.tables w.first (log_of w) w.start) (fo
             (sound.settles ps stock.rows new.rows place t (as_reply outcome) job.loan.rows s.sound is_out_there at run.run
             (λ name locked. rows name ∙ ap (λ (b : Bool). if b then get job.loan.rows name else get stock.rows name) (over name ∙ locked))
             (λ name free. rows name ∙ ap (λ (b : Bool). if b then get job.loan.rows name else get stock.rows name) (over name ∙ free)));
+        ready = still_ready set (follows.stays_ready.settles ps place is_out_there s.ready);
         kept = kept_set w slots place old (Settled outcome) s.kept is run.run.replied;
         tree_is =
             later_is ∙ ap (λ (l : Locks). record { nodes = l.nodes; waiting = without (w.first + place) l.waiting }) s.tree_is
@@ -221,6 +229,7 @@ module _ (w : Work) (sound : StaysSound w.tables w.first (log_of w) w.start) (fo
       record {
         tables = s.tables;
         sound = subst (λ (qs : List Phase). core.IsSound w.tables (log_of w) w.start qs stock.rows) (sym set) s.sound;
+        ready = still_ready set s.ready;
         kept = kept_set w slots place old slot s.kept is fits;
         tree_is = s.tree_is ∙ tree_same ps (map phase_in (slice_set slots place slot)) (sym set);
         lent_is = λ i. s.lent_is i ∙ ap (λ (qs : List Phase). lent_to w qs i) (sym set);

@@ -10,7 +10,7 @@ use Rattle.scheduler_core.specs.declared.phase.Phase.{Phase}
 use Rattle.scheduler_core.specs.Transactions.{Transaction, ArePlanned}
 use Rattle.scheduler_core.specs.Serial.{serial_reply}
 use Rattle.scheduler_core.specs.Phases.{is_out, is_settled, at_number}
-use Rattle.scheduler_core.specs.Events.{waiting}
+use Rattle.scheduler_core.specs.Events.{waiting, OutAreReady}
 use Rattle.scheduler_core.specs.Laws.{FitIn}
 use Rattle.scheduler_core.specs.Sound.{IsSound}
 use Rattle.scheduler.specs.declared.slot.Slot.{Slot}
@@ -45,6 +45,7 @@ pub record IsFitting (w : Work) : Type 0 where
 pub record IsScheduled (w : Work) (slots : List Slot) (stock : Stock) (tree : Locks) : Type 0 where
   pub tables : stock.tables ≡ w.tables
   pub sound : IsSound w.tables (log_of w) w.start (map phase_in slots) stock.rows
+  pub ready : OutAreReady w.first (log_of w) (map phase_in slots)
   pub kept : (place : ℕ) (slot : Slot) → slice_get slots place ≡ Some slot → Fits w place slot
   pub tree_is : tree ≡ record { nodes = w.nodes; waiting = waiting w.first (log_of w) (map phase_in slots) }
   pub lent_is : (number : ℕ) → get stock.lent number ≡ lent_to w (map phase_in slots) number

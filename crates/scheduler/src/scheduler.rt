@@ -18,7 +18,7 @@ use interp::Entry;
 use jobs::{Done, Job};
 use lock_tree::{EnqueueFault, LockTree};
 use row_store::RowStore;
-use scheduler_core::{admitted_and_unsettled_wait, rows_are_serial};
+use scheduler_core::{admitted_and_unsettled_wait, events_by_places, rows_are_serial};
 use std::alloc::Global;
 use std::marker::Model;
 use std::snapshot::Snapshot;
@@ -176,14 +176,16 @@ impl Scheduler {
     }
 
     /// Settles a job that came back: its transaction is settled with its outcome, or, where it was not run, is not out any
-    /// more, and can be lent again once it is the least that is ready. It takes no memory.
+    /// more, and is ready: it can be lent its rows again. It takes no memory.
     pub fn settle(&mut self, done: Done)
         requires { ComesBack self.old done }
         ensures settled { IfSome done.outcome (λ outcome. self.new ≡ record self.old { slots = slice_set self.old.slots (done.job.number - self.old.work.first) (Slot.Settled outcome) }) }
         ensures back { done.outcome ≡ None → self.new ≡ record self.old { slots = slice_set self.old.slots (done.job.number - self.old.work.first) Slot.Idle } }
+        ensures ready { done.outcome ≡ None → enabled self.new.work.nodes self.new.work.first (log_of self.new.work) (phases_of self.new) (AnyEvent.Lend done.job.number) ≡ true }
     {
         admitted_and_unsettled_wait();
         rows_are_serial();
+        events_by_places();
         let number = done.no();
         let place = (number - self.first) as usize;
         let (job, outcome) = done.into_parts();

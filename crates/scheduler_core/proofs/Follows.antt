@@ -1,6 +1,7 @@
 -- The transactions that wait follow from the phases.
 use Rattle.std.proofs.Common.{◌≡◌, ℕ, ◌+◌, true, false, List, length, refl, arith, slice_get, slice_set}
 use Rattle.lock_tree.specs.Locks.{with_mark, without}
+use Rattle.lock_tree.specs.Laws.{ReadyStays}
 use Rattle.scheduler_core.specs.declared.phase.Phase.{Phase}
 use Rattle.scheduler_core.specs.declared.phase.Phase.TheVariants.{Idle, Out, Ran, Settled}
 use Rattle.scheduler_core.specs.Transactions.{Transaction}
@@ -11,8 +12,9 @@ use Rattle.scheduler_core.proofs.PhaseTests.{out_is}
 use Rattle.scheduler_core.proofs.Waits.{nothing_waits, plan_there, plan_from, waits_below, waits_rising}
 use Rattle.scheduler_core.proofs.WaitChanges.{waits_pushed, waits_kept, waits_marked, waits_settled}
 use Rattle.scheduler_core.proofs.Readies.{next_ready_lends}
+use Rattle.scheduler_core.proofs.StayingReady.{stays_ready}
 
-module _ (first : ℕ) (log : List Transaction) where
+module _ (law : ReadyStays) (first : ℕ) (log : List Transaction) where
   taken_back : (phases : List Phase) (place : ℕ) → is_out (slice_get phases place) ≡ true
       → waiting first log (slice_set phases place Idle) ≡ with_mark (first + place) false (waiting first log phases)
   taken_back phases place out = let (p, is, unsettled, still) = out_is (slice_get phases place) out in waits_marked first log phases place p Idle is unsettled refl
@@ -36,7 +38,8 @@ module _ (first : ℕ) (log : List Transaction) where
     below = λ phases. waits_below first log phases (first + length phases) (omega arith);
     rising = waits_rising first log;
     next_ready = λ nodes phases found within is. next_ready_lends nodes first log phases found within is;
+    stays_ready = stays_ready law first log;
   }
 
-pub all_follow : AdmittedAndUnsettledWait
-all_follow first log = follows first log
+pub all_follow : ReadyStays → AdmittedAndUnsettledWait
+all_follow law first log = follows law first log

@@ -7,6 +7,7 @@ pub mod PhaseTests
 pub mod Waits
 pub mod WaitChanges
 pub mod Readies
+pub mod StayingReady
 pub mod Follows
 pub mod LowerLaws
 pub mod Soundness
@@ -23,3 +24,4 @@ pub mod RunOnShown
 pub mod CanBeMade
 pub mod OnePlay
 pub mod MachineSteps
+pub mod GivenBack

@@ -25,7 +25,7 @@ use Rattle.scheduler_core.proofs.Readies.{lend_from}
 use Rattle.scheduler_core.proofs.Soundness.{sound_start, sound_admit, sound_lend, lent_serial, sound_run, run_serial, sound_take_back, sound_settle, outs_are_apart, ends_serially}
 
 -- a test of a next transaction that there is
-room_for : (nodes : ℕ) (waits : List Waiting) (o : Option Transaction) → has_room nodes waits o ≡ true → (t : Transaction) × (o ≡ Some t)
+pub room_for : (nodes : ℕ) (waits : List Waiting) (o : Option Transaction) → has_room nodes waits o ≡ true → (t : Transaction) × (o ≡ Some t)
 room_for nodes waits None h = absurd (cc)
 room_for nodes waits (Some t) h = (t, refl)
 

@@ -19,6 +19,10 @@ waiting first (t ∷ log) (p ∷ phases) =
     if is_settled (Some p) then waiting (suc first) log phases
     else record { number = first; plan = t.plan; marked = is_out (Some p) } ∷ waiting (suc first) log phases
 
+-- each transaction that is out is ready
+abbrev pub OutAreReady : ℕ → List Transaction → List Phase → Type 0
+OutAreReady first log phases = (place : ℕ) → is_out (slice_get phases place) ≡ true → ready (waiting first log phases) (first + place) ≡ true
+
 -- there is a next transaction, and room for its plan beside those that wait
 abbrev pub has_room : ℕ → List Waiting → Option Transaction → Bool
 has_room nodes waits None = false

@@ -22,10 +22,10 @@ use Rattle.scheduler_core.specs.declared.phase.Phase.TheVariants.{Idle, Out, Ran
 use Rattle.scheduler_core.specs.Transactions.{Transaction, entries_of, IsPlanned, ArePlanned, AgreeOnLocked}
 use Rattle.scheduler_core.specs.Serial.{serial_rows, serial_reply, IsByPlaces}
 use Rattle.scheduler_core.specs.Phases.{is_idle, is_lent, was_run, is_out, is_settled, phase_of, is_done, progress, is_made}
-use Rattle.scheduler_core.specs.Events.{waiting, enabled, step, Played}
+use Rattle.scheduler_core.specs.Events.{waiting, enabled, step, OutAreReady, Played}
 use Rattle.scheduler_core.specs.Choices.{next_step, next_steps, first_step, enabled_events, chosen, next_event, ListsEnabled, IsNextEvent, IsLeastLend}
 use Rattle.scheduler_core.specs.Sound.{IsSound, IsLent, IsRun, IsRunOf}
-use Rattle.scheduler_core.specs.Machine.{Machine, Move, lent, settled, phases_of, at_start, Does, Runs}
+use Rattle.scheduler_core.specs.Machine.{Machine, Move, lent, settled, phases_of, at_start, TakesBack, Does, Runs}
 
 -- the serial run by places is the serial run
 abbrev pub SerialRunByPlaces : Type 0
@@ -115,6 +115,32 @@ RowsAreSerial =
     (tables : List TableShape) (first : ℕ) (log : List Transaction) (start : Database) → ArePlanned tables log
     → StaysSound tables first log start
 
+-- ---- what is out is ready
+
+-- while each that is out is ready, that stays so at each step
+pub record StaysReady (first : ℕ) (log : List Transaction) : Type 0 where
+  pub starts : OutAreReady first log []
+  pub admits : (phases : List Phase) (t : Transaction) → slice_get log (length phases) ≡ Some t
+      → OutAreReady first log phases → OutAreReady first log (phases ++ Idle ∷ [])
+  pub lends : (phases : List Phase) (place : ℕ) → slice_get phases place ≡ Some Idle → ready (waiting first log phases) (first + place) ≡ true
+      → OutAreReady first log phases → OutAreReady first log (slice_set phases place Out)
+  pub runs : (phases : List Phase) (place : ℕ) → slice_get phases place ≡ Some Out
+      → OutAreReady first log phases → OutAreReady first log (slice_set phases place Ran)
+  pub takes_back : (phases : List Phase) (place : ℕ) → is_out (slice_get phases place) ≡ true
+      → OutAreReady first log phases → OutAreReady first log (slice_set phases place Idle)
+  -- and a transaction whose job is given back is ready, too
+  pub gives_back : (phases : List Phase) (place : ℕ) → is_out (slice_get phases place) ≡ true
+      → OutAreReady first log phases → ready (waiting first log (slice_set phases place Idle)) (first + place) ≡ true
+  pub settles : (phases : List Phase) (place : ℕ) → is_out (slice_get phases place) ≡ true
+      → OutAreReady first log phases → OutAreReady first log (slice_set phases place Settled)
+
+-- whatever the order of events, a transaction whose job is given back can be lent its rows again
+abbrev pub GivenBackCanBeLent : Type 0
+GivenBackCanBeLent =
+    (tables : List TableShape) (nodes first : ℕ) (log : List Transaction) (start : Database) (moves : List Move) (now : Machine) (number : ℕ) (new : Machine)
+    → Runs tables nodes first log (at_start start) moves now → TakesBack tables first log now number new
+    → enabled nodes first log (phases_of new.stages) (Lend number) ≡ true
+
 -- ---- the transactions in the lock tree
 
 pub record FollowsPhases (first : ℕ) (log : List Transaction) : Type 0 where
@@ -141,6 +167,7 @@ pub record FollowsPhases (first : ℕ) (log : List Transaction) : Type 0 where
   -- the least ready number without a mark is the least to which rows may be lent
   pub next_ready : (nodes : ℕ) (phases : List Phase) (found : Option ℕ) → length phases ≤ length log → IsNextReady (waiting first log phases) found
       → IsLeastLend nodes first log phases found
+  pub stays_ready : StaysReady first log
 
 abbrev pub AdmittedAndUnsettledWait : Type 0
 AdmittedAndUnsettledWait = (first : ℕ) (log : List Transaction) → FollowsPhases first log

@@ -1,9 +1,9 @@
 //! Laws of the core, as contracts of functions that do nothing.
 
-ghost use Rattle.scheduler_core.specs.Laws.{SerialRunByPlaces, EveryRunIsSerial, EnabledCanBeMade, MachineFollowsSteps, RunOnShownRows, RowsAreSerial, AdmittedAndUnsettledWait, EventsByPlaces, OnePlay, RoomIsKept, NoStuckState, NextEventIsEnabled, EnabledEventsAreListed, FirstChoice, EachStepGoesOn, FourStepsEach};
+ghost use Rattle.scheduler_core.specs.Laws.{SerialRunByPlaces, EveryRunIsSerial, EnabledCanBeMade, MachineFollowsSteps, RunOnShownRows, RowsAreSerial, AdmittedAndUnsettledWait, GivenBackCanBeLent, EventsByPlaces, OnePlay, RoomIsKept, NoStuckState, NextEventIsEnabled, EnabledEventsAreListed, FirstChoice, EachStepGoesOn, FourStepsEach};
 
 use coarsen::{clashes_are_either_way, locked_rows_conflict};
-use lock_tree::{first_ready, ready_apart};
+use lock_tree::{first_ready, ready_apart, ready_stays};
 use meaning::stays_in_footprint;
 
 /// The serial run by places is the serial run: each transaction is run on the rows that the one before it left.
@@ -55,10 +55,19 @@ pub fn rows_are_serial()
     ready_apart();
 }
 
-/// How the transactions that wait follow from the phases, event by event.
+/// How the transactions that wait follow from the phases, event by event, and that each that is out stays ready.
 pub fn admitted_and_unsettled_wait()
     ensures { AdmittedAndUnsettledWait }
-{}
+{
+    ready_stays();
+}
+
+/// Whatever the order of events, a transaction whose job is given back is ready and not out: its rows can be lent again.
+pub fn given_back_can_be_lent()
+    ensures { GivenBackCanBeLent }
+{
+    admitted_and_unsettled_wait();
+}
 
 /// The events of a transaction by its place in the log, which its number is counted from the first.
 pub fn events_by_places()

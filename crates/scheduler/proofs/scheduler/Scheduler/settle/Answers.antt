@@ -1,13 +1,15 @@
-use Rattle.std.proofs.Common.{◌≡◌, ◌<◌, ◌-◌, ℕ, true, false, List, map, slice_get, Some, None, sym, ap, ◌∙◌, subst, refl}
+use Rattle.std.proofs.Common.{◌≡◌, ◌<◌, ◌-◌, ℕ, true, false, List, map, slice_get, slice_set, Some, None, sym, ap, ◌∙◌, subst, refl}
 use Rattle.std.specs.FinMap.{remove}
 use Rattle.lock_tree.specs.Locks.{with_mark, without}
+use Rattle.scheduler_core.specs.declared.event.Event.TheVariants.{Lend}
 use Rattle.scheduler_core.specs.Phases.{is_settled}
+use Rattle.scheduler_core.specs.Events.{enabled}
 use Rattle.scheduler.specs.declared.slot.Slot.{Slot}
 use Rattle.scheduler.specs.declared.slot.Slot.TheVariants.{Idle, Lent, Settled}
 use Rattle.scheduler.specs.Schedules.{log_of, phase_in, work_of}
 use Rattle.scheduler.specs.Jobs.{ComesBack}
 use Rattle.scheduler.specs.Scheduled.{IsScheduled, AreSettledBefore}
-use Rattle.scheduler.proofs.Returns.{back_parts, number_there, given_back, run_at, lent_number, waits, inside, same_rows}
+use Rattle.scheduler.proofs.Returns.{back_parts, number_there, given_back, run_at, lent_number, waits, inside, same_rows, can_be_lent}
 use Rattle.scheduler.proofs.Steps.{taken_back, settled}
 use Rattle.scheduler.proofs.Leading.{settled_before, settled_set}
 use Rattle.scheduler.proofs.scheduler.Scheduler.settle.Goals as goal
@@ -154,3 +156,18 @@ invariant_of-self-in-None c =
       subst (λ (slots : List Slot). AreSettledBefore slots c.self.inside.settled) (sym c.put-in-None.ensures)
           (settled_set c.self.inside.slots.items c.self.inside.settled place Lent Idle c.self.invariant.2 b.0 refl refl),
     )
+
+pub returns-in-None-clause-ready : goal.returns-in-None-clause-ready
+returns-in-None-clause-ready c = λ _.
+    let w = work_of c.self.inside.catalogue c.self.inside.nodes c.self.inside.first c.self.inside.entries.items c.self.inside.plans.items c.self.inside.start.value.rows in
+    let sound = c.rows_are_serial.ensures w.tables w.first (log_of w) w.start c.self.invariant.0.planned in
+    let follows = c.admitted_and_unsettled_wait.ensures w.first (log_of w) in
+    let place = c.no-number.result - c.self.inside.first in
+    let job = c.into_parts-job.result.0 in
+    let back = subst (λ s. ComesBack s c.args.done) (sym c.self.view_is) c.requires in
+    let b = back_parts (record { work = w; slots = c.self.inside.slots.items }) c.args.done c.no-number.result job c.into_parts-job.result.1 None back c.no-number.ensures c.into_parts-job.ensures.job c.into_parts-job.ensures.outcome c.in-None.is in
+    let at = (given_back w place b.1 job b.2 b.3).job_at in
+    let number = number_there w place job c.no-number.result c.args.done at c.no-number.ensures c.into_parts-job.ensures.job in
+    let by_places = c.events_by_places.ensures w.nodes w.first (log_of w) (map phase_in (slice_set c.self.inside.slots.items place Idle)) in
+    subst (λ (slots : List Slot). enabled w.nodes w.first (log_of w) (map phase_in slots) (Lend c.args.done.job.number) ≡ true) (sym c.put-in-None.ensures)
+    (can_be_lent w place sound c.self.inside.slots.items c.self.inside.store c.self.inside.locks follows c.self.invariant.1 Lent b.0 refl refl job at by_places c.args.done.job.number (sym c.no-number.ensures ∙ number))
