@@ -15,5 +15,4 @@ pub mod Listing
 pub mod Ends
 pub mod Finishes
 pub mod Settles
-pub mod TestBatches
 pub mod Comings

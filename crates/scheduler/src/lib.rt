@@ -10,8 +10,6 @@ mod playing;
 mod scheduler;
 mod settling;
 mod slot;
-#[cfg(test)]
-mod tests;
 
 pub use finished::{Finished, Outcomes};
 pub use jobs::{Done, Job, run_job};

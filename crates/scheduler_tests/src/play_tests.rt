@@ -1,95 +1,51 @@
 //! Logs played in several orders, against what was worked out by hand.
 
-ghost use Rattle.std.specs.Prelude.{◌≡◌, IfOk};
-ghost use Rattle.std.specs.List.{AllByRecursion};
-ghost use Rattle.sequencer.specs.Batches.{items_of};
 ghost use Rattle.scheduler.specs.Schedules.{KeepsItsJobs};
 
-use crate::{AdmitFault, Event, Scheduler, StepAnswer, run_job};
+use crate::test_world::{Call, scheduler};
 use footprint::AbortCode;
 use interp::RowView;
 use meaning::Outcome;
-use proclang::{Procs, Request, read_procs};
-use row_store::{RowStore, all_is_free_with_nothing_lent};
-use sequencer::{Batch, prepare};
-use serde_json::Value as Json;
-use std::alloc::Global;
+use row_store::all_is_free_with_nothing_lent;
+use scheduler::{AdmitFault, Event, Scheduler, StepAnswer, lent_jobs_come_back, run_job};
 use std::process::Abort;
 use std::test::Fail;
-use values::{Catalogue, Key, Row, TableNo, Value};
+use values::{Key, TableNo, Value};
 
-const CATALOGUE: &str = r#"["catalogue",1,[["acct",2,[["bal","int"]]],["ref",1,[["to","int"]]]]]"#;
-
-const PROCS: &str = r#"["procs",1,[
-["pay",[["a","int"],["b","int"],["n","int"]],
- ["declared",["row","w","acct","a"],["row","w","acct","b"]],
- [["get","x","acct","a","bal"],["get","y","acct","b","bal"],
-  ["if",["<","x","n"],[["abort",100]],[]],
-  ["put","acct","a","bal",["-","x","n"]],
-  ["put","acct","b","bal",["+","y","n"]],
-  ["reply",["-","x","n"]]]],
-["peek",[["k","int"]],["declared",["row","r","acct","k"]],
- [["get","x","acct","k","bal"],["reply","x"]]],
-["bad5",[],["declared",["row","r","acct",1],["row","r","acct",3]],
- [["get","x","acct",5,"bal"],["reply","x"]]]
-]]"#;
-
-/// A call: the procedure's name, and its values.
-type Call<'a> = (&'a str, &'a [i64]);
-
-fn request(alloc: Global, procs: &Procs, call: &Call<'_>) -> Result<Request, Fail>
-    ensures { IfOk result (λ request. request.proc.tables ≡ procs.now.tables) }
+/// Makes an event, where it is enabled.
+fn make(scheduler: &mut Scheduler, event: Event) -> StepAnswer
+    requires { KeepsItsJobs scheduler.old }
+    ensures { KeepsItsJobs scheduler.new }
 {
-    let mut values = Vec::new(alloc);
-    for number in call.1 {
-        values.push(Value::Int(*number))?;
-    }
-    Ok(Request::new(procs, call.0, values)?)
+    scheduler.step(event)
 }
 
-/// The rows 1 and 2 of the accounts, with 100 each.
-fn rows(alloc: Global) -> Result<Vec<(TableNo, Key, Row)>, Fail> {
-    let mut rows = Vec::new(alloc);
-    for number in [1, 2] {
-        let key = Key::new(number).ok_or("a key")?;
-        let row = Row::new(vec![in alloc; Value::Int(100)]?);
-        rows.push((TableNo::new(0), key, row))?;
-    }
-    Ok(rows)
+/// The event that comes next.
+fn next_event(scheduler: &Scheduler) -> Option<Event>
+    requires { KeepsItsJobs scheduler.now }
+{
+    scheduler.next_event()
 }
 
-/// The batch of these calls.
-fn batch(alloc: Global, procs: &Procs, calls: &[Call<'_>]) -> Result<Batch, Fail>
-    ensures { IfOk result (λ batch. AllByRecursion (λ item. item.request.proc.tables ≡ procs.now.tables) (items_of batch)) }
+/// A number chooses this event.
+fn assert_chosen(
+    rt: &impl Abort,
+    scheduler: &Scheduler,
+    number: u64,
+    event: Event,
+) -> Result<(), Fail>
+    requires { KeepsItsJobs scheduler.now }
 {
-    let mut requests = Vec::new(alloc);
-    for call in calls {
-        requests.push(request(alloc, procs, call)?)?;
-    }
-    Ok(Batch::of(alloc, requests)?)
+    assert_eq!(rt; scheduler.choose(number)?, Some(event));
+    Ok(())
 }
 
-/// A scheduler of these calls on the bank.
-fn scheduler(
-    alloc: Global,
-    calls: &[Call<'_>],
-    threshold: usize,
-    most: usize,
-) -> Result<Scheduler, Fail>
-    ensures { IfOk result (λ scheduler. KeepsItsJobs scheduler) }
+/// Plays events.
+fn play(scheduler: &mut Scheduler, events: &[Event]) -> Result<Vec<StepAnswer>, Fail>
+    requires { KeepsItsJobs scheduler.old }
+    ensures { KeepsItsJobs scheduler.new }
 {
-    let catalogue = Catalogue::read(alloc, &Json::from_str(alloc, CATALOGUE)?)?;
-    let procs = read_procs(alloc, &Json::from_str(alloc, PROCS)?, &catalogue)?;
-    let batch = batch(alloc, &procs, calls)?;
-    let store = RowStore::new(alloc, &catalogue, rows(alloc)?)?;
-    let entries = prepare(alloc, &batch, &catalogue, &procs, &store)?;
-    if entries.len() > 4096 || most == 0 {
-        return Err(Fail::from("too many"));
-    }
-    match Scheduler::new(alloc, catalogue, store, entries, 0, threshold, most) {
-        Ok(scheduler) => Ok(scheduler),
-        Err(_) => Err(Fail::from("memory")),
-    }
+    Ok(scheduler.play(events)?)
 }
 
 /// The answers to events.
@@ -98,7 +54,7 @@ fn assert_answers(rt: &impl Abort, scheduler: &mut Scheduler, played: &[(Event, 
     ensures { KeepsItsJobs scheduler.new }
 {
     for (event, want) in played {
-        assert_eq!(rt; scheduler.step(*event), *want, "{event:?}");
+        assert_eq!(rt; make(scheduler, *event), *want, "{event:?}");
     }
 }
 
@@ -117,7 +73,7 @@ fn assert_commit(rt: &impl Abort, scheduler: &Scheduler, no: u64, value: i64) {
 fn a_payment_waits_for_the_one_before_it(rt: HostRuntime) -> Result<(), Fail> {
     let pay: Call<'_> = ("pay", &[1, 2, 30]);
     let mut scheduler = scheduler(rt.alloc(), &[pay, pay], 8, 65_536)?;
-    assert_eq!(rt; scheduler.next_event(), Some(Event::Admit));
+    assert_eq!(rt; next_event(&scheduler), Some(Event::Admit));
     let answers = [
         (Event::Admit, StepAnswer::Made),
         (Event::Admit, StepAnswer::Made),
@@ -138,7 +94,7 @@ fn a_payment_waits_for_the_one_before_it(rt: HostRuntime) -> Result<(), Fail> {
     ];
     assert_answers(&rt, &mut scheduler, &answers);
     assert!(rt; scheduler.is_done());
-    assert_eq!(rt; scheduler.next_event(), None);
+    assert_eq!(rt; next_event(&scheduler), None);
     assert_commit(&rt, &scheduler, 0, 70);
     assert_commit(&rt, &scheduler, 1, 40);
     assert!(rt; scheduler.reply(2).is_none());
@@ -159,9 +115,9 @@ fn readers_are_out_together(rt: HostRuntime) -> Result<(), Fail> {
         Event::Settle(1),
         Event::Settle(0),
     ];
-    let none = scheduler.play(&[])?;
+    let none = play(&mut scheduler, &[])?;
     assert_eq!(rt; none.len(), 0);
-    let answers = scheduler.play(&events)?;
+    let answers = play(&mut scheduler, &events)?;
     assert_eq!(rt; answers.len(), 8);
     for answer in &answers {
         assert_eq!(rt; *answer, StepAnswer::Made);
@@ -175,18 +131,18 @@ fn readers_are_out_together(rt: HostRuntime) -> Result<(), Fail> {
 fn events_are_chosen_by_their_places(rt: HostRuntime) -> Result<(), Fail> {
     let peek: Call<'_> = ("peek", &[1]);
     let mut scheduler = scheduler(rt.alloc(), &[peek, peek], 8, 65_536)?;
-    assert_eq!(rt; scheduler.choose(3)?, Some(Event::Admit));
+    assert_chosen(&rt, &scheduler, 3, Event::Admit)?;
     let both = [
         (Event::Admit, StepAnswer::Made),
         (Event::Admit, StepAnswer::Made),
     ];
     assert_answers(&rt, &mut scheduler, &both);
-    assert_eq!(rt; scheduler.choose(2)?, Some(Event::Lend(0)));
-    assert_eq!(rt; scheduler.choose(3)?, Some(Event::Lend(1)));
+    assert_chosen(&rt, &scheduler, 2, Event::Lend(0))?;
+    assert_chosen(&rt, &scheduler, 3, Event::Lend(1))?;
     assert_answers(&rt, &mut scheduler, &[(Event::Lend(0), StepAnswer::Made)]);
-    assert_eq!(rt; scheduler.choose(2)?, Some(Event::Run(0)));
+    assert_chosen(&rt, &scheduler, 2, Event::Run(0))?;
     scheduler.settle_held();
-    assert_eq!(rt; scheduler.choose(3)?, Some(Event::Lend(1)));
+    assert_chosen(&rt, &scheduler, 3, Event::Lend(1))?;
     Ok(())
 }
 
@@ -200,7 +156,7 @@ fn run_by_choices(scheduler: &mut Scheduler, start: u64, step: u64) -> Result<()
         let Some(event) = scheduler.choose(number)? else {
             return Ok(());
         };
-        scheduler.step(event);
+        make(scheduler, event);
         number = number.wrapping_add(step);
     }
     Err(Fail::from("not done"))
@@ -212,10 +168,10 @@ fn run_in_order(scheduler: &mut Scheduler) -> Result<(), Fail>
     ensures { KeepsItsJobs scheduler.new }
 {
     for _ in 0..2_000 {
-        let Some(event) = scheduler.next_event() else {
+        let Some(event) = next_event(scheduler) else {
             return Ok(());
         };
-        scheduler.step(event);
+        make(scheduler, event);
     }
     Err(Fail::from("not done"))
 }
@@ -297,6 +253,7 @@ fn every_order_gives_the_serial_replies(rt: HostRuntime) -> Result<(), Fail> {
 /// Lends its rows to the next transaction, runs it and settles it: the numbers of its job and of what came back, and whether
 /// it was run.
 fn settle_next(scheduler: &mut Scheduler) -> Result<(u64, u64, bool), Fail> {
+    lent_jobs_come_back();
     let Some(job) = scheduler.lend()? else {
         return Err(Fail::from("no job"));
     };
