@@ -240,7 +240,7 @@ impl Engine {
         ensures busy { is_busy self.old ≡ true → result ≡ Err (ExecFault.Busy batch) }
         ensures full { is_busy self.old ≡ false → 2 ^ 48 < self.old.next + length (items_of batch) → result ≡ Err (ExecFault.LogFull batch) }
         // No other batch comes back. Where a thread is refused nothing has run. Where a thread or memory is refused the engine
-        // holds the batch, no job of it is out, and what is settled stays settled.
+        // holds the batch, and no job of it is out.
         ensures refused { IfErr result (IsRefusal self.old self.new batch) }
     {
         self.take(batch)?;
@@ -257,6 +257,7 @@ impl Engine {
         requires { is_busy self.old ≡ true }
         ensures same { KeepsSetting self.old self.new }
         ensures done { IfOk result (ResumesTo self.old self.new self.old.unfinished) }
+        // Where a thread or memory is refused again, no job is out, and what was settled before stays settled.
         ensures refused { IfErr result (IsInterruption self.old self.old.unfinished self.new) }
     {
         self.go_on_workers(rt, alloc, gate)

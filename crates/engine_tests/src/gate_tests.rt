@@ -118,7 +118,7 @@ fn readers_wait_for_a_lane_alone(rt: HostRuntime) -> Result<(), Fail> {
     for (lanes, turns, is_seen) in [
         (8, 1_000_000, true),
         (2, 1_000_000, true),
-        (1, 1_000, false),
+        (1, 1_000_000, false),
     ] {
         let gate = Meeting::new(3, turns);
         let found = replies(&rt, &log, 2, lanes, &gate)?;
@@ -131,7 +131,7 @@ fn readers_wait_for_a_lane_alone(rt: HostRuntime) -> Result<(), Fail> {
 #[test]
 fn one_worker_runs_one_job_at_a_time(rt: HostRuntime) -> Result<(), Fail> {
     let log = "[\"call\",\"peek\",[1]]\n[\"call\",\"peek\",[2]]";
-    let gate = Meeting::new(1, 1_000);
+    let gate = Meeting::new(1, 1_000_000);
     assert!(rt; replies(&rt, log, 1, 8, &gate)?.as_slice() == [100, 100].as_slice());
     assert!(rt; !gate.was_seen());
     Ok(())

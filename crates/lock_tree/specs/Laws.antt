@@ -30,7 +30,7 @@ ReadyApart =
 abbrev pub FirstReady : Type 0
 FirstReady = (w : Waiting) (ws : List Waiting) → ready (w ∷ ws) w.number ≡ true
 
--- a ready transaction stays ready until it is released: when one more is enqueued, when any is marked or not any more, and when
+-- a ready transaction stays ready until it is released: when one more is enqueued, when any is marked or unmarked, and when
 -- another is released
 pub record ReadyStays : Type 0 where
   pub enqueued : (waiting : List Waiting) (more : Waiting) (number : ℕ) → ready waiting number ≡ true → ready (waiting ++ more ∷ []) number ≡ true

@@ -36,6 +36,7 @@ impl Scheduler {
     fn play_admit(&mut self) -> StepAnswer
         requires { KeepsItsJobs self.old }
         ensures answer { Answers self.old.work.nodes self.old.work.first (log_of self.old.work) (phases_of self.old) AnyEvent.Admit result (phases_of self.new) }
+        ensures same { result ≢ AnyAnswer.Made → self.new ≡ self.old }
         ensures work { self.new.work ≡ self.old.work }
         ensures keeps { KeepsItsJobs self.new }
     {
@@ -49,6 +50,7 @@ impl Scheduler {
     fn play_lend(&mut self, number: u64) -> StepAnswer
         requires { KeepsItsJobs self.old }
         ensures answer { Answers self.old.work.nodes self.old.work.first (log_of self.old.work) (phases_of self.old) (AnyEvent.Lend number) result (phases_of self.new) }
+        ensures same { result ≢ AnyAnswer.Made → self.new ≡ self.old }
         ensures work { self.new.work ≡ self.old.work }
         ensures keeps { KeepsItsJobs self.new }
     {
@@ -84,6 +86,7 @@ impl Scheduler {
     fn play_run(&mut self, number: u64) -> StepAnswer
         requires { KeepsItsJobs self.old }
         ensures answer { Answers self.old.work.nodes self.old.work.first (log_of self.old.work) (phases_of self.old) (AnyEvent.Run number) result (phases_of self.new) }
+        ensures same { result ≢ AnyAnswer.Made → self.new ≡ self.old }
         ensures work { self.new.work ≡ self.old.work }
         ensures keeps { KeepsItsJobs self.new }
     {
@@ -112,6 +115,7 @@ impl Scheduler {
     pub(crate) fn play_settle(&mut self, number: u64) -> StepAnswer
         requires { KeepsItsJobs self.old }
         ensures answer { Answers self.old.work.nodes self.old.work.first (log_of self.old.work) (phases_of self.old) (AnyEvent.Settle number) result (phases_of self.new) }
+        ensures same { result ≢ AnyAnswer.Made → self.new ≡ self.old }
         ensures memory { result ≢ AnyAnswer.NoMemory }
         ensures work { self.new.work ≡ self.old.work }
         ensures keeps { KeepsItsJobs self.new }
@@ -136,6 +140,7 @@ impl Scheduler {
     pub fn step(&mut self, event: Event) -> StepAnswer
         requires { KeepsItsJobs self.old }
         ensures answer { Answers self.old.work.nodes self.old.work.first (log_of self.old.work) (phases_of self.old) event result (phases_of self.new) }
+        ensures same { result ≢ AnyAnswer.Made → self.new ≡ self.old }
         ensures memory { (number : ℕ) → event ≡ AnyEvent.Settle number → result ≢ AnyAnswer.NoMemory }
         ensures work { self.new.work ≡ self.old.work }
         ensures keeps { KeepsItsJobs self.new }

@@ -1,5 +1,5 @@
 -- A transaction whose job is given back can be lent its rows again.
-use Rattle.std.proofs.Common.{◌≡◌, ℕ, ◌+◌, inl, inr, true, List, [], ◌∷◌, length, Some, sym, ◌∙◌, ap, subst, slice_get, slice_set}
+use Rattle.std.proofs.Common.{◌≡◌, ℕ, ◌+◌, inl, inr, true, List, [], ◌∷◌, length, Some, refl, sym, ◌∙◌, ap, subst, slice_get, slice_set}
 use Rattle.values.specs.Shapes.{TableShape}
 use Rattle.scheduler_core.specs.declared.event.Event.{Event}
 use Rattle.scheduler_core.specs.declared.event.Event.TheVariants.{Admit, Lend, Run, Settle}
@@ -77,5 +77,9 @@ module _ (tables : List TableShape) (nodes first : ℕ) (log : List Transaction)
       ∙ lend_there nodes first log (slice_set phases b.place phase.Idle) b.place idle_there (stays.gives_back phases b.place (ap is_out b.was) good)
 
 pub given_back_can_be_lent : ((first : ℕ) (log : List Transaction) → StaysReady first log) → GivenBackCanBeLent
-given_back_can_be_lent stays tables nodes first log start moves now number new runs h =
-    can_be_lent tables nodes first log (stays first log) now new number (ready_runs tables nodes first log (stays first log) moves (at_start start) now (stays first log).starts runs) h
+given_back_can_be_lent stays = record {
+  can_be = λ tables first log now number shown is.
+      (record now { stages = with_number first now.stages number idle }, record { shown = shown; has = is; new_is = refl });
+  lent_again = λ tables nodes first log start moves now number new runs h.
+      can_be_lent tables nodes first log (stays first log) now new number (ready_runs tables nodes first log (stays first log) moves (at_start start) now (stays first log).starts runs) h;
+}

@@ -21,7 +21,7 @@ use Rattle.scheduler_core.specs.declared.phase.Phase.{Phase}
 use Rattle.scheduler_core.specs.declared.phase.Phase.TheVariants.{Idle, Out, Ran, Settled}
 use Rattle.scheduler_core.specs.Transactions.{Transaction, entries_of, IsPlanned, ArePlanned, AgreeOnLocked}
 use Rattle.scheduler_core.specs.Serial.{serial_rows, serial_reply, IsByPlaces}
-use Rattle.scheduler_core.specs.Phases.{is_idle, is_lent, was_run, is_out, is_settled, phase_of, is_done, progress, is_made}
+use Rattle.scheduler_core.specs.Phases.{is_idle, is_lent, was_run, is_out, is_settled, at_number, phase_of, is_done, progress, is_made}
 use Rattle.scheduler_core.specs.Events.{waiting, enabled, step, OutAreReady, Played}
 use Rattle.scheduler_core.specs.Choices.{next_step, next_steps, first_step, enabled_events, chosen, next_event, ListsEnabled, IsNextEvent, IsLeastLend}
 use Rattle.scheduler_core.specs.Sound.{IsSound, IsLent, IsRun, IsRunOf}
@@ -134,12 +134,14 @@ pub record StaysReady (first : ℕ) (log : List Transaction) : Type 0 where
   pub settles : (phases : List Phase) (place : ℕ) → is_out (slice_get phases place) ≡ true
       → OutAreReady first log phases → OutAreReady first log (slice_set phases place Settled)
 
--- whatever the order of events, a transaction whose job is given back can be lent its rows again
-abbrev pub GivenBackCanBeLent : Type 0
-GivenBackCanBeLent =
-    (tables : List TableShape) (nodes first : ℕ) (log : List Transaction) (start : Database) (moves : List Move) (now : Machine) (number : ℕ) (new : Machine)
-    → Runs tables nodes first log (at_start start) moves now → TakesBack tables first log now number new
-    → enabled nodes first log (phases_of new.stages) (Lend number) ≡ true
+pub record GivenBackCanBeLent : Type 0 where
+  -- a job that is out and not run can be given back
+  pub can_be : (tables : List TableShape) (first : ℕ) (log : List Transaction) (now : Machine) (number : ℕ) (shown : Database)
+      → at_number first now.stages number ≡ Some (lent shown) → (new : Machine) × TakesBack tables first log now number new
+  -- and whatever the order of events, its transaction can then be lent its rows again
+  pub lent_again : (tables : List TableShape) (nodes first : ℕ) (log : List Transaction) (start : Database) (moves : List Move) (now : Machine) (number : ℕ) (new : Machine)
+      → Runs tables nodes first log (at_start start) moves now → TakesBack tables first log now number new
+      → enabled nodes first log (phases_of new.stages) (Lend number) ≡ true
 
 -- ---- the transactions in the lock tree
 
@@ -167,6 +169,7 @@ pub record FollowsPhases (first : ℕ) (log : List Transaction) : Type 0 where
   -- the least ready number without a mark is the least to which rows may be lent
   pub next_ready : (nodes : ℕ) (phases : List Phase) (found : Option ℕ) → length phases ≤ length log → IsNextReady (waiting first log phases) found
       → IsLeastLend nodes first log phases found
+  -- what is out stays ready
   pub stays_ready : StaysReady first log
 
 abbrev pub AdmittedAndUnsettledWait : Type 0

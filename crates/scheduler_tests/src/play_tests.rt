@@ -12,21 +12,6 @@ use std::process::Abort;
 use std::test::Fail;
 use values::{Key, TableNo, Value};
 
-/// Makes an event, where it is enabled.
-fn make(scheduler: &mut Scheduler, event: Event) -> StepAnswer
-    requires { KeepsItsJobs scheduler.old }
-    ensures { KeepsItsJobs scheduler.new }
-{
-    scheduler.step(event)
-}
-
-/// The event that comes next.
-fn next_event(scheduler: &Scheduler) -> Option<Event>
-    requires { KeepsItsJobs scheduler.now }
-{
-    scheduler.next_event()
-}
-
 /// A number chooses this event.
 fn assert_chosen(
     rt: &impl Abort,
@@ -40,21 +25,13 @@ fn assert_chosen(
     Ok(())
 }
 
-/// Plays events.
-fn play(scheduler: &mut Scheduler, events: &[Event]) -> Result<Vec<StepAnswer>, Fail>
-    requires { KeepsItsJobs scheduler.old }
-    ensures { KeepsItsJobs scheduler.new }
-{
-    Ok(scheduler.play(events)?)
-}
-
 /// The answers to events.
 fn assert_answers(rt: &impl Abort, scheduler: &mut Scheduler, played: &[(Event, StepAnswer)])
     requires { KeepsItsJobs scheduler.old }
     ensures { KeepsItsJobs scheduler.new }
 {
     for (event, want) in played {
-        assert_eq!(rt; make(scheduler, *event), *want, "{event:?}");
+        assert_eq!(rt; scheduler.step(*event), *want, "{event:?}");
     }
 }
 
@@ -73,7 +50,7 @@ fn assert_commit(rt: &impl Abort, scheduler: &Scheduler, no: u64, value: i64) {
 fn a_payment_waits_for_the_one_before_it(rt: HostRuntime) -> Result<(), Fail> {
     let pay: Call<'_> = ("pay", &[1, 2, 30]);
     let mut scheduler = scheduler(rt.alloc(), &[pay, pay], 8, 65_536)?;
-    assert_eq!(rt; next_event(&scheduler), Some(Event::Admit));
+    assert_eq!(rt; scheduler.next_event(), Some(Event::Admit));
     let answers = [
         (Event::Admit, StepAnswer::Made),
         (Event::Admit, StepAnswer::Made),
@@ -94,7 +71,7 @@ fn a_payment_waits_for_the_one_before_it(rt: HostRuntime) -> Result<(), Fail> {
     ];
     assert_answers(&rt, &mut scheduler, &answers);
     assert!(rt; scheduler.is_done());
-    assert_eq!(rt; next_event(&scheduler), None);
+    assert_eq!(rt; scheduler.next_event(), None);
     assert_commit(&rt, &scheduler, 0, 70);
     assert_commit(&rt, &scheduler, 1, 40);
     assert!(rt; scheduler.reply(2).is_none());
@@ -115,9 +92,9 @@ fn readers_are_out_together(rt: HostRuntime) -> Result<(), Fail> {
         Event::Settle(1),
         Event::Settle(0),
     ];
-    let none = play(&mut scheduler, &[])?;
+    let none = scheduler.play(&[])?;
     assert_eq!(rt; none.len(), 0);
-    let answers = play(&mut scheduler, &events)?;
+    let answers = scheduler.play(&events)?;
     assert_eq!(rt; answers.len(), 8);
     for answer in &answers {
         assert_eq!(rt; *answer, StepAnswer::Made);
@@ -156,7 +133,7 @@ fn run_by_choices(scheduler: &mut Scheduler, start: u64, step: u64) -> Result<()
         let Some(event) = scheduler.choose(number)? else {
             return Ok(());
         };
-        make(scheduler, event);
+        scheduler.step(event);
         number = number.wrapping_add(step);
     }
     Err(Fail::from("not done"))
@@ -168,10 +145,10 @@ fn run_in_order(scheduler: &mut Scheduler) -> Result<(), Fail>
     ensures { KeepsItsJobs scheduler.new }
 {
     for _ in 0..2_000 {
-        let Some(event) = next_event(scheduler) else {
+        let Some(event) = scheduler.next_event() else {
             return Ok(());
         };
-        make(scheduler, event);
+        scheduler.step(event);
     }
     Err(Fail::from("not done"))
 }

@@ -2,12 +2,13 @@ use Rattle.std.proofs.Common.{◌≡◌, ◌+◌, ℕ, List, map, Some, None, sl
 use Rattle.scheduler_core.specs.declared.event.Event.TheVariants as event
 use Rattle.scheduler_core.specs.declared.event.StepAnswer.TheVariants as answer
 use Rattle.scheduler_core.specs.Events.{Answers}
+use Rattle.jobs.specs.Jobs.{JobOf}
 use Rattle.scheduler.specs.declared.slot.Slot.{Slot}
 use Rattle.scheduler.specs.declared.slot.Slot.TheVariants.{Lent, Held, Ran}
 use Rattle.scheduler.specs.Schedules.{Schedule, log_of, phases_of, phase_in, work_of, KeepsItsJobs}
 use Rattle.scheduler.specs.Scheduled.{IsScheduled, AreSettledBefore}
 use Rattle.scheduler.proofs.Leading.{settled_set}
-use Rattle.scheduler.proofs.Places.{set_twice}
+use Rattle.scheduler.proofs.Places.{set_back, set_twice}
 use Rattle.scheduler.proofs.Returns.{comes_of, run_at, given_back}
 use Rattle.scheduler.proofs.Steps.{ran, same_phase}
 use Rattle.scheduler.proofs.Played.{keeps_set, run_made, run_refused, same_phases}
@@ -144,3 +145,16 @@ returns-in-None-clause-keeps c =
     c.put-in-None.ensures ∙ ap (λ (xs : List Slot). slice_set xs c.in-Some.place (Held job)) c.in-Some-take_held.ensures.taken ∙ set_twice slots c.in-Some.place Lent (Held job) in
     subst (λ (xs : List Slot). (k : ℕ) → slice_get xs k ≡ Some Lent → ⊥) (sym items)
     (keeps_set slots c.in-Some.place (Held job) (subst KeepsItsJobs (sym view) c.requires) (λ e. cc))
+
+pub returns-in-None-clause-same : goal.returns-in-None-clause-same
+returns-in-None-clause-same c = λ _.
+    let w = work_of c.self.inside.catalogue c.self.inside.nodes c.self.inside.first c.self.inside.entries.items c.self.inside.plans.items c.self.inside.start.value.rows in
+    let slots = c.self.inside.slots.items in
+    let view : ◌≡◌ {A = Schedule} (record { work = w; slots = slots }) c.args.self.now = c.self.view_is in
+    let was : slice_get slots c.in-Some.place ≡ Some (Held c.in-Some-take_held.job) = c.in-Some-take_held.ensures.was in
+    let job = c.into_parts-job.result.0 in
+    let comes = comes_of c.in-Some-take_held.job c.run_job.result job c.into_parts-job.result.1 None c.run_job.ensures c.into_parts-job.ensures.job c.into_parts-job.ensures.outcome c.in-None.is in
+    let back : c.put-in-None.new.slots.items ≡ slots =
+    c.put-in-None.ensures ∙ ap (λ (xs : List Slot). slice_set xs c.in-Some.place (Held job)) c.in-Some-take_held.ensures.taken ∙ set_twice slots c.in-Some.place Lent (Held job)
+    ∙ ap (λ (j : JobOf). slice_set slots c.in-Some.place (Held j)) comes ∙ set_back slots c.in-Some.place (Held c.in-Some-take_held.job) was in
+    subst (λ (xs : List Slot). ◌≡◌ {A = Schedule} (record { work = w; slots = xs }) c.args.self.now) (sym back) view
