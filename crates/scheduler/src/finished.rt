@@ -10,6 +10,7 @@ ghost use Rattle.jobs.specs.Jobs.{JobOf};
 ghost use Rattle.scheduler_core.specs.Transactions.{Transaction};
 ghost use Rattle.scheduler_core.specs.Serial.{serial_reply};
 ghost use Rattle.scheduler_core.specs.Phases.{is_done, is_out, is_settled, phase_of};
+ghost use Rattle.scheduler_core.specs.Events.{OutAreReady};
 ghost use Rattle.scheduler.specs.Schedules.{log_of, phases_of};
 ghost use Rattle.scheduler.specs.Jobs.{IsLentAt};
 
@@ -112,13 +113,15 @@ impl Scheduler {
         }
     }
 
-    /// What holds at every moment: no more are admitted than the log has, each job that is here shows, as it was lent, the rows of the serial run at its place, on the
-    /// row names that its plan locks, and no two plans that are out are in conflict.
+    /// What holds at every moment: no more are admitted than the log has; each job that is here shows, as it was lent, the rows of
+    /// the serial run at its place, on the row names that its plan locks; no two plans that are out are in conflict, and each
+    /// transaction that is out is ready.
     pub fn observe(&self)
         ensures within { length self.now.slots ≤ length self.now.work.entries }
         ensures jobs { (place : ℕ) (job : JobOf) → slice_get self.now.slots place ≡ Some (Slot.Held job) → IsLentAt self.now.work place job }
         ensures apart { (i k : ℕ) (t u : Transaction) → i ≢ k → slice_get (log_of self.now.work) i ≡ Some t → slice_get (log_of self.now.work) k ≡ Some u
             → is_out (slice_get (phases_of self.now) i) ≡ true → is_out (slice_get (phases_of self.now) k) ≡ true → Conflict t.plan u.plan → ⊥ }
+        ensures ready { OutAreReady self.now.work.first (log_of self.now.work) (phases_of self.now) }
     {
         rows_are_serial();
         let _slots = &self.slots;

@@ -3,6 +3,7 @@ use Rattle.coarsen.specs.Clashes.{Conflict}
 use Rattle.jobs.specs.Jobs.{JobOf}
 use Rattle.scheduler_core.specs.Transactions.{Transaction}
 use Rattle.scheduler_core.specs.Phases.{is_out}
+use Rattle.scheduler_core.specs.Events.{OutAreReady}
 use Rattle.scheduler.specs.declared.slot.Slot.TheVariants.{Held}
 use Rattle.scheduler.specs.Schedules.{Schedule, log_of, phases_of, phase_in, work_of}
 use Rattle.scheduler.specs.Jobs.{IsLentAt}
@@ -27,3 +28,6 @@ returns-clause-within c =
     let w = work_of c.self.inside.catalogue c.self.inside.nodes c.self.inside.first c.self.inside.entries.items c.self.inside.plans.items c.self.inside.start.value.rows in
     subst (λ (s : Schedule). length s.slots ≤ length s.work.entries) c.self.view_is
     (admitted_within w c.self.inside.slots.items c.self.inside.store c.self.inside.locks c.self.invariant.0 c.self.invariant.1)
+
+pub returns-clause-ready : goal.returns-clause-ready
+returns-clause-ready c = subst (λ (s : Schedule). OutAreReady s.work.first (log_of s.work) (phases_of s)) c.self.view_is c.self.invariant.1.ready
