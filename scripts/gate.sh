@@ -2,7 +2,8 @@
 # Runs the gate, `rt ci`, and says before its last line what each crate took of it.
 #
 # One check runs on each processor; each takes less than 5 GB of memory. Every ten seconds the crates that are being checked are
-# noted, and whether it is for their own proof, for their tests or for their edits. It ends as `rt ci` does.
+# noted, and whether it is for their own proof, for their tests or for their edits; checks beside the gate are counted, too. It
+# ends as `rt ci` does.
 set -uo pipefail
 cd -- "$(dirname -- "$0")/.."
 
@@ -10,12 +11,12 @@ notes=$(mktemp)
 output=$(mktemp)
 trap 'kill "$sampler" 2> /dev/null; rm -f -- "$notes" "$output"' EXIT
 
-# A line for each check that runs: its crate, and what it is for.
+# A line for each process at work on a check: its crate, and what it is for. One that waits for its own forks is not at work.
 running_checks() {
-    ps -eo args= | awk '
-        $1 ~ /\/rattle$/ && ($2 == "build" || $2 == "check") && $3 == "--crate-name" {
-            made = / --test /  ? "tests" : $2 == "build" || / -o / ? "proof" : "edits"
-            print $4, made
+    ps -eo stat=,args= | awk '
+        $1 ~ /^R/ && $2 ~ /\/rattle$/ && ($3 == "build" || $3 == "check") && $4 == "--crate-name" {
+            made = / --test /  ? "tests" : $3 == "build" || / -o / ? "proof" : "edits"
+            print $5, made
         }'
 }
 
