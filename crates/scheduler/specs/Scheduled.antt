@@ -1,4 +1,4 @@
--- What a scheduler keeps to: its rows, its lock tree and its slots follow the core's phases.
+-- What a scheduler keeps to: its rows, its lock tree and its slots follow the core's phases, and what is out is ready.
 use Rattle.std.specs.Prelude.{◌≡◌, ◌<◌, ◌≤◌, ◌+◌, ◌^◌, ⊤, ℕ, true, false, if◌then◌else◌, List, length, map, Option, Some, None, slice_get}
 use Rattle.std.specs.FinMap.{get}
 use Rattle.coarsen.specs.Subtrees.{Requests}

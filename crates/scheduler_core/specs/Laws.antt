@@ -134,6 +134,7 @@ pub record StaysReady (first : ℕ) (log : List Transaction) : Type 0 where
   pub settles : (phases : List Phase) (place : ℕ) → is_out (slice_get phases place) ≡ true
       → OutAreReady first log phases → OutAreReady first log (slice_set phases place Settled)
 
+-- jobs that are given back
 pub record GivenBackCanBeLent : Type 0 where
   -- a job that is out and not run can be given back
   pub can_be : (tables : List TableShape) (first : ℕ) (log : List Transaction) (now : Machine) (number : ℕ) (shown : Database)
