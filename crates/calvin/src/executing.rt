@@ -14,8 +14,7 @@ ghost use Rattle.running.specs.Runs.{IsRunOfLog};
 ghost use Rattle.running.specs.Stops.{ends_in_io, IfOfLine, IfOfMachine, IsLineOf};
 
 use batch_log::{Sink, Source};
-use command_line::Settings;
-use engine::{Batch, BatchDone, Engine, ExecFault, Gate};
+use engine::{Batch, BatchDone, Engine, ExecFault, Gate, Settings};
 use running::{RunFault, run_log};
 use setup::Setup;
 use std::alloc::Global;

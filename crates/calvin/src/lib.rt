@@ -15,9 +15,12 @@ mod status;
 pub use batch_log::{
     DeviceFailed, FaultKind, LogFault, LogReader, ReadSource, Sink, Source, WriteSink,
 };
-pub use command_line::{BadSetting, Command, Line, LineFault, Settings, read_line};
+pub use command_line::{Command, Line, LineFault, read_line};
 pub use commands::command;
-pub use engine::{Batch, BatchDone, BatchFault, Engine, ExecFault, Gate, Item, OpenGate, Reply};
+pub use engine::{
+    BadSetting, Batch, BatchDone, BatchFault, Engine, ExecFault, Gate, Item, OpenGate, Reply,
+    Settings,
+};
 pub use executing::run_text;
 pub use files::{FileFault, Files};
 pub use programs::program;

@@ -5,11 +5,11 @@ ghost use Rattle.std.specs.List.{AllByRecursion};
 
 use batch_log::{FaultKind, LogReader, Source};
 use coarsen::Plan;
-use command_line::Settings;
+use engine::Settings;
 use footprint::Footprint;
 use interp::Entry;
-use plan_text::push_plan;
 use proclang::Request;
+use report_text::push_plan;
 use row_store::RowStore;
 use running::RunFault;
 use sequencer::{Batch, BatchFault, prepare};

@@ -7,7 +7,7 @@ use Rattle.command_line.specs.declared.line.Command.TheVariants.{Check, Locks, R
 use Rattle.command_line.specs.declared.line.Line.{Line}
 use Rattle.command_line.specs.declared.line.LineFault.{LineFault}
 use Rattle.command_line.specs.declared.line.LineFault.TheVariants.{NoMemory, Refused}
-use Rattle.command_line.specs.declared.settings.Settings.{Settings}
+use Rattle.engine.specs.declared.settings.Settings.{Settings}
 use Rattle.command_line.specs.Words.{calvin_app}
 
 -- the argument is this number in decimal

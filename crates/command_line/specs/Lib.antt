@@ -1,3 +1,2 @@
-pub mod Ranges
 pub mod Words
 pub mod CommandLine

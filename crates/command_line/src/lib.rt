@@ -3,7 +3,5 @@
 
 pub mod line;
 mod parser;
-pub mod settings;
 
 pub use line::{Command, Line, LineFault, read_line};
-pub use settings::{BadSetting, Settings};

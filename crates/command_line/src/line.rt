@@ -6,12 +6,12 @@ ghost use Rattle.command_line.specs.CommandLine.{AreSettings, AsksFor, IsAskedFo
 ghost use Rattle.command_line.specs.declared.line.Command.{Command};
 ghost use Rattle.command_line.specs.declared.line.Line.{Line};
 ghost use Rattle.command_line.specs.declared.line.LineFault.TheVariants.{NoMemory};
-ghost use Rattle.command_line.specs.declared.settings.Settings.{Settings};
+ghost use Rattle.engine.specs.declared.settings.Settings.{Settings};
 
 use crate::parser::calvin_command;
-use crate::settings::Settings;
 use clap::error::ErrorKind;
 use clap::{ArgMatches, Error};
+use engine::Settings;
 use std::alloc::{AllocError, Global};
 
 /// What the program is asked to do.

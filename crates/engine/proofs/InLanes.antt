@@ -4,7 +4,7 @@ use Rattle.std.specs.Prelude.{IfSome, is_some, replicate}
 use Rattle.std.proofs.lemmas.Bool.Decides.{nat_tests}
 use Rattle.std.proofs.lemmas.List.Sums.{sum_by-cons}
 use Rattle.meaning.specs.declared.outcome.Outcome.{Outcome}
-use Rattle.jobs.specs.Jobs.{JobOf, DoneOf, IsDoneOf, ComesOf}
+use Rattle.scheduler.specs.JobRuns.{JobOf, DoneOf, IsDoneOf, ComesOf}
 use Rattle.scheduler_core.specs.declared.event.Event.TheVariants as events
 use Rattle.scheduler_core.specs.declared.phase.Phase.{Phase}
 use Rattle.scheduler_core.specs.declared.phase.Phase.TheVariants as phase

@@ -18,8 +18,8 @@ use Rattle.values.proofs.row.Row.TheSendSync as row
 use Rattle.footprint.proofs.resource.Resource.TheSendSync as resource
 use Rattle.meaning.proofs.outcome.Outcome.TheSendSync as outcome
 use Rattle.row_store.specs.contracts.loan.Loan as loan
-use Rattle.jobs.specs.contracts.job.Job as job
-use Rattle.jobs.specs.contracts.job.Done as done
+use Rattle.scheduler.specs.contracts.job.Job as job
+use Rattle.scheduler.specs.contracts.job.Done as done
 use Rattle.atomic_table.proofs.shared.Seat.TheSendSync as seat
 use Rattle.hand_off.proofs.view.Load.TheSendSync as load
 use Rattle.hand_off.proofs.view.LaneTable.TheSendSync as lane_table

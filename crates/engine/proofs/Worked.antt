@@ -1,7 +1,7 @@
 -- A job that a worker claims and delivers leaves its seat without a job.
 use Rattle.std.proofs.Common.{◌≡◌, ℕ, None, Some, ap, ◌∙◌, slice_set}
 use Rattle.scheduler.proofs.Places.{set_twice, set_back}
-use Rattle.jobs.specs.Jobs.{JobOf}
+use Rattle.scheduler.specs.JobRuns.{JobOf}
 use Rattle.lanes.specs.Seats.{LanesOf, WorkerSeatOf, jobs_in, newcomer, delivers_from}
 use Rattle.lanes.specs.Calls.{Claims, ClaimsNothing}
 use Rattle.lanes.proofs.Counts.{none_in}

@@ -5,8 +5,8 @@ use Rattle.values.specs.Shapes.{TableShape}
 use Rattle.values.specs.Database.{Database}
 use Rattle.proclang.specs.ProcLists.{ProcsParts}
 use Rattle.proclang.specs.contracts.procs.Procs as procs
-use Rattle.command_line.specs.declared.settings.Settings.{Settings}
-use Rattle.command_line.specs.contracts.settings.Settings as settings
+use Rattle.engine.specs.declared.settings.Settings.{Settings}
+use Rattle.engine.specs.contracts.settings.Settings as settings
 use Rattle.sequencer.specs.declared.batch.Batch.{Batch}
 use Rattle.sequencer.specs.contracts.batch.Batch as batches
 use Rattle.row_store.specs.Stock.{rows_code}

@@ -1,6 +1,6 @@
 -- Jobs that are with the workers.
 use Rattle.std.specs.Prelude.{◌≡◌, ◌≢◌, ℕ, ◌+◌, ◌-◌, true, Option, Some, slice_get}
-use Rattle.jobs.specs.Jobs.{JobOf}
+use Rattle.scheduler.specs.JobRuns.{JobOf}
 use Rattle.scheduler_core.specs.Phases.{is_out}
 use Rattle.scheduler.specs.declared.slot.Slot.TheVariants.{Lent}
 use Rattle.scheduler.specs.Schedules.{Schedule, phases_of}

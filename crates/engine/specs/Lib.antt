@@ -1,3 +1,4 @@
+pub mod Ranges
 pub mod Engines
 pub mod Batches
 pub mod Replies

@@ -5,7 +5,7 @@ ghost use Rattle.row_store.specs.Stock.{Stock};
 ghost use Rattle.scheduler.specs.Logs.{ArePlansOf};
 ghost use Rattle.engine.specs.Stages.{IsFree, IsBatchFrom, IsScheduleOf};
 
-use command_line::Settings;
+use crate::settings::Settings;
 use proclang::Procs;
 use row_store::{RowStore, all_is_free_with_nothing_lent};
 use scheduler::Scheduler;

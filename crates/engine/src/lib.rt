@@ -9,12 +9,13 @@ mod gate;
 mod handing;
 mod pool;
 mod replies;
+mod settings;
 mod stage;
 mod worker;
 mod working;
 
-pub use command_line::Settings;
 pub use engine::{Engine, ExecFault};
 pub use gate::{Gate, OpenGate};
 pub use replies::{BatchDone, Reply};
 pub use sequencer::{Batch, BatchFault, Item};
+pub use settings::{BadSetting, Settings};

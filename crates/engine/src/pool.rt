@@ -7,8 +7,8 @@ ghost use Rattle.engine.specs.Engines.{NoneIsOut, StaysSettled};
 
 use crate::gate::Gate;
 use crate::handing::schedule;
+use crate::settings::Settings;
 use crate::worker::{Worker, start};
-use command_line::Settings;
 use lanes::{Lanes, SchedulerSeat};
 use scheduler::Scheduler;
 use std::alloc::Global;

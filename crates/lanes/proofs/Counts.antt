@@ -6,7 +6,7 @@ use Rattle.std.proofs.lemmas.List.Folds.{sum_by-replicate}
 use Rattle.hand_off.specs.declared.view.Known.{Known}
 use Rattle.hand_off.specs.declared.view.Known.TheVariants.{Idle, Filling, Put, Draining}
 use Rattle.hand_off.specs.Seats.{IsPut}
-use Rattle.jobs.specs.Jobs.{JobOf}
+use Rattle.scheduler.specs.JobRuns.{JobOf}
 use Rattle.lanes.specs.Seats.{jobs_in}
 use Rattle.lanes.specs.Kept.{job_of}
 

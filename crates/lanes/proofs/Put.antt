@@ -13,7 +13,7 @@ use Rattle.hand_off.specs.declared.view.View.{View}
 use Rattle.hand_off.specs.Notes.{Misses}
 use Rattle.hand_off.specs.Views.{looked, putting, collecting, opened as at_first}
 use Rattle.hand_off.specs.Seats.{IsPut}
-use Rattle.jobs.specs.Jobs.{JobOf, DoneOf, IsDoneOf}
+use Rattle.scheduler.specs.JobRuns.{JobOf, DoneOf, IsDoneOf}
 use Rattle.lanes.specs.Seats.{LanesOf, SchedulerSeatOf, jobs_in, opened, puts_in}
 use Rattle.lanes.specs.Calls.{IsLowestFree, Collects}
 use Rattle.lanes.specs.Kept.{job_of, seen_by_scheduler}

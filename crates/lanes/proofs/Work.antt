@@ -10,7 +10,7 @@ use Rattle.hand_off.specs.declared.state.Note.{Note}
 use Rattle.hand_off.specs.declared.view.View.{View}
 use Rattle.hand_off.specs.Notes.{Misses}
 use Rattle.hand_off.specs.Views.{looked, claiming}
-use Rattle.jobs.specs.Jobs.{JobOf}
+use Rattle.scheduler.specs.JobRuns.{JobOf}
 use Rattle.lanes.specs.Calls.{Claims}
 use Rattle.lanes.specs.Kept.{seen_by_worker}
 use Rattle.lanes.proofs.Counts.{with_room}

@@ -2,7 +2,7 @@
 use Rattle.std.specs.Prelude.{◌≡◌, ℕ, ◌+◌, ◌<◌, List, [], ◌∷◌, ◌++◌, Option, None, Some, slice_get, slice_set}
 use Rattle.hand_off.specs.declared.state.LaneState.TheVariants.{Waiting, Finished}
 use Rattle.hand_off.specs.Notes.{Misses, Finds}
-use Rattle.jobs.specs.Jobs.{JobOf, DoneOf, IsDoneOf}
+use Rattle.scheduler.specs.JobRuns.{JobOf, DoneOf, IsDoneOf}
 use Rattle.lanes.specs.Seats.{SchedulerSeatOf, WorkerSeatOf, jobs_in}
 
 -- the lane has no job, and each lane below it has one

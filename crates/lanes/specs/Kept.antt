@@ -7,7 +7,7 @@ use Rattle.hand_off.specs.declared.view.Known.TheVariants.{Idle, Filling, Put, D
 use Rattle.hand_off.specs.declared.view.Load.{Load}
 use Rattle.hand_off.specs.declared.view.View.{View}
 use Rattle.hand_off.specs.Seats.{AtRest}
-use Rattle.jobs.specs.Jobs.{JobOf, DoneOf}
+use Rattle.scheduler.specs.JobRuns.{JobOf, DoneOf}
 use Rattle.lanes.specs.Seats.{SchedulerSeatOf, WorkerSeatOf}
 use Rattle.lanes.specs.declared.seats.SchedulerSeat.TheInside as scheduler
 use Rattle.lanes.specs.declared.seats.WorkerSeat.TheInside as worker

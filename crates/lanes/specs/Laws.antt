@@ -7,7 +7,7 @@ use Rattle.hand_off.specs.declared.view.Claim.{Claim}
 use Rattle.hand_off.specs.declared.view.Load.{Load}
 use Rattle.hand_off.specs.declared.view.View.{View}
 use Rattle.hand_off.specs.Rule.{Laned}
-use Rattle.jobs.specs.Jobs.{JobOf, DoneOf, IsDoneOf}
+use Rattle.scheduler.specs.JobRuns.{JobOf, DoneOf, IsDoneOf}
 use Rattle.lanes.specs.Seats.{SchedulerSeatOf, WorkerSeatOf}
 use Rattle.lanes.specs.Kept.{job_of}
 

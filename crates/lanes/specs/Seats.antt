@@ -5,7 +5,7 @@ use Rattle.atomic_table.specs.Seated.{TableId, table_id_coded}
 use Rattle.hand_off.specs.declared.state.Note.{Note}
 use Rattle.hand_off.specs.declared.view.Claim.{Claim}
 use Rattle.hand_off.specs.contracts.state.Note as notes
-use Rattle.jobs.specs.Jobs.{JobOf, job_code}
+use Rattle.scheduler.specs.JobRuns.{JobOf, job_code}
 
 -- lanes: which they are, and how many
 pub record LanesOf : Type 0 where

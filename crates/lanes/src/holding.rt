@@ -6,7 +6,7 @@ ghost use Rattle.lanes.specs.Kept.{empties};
 
 use crate::seats::LaneNo;
 use hand_off::LaneSeat;
-use jobs::{Done, Job};
+use scheduler::{Done, Job};
 use std::collections::VecDeque;
 
 /// Brings the slot of a lane that is held to the front.

@@ -3,7 +3,7 @@
 ghost use Rattle.lanes.specs.Laws.{ClaimedAtMostOnce, ClaimedAsPut, HeldAsPut};
 
 use crate::runs::Runs;
-use jobs::{Done, Job};
+use scheduler::{Done, Job};
 
 /// A job is claimed by one worker at most a put, and what is claimed is what was put: in every state of the lanes two
 /// claims of one put are one claim, of the job that the scheduler put into that lane. Until it is delivered, the

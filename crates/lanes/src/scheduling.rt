@@ -6,7 +6,7 @@ ghost use Rattle.lanes.specs.Calls.{IsLowestFree, Collects, CollectsNothing};
 
 use crate::seats::{LaneNo, SchedulerSeat, WorkerSeat};
 use crate::table::Lanes;
-use jobs::{Done, Job};
+use scheduler::{Done, Job};
 use std::alloc::Global;
 use std::collections::VecDeque;
 use values::NoMemory;

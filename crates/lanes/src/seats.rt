@@ -1,7 +1,7 @@
 //! The seats of lanes. Each may move into a thread.
 
 use hand_off::LaneSeat;
-use jobs::{Done, Job};
+use scheduler::{Done, Job};
 use std::collections::VecDeque;
 use std::marker::Model;
 

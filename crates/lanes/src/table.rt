@@ -1,7 +1,7 @@
 //! Lanes as threads share them.
 
 use crate::runs::Runs;
-use jobs::{Done, Job};
+use scheduler::{Done, Job};
 use std::alloc::Global;
 use std::marker::Model;
 

@@ -6,10 +6,9 @@ ghost use Rattle.lanes.specs.Calls.{Claims};
 ghost use Rattle.sequencer.specs.Batches.{items_of};
 
 use crate::{LaneNo, Lanes, SchedulerSeat, WorkerSeat};
-use jobs::{Job, run_job};
 use proclang::{Procs, Request, read_procs};
 use row_store::RowStore;
-use scheduler::Scheduler;
+use scheduler::{Job, Scheduler, run_job};
 use sequencer::{Batch, prepare};
 use serde_json::Value as Json;
 use std::alloc::Global;

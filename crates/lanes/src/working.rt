@@ -7,7 +7,7 @@ ghost use Rattle.lanes.specs.Calls.{Claims, ClaimsNothing, IsDoneAt};
 use crate::holding::bring_up;
 use crate::seats::{LaneNo, WorkerSeat};
 use crate::table::Lanes;
-use jobs::{Done, Job};
+use scheduler::{Done, Job};
 
 impl Lanes {
     /// A job that waits, from the lowest lane where one was found. From now on this seat has it. It tries one lane after

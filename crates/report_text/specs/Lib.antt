@@ -1,3 +1,5 @@
 pub mod Texts
 pub mod Calls
 pub mod Report
+pub mod Merge
+pub mod PlanTexts

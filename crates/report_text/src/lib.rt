@@ -1,9 +1,13 @@
-//! The texts of a report: values, row lines, reply lines, batch and end lines, and their digests.
+//! The texts of a report: values, row lines, reply lines, batch and end lines, and their digests; the digest of all rows, from
+//! a view; and the lines of a plan.
 #![tactic(auto)]
 
 mod digest;
+mod heads;
 mod laws;
 mod lines;
+mod plan_lines;
+mod rows_in_order;
 #[cfg(test)]
 mod tests;
 mod values_text;
@@ -11,4 +15,6 @@ mod values_text;
 pub use digest::{digest_of, digest_text, push_table_name, row_line};
 pub use laws::{every_row_has_its_line, every_row_left_by_calls_has_its_line};
 pub use lines::{push_batch_line, push_end_line, push_reply_line};
+pub use plan_lines::push_plan;
+pub use rows_in_order::rows_digest;
 pub use values_text::push_value;

@@ -24,8 +24,7 @@ ghost use Rattle.running.specs.Stops.{ends_in_io, is_of_device, IfOfLine, IfOfMa
 use crate::run_fault::RunFault;
 use crate::transcript::Transcript;
 use batch_log::{FaultKind, LogReader, Sink, Source};
-use command_line::Settings;
-use engine::{BatchDone, Engine, ExecFault};
+use engine::{BatchDone, Engine, ExecFault, Settings};
 use proclang::Request;
 use sequencer::{Batch, BatchFault};
 use setup::Setup;

@@ -11,9 +11,10 @@ ghost use Rattle.running.specs.Transcripts.{said_lines, with_batch_line, write_f
 
 use batch_log::{FaultKind, Sink, write_all};
 use engine::Reply;
-use report_text::{digest_of, digest_text, push_batch_line, push_end_line, push_reply_line};
+use report_text::{
+    digest_of, digest_text, push_batch_line, push_end_line, push_reply_line, rows_digest,
+};
 use row_store::{RowStore, all_is_free_with_nothing_lent};
-use row_text::rows_digest;
 use sha2::{Digest, Sha256};
 use std::alloc::{AllocError, Global};
 

@@ -1,7 +1,7 @@
 -- Jobs that were lent can be settled.
 use Rattle.std.proofs.Common.{◌≡◌, ◌-◌, Option, Some, None, slice_get, sym, ap, ◌∙◌, subst}
 use Rattle.meaning.specs.declared.outcome.Outcome.{Outcome}
-use Rattle.jobs.specs.Jobs.{JobOf, ComesOf}
+use Rattle.scheduler.specs.JobRuns.{JobOf, ComesOf}
 use Rattle.scheduler.specs.declared.slot.Slot.TheVariants.{Lent}
 use Rattle.scheduler.specs.Schedules.{Work, Schedule}
 use Rattle.scheduler.specs.Jobs.{IsLentAt, LentJobsComeBack}

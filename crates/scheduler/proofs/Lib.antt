@@ -1,3 +1,4 @@
+pub mod Left
 pub mod Places
 pub mod Slots
 pub mod Logs

@@ -14,7 +14,7 @@ use Rattle.lock_tree.specs.Ready.{ready, IsNextReady}
 use Rattle.meaning.specs.Frame.{touches}
 use Rattle.interp.specs.Entries.{EntryParts, entry_shape}
 use Rattle.row_store.specs.Stock.{Stock}
-use Rattle.jobs.specs.Jobs.{JobOf, transaction_of}
+use Rattle.scheduler.specs.JobRuns.{JobOf, transaction_of}
 use Rattle.scheduler_core.specs.declared.phase.Phase.{Phase}
 use Rattle.scheduler_core.specs.declared.phase.Phase.TheVariants as phase
 use Rattle.scheduler_core.specs.Transactions.{Transaction}

@@ -3,7 +3,7 @@ use Rattle.std.proofs.Common.{◌≡◌, ◌+◌, ◌++◌, ℕ, true, false, �
 use Rattle.std.proofs.lemmas.Option.{slice_get-map}
 use Rattle.lock_tree.specs.Locks.{Locks}
 use Rattle.lock_tree.specs.Ready.{ready}
-use Rattle.jobs.specs.Jobs.{JobOf}
+use Rattle.scheduler.specs.JobRuns.{JobOf}
 use Rattle.meaning.specs.declared.outcome.Outcome.{Outcome}
 use Rattle.scheduler_core.specs.declared.event.Event.{Event}
 use Rattle.scheduler_core.specs.declared.event.Event.TheVariants.{Lend, Run, Settle}

@@ -2,7 +2,7 @@
 use Rattle.std.proofs.Common.{◌≡◌, ℕ, false, List, map, Option, Some, None, option_map, IfSome, slice_get, refl, sym, ap, ◌∙◌}
 use Rattle.std.proofs.lemmas.Option.{slice_get-map}
 use Rattle.meaning.specs.declared.outcome.Outcome.{Outcome}
-use Rattle.jobs.specs.Jobs.{JobOf}
+use Rattle.scheduler.specs.JobRuns.{JobOf}
 use Rattle.scheduler_core.specs.Phases.{was_run}
 use Rattle.scheduler.specs.declared.slot.Slot.{Slot}
 use Rattle.scheduler.specs.declared.slot.Slot.TheVariants.{Idle, Lent, Held, Ran, Settled}

@@ -15,7 +15,7 @@ use Rattle.lock_tree.specs.Ready.{ready}
 use Rattle.meaning.specs.declared.outcome.Outcome.{Outcome}
 use Rattle.meaning.specs.Outcomes.{as_reply}
 use Rattle.row_store.specs.Stock.{Stock}
-use Rattle.jobs.specs.Jobs.{JobOf, transaction_of}
+use Rattle.scheduler.specs.JobRuns.{JobOf, transaction_of}
 use Rattle.scheduler_core.specs.declared.phase.Phase.{Phase}
 use Rattle.scheduler_core.specs.declared.phase.Phase.TheVariants as phase
 use Rattle.scheduler_core.specs.Transactions.{Transaction}

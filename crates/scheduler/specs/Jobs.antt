@@ -3,7 +3,7 @@ use Rattle.std.specs.Prelude.{◌≡◌, ◌+◌, ◌-◌, ℕ, true, Option, So
 use Rattle.coarsen.specs.Clashes.{Conflict}
 use Rattle.meaning.specs.declared.outcome.Outcome.{Outcome}
 use Rattle.meaning.specs.Outcomes.{as_reply}
-use Rattle.jobs.specs.Jobs.{JobOf, DoneOf, IsDoneOf, transaction_of}
+use Rattle.scheduler.specs.JobRuns.{JobOf, DoneOf, IsDoneOf, transaction_of}
 use Rattle.scheduler_core.specs.Transactions.{Transaction}
 use Rattle.scheduler_core.specs.Phases.{is_out}
 use Rattle.scheduler_core.specs.Sound as core

@@ -1,3 +1,4 @@
+pub mod JobRuns
 pub mod Logs
 pub mod Schedules
 pub mod Jobs

@@ -6,7 +6,7 @@ ghost use Rattle.coarsen.specs.Clashes.{Conflict};
 ghost use Rattle.meaning.specs.Outcomes.{as_reply};
 ghost use Rattle.meaning.specs.Serial.{serial_end, serial_replies};
 ghost use Rattle.interp.specs.Entries.{entry_shape};
-ghost use Rattle.jobs.specs.Jobs.{JobOf};
+ghost use Rattle.scheduler.specs.JobRuns.{JobOf};
 ghost use Rattle.scheduler_core.specs.Transactions.{Transaction};
 ghost use Rattle.scheduler_core.specs.Serial.{serial_reply};
 ghost use Rattle.scheduler_core.specs.Phases.{is_done, is_out, is_settled, phase_of};

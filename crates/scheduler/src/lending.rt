@@ -11,9 +11,9 @@ ghost use Rattle.meaning.specs.Frame.{touches};
 ghost use Rattle.interp.specs.Entries.{entry_shape};
 ghost use Rattle.lock_tree.specs.Locks.{plan_of, with_mark, without};
 
+use crate::job::Job;
 use coarsen::Plan;
 use interp::Entry;
-use jobs::Job;
 use lock_tree::LockTree;
 use row_store::RowStore;
 use std::alloc::Global;

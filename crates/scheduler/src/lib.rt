@@ -3,6 +3,7 @@
 
 mod choosing;
 mod finished;
+mod job;
 mod laws;
 mod lending;
 mod planning;
@@ -12,7 +13,7 @@ mod settling;
 mod slot;
 
 pub use finished::{Finished, Outcomes};
-pub use jobs::{Done, Job, run_job};
+pub use job::{Done, Job, run_job};
 pub use laws::lent_jobs_come_back;
 pub use scheduler::{AdmitFault, Scheduler, Unmade};
 pub use scheduler_core::{Event, StepAnswer};

@@ -7,11 +7,11 @@ ghost use Rattle.scheduler_core.specs.Phases.{phase_of};
 ghost use Rattle.scheduler_core.specs.Events.{Answers, Played};
 ghost use Rattle.scheduler.specs.Schedules.{log_of, phases_of, KeepsItsJobs};
 
+use crate::job::run_job;
 use crate::lending::{give_back, lend_to};
 use crate::scheduler::{AdmitFault, Scheduler};
 use crate::slot::{Slot, count_settled, is_idle, put, take_held, take_run};
 use coarsen::clashes_are_either_way;
-use jobs::run_job;
 use scheduler_core::{
     Event, StepAnswer, admitted_and_unsettled_wait, events_by_places, rows_are_serial,
 };

@@ -10,12 +10,12 @@ ghost use Rattle.scheduler.specs.Logs.{ArePlansOf};
 ghost use Rattle.scheduler.specs.Schedules.{log_of, phases_of, work_of};
 ghost use Rattle.scheduler.specs.Jobs.{LendsTo, ComesBack, number_of};
 
+use crate::job::{Done, Job};
 use crate::lending::{give_back, lend_to, take_back};
 use crate::planning::plans_of;
 use crate::slot::{Slot, count_settled, put};
 use coarsen::{Plan, clashes_are_either_way};
 use interp::Entry;
-use jobs::{Done, Job};
 use lock_tree::{EnqueueFault, LockTree};
 use row_store::RowStore;
 use scheduler_core::{admitted_and_unsettled_wait, events_by_places, rows_are_serial};

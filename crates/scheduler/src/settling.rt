@@ -1,7 +1,7 @@
 //! Settling what is here.
 
 ghost use Rattle.std.specs.Prelude.{◌≡◌, ◌<◌, Some, length, map, slice_get, slice_set};
-ghost use Rattle.jobs.specs.Jobs.{JobOf};
+ghost use Rattle.scheduler.specs.JobRuns.{JobOf};
 ghost use Rattle.scheduler_core.specs.declared.phase.Phase.{Phase};
 ghost use Rattle.scheduler.specs.Schedules.{phases_of, KeepsItsJobs};
 ghost use Rattle.scheduler.specs.Settling.{after_settling, settled_at};

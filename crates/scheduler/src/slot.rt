@@ -2,10 +2,10 @@
 
 ghost use Rattle.std.specs.Prelude.{◌≡◌, ◌<◌, ◌≤◌, ℕ, true, false, length, map, Some, None, IfSome, is_some, slice_get, slice_set};
 ghost use Rattle.scheduler_core.specs.Phases.{is_idle, is_lent, was_run, is_settled};
-ghost use Rattle.jobs.specs.Jobs.{JobOf};
+ghost use Rattle.scheduler.specs.JobRuns.{JobOf};
 ghost use Rattle.scheduler.specs.Schedules.{phase_in};
 
-use jobs::Job;
+use crate::job::Job;
 use meaning::Outcome;
 use std::mem;
 

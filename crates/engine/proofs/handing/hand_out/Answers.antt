@@ -1,7 +1,7 @@
 use Rattle.std.proofs.Common.{◌≡◌, true, Option, sym, subst}
 use Rattle.scheduler_core.specs.Choices.{IsLeastLend}
 use Rattle.scheduler.specs.Schedules.{log_of, phases_of}
-use Rattle.jobs.specs.Jobs.{JobOf}
+use Rattle.scheduler.specs.JobRuns.{JobOf}
 use Rattle.scheduler.specs.Jobs.{Lends, LendsTo, number_of}
 use Rattle.engine.specs.HandedOut.{AreInLanes}
 use Rattle.engine.proofs.InLanes.{lent_lanes, lent_settled}

@@ -1,5 +1,5 @@
 use Rattle.std.proofs.Common.{Option, subst}
-use Rattle.jobs.specs.Jobs.{JobOf}
+use Rattle.scheduler.specs.JobRuns.{JobOf}
 use Rattle.scheduler.specs.Jobs.{LendsTo}
 use Rattle.refusals.proofs.scheduling.settle_next.Goals as goal
 

@@ -2,7 +2,7 @@ use Rattle.std.proofs.Common.{◌≡◌, ◌+◌, ℕ, List, map, Some, None, sl
 use Rattle.scheduler_core.specs.declared.event.Event.TheVariants as event
 use Rattle.scheduler_core.specs.declared.event.StepAnswer.TheVariants as answer
 use Rattle.scheduler_core.specs.Events.{Answers}
-use Rattle.jobs.specs.Jobs.{JobOf}
+use Rattle.scheduler.specs.JobRuns.{JobOf}
 use Rattle.scheduler.specs.declared.slot.Slot.{Slot}
 use Rattle.scheduler.specs.declared.slot.Slot.TheVariants.{Lent, Held, Ran}
 use Rattle.scheduler.specs.Schedules.{Schedule, log_of, phases_of, phase_in, work_of, KeepsItsJobs}

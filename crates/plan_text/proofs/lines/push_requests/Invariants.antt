@@ -1,7 +1,0 @@
-use Rattle.std.proofs.Common.{◌≡◌, ◌++◌, drop, string_bytes}
-use Rattle.plan_text.specs.Texts.{request_lines}
-use Rattle.plan_text.proofs.lines.push_requests.Given as goal
-
--- with the requests that are left the text is the whole one
-abbrev pub invariant-loop-request : goal.invariant-loop-request
-invariant-loop-request l = string_bytes l.text ++ request_lines l.catalogue l.number (drop l.request-index l.requests) ≡ string_bytes l.initial.text ++ request_lines l.catalogue l.number l.requests

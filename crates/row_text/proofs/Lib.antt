@@ -1,3 +1,0 @@
-pub mod Popping
-pub mod Rows
-pub mod Merging
