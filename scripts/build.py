@@ -1,0 +1,110 @@
+#!/usr/bin/env python3
+"""Proves and builds the libraries that a crate of the repository stands on, on all processors:
+
+    scripts/build.py CRATE
+
+A library is begun once those that it stands on are built; of those that can be begun, the one with the longest chain of code
+above it goes first, and processors that no other library waits for give it further jobs. What is begun, how long it took and
+how many are left goes to standard error; what the toolchain says of a library, to the file `build.log` in its folder `out/`.
+A library whose source is as it was is not built again. However the script ends, its checks end with it, and the next run
+goes on from the work that they kept.
+
+Several runs of the toolchain's command `rt` wait for each other at the libraries that they share, so this script calls the
+module that `rt` itself is made of.
+"""
+import copy
+import os
+import subprocess
+import sys
+import time
+from concurrent.futures import FIRST_COMPLETED, ThreadPoolExecutor, wait
+
+MEMORY_OF_A_CHECK = 4 << 30  # bytes
+MOST_JOBS = 4
+
+
+def toolchain():
+    """The module that `rt` is made of."""
+    page = subprocess.run(["rt", "doc"], check=True, capture_output=True, text=True).stdout
+    sys.path.insert(0, os.path.join(os.path.dirname(page.strip()), "bin"))
+    import rtlib
+
+    return rtlib
+
+
+def say(text):
+    print(f"calvin: {text}", file=sys.stderr, flush=True)
+
+
+def span(seconds):
+    return f"{int(seconds) // 60} min {int(seconds) % 60:02} s"
+
+
+def processors():
+    """How many checks may run at a time: one a processor, as memory allows."""
+    free = os.sysconf("SC_AVPHYS_PAGES") * os.sysconf("SC_PAGE_SIZE")
+    return max(1, min(len(os.sched_getaffinity(0)), free // MEMORY_OF_A_CHECK))
+
+
+def build(library, jobs):
+    """Builds one library with so many jobs, and tells whether it is built and how long it took."""
+    begun = time.monotonic()
+    os.makedirs(os.path.join(library.folder, "out"), exist_ok=True)
+    library = copy.copy(library)
+    with open(os.path.join(library.folder, "out", "build.log"), "w+") as library.out:
+        status = library.build_rlib(["--jobs", str(jobs)], anew=False)
+    return status == 0, time.monotonic() - begun
+
+
+def chains(libraries):
+    """For each library the lines of code of the longest chain from it upwards."""
+    length = {}
+    for library in reversed(libraries):
+        above = [length[it] for it in libraries if library in it.deps]
+        length[library] = library.count(rb"\n") + max(above, default=0)
+    return length
+
+
+def build_all(libraries):
+    """Builds the libraries, each after those below it, and gives the first that can't be built, if there is one."""
+    length, idle = chains(libraries), processors()
+    left, running, built = sorted(libraries, key=lambda it: -length[it]), {}, set()
+    pool = ThreadPoolExecutor(idle)
+    while left or running:
+        ready = [it for it in left if built.issuperset(set(it.below()) & set(libraries))]
+        for place, library in enumerate(ready[:idle]):
+            jobs = min(MOST_JOBS, max(1, idle // (len(ready) - place)))
+            say(f"proving {library.name}; {len(left)} of {len(libraries)} crates are left")
+            left.remove(library)
+            running[pool.submit(build, library, jobs)] = library, jobs
+            idle -= jobs
+        for ended in wait(running, return_when=FIRST_COMPLETED).done:
+            library, jobs = running.pop(ended)
+            well, seconds = ended.result()
+            if not well:
+                return library
+            say(f"{library.name} is proved, which took {span(seconds)}")
+            built.add(library)
+            idle += jobs
+    return None
+
+
+def main(name):
+    rtlib = toolchain()
+    top = os.path.dirname(os.path.dirname(os.path.realpath(__file__)))
+    crate = rtlib.Crate(os.path.join(top, "crates", name), top, {})
+    crate.held = rtlib.lock([*crate.below(), crate])
+    status = 0
+    try:
+        failed = build_all([it for it in crate.below() if not it.is_built()])
+        if failed:
+            say(f"{failed.name} is not proved: crates/{failed.name}/out/build.log says why")
+            status = 1
+    except KeyboardInterrupt:
+        status = 130
+    # (not by a return, which would wait for the checks that still run: they end with this process, and so does the lock)
+    os._exit(status)
+
+
+if __name__ == "__main__":
+    main(*sys.argv[1:])
