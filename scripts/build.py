@@ -42,7 +42,8 @@ def span(seconds):
 
 def processors():
     """How many checks may run at a time: one a processor, as memory allows."""
-    free = os.sysconf("SC_AVPHYS_PAGES") * os.sysconf("SC_PAGE_SIZE")
+    with open("/proc/meminfo") as lines:
+        free = next(int(it.split()[1]) << 10 for it in lines if it.startswith("MemAvailable"))
     return max(1, min(len(os.sched_getaffinity(0)), free // MEMORY_OF_A_CHECK))
 
 
@@ -91,6 +92,7 @@ def build_all(libraries):
 
 def main(name):
     rtlib = toolchain()
+    rtlib.guarded()  # (so that the checks end with this process; it sets a signal's handler, which the main thread alone may)
     top = os.path.dirname(os.path.dirname(os.path.realpath(__file__)))
     crate = rtlib.Crate(os.path.join(top, "crates", name), top, {})
     crate.held = rtlib.lock([*crate.below(), crate])
@@ -101,6 +103,7 @@ def main(name):
             say(f"{failed.name} is not proved: crates/{failed.name}/out/build.log says why")
             status = 1
     except KeyboardInterrupt:
+        say("interrupted; the next run goes on from here")
         status = 130
     # (not by a return, which would wait for the checks that still run: they end with this process, and so does the lock)
     os._exit(status)
