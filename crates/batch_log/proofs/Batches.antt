@@ -2,7 +2,7 @@
 use Rattle.std.proofs.Common.{◌≡◌, ℕ, ◌+◌, ◌<◌, List, [], ◌∷◌, ◌++◌, append-nil, length, true, false, Option, None, Some, Result, Ok, Err, refl, sym, ◌∙◌, ap, arith}
 use Rattle.std.specs.List.{AllByRecursion}
 use Rattle.std.proofs.lemmas.List.{nil_from_length}
-use Rattle.proclang.specs.Requests as requests
+use Rattle.requests.specs.Requests as requests
 use Rattle.batch_log.specs.declared.fault.FaultKind.{FaultKind}
 use Rattle.batch_log.specs.declared.fault.FaultKind.TheVariants.{BatchTooLong}
 use Rattle.batch_log.specs.declared.fault.LogFault.{LogFault}

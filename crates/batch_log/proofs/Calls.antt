@@ -15,8 +15,8 @@ use Rattle.values.specs.Rows.{type_of}
 use Rattle.values.specs.Said.{values_said}
 use Rattle.proclang_types.specs.Procedures.{ProcParts}
 use Rattle.proclang_types.specs.Syntax.{ParamShape}
-use Rattle.proclang.specs.ProcLists.{proc_named}
-use Rattle.proclang.specs.Requests.{Call, fits, IsShort, AreArgs}
+use Rattle.requests.specs.ProcLists.{proc_named}
+use Rattle.requests.specs.Requests.{Call, fits, IsShort, AreArgs}
 use Rattle.batch_log.specs.declared.fault.FaultKind.TheVariants.{NotJson, UnknownProc, Args}
 use Rattle.batch_log.specs.Lines.{all_fit, call_said, document_said, line_said}
 

@@ -1,6 +1,6 @@
 -- Laws of the batches of a log.
 use Rattle.std.proofs.Common.{◌≡◌, List, [], ◌∷◌, ◌++◌, append_assoc, append-nil, map, Ok, Err, refl, sym, ◌∙◌, ap}
-use Rattle.proclang.specs.Requests as requests
+use Rattle.requests.specs.Requests as requests
 use Rattle.batch_log.specs.declared.line.LogLine.{LogLine}
 use Rattle.batch_log.specs.declared.line.LogLine.TheVariants.{Call, Cut}
 use Rattle.batch_log.specs.Lines.{Lines}

@@ -16,8 +16,8 @@ use Rattle.documents.proofs.Steps.{bind_ok, rule_ok, formed_ok, and_then_ok, map
 use Rattle.values.specs.declared.value.Value.{Value}
 use Rattle.values.specs.Said.{values_said}
 use Rattle.proclang_types.specs.Procedures.{ProcParts}
-use Rattle.proclang.specs.ProcLists.{proc_named}
-use Rattle.proclang.specs.Requests as requests
+use Rattle.requests.specs.ProcLists.{proc_named}
+use Rattle.requests.specs.Requests as requests
 use Rattle.batch_log.specs.declared.fault.FaultKind.{FaultKind}
 use Rattle.batch_log.specs.declared.fault.FaultKind.TheVariants.{NotJson, Shape, UnknownProc, Args}
 use Rattle.batch_log.specs.declared.line.LogLine.{LogLine}

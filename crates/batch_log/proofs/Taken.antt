@@ -7,7 +7,7 @@ use Rattle.devices.specs.LineReader.{LosesLine, Position, TakesLine}
 use Rattle.devices.proofs.Lines.{lines_of-last, lines_of-newline}
 use Rattle.devices.proofs.Passing.{Passes-at_end, Passes-from_consumes, Passes-weaken}
 use Rattle.proclang_types.specs.Procedures.{ProcParts}
-use Rattle.proclang.specs.Requests as requests
+use Rattle.requests.specs.Requests as requests
 use Rattle.batch_log.specs.declared.line.LogLine.TheVariants.{Call}
 use Rattle.batch_log.specs.Lines.{line_said}
 use Rattle.batch_log.specs.Taken.{IsFirstLine, LosesFirst, SaysCall, TakesCalls}

@@ -8,8 +8,8 @@ use Rattle.documents.specs.FirstFault.{broken, IsFirst}
 use Rattle.values.specs.declared.value.Value.{Value}
 use Rattle.values.specs.Said.{values_said}
 use Rattle.proclang_types.specs.Procedures.{ProcParts}
-use Rattle.proclang.specs.ProcLists.{proc_named}
-use Rattle.proclang.specs.Requests as requests
+use Rattle.requests.specs.ProcLists.{proc_named}
+use Rattle.requests.specs.Requests as requests
 use Rattle.batch_log.specs.declared.fault.FaultKind.{FaultKind}
 use Rattle.batch_log.specs.declared.fault.FaultKind.TheVariants.{NotJson, Shape, UnknownProc, Args}
 use Rattle.batch_log.specs.declared.line.LogLine.{LogLine}

@@ -11,9 +11,9 @@ use Rattle.values.specs.Said.{values_said}
 use Rattle.values.specs.Shapes.{TableShape}
 use Rattle.proclang_types.specs.Syntax.{ParamShape}
 use Rattle.proclang_types.specs.Procedures.{ProcParts}
-use Rattle.proclang.specs.ProcLists.{proc_named}
-use Rattle.proclang.specs.Requests.{fits}
-use Rattle.proclang.specs.Requests as requests
+use Rattle.requests.specs.ProcLists.{proc_named}
+use Rattle.requests.specs.Requests.{fits}
+use Rattle.requests.specs.Requests as requests
 use Rattle.batch_log.specs.Forms.{Form, call_form, cut_form, line_form}
 use Rattle.batch_log.specs.declared.fault.FaultKind.{FaultKind}
 use Rattle.batch_log.specs.declared.fault.FaultKind.TheVariants.{NotJson, Shape, UnknownProc, Args}

@@ -3,7 +3,7 @@ use Rattle.std.specs.Prelude.{◌≡◌, ℕ, ◌+◌, ◌<◌, ◌≤◌, ◌^�
 use Rattle.std.specs.List.{AllByRecursion}
 use Rattle.devices.specs.Lines.{has_newline, joined, lines_of, newline}
 use Rattle.proclang_types.specs.Procedures.{ProcParts}
-use Rattle.proclang.specs.Requests as requests
+use Rattle.requests.specs.Requests as requests
 use Rattle.batch_log.specs.declared.line.LogLine.TheVariants.{Call}
 use Rattle.batch_log.specs.Lines.{line_said}
 

@@ -13,7 +13,7 @@ ghost use Rattle.batch_log.specs.Taken.{IsFirstLine, LosesFirst, TakesCalls};
 use crate::fault::{FaultKind, LogFault, device_fault};
 use crate::line::{LogLine, read_line};
 use devices::{LineReader, Source};
-use proclang::{Procs, Request};
+use requests::{Procs, Request};
 use std::alloc::Global;
 
 /// A fault of the line last begun.

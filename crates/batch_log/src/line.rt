@@ -8,7 +8,7 @@ ghost use Rattle.batch_log.specs.Lines.{call_said, document_said, line_said, IsO
 
 use crate::fault::FaultKind;
 use crate::form::{LineForm, line_form};
-use proclang::{Procs, Request, RequestFault};
+use requests::{Procs, Request, RequestFault};
 use serde_json::Value;
 use std::alloc::Global;
 use std::str;

@@ -12,7 +12,7 @@ ghost use Rattle.batch_log.specs.Taken.{TakesCalls};
 use crate::batch::read_batch;
 use crate::fault::LogFault;
 use devices::{LineReader, Source};
-use proclang::{Procs, Request};
+use requests::{Procs, Request};
 use std::alloc::Global;
 
 /// Reads the batches of a log from a source, with the number of each line.

@@ -8,7 +8,7 @@ use coarsen::Plan;
 use engine::Settings;
 use footprint::Footprint;
 use interp::Entry;
-use proclang::Request;
+use requests::Request;
 use report_text::push_plan;
 use row_store::RowStore;
 use running::RunFault;

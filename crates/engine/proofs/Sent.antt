@@ -38,7 +38,7 @@ use Rattle.proclang_types.specs.contracts.expression.ValueExpr as value_expressi
 use Rattle.proclang_types.specs.contracts.statement.FootprintEntry as footprint_entry
 use Rattle.proclang_types.specs.contracts.statement.Stmt as statement
 use Rattle.proclang_types.specs.contracts.procedure.Proc as procedure
-use Rattle.proclang.specs.contracts.request.Request as request
+use Rattle.requests.specs.contracts.request.Request as request
 
 int_expr_field_send : IsSend (int_expression.the_field).row
 int_expr_field_send = search (sendable, crosses, table_no.the_send, operator.the_field_send, int_expr.send-IntExpr) depth 30

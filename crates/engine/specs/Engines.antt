@@ -3,8 +3,8 @@ use Rattle.std.specs.Prelude.{◌≡◌, ℕ, List, Bool, Option, is_some, true,
 use Rattle.std.specs.Coded.{Coded, code_by, coded×, coded_ℕ, coded_list, coded_option}
 use Rattle.values.specs.Shapes.{TableShape}
 use Rattle.values.specs.Database.{Database}
-use Rattle.proclang.specs.ProcLists.{ProcsParts}
-use Rattle.proclang.specs.contracts.procs.Procs as procs
+use Rattle.requests.specs.ProcLists.{ProcsParts}
+use Rattle.requests.specs.contracts.procs.Procs as procs
 use Rattle.engine.specs.declared.settings.Settings.{Settings}
 use Rattle.engine.specs.contracts.settings.Settings as settings
 use Rattle.sequencer.specs.declared.batch.Batch.{Batch}

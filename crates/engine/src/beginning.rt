@@ -6,7 +6,7 @@ ghost use Rattle.scheduler.specs.Logs.{ArePlansOf};
 ghost use Rattle.engine.specs.Stages.{IsFree, IsBatchFrom, IsScheduleOf};
 
 use crate::settings::Settings;
-use proclang::Procs;
+use requests::Procs;
 use row_store::{RowStore, all_is_free_with_nothing_lent};
 use scheduler::Scheduler;
 use sequencer::{Batch, prepare};

@@ -12,7 +12,7 @@ use crate::replies::BatchDone;
 use crate::settings::Settings;
 use crate::stage::Stage;
 use crate::working::{Stop, work_alone, work_on_workers};
-use proclang::Procs;
+use requests::Procs;
 use row_store::RowStore;
 use sequencer::Batch;
 use setup::Setup;

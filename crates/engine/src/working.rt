@@ -11,7 +11,7 @@ use crate::gate::Gate;
 use crate::pool::{Refusal, Run, run_on_workers};
 use crate::settings::Settings;
 use crate::stage::{Begun, Stage};
-use proclang::Procs;
+use requests::Procs;
 use std::alloc::Global;
 use std::sync::Wait;
 use std::thread::Threads;

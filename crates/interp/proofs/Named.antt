@@ -3,7 +3,7 @@ use Rattle.std.proofs.Common.{◌≡◌, ℕ, true, false, cond, List, [], ◌�
 use Rattle.std.specs.Str.{bytes_eq}
 use Rattle.values.specs.Shapes.{TableShape}
 use Rattle.proclang_types.specs.Procedures.{ProcParts}
-use Rattle.proclang.specs.ProcLists.{AreOver, proc_named}
+use Rattle.requests.specs.ProcLists.{AreOver, proc_named}
 
 -- a procedure that is found by its name is over the tables of all
 pub named_over : (tables : List TableShape) (procs : List ProcParts) (name : List ℕ) (p : ProcParts)

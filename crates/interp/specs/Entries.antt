@@ -1,5 +1,5 @@
 -- Entries as contracts see them, and the shapes whose meaning is defined.
-use Rattle.proclang.specs.Requests.{Call}
+use Rattle.requests.specs.Requests.{Call}
 use Rattle.proclang_types.specs.Views.{stmts_view}
 use Rattle.meaning.specs.Entries.{EntryShape, declares, faults, finds}
 use Rattle.meaning.specs.Entries as meant

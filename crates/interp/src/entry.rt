@@ -4,7 +4,7 @@ ghost use Rattle.std.specs.Prelude.{◌≡◌, IfOk, option_copied};
 ghost use Rattle.meaning.specs.Entries.{footprint_of};
 
 use footprint::{AbortCode, Footprint};
-use proclang::Request;
+use requests::Request;
 use std::alloc::{AllocError, Global};
 use std::marker::Model;
 use std::sync::Arc;

@@ -10,9 +10,7 @@ pub mod FootprintExpressions
 pub mod TypedParts
 pub mod TypedStatements
 pub mod TypedBlocks
-pub mod ProcLists
 pub mod TypedProcs
-pub mod Requests
 pub mod FirstNames
 pub mod FirstTypes
 pub mod FirstExpressions

@@ -1,5 +1,5 @@
 -- A procedure that is read fits the catalogue, and its name is a new one that obeys the rule.
-use Rattle.std.proofs.Common.{◌≡◌, ℕ, ◌+◌, Bool, true, false, not, List, [], ◌∷◌, ◌++◌, map, Ok, refl, ap, subst}
+use Rattle.std.proofs.Common.{◌≡◌, ℕ, ◌+◌, Bool, true, false, not, List, [], ◌∷◌, ◌++◌, map, Ok, Option, Some, None, is_some, refl, sym, ap, subst, ◌∙◌}
 use Rattle.std.specs.List.{AllByRecursion, IsDistinct}
 use Rattle.std.specs.Str.{bytes_eq}
 use Rattle.serde_json.specs.Data.{Data}
@@ -24,7 +24,8 @@ use Rattle.proclang.specs.Expressions.{deepest, expr_at}
 use Rattle.proclang.specs.Statements.{block_at}
 use Rattle.proclang.specs.ProcForms.{ProcDocument, proc_form, declared_form, EntryDocument, row_parts, part_parts, table_parts, db_parts, entry_form}
 use Rattle.proclang.specs.Procs.{fresh_at, params_at, int_at, entry_of, entry_at, footprint_at, PartsSyntax, parts_at, proc_at, each_proc}
-use Rattle.proclang.specs.ProcLists.{AreOver, AreProcs}
+use Rattle.requests.specs.ProcLists.{AreOver, AreProcs, proc_named}
+use Rattle.requests.proofs.ProcLists.{named_used}
 use Rattle.proclang.proofs.TypedExpressions.{table_there, int_fits, expr_fits}
 use Rattle.proclang.proofs.FootprintExpressions.{int_plain, expr_plain}
 use Rattle.proclang.proofs.TypedParts.{all_push, each_keeps}
@@ -140,3 +141,11 @@ unfolding IsDistinct
 procs_sound tables path ds ps e over =
     let named = each_named tables path 0 [] ds (map proc_syntax ps) (record { names = tt; distinct = tt }) e in
     record { over = over; names = names_seen ps named.names; distinct = rw (← same_names ps) named.distinct }
+
+-- no procedure has a name that isn't used
+pub not_named : (name : List ℕ) (ps : List ProcParts) → is_used (λ p. p.name) name (map proc_syntax ps) ≡ false → proc_named ps name ≡ None
+not_named name ps e = none (proc_named ps name) (sym (named_used name ps) ∙ e)
+  where
+    none : (o : Option ProcParts) → is_some o ≡ false → o ≡ None
+    none None e = refl
+    none (Some p) e = absurd cc

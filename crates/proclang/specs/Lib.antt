@@ -11,8 +11,6 @@ pub mod Targets
 pub mod Statements
 pub mod ProcForms
 pub mod Procs
-pub mod ProcLists
-pub mod Requests
 pub mod ExprTypes
 pub mod BrokenNames
 pub mod BrokenExpressions

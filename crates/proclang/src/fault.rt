@@ -10,6 +10,7 @@ use std::alloc::{AllocError, AllocFailed, Global};
 use std::error::Error;
 use std::fmt;
 use std::marker::Model;
+use values::NoMemory;
 
 /// The rule that is broken, each with the number that it is reported by.
 #[derive(Clone, Copy, Debug, PartialEq, Eq)]
@@ -97,6 +98,14 @@ impl<T: Drop> From<AllocFailed<T>> for ProcFault {
     ghost from_gives = { λ _ e. e ≡ Memory };
 
     fn from(_error: AllocFailed<T>) -> ProcFault {
+        ProcFault::Memory
+    }
+}
+
+impl From<NoMemory> for ProcFault {
+    ghost from_gives = { λ _ e. e ≡ Memory };
+
+    fn from(_error: NoMemory) -> ProcFault {
         ProcFault::Memory
     }
 }

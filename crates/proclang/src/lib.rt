@@ -8,7 +8,6 @@ mod limits;
 mod operator;
 mod path;
 mod proc_form;
-mod proc_map;
 mod procs;
 mod read_block;
 mod read_expr;
@@ -19,7 +18,6 @@ mod read_proc;
 mod read_stmt;
 mod read_target;
 mod read_values;
-mod request;
 mod scope;
 mod stmt_form;
 mod typed;
@@ -29,5 +27,5 @@ pub use proclang_types::{
     BoolExpr, Comparison, Equality, Expr, FootprintEntry, IntExpr, IntOperator, Param, Proc, Right,
     Stmt, TextExpr, ValueExpr,
 };
-pub use procs::{Procs, read_procs};
-pub use request::{Request, RequestFault};
+pub use procs::read_procs;
+pub use requests::{Procs, Request, RequestFault};

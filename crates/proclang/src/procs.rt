@@ -12,95 +12,34 @@ ghost use Rattle.proclang.specs.declared.fault.ProcFault.TheVariants.{Memory};
 ghost use Rattle.proclang.specs.Paths.{places};
 ghost use Rattle.proclang.specs.Faults.{is_memory};
 ghost use Rattle.proclang.specs.Procs.{each_proc, procs_at};
-ghost use Rattle.proclang.specs.ProcLists.{AreOver, AreProcs, AreKeyed, procs_of};
+ghost use Rattle.requests.specs.ProcLists.{AreOver, AreProcs};
 
 use crate::fault::{FaultKind, ProcFault, fault};
 use crate::limits::at_most;
 use crate::path::Path;
-use crate::proc_map::{find_proc, push_proc};
 use crate::read_proc::read_proc;
 use documents::versioned_list;
-use indexmap::IndexMap;
-use proclang_types::Proc;
+use requests::Procs;
 use serde_json::Value;
 use std::alloc::Global;
-use std::marker::Model;
-use std::snapshot::Snapshot;
-use std::sync::Arc;
 use values::Catalogue;
-
-/// Procedures over the tables of a catalogue, by their names and in declared order. Each is well typed, its name obeys
-/// the rule of names, and no two have the same.
-#[derive(Drop)]
-pub struct Procs {
-    catalogue: Snapshot<Catalogue>,
-    procs: IndexMap<String, Arc<Proc>>,
-}
-
-impl Model for Procs {
-    ghost use Rattle.std.specs.Coded.{codes};
-    ghost use Rattle.proclang_types.specs.contracts.expression.IntExpr as int_expr;
-    ghost use Rattle.proclang_types.specs.contracts.statement.Stmt as stmt;
-    ghost use Rattle.proclang.specs.ProcLists.{ProcsParts, IsProcMap, procs_of};
-
-    ghost Value = { ProcsParts };
-
-    ghost coded = { Prim.hlevel (codes, int_expr.the_row.coded, stmt.the_row.coded) };
-
-    ghost view = { λ p. record { tables = p.catalogue.value; procs = procs_of p.procs.entries } };
-
-    ghost invariant = { λ p. IsProcMap p.catalogue.value p.procs.entries };
-}
-
-impl Procs {
-    ghost use Rattle.std.specs.Prelude.{length, option_map, is_some, IfSome};
-    ghost use Rattle.std.specs.Arc.{arc_value};
-    ghost use Rattle.proclang.specs.ProcLists.{proc_named};
-
-    /// How many procedures there are, 0 to 256.
-    pub fn len(&self) -> usize
-        ensures { result ≡ length self.now.procs }
-    {
-        self.procs.len()
-    }
-
-    /// Whether a procedure has that name.
-    pub fn has(&self, name: &str) -> bool
-        ensures { result ≡ is_some (proc_named self.now.procs name.now) }
-    {
-        self.find(name).is_some()
-    }
-
-    /// The procedure of that name, `None` exactly where none has it.
-    pub(crate) fn find(&self, name: &str) -> Option<&Arc<Proc>>
-        ensures found { option_map (λ p. arc_value p.now) result ≡ proc_named self.now.procs name.now }
-        ensures tables { IfSome result (λ p. (arc_value p.now).tables ≡ self.now.tables) }
-    {
-        find_proc(&self.procs, name)
-    }
-}
 
 fn read_each(
     alloc: Global,
     catalogue: &Catalogue,
     path: &Path<'_>,
     values: &[Value],
-) -> Result<IndexMap<String, Arc<Proc>>, ProcFault>
-    ensures exact { Gives is_memory (λ m. map proc_syntax (procs_of m.entries)) result
+) -> Result<Procs, ProcFault>
+    ensures exact { Gives is_memory (λ p. map proc_syntax p.procs) result
         (each_proc catalogue.now (places path.now) (map view values.now)) }
-    ensures keyed { IfOk result (λ m. AreKeyed m.entries) }
-    ensures tables { IfOk result (λ m. AreOver catalogue.now (procs_of m.entries)) }
+    ensures tables { IfOk result (λ p. p.tables ≡ catalogue.now) }
+    ensures over { IfOk result (λ p. AreOver catalogue.now p.procs) }
 {
-    let mut procs = IndexMap::new(alloc);
+    let mut procs = Procs::new(alloc, catalogue);
     for (index, value) in values.iter().enumerate() {
-        let proc = read_proc(
-            alloc,
-            catalogue,
-            &Path::Element(&*path, index),
-            &procs,
-            value,
-        )?;
-        push_proc(alloc, &mut procs, proc)?;
+        let path = Path::Element(&*path, index);
+        let proc = read_proc(alloc, catalogue, &path, &procs, value)?;
+        procs.push(alloc, proc)?;
     }
     Ok(procs)
 }
@@ -117,10 +56,7 @@ fn read_document(alloc: Global, document: &Value, catalogue: &Catalogue) -> Resu
     let path = Path::Element(&Path::Document, 2);
     at_most(alloc, &path, 256, values)?;
     let procs = read_each(alloc, catalogue, &path, values)?;
-    Ok(Procs {
-        catalogue: Snapshot::of(catalogue),
-        procs,
-    })
+    Ok(procs)
 }
 
 /// The procedures of a document `["procs", 1, [PROC ..]]` over the tables of a catalogue, or the first rule that the

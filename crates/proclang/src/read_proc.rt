@@ -3,28 +3,26 @@
 ghost use Rattle.std.specs.Prelude.{◌≡◌, IfOk, map};
 ghost use Rattle.serde_json.specs.View.{view};
 ghost use Rattle.documents.specs.Reading.{Gives};
+ghost use Rattle.values.specs.Reading.{is_used};
 ghost use Rattle.proclang_types.specs.Procedures.{proc_syntax};
 ghost use Rattle.proclang.specs.Paths.{places};
 ghost use Rattle.proclang.specs.Faults.{is_memory};
 ghost use Rattle.proclang.specs.ProcForms.{proc_parts_of};
 ghost use Rattle.proclang.specs.Procs.{parts_view, parts_at, proc_at};
-ghost use Rattle.proclang.specs.ProcLists.{AreKeyed, procs_of};
 
 use crate::fault::{FaultKind, ProcFault, fault};
 use crate::path::Path;
 use crate::proc_form::{ProcForm, proc_form};
-use crate::proc_map::has_proc;
 use crate::read_block::read_block;
 use crate::read_expr::DEEPEST;
 use crate::read_footprint::read_footprint;
 use crate::read_names::declare;
 use crate::read_params::read_params;
 use crate::scope::Scope;
-use indexmap::IndexMap;
 use proclang_types::{FootprintEntry, Param, Proc, Stmt};
+use requests::Procs;
 use serde_json::Value;
 use std::alloc::Global;
-use std::sync::Arc;
 use values::Catalogue;
 
 /// What follows a procedure's name.
@@ -57,18 +55,24 @@ fn read_parts(
     })
 }
 
+/// Whether an earlier procedure has that name.
+fn has_proc(earlier: &Procs, name: &str) -> bool
+    ensures { result ≡ is_used (λ p. p.name) name.now (map proc_syntax earlier.now.procs) }
+{
+    earlier.has(name)
+}
+
 /// A procedure, behind those before it.
 #[tactic(auto, unfolding(crate::specs::Procs::proc_at))]
 pub(crate) fn read_proc(
     alloc: Global,
     catalogue: &Catalogue,
     path: &Path<'_>,
-    earlier: &IndexMap<String, Arc<Proc>>,
+    earlier: &Procs,
     value: &Value,
 ) -> Result<Proc, ProcFault>
-    requires { AreKeyed earlier.now.entries }
     ensures exact { Gives is_memory proc_syntax result
-        (proc_at catalogue.now (places path.now) (map proc_syntax (procs_of earlier.now.entries)) (view value.now)) }
+        (proc_at catalogue.now (places path.now) (map proc_syntax earlier.now.procs) (view value.now)) }
     ensures tables { IfOk result (λ p. p.tables ≡ catalogue.now) }
 {
     let Some(form) = proc_form(value) else {

@@ -2,7 +2,7 @@
 use Rattle.std.proofs.Common.{◌≡◌, ℕ, ◌+◌, List, [], ◌∷◌, length, map, refl, ap, ◌∙◌}
 use Rattle.values.specs.Shapes.{TableShape}
 use Rattle.values.specs.Database.{Database}
-use Rattle.proclang.specs.Requests.{Call}
+use Rattle.requests.specs.Requests.{Call}
 use Rattle.meaning.specs.Entries.{EntryShape}
 use Rattle.meaning.specs.Entries as meant
 use Rattle.meaning.specs.Serial.{serial_end, serial_replies}

@@ -8,7 +8,7 @@ use Rattle.devices.specs.Devices.{AppendsFront, Passes}
 use Rattle.devices.specs.LineReader.{Position}
 use Rattle.values.specs.Shapes.{TableShape}
 use Rattle.values.specs.Database.{Database}
-use Rattle.proclang.specs.ProcLists.{ProcsParts}
+use Rattle.requests.specs.ProcLists.{ProcsParts}
 use Rattle.meaning.specs.Serial.{serial_replies}
 use Rattle.batch_log.specs.declared.fault.FaultKind.TheVariants.{Memory}
 use Rattle.batch_log.specs.declared.fault.LogFault.{LogFault}

@@ -10,8 +10,8 @@ use Rattle.devices.specs.Devices.{AppendsFront, Passes}
 use Rattle.devices.proofs.Passing.{left_at_end, Passes-refl, Passes-trans, Passes-first}
 use Rattle.values.specs.Shapes.{TableShape}
 use Rattle.values.specs.Database.{Database}
-use Rattle.proclang.specs.ProcLists.{ProcsParts}
-use Rattle.proclang.specs.Requests.{Call}
+use Rattle.requests.specs.ProcLists.{ProcsParts}
+use Rattle.requests.specs.Requests.{Call}
 use Rattle.meaning.specs.Entries.{EntryShape, Reply, meaning}
 use Rattle.meaning.specs.Serial.{serial_end, serial_replies}
 use Rattle.sequencer.specs.Entries.{prepared}

@@ -1,7 +1,7 @@
 -- The report of a log on a setup.
 use Rattle.std.specs.Prelude.{ℕ, List, map, is_some, Option}
 use Rattle.values.specs.Database.{Database}
-use Rattle.proclang.specs.ProcLists.{ProcsParts}
+use Rattle.requests.specs.ProcLists.{ProcsParts}
 use Rattle.sequencer.specs.Entries.{prepared}
 use Rattle.batch_log.specs.declared.fault.LogFault.{LogFault}
 use Rattle.batch_log.specs.Lines.{Lines}

@@ -3,7 +3,7 @@ use Rattle.std.specs.Prelude.{◌≡◌, ℕ, ◌||◌, List, [], length, Bool, 
 use Rattle.std.specs.Io.KnownBytes.{Appends}
 use Rattle.devices.specs.Devices.{AppendsFront}
 use Rattle.values.specs.Database.{Database}
-use Rattle.proclang.specs.ProcLists.{ProcsParts}
+use Rattle.requests.specs.ProcLists.{ProcsParts}
 use Rattle.report_text.specs.Report.{all_entries}
 use Rattle.running.specs.declared.run_fault.RunFault.{RunFault}
 use Rattle.running.specs.Reports.{batches_in, fault_in, report_of}

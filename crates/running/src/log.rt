@@ -25,7 +25,7 @@ use crate::run_fault::RunFault;
 use crate::transcript::Transcript;
 use batch_log::{FaultKind, LogReader, Sink, Source};
 use engine::{BatchDone, Engine, ExecFault, Settings};
-use proclang::Request;
+use requests::Request;
 use sequencer::{Batch, BatchFault};
 use setup::Setup;
 use std::alloc::Global;

@@ -2,7 +2,7 @@
 use Rattle.std.proofs.Common.{◌≡◌, ℕ, ◌+◌, List, [], ◌∷◌}
 use Rattle.std.specs.List.{AllByRecursion}
 use Rattle.values.specs.Shapes.{TableShape}
-use Rattle.proclang.specs.Requests.{Call}
+use Rattle.requests.specs.Requests.{Call}
 use Rattle.sequencer.specs.Batches.{items_from, AreOver}
 
 pub numbered_over : (tables : List TableShape) (n : ℕ) (requests : List Call) → AllByRecursion (λ r. r.proc.tables ≡ tables) requests → AreOver tables (items_from n requests)

@@ -4,7 +4,7 @@ use Rattle.proclang_types.specs.Procedures.{proc_syntax}
 use Rattle.footprint.specs.declared.abort_code.AbortCode.{AbortCode}
 use Rattle.footprint.specs.Rights.{FootprintOf}
 use Rattle.footprint.specs.Declaration.{declared_footprint}
-use Rattle.proclang.specs.Requests.{Call}
+use Rattle.requests.specs.Requests.{Call}
 use Rattle.meaning.specs.Entries.{EntryShape, Footing, declares, faults}
 
 -- a declared footprint, or the abort of its first fault

@@ -5,7 +5,7 @@ ghost use Rattle.std.specs.List.{AllByRecursion};
 ghost use Rattle.values.specs.Shapes.{TableShape};
 ghost use Rattle.sequencer.specs.Batches.{items_from, AreOver};
 
-use proclang::Request;
+use requests::Request;
 use std::alloc::Global;
 use thiserror::Error;
 use values::NoMemory;

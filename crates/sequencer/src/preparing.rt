@@ -13,7 +13,7 @@ use crate::batch::Batch;
 use footprint::declared;
 use interp::{Entry, Footing};
 use interp_expr::RowView;
-use proclang::{Procs, Request};
+use requests::{Procs, Request};
 use std::alloc::Global;
 use values::{Catalogue, NoMemory};
 

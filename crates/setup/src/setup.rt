@@ -2,7 +2,7 @@
 
 ghost use Rattle.std.specs.Prelude.{◌≡◌};
 
-use proclang::Procs;
+use requests::Procs;
 use values::{Catalogue, Key, Row, TableNo};
 
 /// What a run starts from.

@@ -1,7 +1,7 @@
 //! Runs of calls, from the text of their procedures on.
 
 ghost use Rattle.std.specs.Prelude.{◌≡◌, IfOk};
-ghost use Rattle.proclang.specs.ProcLists.{AreOver};
+ghost use Rattle.requests.specs.ProcLists.{AreOver};
 
 use super::memory::Shown;
 use super::procedures::ACCOUNTS;

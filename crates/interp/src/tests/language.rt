@@ -1,7 +1,7 @@
 //! Runs of calls of each statement and expression.
 
 ghost use Rattle.std.specs.Prelude.{◌≡◌, IfOk};
-ghost use Rattle.proclang.specs.ProcLists.{AreOver};
+ghost use Rattle.requests.specs.ProcLists.{AreOver};
 
 use super::calls::{entry_of, run_entry};
 use super::{Bank, apply};

@@ -1,5 +1,5 @@
 use Rattle.std.proofs.Common.{◌≡◌, ◌∙◌, ap, length, map}
-use Rattle.proclang.specs.ProcLists.{ProcsParts}
+use Rattle.requests.specs.ProcLists.{ProcsParts}
 use Rattle.meaning.specs.Serial.{serial_replies}
 use Rattle.sequencer.specs.Entries.{prepared}
 use Rattle.report_text.specs.Report.{batch_text, reply_lines}

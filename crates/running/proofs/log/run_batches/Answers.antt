@@ -1,6 +1,6 @@
 use Rattle.std.proofs.Common.{◌≡◌, ◌∙◌, ◌+◌, List, ℕ, length, rules, refl, sym, ap}
 use Rattle.devices.specs.LineReader.{Position}
-use Rattle.proclang.specs.ProcLists.{ProcsParts}
+use Rattle.requests.specs.ProcLists.{ProcsParts}
 use Rattle.meaning.specs.Serial.{serial_replies}
 use Rattle.batch_log.specs.Reader.{came, position_of}
 use Rattle.batch_log.proofs.Moves.{Moves-none, Moves-trans}

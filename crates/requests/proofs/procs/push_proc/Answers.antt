@@ -1,6 +1,6 @@
 use Rattle.std.proofs.Common.{◌∙◌}
-use Rattle.proclang.proofs.ProcLists.{proc_pushed}
-use Rattle.proclang.proofs.proc_map.push_proc.Goals as goal
+use Rattle.requests.proofs.ProcLists.{proc_pushed}
+use Rattle.requests.proofs.procs.push_proc.Goals as goal
 
 pub returns-clause-pushed : goal.returns-clause-pushed
 returns-clause-pushed c = (proc_pushed c.args.procs.now.entries c.insert.new.self.entries c.in_ok-name.name c.in_ok-proc.proc c.args.proc c.requires.keyed (c.in_ok-name.ensures.ok ∙ c.name.ensures) c.in_ok-proc.ensures.ok c.requires.fresh c.in_ok-insert.ensures.entries).0

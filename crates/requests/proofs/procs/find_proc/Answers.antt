@@ -1,5 +1,5 @@
-use Rattle.proclang.proofs.ProcLists.{proc_found}
-use Rattle.proclang.proofs.proc_map.find_proc.Goals as goal
+use Rattle.requests.proofs.ProcLists.{proc_found}
+use Rattle.requests.proofs.procs.find_proc.Goals as goal
 
 pub returns : goal.returns
 returns c = proc_found c.args.procs.now c.args.name.now c.get.result c.requires c.get.ensures.value

@@ -3,7 +3,7 @@
 ghost use Rattle.std.specs.Prelude.{◌≡◌, ◌↔◌, Some, None, Err, IfOk, IsSomeAnd, IsOkUnless, IsTrue, map};
 ghost use Rattle.std.specs.List.{list_all, zip};
 ghost use Rattle.proclang_types.specs.Procedures.{param_shape};
-ghost use Rattle.proclang.specs.Requests.{fits, AreArgs};
+ghost use Rattle.requests.specs.Requests.{fits, AreArgs};
 
 use crate::procs::Procs;
 use proclang_types::{Param, Proc};
@@ -67,7 +67,7 @@ impl Model for Request {
     ghost use Rattle.std.specs.Coded.{codes};
     ghost use Rattle.proclang_types.specs.contracts.expression.IntExpr as int_expr;
     ghost use Rattle.proclang_types.specs.contracts.statement.Stmt as stmt;
-    ghost use Rattle.proclang.specs.Requests.{AreArgs, Call};
+    ghost use Rattle.requests.specs.Requests.{AreArgs, Call};
 
     ghost Value = { Call };
 
@@ -79,7 +79,7 @@ impl Model for Request {
 }
 
 impl Request {
-    ghost use Rattle.proclang.specs.ProcLists.{proc_named};
+    ghost use Rattle.requests.specs.ProcLists.{proc_named};
 
     /// The call of the procedure of that name with these values.
     pub fn new(procs: &Procs, name: &str, args: Vec<Value>) -> Result<Request, RequestFault>

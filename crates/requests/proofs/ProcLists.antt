@@ -1,28 +1,33 @@
 -- Procedures in a map, each under its name.
-use Rattle.std.proofs.Common.{◌≡◌, ℕ, Bool, true, false, cond, ◌||◌, List, [], ◌∷◌, ◌++◌, map, String, Global, string_bytes, Option, Some, None, is_some, option_copied, option_map, IfSome, Bor, refl, sym, ap, ◌∙◌}
+use Rattle.std.proofs.Common.{◌≡◌, ℕ, Bool, true, false, cond, ◌||◌, List, [], ◌∷◌, ◌++◌, map, String, Global, string_bytes, Option, Some, None, is_some, option_copied, option_map, IfSome, Bor, Result, Ok, Err, OnOk, OnErr, refl, sym, ap, ◌∙◌}
 use Rattle.std.specs.Arc.{arc_value}
+use Rattle.std.specs.Bool.{⊤}
 use Rattle.std.proofs.lemmas.List.{map-append}
+use Rattle.std.specs.List.{AllByRecursion}
 use Rattle.std.specs.Str.{bytes_eq}
 use Rattle.std.specs.String.{string_eq}
 use Rattle.std.specs.HashMap.{HashMap, get_by_text}
 use Rattle.std.specs.Map.{lookup}
 use Rattle.std.specs.declared.sync.Arc.{Arc}
 use Rattle.indexmap.specs.IndexMap.{insert_entry}
+use Rattle.values.specs.Names.{is_name}
 use Rattle.values.specs.Reading.{is_used}
+use Rattle.values.proofs.Named.{distinct_push}
 use Rattle.values.specs.Shapes.{TableShape}
 use Rattle.proclang_types.specs.Procedures.{ProcParts, proc_syntax}
-use Rattle.proclang.specs.ProcLists.{Entry, procs_of, AreKeyed, AreOver, proc_named}
+use Rattle.requests.specs.ProcLists.{Entry, procs_of, AreKeyed, AreOver, AreProcs, IsProcMap, proc_named}
 
 some_at : {V : Type 0} (b : Bool) (v : V) (o : Option V) (c : Bool) → is_some o ≡ c → is_some (cond b (Some v) o) ≡ (b || c)
 some_at true v o c e = refl
 some_at false v o c e = e
 
-used_at : (name : List ℕ) (es : List Entry) → AreKeyed es → is_some (lookup (λ k. bytes_eq name (string_bytes k)) es) ≡ is_used (λ p. p.name) name (map proc_syntax (procs_of es))
-used_at name [] h = refl
-used_at name (e ∷ es) h = some_at (bytes_eq name (string_bytes e.0)) e.1 _ _ (used_at name es h.1) ∙ ap (λ (n : List ℕ). bytes_eq name n || is_used (λ p. p.name) name (map proc_syntax (procs_of es))) h.0
+-- a name is used exactly where a procedure has it
+pub named_used : (name : List ℕ) (ps : List ProcParts) → is_used (λ p. p.name) name (map proc_syntax ps) ≡ is_some (proc_named ps name)
+named_used name [] = refl
+named_used name (p ∷ ps) = sym (some_at (bytes_eq name p.name) p (proc_named ps name) (is_used (λ q. q.name) name (map proc_syntax ps)) (sym (named_used name ps)))
 
-pub proc_used : {S : Type 0} (m : HashMap (String Global) (Arc ProcParts Global) S) (name : List ℕ) → AreKeyed m.entries → is_some (get_by_text m name) ≡ is_used (λ p. p.name) name (map proc_syntax (procs_of m.entries))
-proc_used m name h = used_at name m.entries h
+not_used : (name : List ℕ) (ps : List ProcParts) → proc_named ps name ≡ None → is_used (λ p. p.name) name (map proc_syntax ps) ≡ false
+not_used name ps e = named_used name ps ∙ ap is_some e
 
 found_among : {A B : Type 0} (f : A → B) (b : Bool) (x : A) (o : Option A) → option_map f (cond b (Some x) o) ≡ cond b (Some (f x)) (option_map f o)
 found_among f true x o = refl
@@ -59,11 +64,11 @@ pub keyed_push : (es : List Entry) (k : String Global) (v : Arc ProcParts Global
 keyed_push [] k v h is = (is, tt)
 keyed_push (e ∷ es) k v h is = (h.0, keyed_push es k v h.1 is)
 
-pub proc_pushed : (es new : List Entry) (k : String Global) (v : Arc ProcParts Global) (p : ProcParts) → AreKeyed es → string_bytes k ≡ p.name → arc_value v ≡ p → is_used (λ q. q.name) p.name (map proc_syntax (procs_of es)) ≡ false
+pub proc_pushed : (es new : List Entry) (k : String Global) (v : Arc ProcParts Global) (p : ProcParts) → AreKeyed es → string_bytes k ≡ p.name → arc_value v ≡ p → proc_named (procs_of es) p.name ≡ None
     → new ≡ insert_entry string_eq es k v → (procs_of new ≡ procs_of es ++ p ∷ []) × AreKeyed new
 proc_pushed es new k v p h is value u e =
     let named : string_bytes k ≡ (arc_value v).name = is ∙ ap (λ (q : ProcParts). q.name) (sym value) in
-    let fresh : is_used (λ q. q.name) (arc_value v).name (map proc_syntax (procs_of es)) ≡ false = rw value u in
+    let fresh : is_used (λ q. q.name) (arc_value v).name (map proc_syntax (procs_of es)) ≡ false = rw value (not_used p.name (procs_of es) u) in
     let last : new ≡ es ++ (k, v) ∷ [] = e ∙ proc_new es k v h named fresh in
     (rw (last, map-append) (ap (λ (q : ProcParts). procs_of es ++ q ∷ []) value), rw last (keyed_push es k v h named))
 
@@ -79,3 +84,25 @@ over_named tables name p (q ∷ qs) h e = over_step tables p q (bytes_eq name q.
 pub found_over : (tables : List TableShape) (name : List ℕ) (procs : List ProcParts) (o : Option (Bor (Arc ProcParts Global))) → AreOver tables procs → option_map (λ p. arc_value p.now) o ≡ proc_named procs name → IfSome o (λ p. (arc_value p.now).tables ≡ tables)
 found_over tables name procs None h e = tt
 found_over tables name procs (Some x) h e = over_named tables name (arc_value x.now) procs h e
+
+-- procedures stay what they are with one more, over their tables and of a new name that obeys the rule
+pub procs_pushed : (tables : List TableShape) (ps : List ProcParts) (p : ProcParts) → AreProcs tables ps → p.tables ≡ tables → is_name p.name ≡ true → proc_named ps p.name ≡ None → AreProcs tables (ps ++ p ∷ [])
+procs_pushed tables ps p h over name fresh = record {
+  over = all_push (λ q. q.tables ≡ tables) ps p h.over over;
+  names = all_push (λ q. is_name q.name ≡ true) ps p h.names name;
+  distinct = distinct_push (λ q. q.name) ps p h.distinct (same_used p.name ps ∙ not_used p.name ps fresh);
+}
+  where
+    all_push : (P : ProcParts → Type 0) (xs : List ProcParts) (x : ProcParts) → AllByRecursion P xs → P x → AllByRecursion P (xs ++ x ∷ [])
+    all_push P [] x h now = (now, tt)
+    all_push P (y ∷ ys) x h now = (h.0, all_push P ys x h.1 now)
+
+    same_used : (name : List ℕ) (xs : List ProcParts) → is_used (λ q. q.name) name xs ≡ is_used (λ q. q.name) name (map proc_syntax xs)
+    same_used name [] = refl
+    same_used name (x ∷ xs) = ap (λ (b : Bool). bytes_eq name x.name || b) (same_used name xs)
+
+-- the map is as it was where a procedure could not be pushed, and else has one more
+pub map_pushed : {E : Type 0} (tables : List TableShape) (old new : List Entry) (p : ProcParts) (r : Result ⊤ E) → IsProcMap tables old → p.tables ≡ tables → is_name p.name ≡ true → proc_named (procs_of old) p.name ≡ None
+    → OnOk r (procs_of new ≡ procs_of old ++ p ∷ []) → OnOk r (AreKeyed new) → OnErr r (new ≡ old) → IsProcMap tables new
+map_pushed tables old new p (Ok u) h over name fresh pushed keyed same = record { keyed = keyed; procs = rw pushed (procs_pushed tables (procs_of old) p h.procs over name fresh) }
+map_pushed tables old new p (Err e) h over name fresh pushed keyed same = rw same h

@@ -9,7 +9,7 @@ use Rattle.values.specs.declared.value.Value.TheVariants as values
 use Rattle.values.specs.Rows.{type_of}
 use Rattle.proclang_types.specs.declared.procedure.Param.{Param}
 use Rattle.proclang_types.specs.Procedures.{param_shape}
-use Rattle.proclang.specs.Requests.{fits, IsShort, AreArgs}
+use Rattle.requests.specs.Requests.{fits, IsShort, AreArgs}
 
 fits_is : (kind : ColType) (v : Value) → fits kind v ≡ true → (type_of v ≡ kind) × IsShort v
 fits_is types.Int (values.Int z) e = (refl, tt)

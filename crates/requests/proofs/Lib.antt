@@ -1,0 +1,2 @@
+pub mod ProcLists
+pub mod Requests

@@ -1,0 +1,107 @@
+//! Procedures by name.
+
+ghost use Rattle.std.specs.Prelude.{◌≡◌, ◌∷◌, ◌++◌, [], true, None, OnOk, OnErr, IfSome, is_some, length, option_map};
+ghost use Rattle.std.specs.Arc.{arc_value};
+ghost use Rattle.values.specs.Names.{is_name};
+ghost use Rattle.requests.specs.ProcLists.{AreKeyed, proc_named, procs_of};
+
+use indexmap::IndexMap;
+use proclang_types::Proc;
+use std::alloc::Global;
+use std::marker::Model;
+use std::snapshot::Snapshot;
+use std::sync::Arc;
+use values::{Catalogue, NoMemory};
+
+/// Procedures over the tables of a catalogue, by their names and in declared order. Each is well typed, its name obeys
+/// the rule of names, and no two have the same.
+#[derive(Drop)]
+pub struct Procs {
+    catalogue: Snapshot<Catalogue>,
+    procs: IndexMap<String, Arc<Proc>>,
+}
+
+impl Model for Procs {
+    ghost use Rattle.std.specs.Coded.{codes};
+    ghost use Rattle.proclang_types.specs.contracts.expression.IntExpr as int_expr;
+    ghost use Rattle.proclang_types.specs.contracts.statement.Stmt as stmt;
+    ghost use Rattle.requests.specs.ProcLists.{ProcsParts, IsProcMap, procs_of};
+
+    ghost Value = { ProcsParts };
+
+    ghost coded = { Prim.hlevel (codes, int_expr.the_row.coded, stmt.the_row.coded) };
+
+    ghost view = { λ p. record { tables = p.catalogue.value; procs = procs_of p.procs.entries } };
+
+    ghost invariant = { λ p. IsProcMap p.catalogue.value p.procs.entries };
+}
+
+fn find_proc<'a>(procs: &'a IndexMap<String, Arc<Proc>>, name: &str) -> Option<&'a Arc<Proc>>
+    requires { AreKeyed procs.now.entries }
+    ensures { option_map (λ p. arc_value p.now) result ≡ proc_named (procs_of procs.now.entries) name.now }
+{
+    procs.get(name)
+}
+
+fn push_proc(
+    alloc: Global,
+    procs: &mut IndexMap<String, Arc<Proc>>,
+    proc: Proc,
+) -> Result<(), NoMemory>
+    requires keyed { AreKeyed procs.old.entries }
+    requires fresh { proc_named (procs_of procs.old.entries) proc.name ≡ None }
+    ensures pushed { OnOk result (procs_of procs.new.entries ≡ procs_of procs.old.entries ++ proc ∷ []) }
+    ensures keyed { OnOk result (AreKeyed procs.new.entries) }
+    ensures same { OnErr result (procs.new.entries ≡ procs.old.entries) }
+{
+    let name = String::from_str(alloc, proc.name())?;
+    let proc = Arc::new(alloc, proc)?;
+    procs.insert(name, proc)?;
+    Ok(())
+}
+
+impl Procs {
+    /// No procedures, over the tables of a catalogue.
+    pub fn new(alloc: Global, catalogue: &Catalogue) -> Procs
+        ensures { result ≡ record { tables = catalogue.now; procs = [] } }
+    {
+        Procs {
+            catalogue: Snapshot::of(catalogue),
+            procs: IndexMap::new(alloc),
+        }
+    }
+
+    /// Appends a procedure over these tables, whose name obeys the rule of names and is new. Where memory is refused nothing
+    /// changes.
+    pub fn push(&mut self, alloc: Global, proc: Proc) -> Result<(), NoMemory>
+        requires tables { proc.tables ≡ self.old.tables }
+        requires name { is_name proc.name ≡ true }
+        requires fresh { proc_named self.old.procs proc.name ≡ None }
+        ensures pushed { OnOk result (self.new ≡ record { tables = self.old.tables; procs = self.old.procs ++ proc ∷ [] }) }
+        ensures same { OnErr result (self.new ≡ self.old) }
+    {
+        push_proc(alloc, &mut self.procs, proc)
+    }
+
+    /// How many procedures there are, 0 to 256 of a setup.
+    pub fn len(&self) -> usize
+        ensures { result ≡ length self.now.procs }
+    {
+        self.procs.len()
+    }
+
+    /// Whether a procedure has that name.
+    pub fn has(&self, name: &str) -> bool
+        ensures { result ≡ is_some (proc_named self.now.procs name.now) }
+    {
+        self.find(name).is_some()
+    }
+
+    /// The procedure of that name, `None` exactly where none has it.
+    pub(crate) fn find(&self, name: &str) -> Option<&Arc<Proc>>
+        ensures found { option_map (λ p. arc_value p.now) result ≡ proc_named self.now.procs name.now }
+        ensures tables { IfSome result (λ p. (arc_value p.now).tables ≡ self.now.tables) }
+    {
+        find_proc(&self.procs, name)
+    }
+}
