@@ -4,8 +4,6 @@
 mod digest;
 mod laws;
 mod lines;
-#[cfg(test)]
-mod tests;
 mod values_text;
 
 pub use digest::{digest_of, digest_text, push_table_name, row_line};

@@ -4,7 +4,5 @@
 
 mod digest;
 mod heads;
-#[cfg(test)]
-mod tests;
 
 pub use digest::rows_digest;

@@ -1,134 +1,17 @@
-//! The lock tree as one list of transactions that is searched from the front, and both on the same steps.
+//! The lock tree and the plain program on the same steps.
 
 ghost use Rattle.std.specs.Prelude.{◌+◌, ◌<◌, ℕ};
 ghost use Rattle.lock_tree.specs.Enqueues.{AreBelow};
 
-use super::{part, row};
-use crate::{EnqueueFault, LockTree};
+use crate::plain_locks::Plain;
 use coarsen::Plan;
-use footprint::{Footprint, InTable, Resource, Right};
-use modes::{Mode, compatible};
+use footprint::{Footprint, InPart, InTable, Resource};
+use lock_tree::{EnqueueFault, LockTree};
+use proclang_types::Right;
 use std::alloc::Global;
 use std::process::Abort;
 use std::test::Fail;
 use values::TableNo;
-
-/// A transaction with its plan and its mark.
-#[derive(Drop)]
-struct Waits {
-    number: u64,
-    plan: Vec<(Resource, Mode)>,
-    marked: bool,
-}
-
-/// All transactions, in order.
-#[derive(Drop)]
-struct Plain {
-    nodes: usize,
-    waiting: Vec<Waits>,
-}
-
-fn mode_on(plan: &[(Resource, Mode)], resource: &Resource) -> Option<Mode> {
-    for (asked, mode) in plan {
-        if resource.cmp(asked).is_eq() {
-            return Some(*mode);
-        }
-    }
-    None
-}
-
-/// Whether a mode goes with what all up to a transaction ask for on a resource.
-fn fits_before(waiting: &[Waits], resource: &Resource, number: u64, mode: Mode) -> bool {
-    for other in waiting {
-        if other.number >= number {
-            return true;
-        }
-        if let Some(held) = mode_on(other.plan.as_slice(), resource) {
-            if !compatible(held, mode) {
-                return false;
-            }
-        }
-    }
-    true
-}
-
-/// Whether the requests on a resource up to a transaction's go with one another.
-fn is_granted(waiting: &[Waits], resource: &Resource, number: u64) -> bool {
-    for other in waiting {
-        if other.number > number {
-            return true;
-        }
-        if let Some(mode) = mode_on(other.plan.as_slice(), resource) {
-            if !fits_before(waiting, resource, other.number, mode) {
-                return false;
-            }
-        }
-    }
-    true
-}
-
-fn all_granted(waiting: &[Waits], plan: &[(Resource, Mode)], number: u64) -> bool {
-    for (resource, _) in plan {
-        if !is_granted(waiting, resource, number) {
-            return false;
-        }
-    }
-    true
-}
-
-fn used(waiting: &[Waits]) -> usize {
-    let mut used = 0usize;
-    for waits in waiting {
-        used = used.saturating_add(waits.plan.len());
-    }
-    used
-}
-
-impl Plain {
-    fn enqueue(&mut self, alloc: Global, number: u64, plan: &Plan) -> Result<bool, Fail> {
-        if used(self.waiting.as_slice()).saturating_add(plan.requests().len()) > self.nodes {
-            return Ok(false);
-        }
-        let plan = Vec::from_slice(alloc, plan.requests())?;
-        self.waiting.push(Waits {
-            number,
-            plan,
-            marked: false,
-        })?;
-        Ok(true)
-    }
-
-    fn is_ready(&self, number: u64) -> bool {
-        let waiting = self.waiting.as_slice();
-        for waits in waiting {
-            if waits.number == number {
-                return all_granted(waiting, waits.plan.as_slice(), number);
-            }
-        }
-        false
-    }
-
-    fn next_ready(&self) -> Option<u64> {
-        for waits in &self.waiting {
-            if !waits.marked && self.is_ready(waits.number) {
-                return Some(waits.number);
-            }
-        }
-        None
-    }
-
-    fn set_mark(&mut self, number: u64, mark: bool) {
-        for waits in self.waiting.iter_mut() {
-            if waits.number == number {
-                waits.marked = mark;
-            }
-        }
-    }
-
-    fn release(&mut self, number: u64) {
-        self.waiting.retain(|waits| waits.number != number);
-    }
-}
 
 /// Numbers that look like chance, and are the same each time.
 #[derive(Drop)]
@@ -146,14 +29,22 @@ impl Chance {
     }
 }
 
+/// Something in a partition of a table.
+fn in_part(part: u32, below: InPart) -> Resource {
+    Resource::Table(TableNo::new(0), InTable::Part(part, below))
+}
+
 /// A row seven times of ten, else a partition, the table or the database.
 fn some_resource(chance: &mut Chance) -> Resource {
     match chance.below(20) {
         0 => Resource::Db,
         1 | 2 => Resource::Table(TableNo::new(0), InTable::WholeTable),
-        3 => part(0),
-        4 | 5 => part(1),
-        _ => row(chance.below(6)),
+        3 => in_part(0, InPart::WholePart),
+        4 | 5 => in_part(1, InPart::WholePart),
+        _ => {
+            let key = chance.below(6);
+            in_part((key % 2) as u32, InPart::Row(key))
+        }
     }
 }
 
@@ -194,7 +85,7 @@ fn add(
 }
 
 /// Marks, unmarks or releases a ready transaction in both.
-#[tactic(auto, using(crate::proofs::Below::ready_there, crate::proofs::Below::below_marked, crate::proofs::Below::below_without))]
+#[tactic(auto, using(lock_tree::proofs::Below::ready_there, crate::proofs::Below::below_marked, crate::proofs::Below::below_without))]
 fn change(tree: &mut LockTree, plain: &mut Plain, number: u64, kind: u64)
     ensures { (above : ℕ) → AreBelow above tree.old.waiting → AreBelow above tree.new.waiting }
 {
@@ -228,10 +119,7 @@ fn change_next(tree: &mut LockTree, plain: &mut Plain, kind: u64)
 fn queues_and_one_list_agree(rt: HostRuntime) -> Result<(), Fail> {
     let alloc = rt.alloc();
     let mut tree = LockTree::new(alloc, 40)?;
-    let mut plain = Plain {
-        nodes: 40,
-        waiting: Vec::new(alloc),
-    };
+    let mut plain = Plain::new(alloc, 40);
     let mut chance = Chance(2026);
     'steps: for number in 0..10_000u64 {
         let plan = some_plan(alloc, &mut chance)?;
