@@ -7,8 +7,6 @@ mod laws;
 mod level;
 mod plan;
 mod requests;
-#[cfg(test)]
-mod tests;
 
 pub use clashes::clash;
 pub use laws::{

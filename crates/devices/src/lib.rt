@@ -13,5 +13,3 @@ pub use line_reader::{LineFault, LineReader};
 pub use read_source::ReadSource;
 pub use write_sink::WriteSink;
 
-#[cfg(test)]
-mod tests;

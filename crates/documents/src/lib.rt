@@ -2,7 +2,5 @@
 #![tactic(auto)]
 
 mod shape;
-#[cfg(test)]
-mod tests;
 
 pub use shape::{elements, five, four, pair, text_number_list, triple, versioned_list};

@@ -1,6 +1,5 @@
 pub mod Resources
 pub mod Rights
-pub mod Entries
 pub mod InOrder
 pub mod OfCatalogue
 pub mod StandIns

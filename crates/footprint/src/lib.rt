@@ -8,8 +8,6 @@ mod footprint;
 mod iter;
 mod laws;
 mod resource;
-#[cfg(test)]
-mod tests;
 
 pub use abort_code::AbortCode;
 pub use arithmetic::compute;

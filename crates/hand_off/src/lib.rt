@@ -9,8 +9,6 @@ mod first_waiting;
 mod laws;
 mod plays;
 mod state;
-#[cfg(test)]
-mod tests;
 mod tries;
 mod view;
 

@@ -9,8 +9,6 @@ mod runs;
 mod scheduling;
 mod seats;
 mod table;
-#[cfg(test)]
-mod tests;
 mod working;
 
 pub use laws::claims_are_single;

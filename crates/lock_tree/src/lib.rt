@@ -11,8 +11,6 @@ mod opening;
 mod queues;
 mod request_line;
 mod room;
-#[cfg(test)]
-mod tests;
 mod transactions;
 mod tree;
 

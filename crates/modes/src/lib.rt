@@ -4,8 +4,6 @@
 mod compatibility;
 mod laws;
 mod mode;
-#[cfg(test)]
-mod tests;
 
 pub use compatibility::{compatible, join};
 pub use laws::{join_is_least_upper_bound, modes_are_pairs_of_rights, rights_by_rank};

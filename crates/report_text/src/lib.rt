@@ -8,8 +8,6 @@ mod laws;
 mod lines;
 mod plan_lines;
 mod rows_in_order;
-#[cfg(test)]
-mod tests;
 mod values_text;
 
 pub use digest::{digest_of, digest_text, push_table_name, row_line};

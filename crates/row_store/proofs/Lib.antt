@@ -5,7 +5,6 @@ pub mod Locks
 pub mod Numbers
 pub mod Rows
 pub mod Scans
-pub mod Sessions
 pub mod Sharing
 pub mod Shelved
 pub mod Shown

@@ -5,8 +5,6 @@ mod filling;
 mod laws;
 mod lending;
 mod loan;
-#[cfg(test)]
-mod loan_tests;
 mod locked;
 mod moving;
 mod place;
@@ -15,12 +13,6 @@ mod shelf;
 mod shelves;
 mod shelving;
 mod store;
-#[cfg(test)]
-mod test_locks;
-#[cfg(test)]
-mod test_world;
-#[cfg(test)]
-mod tests;
 mod view;
 mod writing;
 

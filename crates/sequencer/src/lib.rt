@@ -3,8 +3,6 @@
 
 mod batch;
 mod preparing;
-#[cfg(test)]
-mod tests;
 
 pub use batch::{Batch, BatchFault, Item};
 pub use interp::{Entry, Footing, RowView};

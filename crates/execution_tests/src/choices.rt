@@ -1,0 +1,81 @@
+//! Calls whose outcomes were worked out by hand, run by many lists of choices.
+
+use crate::test_world::{Call, TWO_PAYS, batch_of, engine, executed, replies};
+use engine::Settings;
+use std::alloc::Global;
+use std::test::Fail;
+
+/// How many lists of choices are tried with each setting.
+const SEEDS: u32 = 64;
+
+/// The number behind a number, as if drawn at random.
+pub(crate) fn after(number: u32) -> u32 {
+    number.wrapping_mul(1_664_525).wrapping_add(1_013_904_223)
+}
+
+/// A list of so many choices, another one for each seed.
+pub(crate) fn choices(alloc: Global, seed: u32, count: u32) -> Result<Vec<u64>, Fail> {
+    let mut choices = Vec::new(alloc);
+    let mut number = seed;
+    for _ in 0..count {
+        number = after(number);
+        choices.push(u64::from(number >> 3))?;
+    }
+    Ok(choices)
+}
+
+/// What comes of calls that are run on one thread, by these choices of events.
+fn run_by(
+    alloc: Global,
+    settings: Settings,
+    calls: &[Call<'_>],
+    choices: &[u64],
+) -> Result<String, Fail> {
+    let mut engine = engine(alloc, settings)?;
+    let batch = batch_of(alloc, &engine, calls)?;
+    let done = executed(engine.run_alone(alloc, batch, choices))?;
+    replies(alloc, &done)
+}
+
+/// Two rows of 100 each. They come to 70 and 130, 160 and 40, 165 and 40, 166 and 39, 105 and 100.
+const MANY: [Call<'static>; 12] = [
+    ("pay", &[1, 2, 30]),
+    ("peek", &[1]),
+    ("peek", &[2]),
+    ("pay", &[2, 1, 90]),
+    ("pay", &[1, 1, 5]),
+    ("pay", &[1, 2, 500]),
+    ("bad5", &[]),
+    ("peek", &[3]),
+    ("pay", &[2, 1, 1]),
+    ("peek", &[2]),
+    ("pay", &[1, 2, 61]),
+    ("peek", &[1]),
+];
+
+const MANY_OUTCOMES: &str = "commit 70;commit 70;commit 130;commit 40;commit 155;abort 100;abort 9;abort 1;\
+commit 39;commit 39;commit 105;commit 105;";
+
+#[test]
+fn outcomes_are_those_of_log_order_whatever_the_choices(rt: HostRuntime) -> Result<(), Fail> {
+    let alloc = rt.alloc();
+    let table: [(&[Call<'_>], &str); 3] = [
+        (&TWO_PAYS, "commit 70;commit 40;"),
+        (
+            &[("cnt", &[]), ("ins", &[4, 7]), ("cnt", &[])],
+            "commit 1;commit;commit 2;",
+        ),
+        (&MANY, MANY_OUTCOMES),
+    ];
+    for (threshold, most) in [(8, 65_536), (0, 65_536), (65_535, 1), (1, 7)] {
+        let settings = Settings::new(1, 1, threshold, most)?;
+        for (calls, outcomes) in table {
+            for seed in 0..SEEDS {
+                let choices = choices(alloc, seed, 48)?;
+                let found = run_by(alloc, settings, calls, &choices)?;
+                assert_eq!(rt; found.as_str(), outcomes, "{threshold} {most} {seed}");
+            }
+        }
+    }
+    Ok(())
+}

@@ -1,0 +1,20 @@
+//! Tests of what runs batches: lanes, the scheduler and the engine, by tables, beside a plain program that runs calls one by
+//! one.
+#![tactic(auto)]
+
+#[cfg(test)]
+mod choices;
+#[cfg(test)]
+mod gates;
+#[cfg(test)]
+mod handing_over;
+#[cfg(test)]
+mod plain;
+#[cfg(test)]
+mod plain_comparison;
+#[cfg(test)]
+mod plays;
+#[cfg(test)]
+mod resuming;
+#[cfg(test)]
+mod test_world;

@@ -1,0 +1,201 @@
+//! The engine, by many lists of choices, beside the plain program.
+
+ghost use Rattle.std.specs.Prelude.{◌≡◌, IfOk};
+ghost use Rattle.std.specs.FinMap as map_of;
+ghost use Rattle.sequencer.specs.Batches.{items_of, AreOver};
+
+use crate::choices::{after, choices};
+use crate::plain::run_serially;
+use crate::test_world::{bank, batch_over, engine, executed, request};
+use engine::{Batch, Engine, Settings};
+use interp_expr::RowView;
+use meaning::Outcome;
+use proclang::{Procs, Request};
+use row_store::{RowStore, all_is_free_with_nothing_lent};
+use sequencer::prepare;
+use setup::Setup;
+use std::alloc::Global;
+use std::test::Fail;
+use values::{Catalogue, Key, TableNo};
+
+/// How many batches the log has.
+const BATCHES: u32 = 5;
+
+/// How many calls a batch has.
+const CALLS: u32 = 40;
+
+/// How many lists of choices are tried with each setting.
+const SEEDS: u32 = 64;
+
+/// The call that a number stands for: mostly a payment between the accounts 1, 2 and 4, of which the last may not be there yet.
+fn drawn(alloc: Global, procs: &Procs, number: u32) -> Result<Request, Fail>
+    ensures { IfOk result (λ request. request.proc.tables ≡ procs.now.tables) }
+{
+    let from = 1 << ((number >> 9) % 3);
+    let to = 1 << ((number >> 17) % 3);
+    let amount = i64::from(number >> 27);
+    match (number >> 5) % 8 {
+        0 => request(alloc, procs, ("ins", &[to, amount])),
+        1 => request(alloc, procs, ("cnt", &[])),
+        2 => request(alloc, procs, ("peek", &[to])),
+        _ => request(alloc, procs, ("pay", &[from, to, amount])),
+    }
+}
+
+/// The batch of that number.
+fn drawn_batch(alloc: Global, procs: &Procs, batch: u32) -> Result<Batch, Fail>
+    ensures { IfOk result (λ batch. AreOver procs.now.tables (items_of batch)) }
+{
+    let mut requests = Vec::new(alloc);
+    let mut number = batch;
+    for _ in 0..CALLS {
+        number = after(number);
+        requests.push(drawn(alloc, procs, number)?)?;
+    }
+    batch_over(alloc, procs, requests)
+}
+
+/// The outcomes of one batch, run call by call on the rows of a store.
+fn plain_batch(
+    alloc: Global,
+    catalogue: &Catalogue,
+    procs: &Procs,
+    store: &mut RowStore,
+    number: u32,
+) -> Result<Vec<Outcome>, Fail>
+    requires procs { procs.now.tables ≡ catalogue.now }
+    requires tables { store.old.tables ≡ catalogue.now }
+    requires unlent { store.old.lent ≡ map_of.empty }
+    ensures tables { store.new.tables ≡ catalogue.now }
+    ensures unlent { store.new.lent ≡ map_of.empty }
+{
+    all_is_free_with_nothing_lent();
+    let batch = drawn_batch(alloc, procs, number)?;
+    let entries = prepare(alloc, &batch, catalogue, procs, &*store)?;
+    Ok(run_serially(alloc, store, &entries)?)
+}
+
+/// The outcomes of all batches, run call by call on the rows of a store.
+fn plain_batches(
+    alloc: Global,
+    catalogue: &Catalogue,
+    procs: &Procs,
+    store: &mut RowStore,
+) -> Result<Vec<Outcome>, Fail>
+    requires procs { procs.now.tables ≡ catalogue.now }
+    requires tables { store.old.tables ≡ catalogue.now }
+    requires unlent { store.old.lent ≡ map_of.empty }
+    ensures { store.new.lent ≡ map_of.empty }
+{
+    let mut outcomes = Vec::new(alloc);
+    for number in 0..BATCHES {
+        let mut more = plain_batch(alloc, catalogue, procs, store, number)?;
+        outcomes.append(&mut more)?;
+    }
+    Ok(outcomes)
+}
+
+/// The outcomes of all batches, run call by call, and the rows that they leave.
+fn plain_run(alloc: Global) -> Result<(Vec<Outcome>, RowStore), Fail>
+    ensures { IfOk result (λ ran. ran.1.lent ≡ map_of.empty) }
+{
+    let Setup {
+        catalogue,
+        procs,
+        rows,
+    } = bank(alloc)?;
+    let mut store = RowStore::new(alloc, &catalogue, rows)?;
+    let outcomes = plain_batches(alloc, &catalogue, &procs, &mut store)?;
+    Ok((outcomes, store))
+}
+
+/// Appends the outcomes of one batch by an engine, with these choices of events.
+fn run_batch(
+    alloc: Global,
+    engine: &mut Engine,
+    number: u32,
+    choices: &[u64],
+    outcomes: &mut Vec<Outcome>,
+) -> Result<(), Fail> {
+    let batch = drawn_batch(alloc, engine.procs(), number)?;
+    let done = executed(engine.run_alone(alloc, batch, choices))?;
+    for reply in done.replies {
+        outcomes.push(reply.outcome)?;
+    }
+    Ok(())
+}
+
+/// Whether the accounts 1 to 4 of an engine are those of a store.
+fn same_accounts(engine: &Engine, store: &RowStore) -> Result<bool, Fail>
+    requires { store.now.lent ≡ map_of.empty }
+{
+    all_is_free_with_nothing_lent();
+    if engine.is_busy() {
+        return Err(Fail::from("a batch is unfinished"));
+    }
+    let rows = engine.rows();
+    let accounts = TableNo::new(0);
+    for number in 1..5 {
+        let key = Key::new(number).ok_or("a key")?;
+        let same = match (rows.row(accounts, key), store.row(accounts, key)) {
+            (Some(row), Some(other)) => row.values() == other.values(),
+            (row, other) => row.is_none() && other.is_none(),
+        };
+        if !same {
+            return Ok(false);
+        }
+    }
+    Ok(true)
+}
+
+/// Whether an engine with these settings gives these outcomes and the accounts of the store, with another list of choices for
+/// each batch.
+fn agrees(
+    alloc: Global,
+    settings: Settings,
+    seed: u32,
+    outcomes: &[Outcome],
+    store: &RowStore,
+) -> Result<bool, Fail>
+    requires { store.now.lent ≡ map_of.empty }
+{
+    let mut engine = engine(alloc, settings)?;
+    let mut found = Vec::new(alloc);
+    for number in 0..BATCHES {
+        let choices = choices(alloc, seed.wrapping_add(number), 4 * CALLS)?;
+        run_batch(alloc, &mut engine, number, &choices, &mut found)?;
+    }
+    Ok(found.as_slice() == outcomes && same_accounts(&engine, store)?)
+}
+
+/// Whether an engine with these settings agrees with the plain program by each of many lists of choices.
+fn always_agrees(
+    alloc: Global,
+    settings: Settings,
+    outcomes: &[Outcome],
+    store: &RowStore,
+) -> Result<bool, Fail>
+    requires { store.now.lent ≡ map_of.empty }
+{
+    for seed in 0..SEEDS {
+        if !agrees(alloc, settings, seed, outcomes, store)? {
+            return Ok(false);
+        }
+    }
+    Ok(true)
+}
+
+#[test]
+fn each_list_of_choices_gives_what_the_plain_program_gives(rt: HostRuntime) -> Result<(), Fail> {
+    let alloc = rt.alloc();
+    let (outcomes, store) = plain_run(alloc)?;
+    assert_eq!(rt; outcomes.len(), 200);
+    for (threshold, most) in [(0, 1), (65_535, 1), (0, 1_048_576), (65_535, 1_048_576)] {
+        let settings = Settings::new(1, 1, threshold, most)?;
+        assert!(rt;
+            always_agrees(alloc, settings, &outcomes, &store)?,
+            "{threshold} {most}"
+        );
+    }
+    Ok(())
+}

@@ -1,0 +1,38 @@
+//! Batches that go on after a refusal.
+//!
+//! In a usual run nothing is refused. With each allocation refused in turn a batch is held at each of its stages.
+
+use crate::test_world::{TWO_PAYS, batch_of, engine, executed, replies};
+use engine::{BatchDone, Engine, ExecFault, OpenGate, Settings};
+use std::sync::Wait;
+use std::test::Fail;
+use std::thread::Threads;
+
+/// What came of a batch, which is gone on with where a thread or memory was refused.
+fn executed_in_the_end<R: Threads + Wait + Sync + AllocGlobal>(
+    rt: &R,
+    engine: &mut Engine,
+    done: Result<BatchDone, ExecFault>,
+) -> Result<BatchDone, Fail> {
+    if done.is_err() && engine.is_busy() {
+        return executed(engine.resume(rt, rt.alloc(), &OpenGate));
+    }
+    executed(done)
+}
+
+#[test]
+fn a_batch_goes_on_after_a_refusal(rt: HostRuntime) -> Result<(), Fail> {
+    let alloc = rt.alloc();
+    for alone in [false, true] {
+        let mut engine = engine(alloc, Settings::new(2, 8, 64, 65_536)?)?;
+        let batch = batch_of(alloc, &engine, &TWO_PAYS)?;
+        let done = if alone {
+            engine.run_alone(alloc, batch, &[5, 1, 1, 2])
+        } else {
+            engine.execute(&rt, alloc, batch, &OpenGate)
+        };
+        let done = executed_in_the_end(&rt, &mut engine, done)?;
+        assert_eq!(rt; replies(alloc, &done)?.as_str(), "commit 70;commit 40;");
+    }
+    Ok(())
+}

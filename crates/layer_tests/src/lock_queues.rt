@@ -1,0 +1,137 @@
+//! The lock tree and the plain program on the same steps.
+
+ghost use Rattle.std.specs.Prelude.{◌+◌, ◌<◌, ℕ};
+ghost use Rattle.lock_tree.specs.Enqueues.{AreBelow};
+
+use crate::plain_locks::Plain;
+use coarsen::Plan;
+use footprint::{Footprint, InPart, InTable, Resource};
+use lock_tree::{EnqueueFault, LockTree};
+use proclang_types::Right;
+use std::alloc::Global;
+use std::process::Abort;
+use std::test::Fail;
+use values::TableNo;
+
+/// Numbers that look like chance, and are the same each time.
+#[derive(Drop)]
+struct Chance(u64);
+
+impl Chance {
+    fn below(&mut self, bound: u64) -> u64
+        requires { 0 < bound }
+    {
+        self.0 = self
+            .0
+            .wrapping_mul(6_364_136_223_846_793_005)
+            .wrapping_add(1_442_695_040_888_963_407);
+        (self.0 >> 33) % bound
+    }
+}
+
+/// Something in a partition of a table.
+fn in_part(part: u32, below: InPart) -> Resource {
+    Resource::Table(TableNo::new(0), InTable::Part(part, below))
+}
+
+/// A row seven times of ten, else a partition, the table or the database.
+fn some_resource(chance: &mut Chance) -> Resource {
+    match chance.below(20) {
+        0 => Resource::Db,
+        1 | 2 => Resource::Table(TableNo::new(0), InTable::WholeTable),
+        3 => in_part(0, InPart::WholePart),
+        4 | 5 => in_part(1, InPart::WholePart),
+        _ => {
+            let key = chance.below(6);
+            in_part((key % 2) as u32, InPart::Row(key))
+        }
+    }
+}
+
+fn some_plan(alloc: Global, chance: &mut Chance) -> Result<Plan, Fail> {
+    let mut footprint = Footprint::new(alloc);
+    let rights = chance.below(4);
+    for _ in 0..rights {
+        let resource = some_resource(chance);
+        let right = if chance.below(3) == 0 {
+            Right::Write
+        } else {
+            Right::Read
+        };
+        footprint.add(resource, right)?;
+    }
+    Ok(Plan::new(alloc, &footprint, 3, 12)?)
+}
+
+/// Enqueues a transaction in both.
+#[tactic(auto, using(crate::proofs::Below::below_next, crate::proofs::Below::below_end))]
+fn add(
+    rt: &impl Abort,
+    alloc: Global,
+    tree: &mut LockTree,
+    plain: &mut Plain,
+    number: u64,
+    plan: &Plan,
+) -> Result<(), Fail>
+    requires { AreBelow number tree.old.waiting }
+    ensures { AreBelow (number + 1) tree.new.waiting }
+{
+    match tree.enqueue(number, plan) {
+        Ok(()) => assert!(rt; plain.enqueue(alloc, number, plan)?),
+        Err(EnqueueFault::Full) => assert!(rt; !plain.enqueue(alloc, number, plan)?),
+        Err(EnqueueFault::NoMemory) => return Err(Fail::from("out of memory")),
+    }
+    Ok(())
+}
+
+/// Marks, unmarks or releases a ready transaction in both.
+#[tactic(auto, using(lock_tree::proofs::Below::ready_there, crate::proofs::Below::below_marked, crate::proofs::Below::below_without))]
+fn change(tree: &mut LockTree, plain: &mut Plain, number: u64, kind: u64)
+    ensures { (above : ℕ) → AreBelow above tree.old.waiting → AreBelow above tree.new.waiting }
+{
+    if !tree.is_ready(number) {
+        return;
+    }
+    if kind == 0 {
+        tree.mark(number);
+        plain.set_mark(number, true);
+    } else if kind == 1 {
+        tree.unmark(number);
+        plain.set_mark(number, false);
+    } else {
+        tree.release(number);
+        plain.release(number);
+    }
+}
+
+/// The same of the next ready transaction.
+fn change_next(tree: &mut LockTree, plain: &mut Plain, kind: u64)
+    ensures { (above : ℕ) → AreBelow above tree.old.waiting → AreBelow above tree.new.waiting }
+{
+    if let Some(ready) = plain.next_ready() {
+        change(tree, plain, ready, kind);
+    }
+}
+
+/// Ten thousand steps: a transaction comes, and one of the last ones is marked, unmarked or released if it is ready, as is
+/// mostly the next ready one.
+#[test]
+fn queues_and_one_list_agree(rt: HostRuntime) -> Result<(), Fail> {
+    let alloc = rt.alloc();
+    let mut tree = LockTree::new(alloc, 40)?;
+    let mut plain = Plain::new(alloc, 40);
+    let mut chance = Chance(2026);
+    'steps: for number in 0..10_000u64 {
+        let plan = some_plan(alloc, &mut chance)?;
+        add(&rt, alloc, &mut tree, &mut plain, number, &plan)?;
+        let other = number.saturating_sub(chance.below(24));
+        assert_eq!(rt; tree.is_ready(other), plain.is_ready(other));
+        let kind = chance.below(4);
+        change(&mut tree, &mut plain, other, kind);
+        assert_eq!(rt; tree.next_ready(), plain.next_ready());
+        let kind = chance.below(3);
+        change_next(&mut tree, &mut plain, kind);
+        assert_eq!(rt; tree.next_ready(), plain.next_ready());
+    }
+    Ok(())
+}

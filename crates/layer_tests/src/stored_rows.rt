@@ -1,0 +1,98 @@
+//! Rows put and taken away, and the digest of those that are left.
+
+use report_text::digest_text;
+use row_store::{RowStore, all_is_free_with_nothing_lent};
+use row_text::rows_digest;
+use serde_json::Value as Json;
+use std::alloc::Global;
+use std::collections::BTreeMap;
+use std::test::Fail;
+use values::{Catalogue, Key, Row, RowName, TableNo, Value};
+
+/// Tables of one, three and four partitions.
+const WIDE: &str =
+    r#"["catalogue",1,[["a",1,[["x","int"]]],["b",3,[["x","int"]]],["c",4,[["x","int"]]]]]"#;
+
+/// The table, the key and the value of a row.
+type Given = (usize, i64, i64);
+
+/// The table and the key of a row name, and the value that is written there, or none.
+type Write = (usize, i64, Option<i64>);
+
+fn key(number: i64) -> Result<Key, Fail> {
+    Ok(Key::new(number).ok_or("a key")?)
+}
+
+fn row(alloc: Global, value: i64) -> Result<Row, Fail> {
+    Ok(Row::new(vec![in alloc; Value::Int(value)]?))
+}
+
+/// The writes that these are.
+fn writes_of(alloc: Global, made: &[Write]) -> Result<BTreeMap<RowName, Option<Row>>, Fail> {
+    let mut writes = BTreeMap::new(alloc);
+    for (table, number, value) in made {
+        let row = match value {
+            Some(value) => Some(row(alloc, *value)?),
+            None => None,
+        };
+        writes.insert(RowName::new(TableNo::new(*table), key(*number)?), row)?;
+    }
+    Ok(writes)
+}
+
+/// The digest of these rows, after these writes.
+fn digest(alloc: Global, given: &[Given], made: &[Write]) -> Result<String, Fail> {
+    let catalogue = Catalogue::read(alloc, &Json::from_str(alloc, WIDE)?)?;
+    let mut rows = Vec::new(alloc);
+    for (table, number, value) in given {
+        rows.push((TableNo::new(*table), key(*number)?, row(alloc, *value)?))?;
+    }
+    let mut store = RowStore::new(alloc, &catalogue, rows)?;
+    store.apply(writes_of(alloc, made)?)?;
+    all_is_free_with_nothing_lent();
+    Ok(rows_digest(alloc, store.catalogue(), &store)?)
+}
+
+/// Of two rows with one name the later stays. Keys that alternate between partitions come in ascending order.
+#[test]
+fn rows_are_put_and_taken_away(rt: HostRuntime) -> Result<(), Fail> {
+    let alloc = rt.alloc();
+    let table: [(&[Given], &[Write], &str); 6] = [
+        (&[], &[], ""),
+        (&[(2, 1, 2), (1, 2, 160), (1, 1, 40)], &[], "b 1 40\nb 2 160\nc 1 2\n"),
+        (&[(0, 1, 100), (1, 1, 2), (0, 1, 300)], &[], "a 1 300\nb 1 2\n"),
+        (&[(0, 1, 10)], &[(0, 1, None)], ""),
+        (
+            &[(1, 1, 10), (1, 2, 20), (1, 3, 30), (1, 4, 40), (2, 1, 11)],
+            &[(1, 1, Some(70)), (1, 5, Some(50)), (1, 2, None), (2, 9, None)],
+            "b 1 70\nb 3 30\nb 4 40\nb 5 50\nc 1 11\n",
+        ),
+        (
+            &[(1, 9, 1), (2, 10, 2), (1, 100, 3), (1, 0, 4), (2, 3, 5), (1, 7, 6), (0, 5, 7), (1, 8, 8)],
+            &[],
+            "a 5 7\nb 0 4\nb 7 6\nb 8 8\nb 9 1\nb 100 3\nc 3 5\nc 10 2\n",
+        ),
+    ];
+    for (given, made, text) in table {
+        let found = digest(alloc, given, made)?;
+        let want = digest_text(alloc, text.as_bytes())?;
+        assert_eq!(rt; found.as_str(), want.as_str(), "{text}");
+    }
+    Ok(())
+}
+
+/// Rows with the keys 7,919 n modulo 20,011 for n below 10,000, and ten times the key as their values.
+#[test]
+fn ten_thousand_rows_are_put_in_order(rt: HostRuntime) -> Result<(), Fail> {
+    let alloc = rt.alloc();
+    let mut rows = Vec::new(alloc);
+    for place in 0..10_000u32 {
+        let number = place * 7_919 % 20_011;
+        rows.push((1, i64::from(number), i64::from(number * 10)))?;
+    }
+    assert_eq!(rt;
+        digest(alloc, rows.as_slice(), &[])?.as_str(),
+        "963ba357fa50019a692cf8d59cb402f3788f8b17209a571bc0f8cf25e33d1c81"
+    );
+    Ok(())
+}

@@ -1,5 +1,0 @@
-use Rattle.std.proofs.Common.{◌+◌}
-use Rattle.lock_tree.proofs.tests.plain.queues_and_one_list_agree.Goals as goal
-
-pub steps-preserved : goal.steps-preserved
-steps-preserved g c = c.change_next.ensures (c.steps.number + 1) (c.change.ensures (c.steps.number + 1) c.in_ok-add.ensures)

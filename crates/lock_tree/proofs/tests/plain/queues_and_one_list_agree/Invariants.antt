@@ -1,6 +1,0 @@
-use Rattle.lock_tree.specs.Enqueues.{AreBelow}
-use Rattle.lock_tree.proofs.tests.plain.queues_and_one_list_agree.Given as goal
-
--- the next number is greater than all
-abbrev pub invariant-steps : goal.invariant-steps
-invariant-steps g l = AreBelow l.number l.tree.waiting

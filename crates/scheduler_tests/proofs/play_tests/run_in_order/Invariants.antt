@@ -1,5 +1,0 @@
-use Rattle.scheduler.specs.Schedules.{KeepsItsJobs}
-use Rattle.scheduler_tests.proofs.play_tests.run_in_order.Given as goal
-
-abbrev pub invariant-loop : goal.invariant-loop
-invariant-loop l = KeepsItsJobs l.scheduler
