@@ -1,8 +1,8 @@
-//! What the tests run: the bank, its logs and reports, files and devices in memory, and whole programs over them.
+//! What the tests run: the bank, its logs and reports, and files and devices in memory.
 
 ghost use Rattle.std.specs.Prelude.{None, ⊤};
 
-use calvin::{DeviceFailed, FileFault, Files, ReadSource, Sink, Source, WriteSink, program};
+use calvin::{DeviceFailed, FileFault, Files, Sink, Source, program};
 use std::alloc::Global;
 use std::sync::Wait;
 use std::test::Fail;
@@ -20,24 +20,12 @@ pub(crate) const BANK: &str = r#"["setup",1,
   ["reply",["-","x","n"]]]],
 ["peek",[["k","int"]],["declared",["row","r","acct","k"]],
  [["get","x","acct","k","bal"],["reply","x"]]],
-["bad5",[],["declared",["row","r","acct",1],["row","r","acct",3]],
- [["get","x","acct",5,"bal"],["reply","x"]]]]],
+["ins",[["k","int"],["v","int"]],["declared",["row","w","acct","k"]],
+ [["insert","acct","k",["v"]]]]]],
 ["rows",1,[["acct",1,[100]],["acct",2,[100]],["ref",1,[2]]]]]"#;
-
-pub(crate) const TWO_TABLES_OF_ONE_NAME: &str = r#"["setup",1,
-["catalogue",1,[["acct",1,[["bal","int"]]],["acct",1,[["bal","int"]]]]],
-["procs",1,[]],["rows",1,[]]]"#;
 
 pub(crate) const NO_ROWS: &str = r#"["setup",1,
 ["catalogue",1,[["acct",1,[["bal","int"]]]]],["procs",1,[]],["rows",1,[]]]"#;
-
-pub(crate) const TWO_PAYS: &str = "[\"call\",\"pay\",[1,2,30]]\n[\"call\",\"pay\",[1,2,30]]\n";
-
-/// The report of two payments of 30 from account 1 to account 2.
-pub(crate) const REPORT: &str = "0 commit 70\n\
-1 commit 40\n\
-batch 1 rows 68ac09305eca49a274f3934804070e0de76ae55d440e16f99225b50e2aa7c15b replies 7ad580324160126f3415a69928b5ccf43101d2e9b7929b6b688c5241878f5de6\n\
-end 2 rows 68ac09305eca49a274f3934804070e0de76ae55d440e16f99225b50e2aa7c15b replies 7ad580324160126f3415a69928b5ccf43101d2e9b7929b6b688c5241878f5de6\n";
 
 pub(crate) const TWO_BATCHES: &str =
     "[\"call\",\"pay\",[1,2,30]]\n[\"cut\"]\n[\"call\",\"pay\",[1,2,30]]\n";
@@ -49,22 +37,9 @@ batch 1 rows 77c71e7158ef9dd1261c616d96297a3d25f0173baf33c35fd2218de6651ebb95 re
 batch 2 rows 68ac09305eca49a274f3934804070e0de76ae55d440e16f99225b50e2aa7c15b replies 253441159e755f09fa35091eaab27292e3f5c910f51fd0e926a22bfe6ea9eeea\n\
 end 2 rows 68ac09305eca49a274f3934804070e0de76ae55d440e16f99225b50e2aa7c15b replies 7ad580324160126f3415a69928b5ccf43101d2e9b7929b6b688c5241878f5de6\n";
 
-/// A batch, and a line that is cut off.
-pub(crate) const TORN_BATCH: &str =
-    "[\"call\",\"pay\",[1,2,30]]\n[\"cut\"]\n[\"call\",\"pay\",[1,2";
-
-/// A batch, and half of another before its fault.
-pub(crate) const LATE_FAULT: &str =
-    "[\"call\",\"pay\",[1,2,30]]\n[\"cut\"]\n[\"call\",\"pay\",[1,2,30]]\n[\"call\",\"pay\",[1,2]]\n";
-
-/// The report of the first batch of either.
+/// The report of the first batch of it.
 pub(crate) const ONE_BATCH: &str = "0 commit 70\n\
 batch 1 rows 77c71e7158ef9dd1261c616d96297a3d25f0173baf33c35fd2218de6651ebb95 replies 4f17b80d79bfc3a75492ce18b44b1eb844398e49ff0351065af95b282b90c2b2\n";
-
-/// The report of one cut and nothing else on the bank.
-pub(crate) const EMPTY_BATCH: &str =
-    "batch 1 rows b74f97b042398188bea87628ab25ab660b2b07a7f1628de4b9db964324cd6bf7 replies e3b0c44298fc1c149afbf4c8996fb92427ae41e4649b934ca495991b7852b855\n\
-end 0 rows b74f97b042398188bea87628ab25ab660b2b07a7f1628de4b9db964324cd6bf7 replies e3b0c44298fc1c149afbf4c8996fb92427ae41e4649b934ca495991b7852b855\n";
 
 /// The report of an empty log on no rows.
 pub(crate) const NOTHING: &str =
@@ -97,7 +72,7 @@ impl Files for Folder<'_> {
     }
 }
 
-/// Gives a byte a call, and fails at its `failing`th call.
+/// Gives a byte a call, and fails at its `failing`th call, which for 0 never comes.
 #[derive(Drop)]
 pub(crate) struct Slow<'a> {
     bytes: &'a [u8],
@@ -189,59 +164,29 @@ pub(crate) struct Left {
 }
 
 impl Left {
-    pub(crate) fn is(&self, status: u8, out: &str, err: &str) -> bool {
-        self.status == status
-            && self.out.as_slice() == out.as_bytes()
-            && self.err.as_slice() == err.as_bytes()
+    pub(crate) fn is(&self, status: u8, out: &[u8], err: &str) -> bool {
+        self.status == status && self.out.as_slice() == out && self.err.as_slice() == err.as_bytes()
     }
 }
 
-pub(crate) fn words_of(alloc: Global, line: &str) -> Result<Vec<String>, Fail> {
+/// What the program leaves with the words of a line, these files, this source and this output.
+pub(crate) fn left_with<R: Threads + Wait + Sync + AllocGlobal>(
+    rt: &R,
+    line: &str,
+    files: &Folder<'_>,
+    source: &mut Slow<'_>,
+    mut out: Narrow,
+) -> Result<Left, Fail> {
+    let alloc = rt.alloc();
     let mut words = Vec::new(alloc);
     for word in line.split_whitespace() {
         words.push(String::from_str(alloc, word)?)?;
     }
-    Ok(words)
-}
-
-/// What the program leaves with these files and this source.
-pub(crate) fn left_with<R: Threads + Wait + Sync + AllocGlobal, S: Source>(
-    rt: &R,
-    line: &str,
-    files: &Folder<'_>,
-    source: &mut S,
-) -> Result<Left, Fail> {
-    let alloc = rt.alloc();
-    let words = words_of(alloc, line)?;
-    let mut out = WriteSink::new(Vec::new(alloc));
-    let mut err = WriteSink::new(Vec::new(alloc));
-    let status = program(
-        rt,
-        alloc,
-        words.as_slice(),
-        files,
-        source,
-        &mut out,
-        &mut err,
-    );
+    let mut err = Narrow::new(alloc, 1000, false);
+    let status = program(rt, alloc, &words, files, source, &mut out, &mut err);
     Ok(Left {
         status,
-        out: out.into_inner(),
-        err: err.into_inner(),
+        out: out.taken,
+        err: err.taken,
     })
-}
-
-/// What the program leaves on a setup and a log.
-pub(crate) fn left_by<R: Threads + Wait + Sync + AllocGlobal>(
-    rt: &R,
-    line: &str,
-    setup: &str,
-    log: &str,
-) -> Result<Left, Fail> {
-    let files = Folder {
-        setup,
-        report: "",
-        is_full: false,
-    };
-    left_with(rt, line, &files, &mut ReadSource::new(log.as_bytes()))
 }
