@@ -1,9 +1,9 @@
 #!/usr/bin/env bash
-# Refuses each allocation of each step of crates/refusals in turn, and counts what the steps answer:
+# Refuses each allocation of each step of crates/memory_refusals in turn, and counts what the steps answer:
 #
 #     scripts/refuse_memory.sh [--built] [STEP ..]
 #
-# The steps are the words in crates/refusals/args; without any named here, all of them. For each step it prints how many
+# The steps are the words in crates/memory_refusals/args; without any named here, all of them. For each step it prints how many
 # refusals were met, one a run: how many of these runs answered so, how many were right all the same, and how many were wrong.
 # The last runs of a step meet no refusal. It ends with status 1 where an answer is wrong or one is missing.
 #
@@ -16,7 +16,7 @@
 # system's refuses the allocation. Such a run takes some milliseconds. The step `resume`, in which a thread is refused first,
 # and then an allocation while the batch is gone on with, is tried so alone.
 set -euo pipefail
-cd -- "$(dirname -- "$0")/../crates/refusals"
+cd -- "$(dirname -- "$0")/../crates/memory_refusals"
 
 # The number of the allocation that is refused, which is that of src/refusal.rt.
 refused=5000
@@ -90,7 +90,7 @@ write_case() {
 
 # Runs the program once for each line, where the thread with this number is refused, if there is one.
 run_built() {
-    xargs -r -n 1 timeout 60 env REFUSED="$refused" REFUSED_THREAD="$1" LD_PRELOAD="$folder/refuse.so" out/refusals || true
+    xargs -r -n 1 timeout 60 env REFUSED="$refused" REFUSED_THREAD="$1" LD_PRELOAD="$folder/refuse.so" out/memory_refusals || true
 }
 
 # Runs the cases in a folder, and gives what the program printed.

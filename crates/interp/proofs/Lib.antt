@@ -1,4 +1,2 @@
 pub mod Everywhere
-pub mod Memory
-pub mod Named
 pub mod LeftNumbers

@@ -1,6 +1,5 @@
 pub mod Entries
 pub mod Endings
 pub mod Touched
-pub mod Memory
 pub mod Over
 pub mod Numbers

@@ -14,6 +14,3 @@ pub use effect::Effect;
 pub use entry::{Entry, Footing};
 pub use interp_expr::RowView;
 pub use runs::run;
-
-#[cfg(test)]
-mod tests;

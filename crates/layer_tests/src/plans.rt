@@ -3,7 +3,7 @@
 use crate::test_world::{bank, plan};
 use coarsen::{Plan, clash};
 use footprint::{Footprint, InPart, InTable, Resource, Right};
-use plan_text::push_plan;
+use report_text::push_plan;
 use std::alloc::Global;
 use std::test::Fail;
 use values::TableNo;

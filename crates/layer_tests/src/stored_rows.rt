@@ -2,7 +2,7 @@
 
 use report_text::digest_text;
 use row_store::{RowStore, all_is_free_with_nothing_lent};
-use row_text::rows_digest;
+use report_text::rows_digest;
 use serde_json::Value as Json;
 use std::alloc::Global;
 use std::collections::BTreeMap;
