@@ -53,7 +53,8 @@ const MANY: [Call<'static>; 12] = [
     ("peek", &[1]),
 ];
 
-const MANY_OUTCOMES: &str = "commit 70;commit 70;commit 130;commit 40;commit 155;abort 100;abort 9;abort 1;\
+const MANY_OUTCOMES: &str =
+    "commit 70;commit 70;commit 130;commit 40;commit 155;abort 100;abort 9;abort 1;\
 commit 39;commit 39;commit 105;commit 105;";
 
 #[test]

@@ -52,8 +52,8 @@ impl Gate for Meeting {
     }
 }
 
-/// Calls, how many workers and lanes, whom the first waits for and for how many turns, what comes of the calls, and whether the
-/// two meet.
+/// Calls, how many workers and lanes, whom the first waits for and for how many turns, what comes of the calls, and
+/// whether the two meet.
 type Met<'a> = (&'a [Call<'a>], (usize, usize), (u64, u32), &'a str, bool);
 
 const PEEK: Call<'static> = ("peek", &[1]);
@@ -62,15 +62,33 @@ const FOUR: [Call<'static>; 4] = [PEEK, PEEK, PEEK, PEEK];
 
 const FOUR_READ: &str = "commit 100;commit 100;commit 100;commit 100;";
 
-/// Readers, and a reader and a writer of other rows, are run at once where there are two workers and two lanes. Writers, and a
-/// reader behind a writer, are run one after the other. Who waits for a lane alone comes once one is free.
+/// Readers, and a reader and a writer of other rows, are run at once where there are two workers and two lanes. Writers,
+/// and a reader behind a writer, are run one after the other. Who waits for a lane alone comes once one is free.
 const MEETINGS: [Met<'static>; 9] = [
-    (&[PEEK, ("ins", &[4, 7])], (2, 2), (1, 1_000_000), "commit 100;commit;", true),
-    (&[PEEK, PEEK], (2, 2), (1, 1_000_000), "commit 100;commit 100;", true),
+    (
+        &[PEEK, ("ins", &[4, 7])],
+        (2, 2),
+        (1, 1_000_000),
+        "commit 100;commit;",
+        true,
+    ),
+    (
+        &[PEEK, PEEK],
+        (2, 2),
+        (1, 1_000_000),
+        "commit 100;commit 100;",
+        true,
+    ),
     (&FOUR, (2, 8), (3, 1_000_000), FOUR_READ, true),
     (&FOUR, (2, 2), (3, 1_000_000), FOUR_READ, true),
     (&FOUR, (2, 1), (3, 1_000_000), FOUR_READ, false),
-    (&[PEEK, ("peek", &[2])], (1, 8), (1, 1_000_000), "commit 100;commit 100;", false),
+    (
+        &[PEEK, ("peek", &[2])],
+        (1, 8),
+        (1, 1_000_000),
+        "commit 100;commit 100;",
+        false,
+    ),
     (
         &[("pay", &[1, 2, 30]), ("pay", &[2, 1, 30])],
         (2, 2),
@@ -78,8 +96,20 @@ const MEETINGS: [Met<'static>; 9] = [
         "commit 70;commit 100;",
         false,
     ),
-    (&[("pay", &[1, 2, 30]), PEEK], (2, 2), (1, 1_000), "commit 70;commit 70;", false),
-    (&[("ins", &[4, 7]), ("ins", &[4, 8])], (2, 2), (1, 1_000), "commit;abort 2;", false),
+    (
+        &[("pay", &[1, 2, 30]), PEEK],
+        (2, 2),
+        (1, 1_000),
+        "commit 70;commit 70;",
+        false,
+    ),
+    (
+        &[("ins", &[4, 7]), ("ins", &[4, 8])],
+        (2, 2),
+        (1, 1_000),
+        "commit;abort 2;",
+        false,
+    ),
 ];
 
 #[test]
@@ -118,7 +148,12 @@ fn each_transaction_passes_the_gate_once(rt: HostRuntime) -> Result<(), Fail> {
             next: AtomicU64::new(0),
             wrong: AtomicU64::new(0),
         };
-        let found = execute(&rt, Settings::new(workers, lanes, 64, 65_536)?, &calls, &gate)?;
+        let found = execute(
+            &rt,
+            Settings::new(workers, lanes, 64, 65_536)?,
+            &calls,
+            &gate,
+        )?;
         assert_eq!(rt; found.as_str(), "commit 100;commit 40;commit 160;");
         assert_eq!(rt; gate.next.load(Ordering::Relaxed), 3);
         assert_eq!(rt; gate.wrong.load(Ordering::Relaxed), 0);

@@ -1,5 +1,5 @@
-//! Tests of what runs batches: lanes, the scheduler and the engine, by tables, beside a plain program that runs calls one by
-//! one.
+//! Tests of what runs batches: lanes, the scheduler and the engine, by tables, beside a plain program that runs calls
+//! one by one.
 #![tactic(auto)]
 
 #[cfg(test)]

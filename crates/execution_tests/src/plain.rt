@@ -20,7 +20,8 @@ fn run_one(alloc: Global, store: &mut RowStore, entry: &Entry) -> Result<Outcome
     requires unlent { store.old.lent ≡ map_of.empty }
     ensures lent { store.new.lent ≡ store.old.lent }
     ensures tables { store.new.tables ≡ store.old.tables }
-    ensures meaning { IfOk result (λ outcome. meaning (entry_shape entry.now) store.old.rows ≡ (as_reply outcome, store.new.rows)) }
+    ensures meaning { IfOk result (λ outcome.
+        meaning (entry_shape entry.now) store.old.rows ≡ (as_reply outcome, store.new.rows)) }
 {
     all_is_free_with_nothing_lent();
     let Effect { outcome, writes } = run(alloc, store.catalogue(), entry, &*store)?;
@@ -38,7 +39,8 @@ pub(crate) fn run_serially(
     requires unlent { store.old.lent ≡ map_of.empty }
     ensures tables { store.new.tables ≡ store.old.tables }
     ensures lent { store.new.lent ≡ store.old.lent }
-    ensures replies { IfOk result (λ outcomes. map as_reply outcomes.items ≡ serial_replies (map entry_shape entries.now) store.old.rows) }
+    ensures replies { IfOk result (λ outcomes.
+        map as_reply outcomes.items ≡ serial_replies (map entry_shape entries.now) store.old.rows) }
     ensures rows { OnOk result (store.new.rows ≡ serial_end (map entry_shape entries.now) store.old.rows) }
 {
     let mut outcomes = Vec::new(alloc);

@@ -27,7 +27,8 @@ const CALLS: u32 = 40;
 /// How many lists of choices are tried with each setting.
 const SEEDS: u32 = 64;
 
-/// The call that a number stands for: mostly a payment between the accounts 1, 2 and 4, of which the last may not be there yet.
+/// The call that a number stands for: mostly a payment between the accounts 1, 2 and 4, of which the last may not be
+/// there yet.
 fn drawn(alloc: Global, procs: &Procs, number: u32) -> Result<Request, Fail>
     ensures { IfOk result (λ request. request.proc.tables ≡ procs.now.tables) }
 {
@@ -148,8 +149,8 @@ fn same_accounts(engine: &Engine, store: &RowStore) -> Result<bool, Fail>
     Ok(true)
 }
 
-/// Whether an engine with these settings gives these outcomes and the accounts of the store, with another list of choices for
-/// each batch.
+/// Whether an engine with these settings gives these outcomes and the accounts of the store, with another list of choices
+/// for each batch.
 fn agrees(
     alloc: Global,
     settings: Settings,

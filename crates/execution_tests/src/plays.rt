@@ -7,7 +7,8 @@ use scheduler::{AdmitFault, Event, Scheduler, StepAnswer, lent_jobs_come_back, r
 use std::alloc::Global;
 use std::test::Fail;
 
-/// Calls, the events that are tried in turn, which of them are made (`+`) and refused (`-`), and what has come of the calls.
+/// Calls, the events that are tried in turn, which of them are made (`+`) and refused (`-`), and what has come of the
+/// calls.
 type Played<'a> = (&'a [Call<'a>], &'a [Event], &'a str, &'a str);
 
 const PAYMENTS: [Event; 16] = [
@@ -40,8 +41,8 @@ const READERS: [Event; 8] = [
     Event::Settle(0),
 ];
 
-/// The queue of the partition is an intention to write, a read of all of it, and an intention to read. The third waits, though
-/// it goes with the first.
+/// The queue of the partition is an intention to write, a read of all of it, and an intention to read. The third waits,
+/// though it goes with the first.
 const QUEUE: [Event; 11] = [
     Event::Admit,
     Event::Admit,
@@ -58,7 +59,12 @@ const QUEUE: [Event; 11] = [
 
 const PLAYS: [Played<'static>; 4] = [
     (&TWO_PAYS, &[], "", "open;open;"),
-    (&TWO_PAYS, &PAYMENTS, "++--+-+-+-+++---", "commit 70;commit 40;"),
+    (
+        &TWO_PAYS,
+        &PAYMENTS,
+        "++--+-+-+-+++---",
+        "commit 70;commit 40;",
+    ),
     (
         &[("peek", &[1]), ("peek", &[1])],
         &READERS,
@@ -123,7 +129,11 @@ fn events_are_chosen_by_their_places(rt: HostRuntime) -> Result<(), Fail> {
         (&[Event::Admit], 3, Event::Lend(0)),
         (&[Event::Admit, Event::Admit], 2, Event::Lend(0)),
         (&[Event::Admit, Event::Admit], 3, Event::Lend(1)),
-        (&[Event::Admit, Event::Admit, Event::Lend(0)], 2, Event::Run(0)),
+        (
+            &[Event::Admit, Event::Admit, Event::Lend(0)],
+            2,
+            Event::Run(0),
+        ),
     ];
     for (events, number, want) in table {
         let mut scheduler = scheduler(alloc, &calls, 0, 65_536)?;
@@ -133,8 +143,8 @@ fn events_are_chosen_by_their_places(rt: HostRuntime) -> Result<(), Fail> {
     Ok(())
 }
 
-/// Lends its rows to the next transaction, runs it and settles it: the numbers of its job and of what came back, and whether
-/// it was run.
+/// Lends its rows to the next transaction, runs it and settles it: the numbers of its job and of what came back, and
+/// whether it was run.
 fn settle_next(scheduler: &mut Scheduler) -> Result<(u64, u64, bool), Fail> {
     lent_jobs_come_back();
     let Some(job) = scheduler.lend()? else {
@@ -161,6 +171,9 @@ fn one_request_is_all_there_is_room_for(rt: HostRuntime) -> Result<(), Fail> {
         assert_eq!(rt; settle_next(&mut scheduler)?, (number, number, true));
     }
     assert_eq!(rt; scheduler.admit(), Err(AdmitFault::AllAdmitted));
-    assert_eq!(rt; replies(alloc, &scheduler, 2)?.as_str(), "commit 99;commit 99;");
+    assert_eq!(rt;
+        replies(alloc, &scheduler, 2)?.as_str(),
+        "commit 99;commit 99;"
+    );
     Ok(())
 }

@@ -176,7 +176,8 @@ fn told<S: Source>(alloc: Global, source: &mut S) -> Result<String, Fail> {
     Err(Fail::from("no end"))
 }
 
-/// A failed read names the line that it failed in, again and again, and whole lines that came before it are given first.
+/// A failed read names the line that it failed in, again and again, and whole lines that came before it are given
+/// first.
 #[test]
 fn lines_are_read_until_a_read_fails(rt: HostRuntime) -> Result<(), Fail> {
     let alloc = rt.alloc();

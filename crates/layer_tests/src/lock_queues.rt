@@ -113,8 +113,8 @@ fn change_next(tree: &mut LockTree, plain: &mut Plain, kind: u64)
     }
 }
 
-/// Ten thousand steps: a transaction comes, and one of the last ones is marked, unmarked or released if it is ready, as is
-/// mostly the next ready one.
+/// Ten thousand steps: a transaction comes, and one of the last ones is marked, unmarked or released if it is ready, as
+/// is mostly the next ready one.
 #[test]
 fn queues_and_one_list_agree(rt: HostRuntime) -> Result<(), Fail> {
     let alloc = rt.alloc();

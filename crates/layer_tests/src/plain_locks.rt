@@ -88,7 +88,12 @@ impl Plain {
     }
 
     /// Puts a transaction behind all others, if there is room for its requests.
-    pub(crate) fn enqueue(&mut self, alloc: Global, number: u64, plan: &Plan) -> Result<bool, Fail> {
+    pub(crate) fn enqueue(
+        &mut self,
+        alloc: Global,
+        number: u64,
+        plan: &Plan,
+    ) -> Result<bool, Fail> {
         if used(self.waiting.as_slice()).saturating_add(plan.requests().len()) > self.nodes {
             return Ok(false);
         }

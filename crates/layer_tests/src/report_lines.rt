@@ -12,10 +12,17 @@ use values::{Text, Value};
 fn replies_are_lines(rt: HostRuntime) -> Result<(), Fail> {
     let alloc = rt.alloc();
     let numbers = vec![in alloc; Value::Int(i64::MIN), Value::Int(0), Value::Int(-2)]?;
-    let texts = vec![in alloc; Value::Text(Text::new(alloc, "JZ")?), Value::Text(Text::new(alloc, "")?)]?;
+    let texts = vec![in alloc;
+        Value::Text(Text::new(alloc, "JZ")?),
+        Value::Text(Text::new(alloc, "")?),
+    ]?;
     let table = [
         (1, Outcome::Commit(Vec::new(alloc)), "1 commit\n"),
-        (12, Outcome::Commit(numbers), "12 commit -9223372036854775808 0 -2\n"),
+        (
+            12,
+            Outcome::Commit(numbers),
+            "12 commit -9223372036854775808 0 -2\n",
+        ),
         (13, Outcome::Commit(texts), "13 commit x4a5a x\n"),
         (0, Outcome::Abort(AbortCode::BadPart), "0 abort 6\n"),
         (1, Outcome::Abort(AbortCode::Own(65_535)), "1 abort 65535\n"),
@@ -34,8 +41,16 @@ fn replies_are_lines(rt: HostRuntime) -> Result<(), Fail> {
 fn digests_are_those_of_sha_256(rt: HostRuntime) -> Result<(), Fail> {
     let alloc = rt.alloc();
     let table = [
-        ("", "", "e3b0c44298fc1c149afbf4c8996fb92427ae41e4649b934ca495991b7852b855"),
-        ("a", "bc", "ba7816bf8f01cfea414140de5dae2223b00361a396177a9cb410ff61f20015ad"),
+        (
+            "",
+            "",
+            "e3b0c44298fc1c149afbf4c8996fb92427ae41e4649b934ca495991b7852b855",
+        ),
+        (
+            "a",
+            "bc",
+            "ba7816bf8f01cfea414140de5dae2223b00361a396177a9cb410ff61f20015ad",
+        ),
         (
             "acct 1 40\nacct 2 160\n",
             "ref 1 2\n",
@@ -49,7 +64,11 @@ fn digests_are_those_of_sha_256(rt: HostRuntime) -> Result<(), Fail> {
     ];
     for (front, rest, want) in table {
         let text = format!(in alloc; "{front}{rest}")?;
-        assert_eq!(rt; digest_text(alloc, text.as_bytes())?.as_str(), want, "{text}");
+        assert_eq!(rt;
+            digest_text(alloc, text.as_bytes())?.as_str(),
+            want,
+            "{text}"
+        );
         let mut hasher = Sha256::new();
         hasher.update(front.as_bytes());
         hasher.update(rest.as_bytes());
