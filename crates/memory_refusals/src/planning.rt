@@ -11,7 +11,7 @@ use crate::texts::PLANS;
 use calvin::Setup;
 use coarsen::Plan;
 use footprint::{Footprint, declared};
-use plan_text::push_plan;
+use report_text::push_plan;
 use proclang::Request;
 use std::alloc::Global;
 use values::Catalogue;

@@ -6,7 +6,7 @@ ghost use Rattle.std.specs.FinMap as map_of;
 use crate::texts::{REPLIES, ROWS};
 use report_text::digest_text;
 use row_store::{RowStore, all_is_free_with_nothing_lent};
-use row_text::rows_digest;
+use report_text::rows_digest;
 use std::alloc::Global;
 
 /// Whether a text has this digest.

@@ -1,0 +1,37 @@
+#!/usr/bin/env bash
+# Writes docs/edits.md, the list of the edits that must be refused, from the names of their folders and files alone:
+#
+#     scripts/list_edits.sh
+set -euo pipefail
+cd -- "$(dirname -- "$0")/.."
+
+# A line for each edit: its crate, its function, whether the gate tries it, its name.
+edits() {
+    local file name
+    for file in crates/*/must-fail/*.edit crates/*/must-fail/more/*.md; do
+        name=$(basename -- "${file%.*}")
+        echo "$(cut -d/ -f2 <<< "$file") ${name%%__*} ${file##*.} ${name#*__}"
+    done | LC_ALL=C sort
+}
+
+{
+    cat << 'END'
+# Edits that must be refused
+
+In each crate's folder `must-fail/` stand edits. Each makes one wrong body of a function, or turns a definition, and
+the prover must refuse it by the crate's own contracts. Those right in `must-fail/` are tried by the gate: one of each
+public function, and beside it the wrong bodies that such an executor is most easily written with, as a lock that is
+overtaken, a reply out of order or a job that is claimed twice. Those in `must-fail/more/` are tried by
+`scripts/more_edits.py`. A file is named after the function whose meaning it turns, and after what it does.
+`scripts/list_edits.sh` writes this list from those names.
+
+| crate | function | in the gate | beside it |
+|---|---|---|---|
+END
+    edits | awk '
+        function row() { if (key != "") printf "| `%s` | `%s` | %s | %s |\n", crate, name, gate, other }
+        $1 " " $2 != key { row(); key = $1 " " $2; crate = $1; name = $2; gate = other = "" }
+        $3 == "edit" { gate = gate (gate == "" ? "" : ", ") $4; tried++ }
+        $3 == "md" { other = other (other == "" ? "" : ", ") $4; left++ }
+        END { row(); printf "| all | | %d | %d |\n", tried, left }'
+} > docs/edits.md

@@ -1,0 +1,154 @@
+#!/usr/bin/env python3
+"""Tries the edits that the gate leaves out, those in crates/NAME/must-fail/more/:
+
+    scripts/more_edits.py [CRATE ..]     tries them, of all crates where none is named
+    scripts/more_edits.py --form         says only which edits, of the gate and of the others, cannot be made
+
+The prover must refuse each of them. Many are tried in one check, each in functions of its own. The check names each
+open goal by file and line, and looks at no goal of a function that calls one with an open goal. So an edit is refused
+where a goal is open in each function that it changes. The others are tried in the next check without those, and alone at
+last: then any open goal refuses the edit. All is done in a copy of the crates, with what checks have kept there, so that
+nothing in the checkout changes. It ends with status 1 where an edit isn't refused.
+"""
+import re
+import shutil
+import subprocess
+import sys
+import tempfile
+from pathlib import Path
+
+HEAD = re.compile(r"( *)(?:pub(?:\(\w+\))? )?(?:const )?fn ")
+OPEN_GOAL = re.compile(r"^(?:note: )?(src/\S+?):(\d+):\d+: ", re.MULTILINE)
+
+
+def functions_of(text):
+    """The first and the last line of each function."""
+    functions, first, indent = [], None, ""
+    for number, line in enumerate(text.split("\n"), 1):
+        head = HEAD.match(line)
+        if head and (first is None or len(head[1]) <= len(indent)):
+            first, indent = number, head[1]
+        elif first and line in (indent + "}", indent + "{}"):
+            functions.append((first, number))
+            first = None
+    return functions
+
+
+class Edit:
+    """An edit of a crate: lines that take the place of others in files of `src/`, `specs/` or `proofs/`."""
+
+    def __init__(self, path):
+        self.path, self.crate, self.changes = path, path.parents[1 + (path.parent.name == "more")], []
+        file = old = None
+        for line in path.read_text().split("\n"):
+            word, _, text = line.partition(": ")
+            if word == "file":
+                file = text
+            elif word == "old":
+                old = text
+            elif word == "new":
+                self.changes.append((file, old, text))
+
+    def __str__(self):
+        return f"{self.crate.name}/{self.path.stem}"
+
+    def made_on(self, texts):
+        """The texts of the files with this edit, `None` where one of its old texts doesn't stand there exactly once."""
+        texts = dict(texts)
+        for file, old, new in self.changes:
+            text = texts.get(file) or (self.crate / file).read_text()
+            if not old or text.count(old) != 1:
+                return None
+            texts[file] = text.replace(old, new)
+        return texts if self.changes else None
+
+    def functions(self):
+        """The functions that it changes, each by its file and last line; `None` where it changes something else, too."""
+        found = set()
+        for file, text in self.made_on({}).items():
+            before = (self.crate / file).read_text()
+            for number, (old, new) in enumerate(zip(before.split("\n"), text.split("\n")), 1):
+                if old != new:
+                    within = [last for first, last in functions_of(before) if first <= number <= last]
+                    found.add((file, within[0] if within else None))
+        return None if any(last is None for _, last in found) else found
+
+
+class Room:
+    """A copy of the crates to try edits in."""
+
+    def __init__(self, folder):
+        self.folder = Path(folder)
+        subprocess.run(["cp", "-a", "--reflink=auto", "crates", "crates.txt", "HANDLES", folder], check=True)
+        for edits in self.folder.glob("crates/*/must-fail"):
+            shutil.rmtree(edits)
+
+    def check(self, crate, texts):
+        """Checks the crate with these texts: whether it is refused, and the functions with an open goal."""
+        folder = self.folder / crate
+        for file, text in texts.items():
+            (folder / file).write_text(text)
+        ran = subprocess.run(["rt", "check"], cwd=folder, capture_output=True, text=True, errors="replace")
+        for file in texts:
+            shutil.copyfile(crate / file, folder / file)
+        opened = set()
+        for file, line in OPEN_GOAL.findall(ran.stdout):
+            functions = functions_of((crate / file).read_text())
+            opened.add((file, next((last for _, last in functions if int(line) <= last), None)))
+        return "\nlogic=not-proved" in ran.stdout, opened
+
+
+def group_of(edits):
+    """Edits that can be made together, each in functions of its own, and the texts with all of them."""
+    group, texts, taken = [], {}, set()
+    for edit in edits:
+        functions = edit.functions()
+        made = edit.made_on(texts) if functions and not functions & taken else None
+        if made is not None:
+            group, texts, taken = [*group, edit], made, taken | functions
+    return group, texts
+
+
+def not_refused(room, edits):
+    """Tries the edits of a crate, and gives back those that aren't refused."""
+    left, alone = edits, []
+    while left:
+        group, texts = group_of(left)
+        refused, opened = room.check(left[0].crate, texts) if len(group) > 1 else (False, set())
+        done = [edit for edit in group if refused and edit.functions() <= opened]
+        for edit in done:
+            print(f"{edit}: refused", flush=True)
+        if not done:
+            done = group or left
+            alone += done
+        left = [edit for edit in left if edit not in done]
+    failed = []
+    for edit in alone:
+        refused, _ = room.check(edit.crate, edit.made_on({}))
+        print(f"{edit}: {'refused, alone' if refused else 'NOT REFUSED'}", flush=True)
+        failed += [] if refused else [edit]
+    return failed
+
+
+def all_edits(pattern):
+    return [Edit(path) for path in sorted(Path("crates").glob(pattern))]
+
+
+def main(words):
+    others = all_edits("*/must-fail/more/*.md")
+    bad = [edit for edit in all_edits("*/must-fail/*.edit") + others if edit.made_on({}) is None]
+    for edit in bad:
+        print(f"{edit}: cannot be made")
+    if bad or words == ["--form"]:
+        return 1 if bad else 0
+    failed = []
+    with tempfile.TemporaryDirectory() as folder:
+        room = Room(folder)
+        for crate in sorted({edit.crate.name for edit in others}):
+            if not words or crate in words:
+                failed += not_refused(room, [edit for edit in others if edit.crate.name == crate])
+    return 1 if failed else 0
+
+
+if __name__ == "__main__":
+    sys.exit(main(sys.argv[1:]))
