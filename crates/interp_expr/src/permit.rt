@@ -41,7 +41,7 @@ fn row_resource(catalogue: &Catalogue, name: &RowName) -> Resource
 
 impl Permit<'_> {
     /// Whether a right on a row name is covered.
-    pub fn covers(&self, name: &RowName, right: Right) -> bool
+    pub(crate) fn covers(&self, name: &RowName, right: Right) -> bool
         ensures { result ≡ permits self.now name.now right }
     {
         let resource = row_resource(self.catalogue, name);
@@ -49,7 +49,7 @@ impl Permit<'_> {
     }
 
     /// Whether reading a partition is covered.
-    pub fn covers_part(&self, table: TableNo, part: u32) -> bool
+    pub(crate) fn covers_part(&self, table: TableNo, part: u32) -> bool
         ensures { result ≡ permits_part self.now table part }
     {
         let resource = Resource::Table(table, InTable::Part(part, InPart::WholePart));

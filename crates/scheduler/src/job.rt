@@ -34,7 +34,7 @@ impl Model for Job {
 
 impl Job {
     /// A job of these. The entry is over the loan's tables, and the loan's plan locks each row name that it may touch.
-    pub fn new(alloc: Global, number: u64, entry: Entry, loan: Loan) -> Job
+    pub(crate) fn new(alloc: Global, number: u64, entry: Entry, loan: Loan) -> Job
         requires tables { entry.request.proc.tables ≡ loan.tables }
         requires locks { LocksTouched entry loan }
         ensures { result ≡ record { number = number; entry = entry; loan = loan } }
@@ -55,7 +55,7 @@ impl Job {
     }
 
     /// The job's loan.
-    pub fn into_loan(self) -> Loan
+    pub(crate) fn into_loan(self) -> Loan
         ensures { result ≡ self.loan }
     {
         let Job { loan, .. } = self;
@@ -96,7 +96,7 @@ impl Done {
     }
 
     /// The job, and its outcome where it was run.
-    pub fn into_parts(self) -> (Job, Option<Outcome>)
+    pub(crate) fn into_parts(self) -> (Job, Option<Outcome>)
         ensures job { result.0 ≡ self.job }
         ensures outcome { result.1 ≡ self.outcome }
     {
