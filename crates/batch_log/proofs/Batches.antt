@@ -3,8 +3,8 @@ use Rattle.std.proofs.Common.{◌≡◌, ℕ, ◌+◌, ◌<◌, List, [], ◌∷
 use Rattle.std.specs.List.{AllByRecursion}
 use Rattle.std.proofs.lemmas.List.{nil_from_length}
 use Rattle.requests.specs.Requests as requests
-use Rattle.batch_log.specs.declared.fault.FaultKind.{FaultKind}
-use Rattle.batch_log.specs.declared.fault.FaultKind.TheVariants.{BatchTooLong}
+use Rattle.batch_log.specs.declared.fault.LogFaultKind.{LogFaultKind}
+use Rattle.batch_log.specs.declared.fault.LogFaultKind.TheVariants.{BatchTooLong}
 use Rattle.batch_log.specs.declared.fault.LogFault.{LogFault}
 use Rattle.batch_log.specs.declared.line.LogLine.{LogLine}
 use Rattle.batch_log.specs.declared.line.LogLine.TheVariants.{Call, Cut}
@@ -41,7 +41,7 @@ record Some_batches (batches : List Calls) : Type 0 where
 into_some : (c : requests.Call) (batches : List Calls) → Some_batches batches → Some_batches (into_first c batches)
 into_some c batches s = record { first = c ∷ s.first; rest = s.rest; are = ap (into_first c) s.are }
 
-before_some : (said : Result LogLine FaultKind) (batches : List Calls) → Some_batches batches → Some_batches (before_batches said batches)
+before_some : (said : Result LogLine LogFaultKind) (batches : List Calls) → Some_batches batches → Some_batches (before_batches said batches)
 before_some (Ok (Call c)) batches s = into_some c batches s
 before_some (Ok Cut) batches s = record { first = []; rest = batches; are = refl }
 before_some (Err kind) batches s = record { first = []; rest = []; are = refl }
@@ -63,7 +63,7 @@ pub record Reads (es : Lines) (calls : List requests.Call) (rest : Lines) : Type
 pub Reads-none : (es : Lines) → Reads es [] es
 Reads-none es = record { calls_read = refl; fault = refl }
 
-pub Reads-step : (es mid rest : Lines) (calls : List requests.Call) (n : ℕ) (c : requests.Call) (said : Result LogLine FaultKind) →
+pub Reads-step : (es mid rest : Lines) (calls : List requests.Call) (n : ℕ) (c : requests.Call) (said : Result LogLine LogFaultKind) →
     said ≡ Ok (Call c) → Reads es calls mid → mid ≡ (n, said) ∷ rest → Reads es (calls ++ c ∷ []) rest
 Reads-step es mid rest calls n c said e r q = record {
   calls_read = r.calls_read ∙ ap (λ x. into calls (cut_apart x)) q ∙ ap (λ x. into calls (before_batches x (cut_apart rest))) e ∙ sym (into-append calls c (cut_apart rest));
@@ -91,14 +91,14 @@ pub NextBatch-cut : (es mid rest : Lines) (calls : List requests.Call) (n k tota
     Reads es calls (limited k total mid) → mid ≡ (n, Ok Cut) ∷ rest → IsNextBatch es calls (limited 0 total rest)
 NextBatch-cut es mid rest calls n k total r q = NextBatch-step es (limited k total mid) (limited 0 total rest) calls n r (ap (λ x. limited k total x) q)
 
-pub Fault-step : (es mid rest : Lines) (calls : List requests.Call) (n : ℕ) (kind : FaultKind) (said : Result LogLine FaultKind) →
+pub Fault-step : (es mid rest : Lines) (calls : List requests.Call) (n : ℕ) (kind : LogFaultKind) (said : Result LogLine LogFaultKind) →
     said ≡ Err kind → Reads es calls mid → mid ≡ (n, said) ∷ rest → IsFault es (record { kind = kind; line = n })
 Fault-step es mid rest calls n kind said e r q =
     let first : first_fault es ≡ Some (record { kind = kind; line = n }) = r.fault ∙ ap first_fault q ∙ ap (λ x. or_fault n x (first_fault rest)) e in
     let apart : cut_apart es ≡ calls ∷ [] = r.calls_read ∙ ap (λ x. into calls (cut_apart x)) q ∙ ap (λ x. into calls (before_batches x (cut_apart rest))) e ∙ into-cut calls [] in
     record { batches = ap (λ f. whole_batches f (cut_apart es)) first ∙ ap (whole_batches (Some (record { kind = kind; line = n }))) apart; first = first }
 
-pub Fault-of_line : (es mid rest : Lines) (calls : List requests.Call) (n k total : ℕ) (kind : FaultKind) →
+pub Fault-of_line : (es mid rest : Lines) (calls : List requests.Call) (n k total : ℕ) (kind : LogFaultKind) →
     Reads es calls (limited k total mid) → mid ≡ (n, Err kind) ∷ rest → IsFault es (record { kind = kind; line = n })
 Fault-of_line es mid rest calls n k total kind r q =
     Fault-step es (limited k total mid) (limited k total rest) calls n kind (Err kind) refl r (ap (λ x. limited k total x) q)

@@ -17,7 +17,7 @@ use Rattle.proclang_types.specs.Procedures.{ProcParts}
 use Rattle.proclang_types.specs.Syntax.{ParamShape}
 use Rattle.requests.specs.ProcLists.{proc_named}
 use Rattle.requests.specs.Requests.{Call, fits, IsShort, AreArgs}
-use Rattle.batch_log.specs.declared.fault.FaultKind.TheVariants.{NotJson, UnknownProc, Args}
+use Rattle.batch_log.specs.declared.fault.LogFaultKind.TheVariants.{NotJson, UnknownProc, Args}
 use Rattle.batch_log.specs.Lines.{all_fit, call_said, document_said, line_said}
 
 -- ---- a line's bytes

@@ -18,15 +18,15 @@ use Rattle.values.specs.Said.{values_said}
 use Rattle.proclang_types.specs.Procedures.{ProcParts}
 use Rattle.requests.specs.ProcLists.{proc_named}
 use Rattle.requests.specs.Requests as requests
-use Rattle.batch_log.specs.declared.fault.FaultKind.{FaultKind}
-use Rattle.batch_log.specs.declared.fault.FaultKind.TheVariants.{NotJson, Shape, UnknownProc, Args}
+use Rattle.batch_log.specs.declared.fault.LogFaultKind.{LogFaultKind}
+use Rattle.batch_log.specs.declared.fault.LogFaultKind.TheVariants.{NotJson, Shape, UnknownProc, Args}
 use Rattle.batch_log.specs.declared.line.LogLine.{LogLine}
 use Rattle.batch_log.specs.declared.line.LogLine.TheVariants.{Call, Cut}
 use Rattle.batch_log.specs.Forms.{Form, call_form, cut_form, words_form, items_form, line_form}
 use Rattle.batch_log.specs.Lines.{all_fit, call_said, form_said, document_said, line_said}
 use Rattle.batch_log.specs.LineRules.{SpellsLine, SaysCall, SaysForm, SaysLine, takes, are_taken, in_call, in_form, in_document, broken_rules, LineIsExact}
 
-ok_is : {A : Type 0} (x y : A) → ◌≡◌ {A = Result A FaultKind} (Ok x) (Ok y) → x ≡ y
+ok_is : {A : Type 0} (x y : A) → ◌≡◌ {A = Result A LogFaultKind} (Ok x) (Ok y) → x ≡ y
 ok_is x y e = cc
 
 none_is : {A B : Type 0} (x : A) → ◌≡◌ {A = Option A} None (Some x) → B

@@ -1,7 +1,7 @@
 -- What the definition of a log's batches amounts to.
 use Rattle.std.specs.Prelude.{◌≡◌, ℕ, ◌<◌, List, [], ◌∷◌, ◌++◌, map, length, Some, None, Ok, Err}
 use Rattle.requests.specs.Requests as requests
-use Rattle.batch_log.specs.declared.fault.FaultKind.{FaultKind}
+use Rattle.batch_log.specs.declared.fault.LogFaultKind.{LogFaultKind}
 use Rattle.batch_log.specs.declared.line.LogLine.{LogLine}
 use Rattle.batch_log.specs.declared.line.LogLine.TheVariants.{Call, Cut}
 use Rattle.batch_log.specs.Lines.{Lines}
@@ -28,6 +28,6 @@ EndIsACut = (batches : List (List requests.Call)) (calls : List requests.Call) (
 
 -- and are none, where a fault stands behind them, whatever comes after it
 abbrev pub FaultIsNoCut : Type 0
-FaultIsNoCut = (batches : List (List requests.Call)) (calls : List requests.Call) (lines : Lines) (n : ℕ) (kind : FaultKind) (after : Lines) →
+FaultIsNoCut = (batches : List (List requests.Call)) (calls : List requests.Call) (lines : Lines) (n : ℕ) (kind : LogFaultKind) (after : Lines) →
     Say lines (with_cuts batches ++ map Call calls) →
     (batches_of (lines ++ (n, Err kind) ∷ after) ≡ batches) × (first_fault (lines ++ (n, Err kind) ∷ after) ≡ Some (record { kind = kind; line = n }))

@@ -2,13 +2,13 @@
 use Rattle.std.specs.Prelude.{◌≡◌, ℕ, Option, Some, None, Result, Ok, Err, Bool, true, false, ◌||◌, if◌then◌else◌}
 use Rattle.devices.specs.Lines.{next_number}
 use Rattle.devices.specs.LineReader.{Position}
-use Rattle.devices.specs.declared.line_reader.LineFault.{LineFault}
-use Rattle.devices.specs.declared.line_reader.LineFault.TheVariants as devices
-use Rattle.batch_log.specs.declared.fault.FaultKind.{FaultKind}
-use Rattle.batch_log.specs.declared.fault.FaultKind.TheVariants.{NotJson, Shape, UnknownProc, Args, BatchTooLong, Io, Memory}
+use Rattle.devices.specs.declared.line_reader.LineReadFault.{LineReadFault}
+use Rattle.devices.specs.declared.line_reader.LineReadFault.TheVariants as devices
+use Rattle.batch_log.specs.declared.fault.LogFaultKind.{LogFaultKind}
+use Rattle.batch_log.specs.declared.fault.LogFaultKind.TheVariants.{NotJson, Shape, UnknownProc, Args, BatchTooLong, Io, Memory}
 use Rattle.batch_log.specs.declared.fault.LogFault.{LogFault}
 
-abbrev pub is_memory : FaultKind → Bool
+abbrev pub is_memory : LogFaultKind → Bool
 is_memory NotJson = false
 is_memory Shape = false
 is_memory UnknownProc = false
@@ -17,7 +17,7 @@ is_memory BatchTooLong = false
 is_memory Io = false
 is_memory Memory = true
 
-abbrev pub is_io : FaultKind → Bool
+abbrev pub is_io : LogFaultKind → Bool
 is_io NotJson = false
 is_io Shape = false
 is_io UnknownProc = false
@@ -27,17 +27,17 @@ is_io Io = true
 is_io Memory = false
 
 -- a fault that a line of the log has, and neither a device nor memory
-abbrev pub IsOfLine : FaultKind → Type 0
+abbrev pub IsOfLine : LogFaultKind → Type 0
 IsOfLine kind = (is_io kind || is_memory kind) ≡ false
 
 -- what the fault of a reader of lines is for a reader of a log
-abbrev pub device_fault : LineFault → LogFault
+abbrev pub device_fault : LineReadFault → LogFault
 device_fault (devices.Io line) = record { kind = Io; line = line }
 device_fault (devices.Memory line) = record { kind = Memory; line = line }
 
 -- The line of a fault, by where the reader stands: that of the newlines taken, plus 1, for a read that failed, and else
 -- the line last begun, or 0.
-abbrev pub place_of : FaultKind → Position → ℕ
+abbrev pub place_of : LogFaultKind → Position → ℕ
 place_of kind p = if is_io kind then next_number p.newlines else p.begun
 
 -- the fault that a call ended with

@@ -10,8 +10,8 @@ use Rattle.values.specs.Said.{values_said}
 use Rattle.proclang_types.specs.Procedures.{ProcParts}
 use Rattle.requests.specs.ProcLists.{proc_named}
 use Rattle.requests.specs.Requests as requests
-use Rattle.batch_log.specs.declared.fault.FaultKind.{FaultKind}
-use Rattle.batch_log.specs.declared.fault.FaultKind.TheVariants.{NotJson, Shape, UnknownProc, Args}
+use Rattle.batch_log.specs.declared.fault.LogFaultKind.{LogFaultKind}
+use Rattle.batch_log.specs.declared.fault.LogFaultKind.TheVariants.{NotJson, Shape, UnknownProc, Args}
 use Rattle.batch_log.specs.declared.line.LogLine.{LogLine}
 use Rattle.batch_log.specs.declared.line.LogLine.TheVariants.{Call, Cut}
 use Rattle.batch_log.specs.Forms.{Form, call_form, cut_form, line_form}
@@ -54,19 +54,19 @@ abbrev pub are_taken : Option ProcParts → Option (List Value) → Bool
 are_taken None args = true
 are_taken (Some proc) args = takes proc args
 
-abbrev pub in_call : List ProcParts → List ℕ → List Data → List FaultKind
+abbrev pub in_call : List ProcParts → List ℕ → List Data → List LogFaultKind
 in_call procs name ds = broken (is_some (proc_named procs name)) UnknownProc ++ broken (are_taken (proc_named procs name) (values_said ds)) Args
 
-abbrev pub in_form : List ProcParts → Option Form → List FaultKind
+abbrev pub in_form : List ProcParts → Option Form → List LogFaultKind
 in_form procs None = Shape ∷ []
 in_form procs (Some (call_form name ds)) = in_call procs name ds
 in_form procs (Some cut_form) = []
 
-abbrev pub in_document : List ProcParts → Option Data → List FaultKind
+abbrev pub in_document : List ProcParts → Option Data → List LogFaultKind
 in_document procs None = NotJson ∷ []
 in_document procs (Some d) = in_form procs (line_form d)
 
-abbrev pub broken_rules : List ProcParts → List ℕ → List FaultKind
+abbrev pub broken_rules : List ProcParts → List ℕ → List LogFaultKind
 broken_rules procs line = if is_utf8 line then in_document procs (read line) else NotJson ∷ []
 
 -- ---- laws

@@ -4,8 +4,8 @@ use Rattle.std.specs.declared.alloc.Global.{Global}
 use Rattle.proclang_types.specs.Procedures.{ProcParts}
 use Rattle.requests.specs.Requests as requests
 use Rattle.batch_log.specs.Lines.{lines_said, Lines}
-use Rattle.batch_log.specs.declared.fault.FaultKind.{FaultKind}
-use Rattle.batch_log.specs.declared.fault.FaultKind.TheVariants.{BatchTooLong}
+use Rattle.batch_log.specs.declared.fault.LogFaultKind.{LogFaultKind}
+use Rattle.batch_log.specs.declared.fault.LogFaultKind.TheVariants.{BatchTooLong}
 use Rattle.batch_log.specs.declared.fault.LogFault.{LogFault}
 use Rattle.batch_log.specs.declared.line.LogLine.{LogLine}
 use Rattle.batch_log.specs.declared.line.LogLine.TheVariants.{Call, Cut}
@@ -17,19 +17,19 @@ abbrev pub is_room : ℕ → ℕ → Bool
 is_room calls total = nat_lt calls 4096 && nat_lt total (2 ^ 48)
 
 -- a line behind so many calls of its batch and of the log: a call for which there is no room is a fault
-abbrev pub within : ℕ → ℕ → Result LogLine FaultKind → Result LogLine FaultKind
+abbrev pub within : ℕ → ℕ → Result LogLine LogFaultKind → Result LogLine LogFaultKind
 within calls total (Ok (Call call)) = if is_room calls total then Ok (Call call) else Err BatchTooLong
 within calls total (Ok Cut) = Ok Cut
 within calls total (Err kind) = Err kind
 
 -- how many calls its batch has after a line; a cut begins a new one
-abbrev pub calls_after : ℕ → Result LogLine FaultKind → ℕ
+abbrev pub calls_after : ℕ → Result LogLine LogFaultKind → ℕ
 calls_after calls (Ok (Call call)) = calls + 1
 calls_after calls (Ok Cut) = 0
 calls_after calls (Err kind) = calls
 
 -- how many calls the log has after a line
-abbrev pub total_after : ℕ → Result LogLine FaultKind → ℕ
+abbrev pub total_after : ℕ → Result LogLine LogFaultKind → ℕ
 total_after total (Ok (Call call)) = total + 1
 total_after total (Ok Cut) = total
 total_after total (Err kind) = total
@@ -46,7 +46,7 @@ log_said procs newlines total text = limited 0 total (lines_said procs newlines 
 -- ---- the first fault, and the batches before it
 
 -- the fault of one line, before those of the rest
-abbrev pub or_fault : ℕ → Result LogLine FaultKind → Option LogFault → Option LogFault
+abbrev pub or_fault : ℕ → Result LogLine LogFaultKind → Option LogFault → Option LogFault
 or_fault n (Ok said) later = later
 or_fault n (Err kind) later = Some (record { kind = kind; line = n })
 
@@ -60,7 +60,7 @@ into_first call [] = (call ∷ []) ∷ []
 into_first call (calls ∷ batches) = (call ∷ calls) ∷ batches
 
 -- a line before those of the rest, which are cut apart
-abbrev pub before_batches : Result LogLine FaultKind → List (List requests.Call) → List (List requests.Call)
+abbrev pub before_batches : Result LogLine LogFaultKind → List (List requests.Call) → List (List requests.Call)
 before_batches (Ok (Call call)) batches = into_first call batches
 before_batches (Ok Cut) batches = [] ∷ batches
 before_batches (Err kind) batches = [] ∷ []

@@ -10,14 +10,14 @@ ghost use Rattle.batch_log.specs.Log.{calls_in, is_room, log_said, IsEnd, IsFaul
 ghost use Rattle.batch_log.specs.Moves.{Moves};
 ghost use Rattle.batch_log.specs.Taken.{IsFirstLine, LosesFirst, TakesCalls};
 
-use crate::fault::{FaultKind, LogFault, device_fault};
-use crate::line::{LogLine, read_line};
+use crate::fault::{LogFault, LogFaultKind, device_fault};
+use crate::line::{LogLine, read_log_line};
 use devices::{LineReader, Source};
 use requests::{Procs, Request};
 use std::alloc::Global;
 
 /// A fault of the line last begun.
-fn fault_of_line<S: Source>(lines: &LineReader<'_, S>, kind: FaultKind) -> LogFault
+fn fault_of_line<S: Source>(lines: &LineReader<'_, S>, kind: LogFaultKind) -> LogFault
     ensures { result ≡ record { kind = kind; line = line_begun lines.now } }
 {
     LogFault {
@@ -56,7 +56,7 @@ fn next_said<S: Source>(
         Ok(None) => return Ok(None),
         Err(fault) => return Err(device_fault(fault)),
     };
-    match read_line(alloc, procs, &line) {
+    match read_log_line(alloc, procs, &line) {
         Ok(said) => Ok(Some(said)),
         Err(kind) => Err(fault_of_line(lines, kind)),
     }
@@ -109,10 +109,10 @@ pub(crate) fn read_batch<S: Source>(
             Err(fault) => return Err(fault),
         };
         if !is_room(calls.len(), *total) {
-            return Err(fault_of_line(lines, FaultKind::BatchTooLong));
+            return Err(fault_of_line(lines, LogFaultKind::BatchTooLong));
         }
         if calls.push(call).is_err() {
-            return Err(fault_of_line(lines, FaultKind::Memory));
+            return Err(fault_of_line(lines, LogFaultKind::Memory));
         }
         *total += 1;
     }

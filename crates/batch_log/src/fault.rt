@@ -3,12 +3,12 @@
 ghost use Rattle.std.specs.Prelude.{◌≡◌};
 ghost use Rattle.batch_log.specs.Faults.{device_fault};
 
-use devices::LineFault;
+use devices::LineReadFault;
 use std::fmt;
 
 /// The rule that a line of a log breaks, or what failed while it was read. Each has the number that it is reported by.
 #[derive(Clone, Copy, Debug, PartialEq, Eq)]
-pub enum FaultKind {
+pub enum LogFaultKind {
     /// The line is no JSON text.
     NotJson = 31,
     /// The line is neither a call nor a cut.
@@ -28,7 +28,7 @@ pub enum FaultKind {
 /// A fault with the number of its line, from 1; 0 where none is begun.
 #[derive(Clone, Copy, Debug, PartialEq, Eq)]
 pub struct LogFault {
-    pub kind: FaultKind,
+    pub kind: LogFaultKind,
     pub line: u64,
 }
 
@@ -41,16 +41,16 @@ impl fmt::Display for LogFault {
 }
 
 /// The fault of a log whose lines were not read on.
-pub(crate) fn device_fault(fault: LineFault) -> LogFault
+pub(crate) fn device_fault(fault: LineReadFault) -> LogFault
     ensures { result ≡ device_fault fault }
 {
     match fault {
-        LineFault::Io { line } => LogFault {
-            kind: FaultKind::Io,
+        LineReadFault::Io { line } => LogFault {
+            kind: LogFaultKind::Io,
             line,
         },
-        LineFault::Memory { line } => LogFault {
-            kind: FaultKind::Memory,
+        LineReadFault::Memory { line } => LogFault {
+            kind: LogFaultKind::Memory,
             line,
         },
     }

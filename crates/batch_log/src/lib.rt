@@ -9,6 +9,6 @@ mod line;
 mod reader;
 
 pub use devices::{DeviceFailed, ReadSource, Sink, Source, WriteSink, write_all};
-pub use fault::{FaultKind, LogFault};
+pub use fault::{LogFault, LogFaultKind};
 pub use laws::{batches_end_at_cuts, lines_are_exact};
 pub use reader::LogReader;

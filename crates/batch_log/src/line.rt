@@ -6,7 +6,7 @@ ghost use Rattle.documents.specs.Reading.{Gives};
 ghost use Rattle.batch_log.specs.Faults.{is_io, is_memory};
 ghost use Rattle.batch_log.specs.Lines.{call_said, document_said, line_said, IsOver};
 
-use crate::fault::FaultKind;
+use crate::fault::LogFaultKind;
 use crate::form::{LineForm, line_form};
 use requests::{Procs, Request, RequestFault};
 use serde_json::Value;
@@ -29,28 +29,28 @@ fn read_call(
     procs: &Procs,
     name: &str,
     documents: &[Value],
-) -> Result<Request, FaultKind>
+) -> Result<Request, LogFaultKind>
     ensures exact { Gives is_memory (λ r. r) result (call_said procs.now.procs name.now (map view documents.now)) }
     ensures tables { IfOk result (λ r. r.proc.tables ≡ procs.now.tables) }
     ensures no_device { IfErr result (λ kind. is_io kind ≡ false) }
 {
     if !procs.has(name) {
-        return Err(FaultKind::UnknownProc);
+        return Err(LogFaultKind::UnknownProc);
     }
     let values = match read_values(alloc, documents) {
         Ok(Some(values)) => values,
-        Ok(None) => return Err(FaultKind::Args),
-        Err(_) => return Err(FaultKind::Memory),
+        Ok(None) => return Err(LogFaultKind::Args),
+        Err(_) => return Err(LogFaultKind::Memory),
     };
     match Request::new(procs, name, values) {
         Ok(request) => Ok(request),
-        Err(RequestFault::UnknownProc) => Err(FaultKind::UnknownProc),
-        Err(RequestFault::Args) => Err(FaultKind::Args),
-        Err(RequestFault::NoMemory) => Err(FaultKind::Memory),
+        Err(RequestFault::UnknownProc) => Err(LogFaultKind::UnknownProc),
+        Err(RequestFault::Args) => Err(LogFaultKind::Args),
+        Err(RequestFault::NoMemory) => Err(LogFaultKind::Memory),
     }
 }
 
-fn read_document(alloc: Global, procs: &Procs, document: &Value) -> Result<LogLine, FaultKind>
+fn read_document(alloc: Global, procs: &Procs, document: &Value) -> Result<LogLine, LogFaultKind>
     ensures exact { Gives is_memory (λ said. said) result (document_said procs.now.procs (Some (view document.now))) }
     ensures tables { IfOk result (IsOver procs.now.tables) }
     ensures no_device { IfErr result (λ kind. is_io kind ≡ false) }
@@ -60,23 +60,27 @@ fn read_document(alloc: Global, procs: &Procs, document: &Value) -> Result<LogLi
             Ok(LogLine::Call(read_call(alloc, procs, name, documents)?))
         }
         Some(LineForm::Cut) => Ok(LogLine::Cut),
-        None => Err(FaultKind::Shape),
+        None => Err(LogFaultKind::Shape),
     }
 }
 
 /// What a line says, or the first rule that it breaks.
 #[tactic(auto, using(crate::proofs::Calls::said_of_text, crate::proofs::Calls::said_of_bytes))]
-pub(crate) fn read_line(alloc: Global, procs: &Procs, line: &[u8]) -> Result<LogLine, FaultKind>
+pub(crate) fn read_log_line(
+    alloc: Global,
+    procs: &Procs,
+    line: &[u8],
+) -> Result<LogLine, LogFaultKind>
     ensures exact { Gives is_memory (λ said. said) result (line_said procs.now.procs line.now) }
     ensures tables { IfOk result (IsOver procs.now.tables) }
     ensures no_device { IfErr result (λ kind. is_io kind ≡ false) }
 {
     let Ok(text) = str::from_utf8(line) else {
-        return Err(FaultKind::NotJson);
+        return Err(LogFaultKind::NotJson);
     };
     match Value::from_str(alloc, text) {
         Ok(document) => read_document(alloc, procs, &document),
-        Err(e) if e.is_memory() => Err(FaultKind::Memory),
-        Err(_) => Err(FaultKind::NotJson),
+        Err(e) if e.is_memory() => Err(LogFaultKind::Memory),
+        Err(_) => Err(LogFaultKind::NotJson),
     }
 }

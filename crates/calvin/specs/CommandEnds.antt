@@ -11,8 +11,8 @@ use Rattle.setup.specs.Faults.{is_memory}
 use Rattle.setup.specs.FirstFault.{BreaksFirst}
 use Rattle.setup.specs.Says.{SaysSetup}
 use Rattle.setup.specs.Setups.{setup_view}
-use Rattle.batch_log.specs.declared.fault.FaultKind.{FaultKind}
-use Rattle.batch_log.specs.declared.fault.FaultKind.TheVariants.{Io, Memory}
+use Rattle.batch_log.specs.declared.fault.LogFaultKind.{LogFaultKind}
+use Rattle.batch_log.specs.declared.fault.LogFaultKind.TheVariants.{Io, Memory}
 use Rattle.command_line.specs.CommandLine.{IsAskedFor}
 use Rattle.command_line.specs.declared.line.Command.{Command}
 use Rattle.command_line.specs.declared.line.Command.TheVariants.{Run, Replicas, Check}
@@ -31,7 +31,7 @@ Holding = Option (List ℕ) → Type 0
 -- ---- exit statuses
 
 -- 1 for a line of the log, 3 for memory, 4 for a device
-abbrev pub kind_status : FaultKind → ℕ
+abbrev pub kind_status : LogFaultKind → ℕ
 kind_status Io = 4
 kind_status Memory = 3
 kind_status kind = 1

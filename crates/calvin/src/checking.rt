@@ -6,7 +6,7 @@ ghost use Rattle.calvin.specs.CommandEnds.{check_text, counts_text, IsCheckComma
 use crate::files::Files;
 use crate::inputs::{print, refused, setup_at};
 use crate::status::DONE;
-use batch_log::{FaultKind, Sink};
+use batch_log::{LogFaultKind, Sink};
 use running::RunFault;
 use setup::Setup;
 use std::alloc::{AllocError, Global};
@@ -45,7 +45,7 @@ fn count<K: Sink, E: Sink>(alloc: Global, setup: &Setup, out: &mut K, err: &mut 
         (record { bytes = K.taken out.new; failed = K.broken out.new }) 0 result }
 {
     let Ok(text) = check_text(alloc, setup) else {
-        return refused(alloc, err, RunFault::at(FaultKind::Memory, 0));
+        return refused(alloc, err, RunFault::at(LogFaultKind::Memory, 0));
     };
     match print(alloc, out, err, &text) {
         Ok(()) => DONE,

@@ -6,7 +6,7 @@ ghost use Rattle.running.specs.Runs.{IsRunOfLog};
 ghost use Rattle.calvin.specs.CommandEnds.{Does, IsRunCommand};
 
 use crate::checking::check;
-use crate::executing::{run_alone, run_on_workers};
+use crate::executing::{run_log_alone, run_log_on_workers};
 use crate::files::Files;
 use crate::inputs::{print, refused, setup_at};
 use crate::locks::plans_of;
@@ -38,9 +38,9 @@ fn run_setup<R: Threads + Wait + Sync, S: Source, K: Sink>(
         (record { bytes = K.taken out.new; failed = K.broken out.new }) result }
 {
     if alone {
-        run_alone(alloc, setup, settings, source, out)
+        run_log_alone(alloc, setup, settings, source, out)
     } else {
-        run_on_workers(rt, alloc, setup, settings, &OpenGate, source, out)
+        run_log_on_workers(rt, alloc, setup, settings, &OpenGate, source, out)
     }
 }
 

@@ -3,7 +3,7 @@
 ghost use Rattle.std.specs.Prelude.{◌≡◌, Some, [], false};
 ghost use Rattle.calvin.specs.Comparisons.{IsFirstDifference};
 
-use batch_log::{DeviceFailed, FaultKind, LogFault, Sink};
+use batch_log::{DeviceFailed, LogFault, LogFaultKind, Sink};
 use running::RunFault;
 use std::alloc::Global;
 
@@ -44,10 +44,10 @@ impl KeptReport {
         match fault {
             RunFault::Log(
                 LogFault {
-                    kind: FaultKind::Io,
+                    kind: LogFaultKind::Io,
                     line,
                 },
-            ) if self.is_full => RunFault::at(FaultKind::Memory, line),
+            ) if self.is_full => RunFault::at(LogFaultKind::Memory, line),
             _ => fault,
         }
     }

@@ -22,7 +22,7 @@ use std::sync::Wait;
 use std::thread::Threads;
 
 /// Runs the log that a source gives on a setup, on one thread, and writes its report into a sink.
-pub(crate) fn run_alone<S: Source, K: Sink>(
+pub(crate) fn run_log_alone<S: Source, K: Sink>(
     alloc: Global,
     setup: Setup,
     settings: Settings,
@@ -43,7 +43,7 @@ pub(crate) fn run_alone<S: Source, K: Sink>(
 }
 
 /// Runs the log that a source gives on a setup, on worker threads, and writes its report into a sink.
-pub(crate) fn run_on_workers<R: Threads + Wait + Sync, G: Gate, S: Source, K: Sink>(
+pub(crate) fn run_log_on_workers<R: Threads + Wait + Sync, G: Gate, S: Source, K: Sink>(
     rt: &R,
     alloc: Global,
     setup: Setup,
@@ -94,5 +94,5 @@ pub fn run_text<R: Threads + Wait + Sync, G: Gate, S: Source, K: Sink>(
     ensures devices { (S.failed source.new || K.broken sink.new) ≡ ((S.failed source.old || K.broken sink.old) || ends_in_io result) }
     ensures line { S.failed source.old ≡ false → IfErr result (λ e. IfOfMachine e (IsLineOf (S.failed source.new) (S.left source.old) (S.left source.new))) }
 {
-    run_on_workers(rt, alloc, setup, settings, gate, source, sink)
+    run_log_on_workers(rt, alloc, setup, settings, gate, source, sink)
 }

@@ -7,7 +7,7 @@ ghost use Rattle.calvin.specs.CommandEnds.{fault_status, IsSetupAt, IsWithoutSet
 
 use crate::files::{FileFault, Files};
 use crate::status::{DEVICE, MEMORY, run_status, setup_status};
-use batch_log::{FaultKind, Sink, write_all};
+use batch_log::{LogFaultKind, Sink, write_all};
 use running::RunFault;
 use setup::{Setup, read_setup};
 use std::alloc::{AllocError, Global};
@@ -90,6 +90,6 @@ pub(crate) fn print<K: Sink, E: Sink>(
 {
     match write_all(out, text.as_bytes()) {
         Ok(()) => Ok(()),
-        Err(_) => Err(refused(alloc, err, RunFault::at(FaultKind::Io, 0))),
+        Err(_) => Err(refused(alloc, err, RunFault::at(LogFaultKind::Io, 0))),
     }
 }

@@ -13,7 +13,7 @@ mod replicas;
 mod status;
 
 pub use batch_log::{
-    DeviceFailed, FaultKind, LogFault, LogReader, ReadSource, Sink, Source, WriteSink,
+    DeviceFailed, LogFault, LogFaultKind, LogReader, ReadSource, Sink, Source, WriteSink,
 };
 pub use command_line::{Command, Line, LineFault, read_line};
 pub use commands::command;

@@ -3,13 +3,13 @@
 ghost use Rattle.std.specs.Prelude.{◌≡◌, ◌≤◌, length};
 ghost use Rattle.std.specs.List.{AllByRecursion};
 
-use batch_log::{FaultKind, LogReader, Source};
+use batch_log::{LogFaultKind, LogReader, Source};
 use coarsen::Plan;
 use engine::Settings;
 use footprint::Footprint;
 use interp::Entry;
-use requests::Request;
 use report_text::push_plan;
+use requests::Request;
 use row_store::RowStore;
 use running::RunFault;
 use sequencer::{Batch, BatchFault, prepare};
@@ -84,6 +84,6 @@ pub(crate) fn plans_of<S: Source>(
     };
     match lines_of(alloc, setup, settings, requests) {
         Ok(lines) => Ok(lines),
-        Err(NoMemory) => Err(RunFault::at(FaultKind::Memory, reader.last_line())),
+        Err(NoMemory) => Err(RunFault::at(LogFaultKind::Memory, reader.last_line())),
     }
 }

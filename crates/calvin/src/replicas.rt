@@ -4,11 +4,11 @@ ghost use Rattle.std.specs.Prelude.{◌≡◌, IfOk, string_bytes};
 ghost use Rattle.calvin.specs.CommandEnds.{answer_status, answer_text, IsAnswered, IsReplicasCommand};
 
 use crate::comparison::{KeptReport, first_difference};
-use crate::executing::run_on_workers;
+use crate::executing::run_log_on_workers;
 use crate::files::Files;
 use crate::inputs::{file_at, print, refused, setup_at};
 use crate::status::{DIFFERENT, DONE};
-use batch_log::{FaultKind, Sink, Source};
+use batch_log::{LogFaultKind, Sink, Source};
 use engine::{OpenGate, Settings};
 use running::RunFault;
 use std::alloc::{AllocError, Global};
@@ -50,7 +50,7 @@ fn answer<K: Sink, E: Sink>(
 {
     let difference = first_difference(report, other);
     let Ok(text) = answer_text(alloc, difference) else {
-        return refused(alloc, err, RunFault::at(FaultKind::Memory, 0));
+        return refused(alloc, err, RunFault::at(LogFaultKind::Memory, 0));
     };
     match print(alloc, out, err, &text) {
         Ok(()) => answer_status(difference),
@@ -85,7 +85,7 @@ pub(crate) fn replicas<R: Threads + Wait + Sync, F: Files, S: Source, K: Sink, E
         Err(status) => return status,
     };
     let mut kept = KeptReport::new(alloc);
-    match run_on_workers(rt, alloc, setup, settings, &OpenGate, source, &mut kept) {
+    match run_log_on_workers(rt, alloc, setup, settings, &OpenGate, source, &mut kept) {
         Ok(_) => answer(alloc, kept.bytes(), &other, out, err),
         Err(fault) => refused(alloc, err, kept.fault_of(fault)),
     }

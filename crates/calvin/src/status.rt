@@ -3,7 +3,7 @@
 ghost use Rattle.std.specs.Prelude.{◌≡◌};
 ghost use Rattle.calvin.specs.CommandEnds.{fault_status, setup_status};
 
-use batch_log::FaultKind;
+use batch_log::LogFaultKind;
 use proclang::ProcFault;
 use running::RunFault;
 use setup::SetupFault;
@@ -40,8 +40,8 @@ pub(crate) fn run_status(fault: RunFault) -> u8
 {
     match fault {
         RunFault::Log(fault) => match fault.kind {
-            FaultKind::Io => DEVICE,
-            FaultKind::Memory => MEMORY,
+            LogFaultKind::Io => DEVICE,
+            LogFaultKind::Memory => MEMORY,
             _ => REFUSED_INPUT,
         },
         RunFault::Spawn { .. } => DEVICE,

@@ -3,8 +3,8 @@ use Rattle.std.specs.Prelude.{◌≡◌, ℕ, ◌+◌, ◌<◌, ◌⊎◌, List,
 use Rattle.std.specs.Borrow.{GName}
 use Rattle.std.specs.Io.KnownBytes.{prepend_known, Consumes, IsAtEnd}
 use Rattle.devices.specs.Lines.{has_newline, line_number, lines_of, newline, newlines_in}
-use Rattle.devices.specs.declared.line_reader.LineFault.{LineFault}
-use Rattle.devices.specs.declared.line_reader.LineFault.TheVariants.{Io, Memory}
+use Rattle.devices.specs.declared.line_reader.LineReadFault.{LineReadFault}
+use Rattle.devices.specs.declared.line_reader.LineReadFault.TheVariants.{Io, Memory}
 use Rattle.devices.specs.declared.line_reader.LineReader.{LineReader}
 
 -- the source as it is now
@@ -32,7 +32,7 @@ abbrev pub line_begun : {S : Type 0} → LineReader S → ℕ
 line_begun r = r.begun
 
 -- the fault that the reader ended with
-abbrev pub fault_of : {S : Type 0} → LineReader S → Option LineFault
+abbrev pub fault_of : {S : Type 0} → LineReader S → Option LineReadFault
 fault_of r = r.fault
 
 -- where a reader stands in the lines of a text
@@ -67,17 +67,17 @@ abbrev pub LosesLine : Option (List ℕ) → Option (List ℕ) → Position → 
 LosesLine old new from to = (lost : List ℕ) × (has_newline lost ≡ false) × Takes old new from to lost
 
 -- the line of a fault, by where the reader stands
-abbrev pub IsFaultAt : LineFault → Position → Type 0
+abbrev pub IsFaultAt : LineReadFault → Position → Type 0
 IsFaultAt (Io line) p = line ≡ line_number (p.newlines + 1)
 IsFaultAt (Memory line) p = line ≡ p.begun
 
 -- a read failed
-abbrev pub is_io : {T : Type 0} → Result T LineFault → Bool
+abbrev pub is_io : {T : Type 0} → Result T LineReadFault → Bool
 is_io (Ok value) = false
 is_io (Err (Io line)) = true
 is_io (Err (Memory line)) = false
 
 -- the fault that a call ended with
-abbrev pub fault_in : {T : Type 0} → Result T LineFault → Option LineFault
+abbrev pub fault_in : {T : Type 0} → Result T LineReadFault → Option LineReadFault
 fault_in (Ok value) = None
 fault_in (Err fault) = Some fault

@@ -9,7 +9,6 @@ pub mod write_sink;
 
 pub use device::{DeviceFailed, Sink, Source, write_all};
 pub use laws::lines_are_cut_at_newlines;
-pub use line_reader::{LineFault, LineReader};
+pub use line_reader::{LineReadFault, LineReader};
 pub use read_source::ReadSource;
 pub use write_sink::WriteSink;
-

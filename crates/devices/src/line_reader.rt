@@ -11,7 +11,7 @@ use std::alloc::Global;
 
 /// Why a line was not read. Lines are numbered from 1.
 #[derive(Clone, Copy, Debug, PartialEq, Eq)]
-pub enum LineFault {
+pub enum LineReadFault {
     /// A read failed. The line's number is that of the newlines taken, plus 1.
     Io { line: u64 },
     /// Memory was refused. The line is the one last begun, or 0 where none is.
@@ -29,7 +29,7 @@ pub struct LineReader<'a, S> {
     end: usize,
     newlines: u64,
     begun: u64,
-    fault: Option<LineFault>,
+    fault: Option<LineReadFault>,
     ghost ordered: { start ≤ end },
     ghost in_bounds: { end ≤ length buffer },
 }
@@ -122,7 +122,7 @@ impl<'a, S: Source> LineReader<'a, S> {
 
     // The next line, where the reader has no fault. A line grows by a byte each turn, and none is
     // longer than memory, so the loop ends.
-    fn read_line(&mut self, alloc: Global) -> Result<Option<Vec<u8>>, LineFault>
+    fn take_line(&mut self, alloc: Global) -> Result<Option<Vec<u8>>, LineReadFault>
         ensures same { source_name self.new ≡ source_name self.old }
         ensures stays { self.new.fault ≡ self.old.fault }
         ensures line { IfOk result (λ o. IfSome o (λ line. TakesLine (unread S.left self.old) (unread S.left self.new) (position_of self.old) (position_of self.new) line.items)) }
@@ -148,19 +148,19 @@ impl<'a, S: Source> LineReader<'a, S> {
                         return Ok(Some(line));
                     }
                     if line.push(byte).is_err() {
-                        return Err(LineFault::Memory { line: number });
+                        return Err(LineReadFault::Memory { line: number });
                     }
                 }
                 Ok(None) if line.is_empty() => return Ok(None),
                 Ok(None) => return Ok(Some(line)),
-                Err(DeviceFailed) => return Err(LineFault::Io { line: number }),
+                Err(DeviceFailed) => return Err(LineReadFault::Io { line: number }),
             }
         }
     }
 
     /// The next line without its newline, or `None` at the end. After a fault each further call
     /// answers the same fault.
-    pub fn next_line(&mut self, alloc: Global) -> Result<Option<Vec<u8>>, LineFault>
+    pub fn next_line(&mut self, alloc: Global) -> Result<Option<Vec<u8>>, LineReadFault>
         ensures same { source_name self.new ≡ source_name self.old }
         ensures line { IfOk result (λ o. IfSome o (λ line. TakesLine (unread S.left self.old) (unread S.left self.new) (position_of self.old) (position_of self.new) line.items)) }
         ensures numbered { IfOk result (λ o. IfSome o (λ line. Passes
@@ -185,7 +185,7 @@ impl<'a, S: Source> LineReader<'a, S> {
         if let Some(fault) = self.fault {
             return Err(fault);
         }
-        let result = self.read_line(alloc);
+        let result = self.take_line(alloc);
         if let Err(fault) = &result {
             self.fault = Some(*fault);
         }

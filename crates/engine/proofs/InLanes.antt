@@ -13,7 +13,7 @@ use Rattle.scheduler_core.specs.Events.{enabled}
 use Rattle.scheduler.specs.declared.slot.Slot.{Slot}
 use Rattle.scheduler.specs.declared.slot.Slot.TheVariants.{Idle, Lent, Held, Ran, Settled}
 use Rattle.scheduler.specs.Schedules.{Schedule, log_of, phase_in, phases_of, KeepsItsJobs}
-use Rattle.scheduler.specs.Jobs.{IsLentAt, Lends, ComesBack}
+use Rattle.scheduler.specs.Jobs.{IsLentAt, LendsJob, ComesBack}
 use Rattle.lanes.specs.Seats.{SchedulerSeatOf, jobs_in, puts_in}
 use Rattle.lanes.specs.Calls.{IsLowestFree, Collects, CollectsNothing}
 use Rattle.engine.specs.Engines.{NoneIsOut, StaysSettled}
@@ -144,7 +144,7 @@ at_place first place phases =
 apart_places : (slots : List Slot) (i k : ℕ) (a b : Slot) → slice_get slots i ≡ Some a → slice_get slots k ≡ Some b → a ≢ b → i ≢ k
 apart_places slots i k a b at_i at_k d e = d (some_is a b (sym at_i ∙ ap (slice_get slots) e ∙ at_k))
 
-module _ (s : Schedule) (seat : SchedulerSeatOf) (h : AreInLanes s seat) (job : JobOf) (new : Schedule) (lends : Lends s job new)
+module _ (s : Schedule) (seat : SchedulerSeatOf) (h : AreInLanes s seat) (job : JobOf) (new : Schedule) (lends : LendsJob s job new)
     (can : enabled s.work.nodes s.work.first (log_of s.work) (phases_of s) (events.Lend job.number) ≡ true) (lane : ℕ) (lowest : IsLowestFree seat.jobs lane) where
   abbrev place : ℕ
   place = job.number - s.work.first

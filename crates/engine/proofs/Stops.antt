@@ -8,10 +8,10 @@ use Rattle.engine.specs.declared.pool.Refusal.TheVariants.{Thread, Memory}
 use Rattle.engine.specs.declared.stage.Begun.{Begun as BegunOf}
 use Rattle.engine.specs.declared.stage.Stage.{Stage}
 use Rattle.engine.specs.declared.stage.Stage.TheVariants.{Begun}
-use Rattle.engine.specs.declared.working.Stop.{Stop}
+use Rattle.engine.specs.declared.working.Interruption.{Interruption}
 use Rattle.engine.specs.Engines.{Unfinished, NoneIsOut, StaysSettled}
 use Rattle.engine.specs.Executions.{WaitsIn}
-use Rattle.engine.specs.Stages.{IsBegun, IsStop, rows_in, unfinished_in, unfinished_of}
+use Rattle.engine.specs.Stages.{IsBegun, IsInterruptedStage, rows_in, unfinished_in, unfinished_of}
 use Rattle.engine.proofs.InLanes.{none_kept}
 
 module _ (tables : List TableShape) (first : ℕ) (old : Stage) (b : BegunOf) (s : Schedule) (h : IsBegun tables first b) (start : b.scheduler.work.start ≡ rows_in (Some old))
@@ -39,7 +39,7 @@ module _ (tables : List TableShape) (first : ℕ) (old : Stage) (b : BegunOf) (s
   rows : s.work.start ≡ rows_in (Some old)
   rows = ap (λ (w : Work). w.start) work ∙ start
 
-  pub stop_by : (refusal : Refusal) → (refusal ≡ Thread → s ≡ b.scheduler) → IsStop tables first old (record { stage = Begun now; refusal = refusal })
+  pub stop_by : (refusal : Refusal) → (refusal ≡ Thread → s ≡ b.scheduler) → IsInterruptedStage tables first old (record { stage = Begun now; refusal = refusal })
   stop_by Memory nothing = record { fits = begun_on; rows = rows; batch = waits_on }
   stop_by Thread nothing = record {
     fits = begun_on;
@@ -47,7 +47,7 @@ module _ (tables : List TableShape) (first : ℕ) (old : Stage) (b : BegunOf) (s
     batch = ap (λ (t : Schedule). Some (unfinished_of (record { batch = b.batch; scheduler = t }))) (nothing refl) ∙ same;
   }
 
-  pub stop_of : (stop : Stop) → stop.stage ≡ Begun now → stop.refusal ≡ Memory → IsStop tables first old stop
+  pub stop_of : (stop : Interruption) → stop.stage ≡ Begun now → stop.refusal ≡ Memory → IsInterruptedStage tables first old stop
   stop_of stop stage refusal =
-      subst (λ (st : Stage). IsStop tables first old (record { stage = st; refusal = stop.refusal })) (sym stage)
-      (subst (λ (r : Refusal). IsStop tables first old (record { stage = Begun now; refusal = r })) (sym refusal) (record { fits = begun_on; rows = rows; batch = waits_on }))
+      subst (λ (st : Stage). IsInterruptedStage tables first old (record { stage = st; refusal = stop.refusal })) (sym stage)
+      (subst (λ (r : Refusal). IsInterruptedStage tables first old (record { stage = Begun now; refusal = r })) (sym refusal) (record { fits = begun_on; rows = rows; batch = waits_on }))

@@ -18,7 +18,7 @@ use Rattle.engine.specs.Engines.{Unfinished, NoneIsOut}
 use Rattle.engine.specs.Replies.{reply_of, sent_of, sent_from}
 use Rattle.engine.specs.declared.pool.Refusal.{Refusal}
 use Rattle.engine.specs.declared.pool.Refusal.TheVariants.{Thread, Memory}
-use Rattle.engine.specs.declared.working.Stop.{Stop}
+use Rattle.engine.specs.declared.working.Interruption.{Interruption}
 use Rattle.engine.specs.Executions.{taken, WaitsIn}
 
 abbrev pub unfinished_of : BegunOf → Unfinished
@@ -97,7 +97,7 @@ abbrev pub Stopped : Refusal → Option Unfinished → Option Unfinished → Typ
 Stopped Memory old new = WaitsIn old new
 Stopped Thread old new = new ≡ old
 
-pub record IsStop (tables : List TableShape) (first : ℕ) (old : Stage) (stop : Stop) : Type 0 where
+pub record IsInterruptedStage (tables : List TableShape) (first : ℕ) (old : Stage) (stop : Interruption) : Type 0 where
   pub fits : Fits tables first stop.stage
   pub rows : rows_in (Some stop.stage) ≡ rows_in (Some old)
   pub batch : Stopped stop.refusal (unfinished_in (Some old)) (unfinished_in (Some stop.stage))

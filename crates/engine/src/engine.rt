@@ -11,7 +11,7 @@ use crate::pool::Refusal;
 use crate::replies::BatchDone;
 use crate::settings::Settings;
 use crate::stage::Stage;
-use crate::working::{Stop, work_alone, work_on_workers};
+use crate::working::{Interruption, work_alone, work_on_workers};
 use requests::Procs;
 use row_store::RowStore;
 use sequencer::Batch;
@@ -184,7 +184,7 @@ impl Engine {
         };
         match work_alone(alloc, &self.procs, self.settings, self.next, stage, choices) {
             Ok(ended) => Ok(leave(&mut self.next, &mut self.stage, ended)),
-            Err(Stop { stage, refusal }) => {
+            Err(Interruption { stage, refusal }) => {
                 self.stage = Some(stage);
                 Err(ExecFault::from(refusal))
             }
@@ -216,7 +216,7 @@ impl Engine {
             gate,
         ) {
             Ok(ended) => Ok(leave(&mut self.next, &mut self.stage, ended)),
-            Err(Stop { stage, refusal }) => {
+            Err(Interruption { stage, refusal }) => {
                 self.stage = Some(stage);
                 Err(ExecFault::from(refusal))
             }

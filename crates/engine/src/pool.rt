@@ -49,21 +49,17 @@ fn hire<'s, 'r: 's, 'g: 's, E, R: Wait + Sync, G: Gate>(
     rt: &'r R,
     scope: &Scope<'s, E>,
     gate: &'g G,
-    bench: &'s Lanes,
-    desk: &mut SchedulerSeat,
+    lanes: &'s Lanes,
+    scheduler_seat: &mut SchedulerSeat,
     ended: &'s AtomicBool,
     workers: usize,
 ) -> Result<(), Refusal>
-    requires { desk.old.lanes ≡ bench.now }
-    ensures { desk.new ≡ desk.old }
+    requires { scheduler_seat.old.lanes ≡ lanes.now }
+    ensures { scheduler_seat.new ≡ scheduler_seat.old }
 {
     for _ in 0..workers {
-        let seat = bench.worker_seat(desk)?;
-        let worker = Worker {
-            lanes: bench,
-            seat,
-            ended,
-        };
+        let seat = lanes.worker_seat(scheduler_seat)?;
+        let worker = Worker { lanes, seat, ended };
         if !start(rt, scope, gate, worker) {
             return Err(Refusal::Thread);
         }
@@ -87,8 +83,12 @@ pub(crate) fn run_on_workers<R: Threads + Wait + Sync, G: Gate>(
     ensures done { OnOk result.ended (is_done (log_of result.scheduler.work) (phases_of result.scheduler) ≡ true) }
     ensures thread { result.ended ≡ Err Refusal.Thread → result.scheduler ≡ scheduler }
 {
-    let Settings { workers, lanes, .. } = settings;
-    let (bench, desk) = match Lanes::new(alloc, lanes) {
+    let Settings {
+        workers,
+        lanes: count,
+        ..
+    } = settings;
+    let (lanes, seat) = match Lanes::new(alloc, count) {
         Ok(made) => made,
         Err(fault) => {
             return Run {
@@ -98,22 +98,22 @@ pub(crate) fn run_on_workers<R: Threads + Wait + Sync, G: Gate>(
         }
     };
     let flag = AtomicBool::new(false);
-    let (bench, ended) = (&bench, &flag);
+    let (lanes, ended) = (&lanes, &flag);
     thread::scope(
         thread::scope_env(),
         rt,
         move |scope| -> Run
-            requires { (desk.lanes ≡ bench.now) × (lanes ≡ bench.now.count) × (desk.jobs ≡ replicate lanes None) × NoneIsOut (phases_of scheduler) }
+            requires { (seat.lanes ≡ lanes.now) × (count ≡ lanes.now.count) × (seat.jobs ≡ replicate count None) × NoneIsOut (phases_of scheduler) }
             ensures work { result.scheduler.work ≡ scheduler.work }
             ensures settled { StaysSettled (phases_of scheduler) (phases_of result.scheduler) }
             ensures none_out { NoneIsOut (phases_of result.scheduler) }
             ensures done { OnOk result.ended (is_done (log_of result.scheduler.work) (phases_of result.scheduler) ≡ true) }
             ensures thread { result.ended ≡ Err Refusal.Thread → result.scheduler ≡ scheduler }
         {
-            let mut desk = desk;
+            let mut seat = seat;
             let mut scheduler = scheduler;
-            let done = match hire(rt, scope, gate, bench, &mut desk, ended, workers) {
-                Ok(()) => schedule(rt, &mut scheduler, bench, &mut desk, lanes).map_err(
+            let done = match hire(rt, scope, gate, lanes, &mut seat, ended, workers) {
+                Ok(()) => schedule(rt, &mut scheduler, lanes, &mut seat, count).map_err(
                     Refusal::from,
                 ),
                 Err(refusal) => Err(refusal),

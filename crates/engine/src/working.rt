@@ -2,7 +2,7 @@
 
 ghost use Rattle.std.specs.Prelude.{◌≡◌, true, is_some, Some, IfOk, IfErr};
 ghost use Rattle.engine.specs.Executions.{WaitsIn};
-ghost use Rattle.engine.specs.Stages.{Fits, EndsBatch, IsBegun, IsStop, rows_in, unfinished_in, unfinished_of};
+ghost use Rattle.engine.specs.Stages.{Fits, EndsBatch, IsBegun, IsInterruptedStage, rows_in, unfinished_in, unfinished_of};
 
 use crate::alone::run_left;
 use crate::beginning::begin;
@@ -18,17 +18,17 @@ use std::thread::Threads;
 
 /// Where a batch is that was not run to its end, and why.
 #[derive(Drop)]
-pub(crate) struct Stop {
+pub(crate) struct Interruption {
     pub stage: Stage,
     pub refusal: Refusal,
 }
 
 /// A stop for want of memory.
-fn no_memory(stage: Stage) -> Stop
+fn no_memory(stage: Stage) -> Interruption
     ensures stage { result.stage ≡ stage }
     ensures refusal { result.refusal ≡ Refusal.Memory }
 {
-    Stop {
+    Interruption {
         stage,
         refusal: Refusal::Memory,
     }
@@ -69,11 +69,11 @@ pub(crate) fn work_alone(
     first: u64,
     stage: Stage,
     choices: &[u64],
-) -> Result<Ended, Stop>
+) -> Result<Ended, Interruption>
     requires fits { Fits procs.now.tables first stage }
     requires busy { is_some (unfinished_in (Some stage)) ≡ true }
     ensures ended { IfOk result (EndsBatch procs.now.tables first (unfinished_in (Some stage)) (rows_in (Some stage))) }
-    ensures stop { IfErr result (IsStop procs.now.tables first stage) }
+    ensures stop { IfErr result (IsInterruptedStage procs.now.tables first stage) }
     ensures threadless { IfErr result (λ stop. stop.refusal ≡ Refusal.Memory) }
 {
     let mut begun = match begun(alloc, procs, settings, first, stage) {
@@ -98,11 +98,11 @@ pub(crate) fn work_on_workers<R: Threads + Wait + Sync, G: Gate>(
     first: u64,
     stage: Stage,
     gate: &G,
-) -> Result<Ended, Stop>
+) -> Result<Ended, Interruption>
     requires fits { Fits procs.now.tables first stage }
     requires busy { is_some (unfinished_in (Some stage)) ≡ true }
     ensures ended { IfOk result (EndsBatch procs.now.tables first (unfinished_in (Some stage)) (rows_in (Some stage))) }
-    ensures stop { IfErr result (IsStop procs.now.tables first stage) }
+    ensures stop { IfErr result (IsInterruptedStage procs.now.tables first stage) }
 {
     let Begun { batch, scheduler } = match begun(alloc, procs, settings, first, stage) {
         Ok(begun) => begun,
@@ -112,7 +112,7 @@ pub(crate) fn work_on_workers<R: Threads + Wait + Sync, G: Gate>(
     let begun = Begun { batch, scheduler };
     if let Err(refusal) = ended {
         let stage = Stage::Begun(begun);
-        return Err(Stop { stage, refusal });
+        return Err(Interruption { stage, refusal });
     }
     match end(alloc, first, begun) {
         Ok(ended) => Ok(ended),

@@ -3,7 +3,7 @@
 ghost use Rattle.std.specs.Prelude.{None};
 
 use devices::{
-    DeviceFailed, LineFault, LineReader, ReadSource, Sink, Source, WriteSink, write_all,
+    DeviceFailed, LineReadFault, LineReader, ReadSource, Sink, Source, WriteSink, write_all,
 };
 use std::alloc::Global;
 use std::io;
@@ -161,11 +161,11 @@ fn told<S: Source>(alloc: Global, source: &mut S) -> Result<String, Fail> {
                 text.push_str("end")?;
                 return Ok(text);
             }
-            Err(LineFault::Io { line }) => {
+            Err(LineReadFault::Io { line }) => {
                 write!(text, "fault {line}")?;
                 faults = faults.saturating_add(1);
             }
-            Err(LineFault::Memory { .. }) => return Err(Fail::from("out of memory")),
+            Err(LineReadFault::Memory { .. }) => return Err(Fail::from("out of memory")),
         }
         let (newlines, last) = (reader.newlines(), reader.last_line());
         write!(text, " {newlines}/{last};")?;

@@ -1,8 +1,7 @@
 //! Rows put and taken away, and the digest of those that are left.
 
-use report_text::digest_text;
+use report_text::{digest_text, rows_digest};
 use row_store::{RowStore, all_is_free_with_nothing_lent};
-use report_text::rows_digest;
 use serde_json::Value as Json;
 use std::alloc::Global;
 use std::collections::BTreeMap;

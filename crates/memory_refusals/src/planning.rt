@@ -11,8 +11,8 @@ use crate::texts::PLANS;
 use calvin::Setup;
 use coarsen::Plan;
 use footprint::{Footprint, declared};
-use report_text::push_plan;
 use proclang::Request;
+use report_text::push_plan;
 use std::alloc::Global;
 use values::Catalogue;
 

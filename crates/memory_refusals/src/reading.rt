@@ -4,7 +4,7 @@ use crate::answer::Answer;
 use crate::bank::{BANK, bank, log_text};
 use crate::executing::runs_on;
 use crate::refusal::Refusal;
-use calvin::{FaultKind, LogReader, ReadSource, SetupFault, read_setup};
+use calvin::{LogFaultKind, LogReader, ReadSource, SetupFault, read_setup};
 use proclang::{ProcFault, Request};
 use std::alloc::{AllocError, Global};
 use values::{CatalogueFault, Value};
@@ -69,11 +69,11 @@ pub(crate) fn try_log(alloc: Global, refusal: &mut Refusal) -> Option<Answer> {
             Some(Answer::Right.if_right(are_requests(alloc, &requests)?))
         }
         (Ok(Some(requests)), Err(fault)) => {
-            let refused = fault.kind == FaultKind::Memory && fault.line == 100;
+            let refused = fault.kind == LogFaultKind::Memory && fault.line == 100;
             Some(Answer::Refused.if_right(refused && are_requests(alloc, &requests)?))
         }
         (Err(fault), Err(again)) => {
-            Some(Answer::Refused.if_right(fault.kind == FaultKind::Memory && again == fault))
+            Some(Answer::Refused.if_right(fault.kind == LogFaultKind::Memory && again == fault))
         }
         _ => Some(Answer::Wrong),
     }

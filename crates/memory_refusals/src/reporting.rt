@@ -5,7 +5,7 @@ use crate::bank::{bank, log_text};
 use crate::outputs::Output;
 use crate::refusal::Refusal;
 use crate::texts::{CALLS, REPORT};
-use calvin::{FaultKind, LogFault, OpenGate, ReadSource, RunFault, Settings, run_text};
+use calvin::{LogFault, LogFaultKind, OpenGate, ReadSource, RunFault, Settings, run_text};
 use std::alloc::Global;
 use std::sync::Wait;
 use std::thread::Threads;
@@ -32,7 +32,7 @@ pub(crate) fn try_text<R: Threads + Wait + Sync + AllocGlobal>(
             RunFault::Spawn { .. }
             | RunFault::Log(
                 LogFault {
-                    kind: FaultKind::Memory,
+                    kind: LogFaultKind::Memory,
                     ..
                 },
             ),

@@ -4,9 +4,8 @@ ghost use Rattle.std.specs.Prelude.{◌≡◌};
 ghost use Rattle.std.specs.FinMap as map_of;
 
 use crate::texts::{REPLIES, ROWS};
-use report_text::digest_text;
+use report_text::{digest_text, rows_digest};
 use row_store::{RowStore, all_is_free_with_nothing_lent};
-use report_text::rows_digest;
 use std::alloc::Global;
 
 /// Whether a text has this digest.

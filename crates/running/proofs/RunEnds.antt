@@ -10,7 +10,7 @@ use Rattle.values.specs.Shapes.{TableShape}
 use Rattle.values.specs.Database.{Database}
 use Rattle.requests.specs.ProcLists.{ProcsParts}
 use Rattle.meaning.specs.Serial.{serial_replies}
-use Rattle.batch_log.specs.declared.fault.FaultKind.TheVariants.{Memory}
+use Rattle.batch_log.specs.declared.fault.LogFaultKind.TheVariants.{Memory}
 use Rattle.batch_log.specs.declared.fault.LogFault.{LogFault}
 use Rattle.batch_log.specs.Faults.{is_io, place_of, IsOfLine}
 use Rattle.batch_log.specs.Log.{log_said, IsEnd, IsFault}

@@ -3,8 +3,8 @@ use Rattle.std.proofs.Common.{◌≡◌, ℕ, ◌+◌, ◌||◌, List, [], ◌�
 use Rattle.std.specs.Io.KnownBytes.{Consumes, prepend_known}
 use Rattle.devices.specs.Lines.{line_number, lines_of, newlines_in, next_number}
 use Rattle.devices.specs.LineReader.{Position, position_after}
-use Rattle.batch_log.specs.declared.fault.FaultKind.{FaultKind}
-use Rattle.batch_log.specs.declared.fault.FaultKind.TheVariants.{NotJson, Shape, UnknownProc, Args, BatchTooLong, Io, Memory}
+use Rattle.batch_log.specs.declared.fault.LogFaultKind.{LogFaultKind}
+use Rattle.batch_log.specs.declared.fault.LogFaultKind.TheVariants.{NotJson, Shape, UnknownProc, Args, BatchTooLong, Io, Memory}
 use Rattle.batch_log.specs.declared.fault.LogFault.{LogFault}
 use Rattle.batch_log.specs.Faults.{is_io, IsOfLine, place_of}
 use Rattle.batch_log.specs.Moves.{Moves}
@@ -15,7 +15,7 @@ use Rattle.running.specs.Stops.{IfOfLine, IfOfMachine, IsLineOf, IsMachineFault,
 
 -- ---- a fault of a line, or of a machine
 
-not_both : (kind : FaultKind) → IsOfMachine kind → IsOfLine kind → ⊥
+not_both : (kind : LogFaultKind) → IsOfMachine kind → IsOfLine kind → ⊥
 not_both NotJson m l = m
 not_both Shape m l = m
 not_both UnknownProc m l = m
@@ -74,7 +74,7 @@ line_by false old left came p line e spent m =
     (m.bytes, came, taken_and_came old left m.bytes came m.takes.0, e ∙ begun)
 
 -- the line of the fault of a read, or of memory
-pub line_of_fault : (kind : FaultKind) (failed : Bool) (old left : Option (List ℕ)) (came : List ℕ) (p : Position) (line : ℕ) → failed ≡ is_io kind → line ≡ place_of kind p → (is_io kind ≡ true → came ≡ []) →
+pub line_of_fault : (kind : LogFaultKind) (failed : Bool) (old left : Option (List ℕ)) (came : List ℕ) (p : Position) (line : ℕ) → failed ≡ is_io kind → line ≡ place_of kind p → (is_io kind ≡ true → came ≡ []) →
     Moves old (prepend_known came left) start p → IsLineOf failed old left line
 line_of_fault kind failed old left came p line f e spent m = rw f (line_by (is_io kind) old left came p line e spent m)
 

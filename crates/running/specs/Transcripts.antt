@@ -2,8 +2,8 @@
 use Rattle.std.specs.Prelude.{ℕ, List, [], ◌∷◌, ◌++◌, Bool, false, Result, Ok, Err, ⊤}
 use Rattle.values.specs.Shapes.{TableShape}
 use Rattle.values.specs.Database.{Database}
-use Rattle.batch_log.specs.declared.fault.FaultKind.{FaultKind}
-use Rattle.batch_log.specs.declared.fault.FaultKind.TheVariants.{Io, Memory}
+use Rattle.batch_log.specs.declared.fault.LogFaultKind.{LogFaultKind}
+use Rattle.batch_log.specs.declared.fault.LogFaultKind.TheVariants.{Io, Memory}
 use Rattle.batch_log.specs.Faults.{is_io}
 use Rattle.report_text.specs.Texts.{reply_line, row_text, digest, batch_line}
 use Rattle.engine.specs.declared.replies.Reply.{Reply}
@@ -19,12 +19,12 @@ unfoldable pub with_batch_line : ℕ → List TableShape → Database → List �
 with_batch_line batch tables db lines = lines ++ batch_line batch (digest (row_text tables db)) (digest lines)
 
 -- whether a write failed
-abbrev pub write_failed : {T : Type 0} → Result T FaultKind → Bool
+abbrev pub write_failed : {T : Type 0} → Result T LogFaultKind → Bool
 write_failed (Ok x) = false
 write_failed (Err kind) = is_io kind
 
 -- a device or memory failed, and no line of the log is at fault
-abbrev pub IsOfMachine : FaultKind → Type 0
+abbrev pub IsOfMachine : LogFaultKind → Type 0
 IsOfMachine Io = ⊤
 IsOfMachine Memory = ⊤
 IsOfMachine kind = ⊥

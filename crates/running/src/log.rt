@@ -23,7 +23,7 @@ ghost use Rattle.running.specs.Stops.{ends_in_io, is_of_device, IfOfLine, IfOfMa
 
 use crate::run_fault::RunFault;
 use crate::transcript::Transcript;
-use batch_log::{FaultKind, LogReader, Sink, Source};
+use batch_log::{LogFaultKind, LogReader, Sink, Source};
 use engine::{BatchDone, Engine, ExecFault, Settings};
 use requests::Request;
 use sequencer::{Batch, BatchFault};
@@ -39,7 +39,7 @@ fn exec_fault(fault: &ExecFault, line: u64) -> RunFault
     match fault {
         ExecFault::Busy(_) | ExecFault::LogFull(_) => unreachable!(),
         ExecFault::Spawn => RunFault::Spawn { line },
-        ExecFault::NoMemory => RunFault::at(FaultKind::Memory, line),
+        ExecFault::NoMemory => RunFault::at(LogFaultKind::Memory, line),
     }
 }
 
@@ -91,7 +91,7 @@ fn run_batch<X: Fn(&mut Engine, Batch) -> Result<BatchDone, ExecFault>, K: Sink>
     let batch = match Batch::of(alloc, requests) {
         Ok(batch) => batch,
         Err(BatchFault::TooLong) => unreachable!(),
-        Err(BatchFault::NoMemory) => return Err(RunFault::at(FaultKind::Memory, line)),
+        Err(BatchFault::NoMemory) => return Err(RunFault::at(LogFaultKind::Memory, line)),
     };
     let done = match execute(executor, engine, batch) {
         Ok(done) => done,
@@ -167,11 +167,11 @@ fn run_batches<X: Fn(&mut Engine, Batch) -> Result<BatchDone, ExecFault>, S: Sou
             Err(fault) => return Err(fault),
         }
     }
-    Err(RunFault::at(FaultKind::Memory, reader.last_line()))
+    Err(RunFault::at(LogFaultKind::Memory, reader.last_line()))
 }
 
 /// Runs the log that a source gives on an engine that has run none.
-fn run_on<X: Fn(&mut Engine, Batch) -> Result<BatchDone, ExecFault>, S: Source, K: Sink>(
+fn run_batches<X: Fn(&mut Engine, Batch) -> Result<BatchDone, ExecFault>, S: Source, K: Sink>(
     alloc: Global,
     executor: &X,
     engine: &mut Engine,
@@ -216,7 +216,7 @@ pub fn run_log<X: Fn(&mut Engine, Batch) -> Result<BatchDone, ExecFault>, S: Sou
         (record { bytes = K.taken sink.new; failed = K.broken sink.new }) result }
 {
     match Engine::new(alloc, setup, settings) {
-        Ok(mut engine) => run_on(alloc, executor, &mut engine, source, sink),
-        Err(_) => Err(RunFault::at(FaultKind::Memory, 0)),
+        Ok(mut engine) => run_batches(alloc, executor, &mut engine, source, sink),
+        Err(_) => Err(RunFault::at(LogFaultKind::Memory, 0)),
     }
 }

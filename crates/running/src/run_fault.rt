@@ -2,7 +2,7 @@
 
 ghost use Rattle.std.specs.Prelude.{◌≡◌};
 
-use batch_log::{FaultKind, LogFault};
+use batch_log::{LogFault, LogFaultKind};
 use std::fmt;
 
 /// What ended a run, and at which line of the log.
@@ -16,7 +16,7 @@ pub enum RunFault {
 
 impl RunFault {
     /// The fault of that kind at that line.
-    pub fn at(kind: FaultKind, line: u64) -> RunFault
+    pub fn at(kind: LogFaultKind, line: u64) -> RunFault
         ensures { result ≡ RunFault.Log (record { kind = kind; line = line }) }
     {
         RunFault::Log(LogFault { kind, line })

@@ -9,7 +9,7 @@ ghost use Rattle.report_text.specs.Texts.{digest, end_line, row_text};
 ghost use Rattle.report_text.specs.Report.{next_batch};
 ghost use Rattle.running.specs.Transcripts.{said_lines, with_batch_line, write_failed, IsOfMachine};
 
-use batch_log::{FaultKind, Sink, write_all};
+use batch_log::{LogFaultKind, Sink, write_all};
 use engine::Reply;
 use report_text::{
     digest_of, digest_text, push_batch_line, push_end_line, push_reply_line, rows_digest,
@@ -66,7 +66,7 @@ fn end_text(alloc: Global, count: u64, rows: &RowStore, said: Sha256) -> Result<
 }
 
 /// Writes a text that was made, and tells what failed.
-fn write_text<K: Sink>(sink: &mut K, text: &str) -> Result<(), FaultKind>
+fn write_text<K: Sink>(sink: &mut K, text: &str) -> Result<(), LogFaultKind>
     ensures text { OnOk result (Appends (K.taken sink.old) (K.taken sink.new) text.now) }
     ensures front { AppendsFront (K.taken sink.old) (K.taken sink.new) text.now }
     ensures kind { IfErr result IsOfMachine }
@@ -74,7 +74,7 @@ fn write_text<K: Sink>(sink: &mut K, text: &str) -> Result<(), FaultKind>
 {
     match write_all(sink, text.as_bytes()) {
         Ok(()) => Ok(()),
-        Err(_) => Err(FaultKind::Io),
+        Err(_) => Err(LogFaultKind::Io),
     }
 }
 
@@ -99,7 +99,7 @@ impl Transcript {
         sink: &mut K,
         rows: &RowStore,
         replies: &[Reply],
-    ) -> Result<(), FaultKind>
+    ) -> Result<(), LogFaultKind>
         requires { rows.now.lent ≡ map_of.empty }
         ensures batch { OnOk result (batch_of self.new ≡ next_batch (batch_of self.old)) }
         ensures said { OnOk result ((m : List ℕ) → Holds256 (said_of self.old) m → Holds256 (said_of self.new) (m ++ said_lines replies.now)) }
@@ -109,10 +109,10 @@ impl Transcript {
         ensures fails { K.broken sink.new ≡ (K.broken sink.old || write_failed result) }
     {
         let Ok(lines) = reply_lines(alloc, replies) else {
-            return Err(FaultKind::Memory);
+            return Err(LogFaultKind::Memory);
         };
         let Ok(text) = batch_text(alloc, self.batch, rows, &lines) else {
-            return Err(FaultKind::Memory);
+            return Err(LogFaultKind::Memory);
         };
         match write_text(sink, &text) {
             Ok(()) => {}
@@ -130,7 +130,7 @@ impl Transcript {
         sink: &mut K,
         rows: &RowStore,
         count: u64,
-    ) -> Result<(), FaultKind>
+    ) -> Result<(), LogFaultKind>
         requires { rows.now.lent ≡ map_of.empty }
         ensures text { (m : List ℕ) → Holds256 (said_of self) m → OnOk result (Appends (K.taken sink.old) (K.taken sink.new) (end_line count (digest (row_text rows.now.tables rows.now.rows)) (digest m))) }
         ensures front { (m : List ℕ) → Holds256 (said_of self) m → AppendsFront (K.taken sink.old) (K.taken sink.new) (end_line count (digest (row_text rows.now.tables rows.now.rows)) (digest m)) }
@@ -138,7 +138,7 @@ impl Transcript {
         ensures fails { K.broken sink.new ≡ (K.broken sink.old || write_failed result) }
     {
         let Ok(text) = end_text(alloc, count, rows, self.said) else {
-            return Err(FaultKind::Memory);
+            return Err(LogFaultKind::Memory);
         };
         write_text(sink, &text)
     }

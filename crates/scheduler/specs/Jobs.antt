@@ -31,7 +31,7 @@ abbrev pub IsApart : Schedule → JobOf → Type 0
 IsApart s job = (place : ℕ) (t : Transaction) → slice_get (log_of s.work) place ≡ Some t → is_out (slice_get (phases_of s) place) ≡ true → Conflict job.loan.plan t.plan → ⊥
 
 -- a job that is lent, and what it leaves
-pub record Lends (old : Schedule) (job : JobOf) (new : Schedule) : Type 0 where
+pub record LendsJob (old : Schedule) (job : JobOf) (new : Schedule) : Type 0 where
   pub lent : IsLentAt old.work (job.number - old.work.first) job
   pub apart : IsApart old job
   pub new_is : new ≡ record old { slots = slice_set old.slots (job.number - old.work.first) Lent }
@@ -39,11 +39,11 @@ pub record Lends (old : Schedule) (job : JobOf) (new : Schedule) : Type 0 where
 
 abbrev pub LendsTo : Schedule → Option JobOf → Schedule → Type 0
 LendsTo old None new = new ≡ old
-LendsTo old (Some job) new = Lends old job new
+LendsTo old (Some job) new = LendsJob old job new
 
-abbrev pub number_of : Option JobOf → Option ℕ
-number_of None = None
-number_of (Some job) = Some job.number
+abbrev pub number_of_job : Option JobOf → Option ℕ
+number_of_job None = None
+number_of_job (Some job) = Some job.number
 
 -- a job comes back that was lent and is still out: it is the run of that job, or that job given back
 pub record ComesBack (s : Schedule) (done : DoneOf) : Type 0 where
@@ -54,4 +54,4 @@ pub record ComesBack (s : Schedule) (done : DoneOf) : Type 0 where
 
 -- what comes of a job that was lent can be settled
 abbrev pub LentJobsComeBack : Type 0
-LentJobsComeBack = (old new : Schedule) (job : JobOf) (done : DoneOf) → Lends old job new → IsDoneOf job done → ComesBack new done
+LentJobsComeBack = (old new : Schedule) (job : JobOf) (done : DoneOf) → LendsJob old job new → IsDoneOf job done → ComesBack new done

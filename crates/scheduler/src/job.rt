@@ -106,7 +106,7 @@ impl Done {
 }
 
 /// Runs the entry on the loan, and makes its writes there.
-fn run_on(job: &mut Job) -> Result<Outcome, NoMemory>
+fn run_on_loan(job: &mut Job) -> Result<Outcome, NoMemory>
     ensures err { OnErr result (job.new ≡ job.old) }
     ensures run { IfOk result (λ outcome. ComesOf job.old (Some outcome) job.new) }
 {
@@ -121,6 +121,6 @@ pub fn run_job(job: Job) -> Done
     ensures { IsDoneOf job result }
 {
     let mut job = job;
-    let outcome = run_on(&mut job).ok();
+    let outcome = run_on_loan(&mut job).ok();
     Done { job, outcome }
 }

@@ -8,7 +8,7 @@ ghost use Rattle.scheduler_core.specs.declared.event.Event.{Event as AnyEvent};
 ghost use Rattle.interp.specs.Over.{AreEntriesOver};
 ghost use Rattle.scheduler.specs.Logs.{ArePlansOf};
 ghost use Rattle.scheduler.specs.Schedules.{log_of, phases_of, work_of};
-ghost use Rattle.scheduler.specs.Jobs.{LendsTo, ComesBack, number_of};
+ghost use Rattle.scheduler.specs.Jobs.{LendsTo, ComesBack, number_of_job};
 
 use crate::job::{Done, Job};
 use crate::lending::{give_back, lend_to, take_back};
@@ -150,7 +150,7 @@ impl Scheduler {
     /// Lends its rows to the ready transaction of the least number that is not out, if there is one. On an error nothing has
     /// changed.
     pub fn lend(&mut self) -> Result<Option<Job>, NoMemory>
-        ensures least { IfOk result (λ found. IsLeastLend self.old.work.nodes self.old.work.first (log_of self.old.work) (phases_of self.old) (number_of found)) }
+        ensures least { IfOk result (λ found. IsLeastLend self.old.work.nodes self.old.work.first (log_of self.old.work) (phases_of self.old) (number_of_job found)) }
         // The job shows the rows of the serial run at its place, on the row names that its plan locks, and its plan is in
         // conflict with none that is out.
         ensures lent { IfOk result (λ found. LendsTo self.old found self.new) }

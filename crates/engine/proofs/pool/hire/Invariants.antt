@@ -3,4 +3,4 @@ use Rattle.engine.proofs.pool.hire.Given as goal
 
 -- the scheduler's seat stays as it is
 abbrev pub invariant-loop : goal.invariant-loop
-invariant-loop g l = (l.desk ≡ l.initial.desk) × (l.bench ≡ l.initial.bench)
+invariant-loop g l = (l.scheduler_seat ≡ l.initial.scheduler_seat) × (l.lanes ≡ l.initial.lanes)

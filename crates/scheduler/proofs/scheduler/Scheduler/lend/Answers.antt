@@ -6,7 +6,7 @@ use Rattle.scheduler_core.specs.Choices.{IsLeastLend}
 use Rattle.scheduler.specs.declared.slot.Slot.{Slot}
 use Rattle.scheduler.specs.declared.slot.Slot.TheVariants.{Idle, Lent}
 use Rattle.scheduler.specs.Schedules.{Schedule, log_of, phases_of, work_of}
-use Rattle.scheduler.specs.Jobs.{Lends}
+use Rattle.scheduler.specs.Jobs.{LendsJob}
 use Rattle.scheduler.specs.Scheduled.{IsScheduled, AreSettledBefore}
 use Rattle.scheduler.proofs.Openings.{least, next_opening, in_slots, in_entries, in_plans, unlent, over_tables, plan_over, locks, there, apart, at, job_lent, job_apart}
 use Rattle.scheduler.proofs.Places.{set_here}
@@ -158,7 +158,7 @@ returns-clause-lent c =
     slice_get_read c.self.inside.entries.items (length c.self.inside.entries.items) (c.in-Some.number - c.self.inside.first) c.index.result.now refl (in_entries w c.self.inside.slots.items c.self.inside.store c.self.inside.locks c.self.invariant.0 c.self.invariant.1 sound follows c.in-Some.number (c.in-Some.number - c.self.inside.first) o) c.index.ensures in
     let at_plan : slice_get c.self.inside.plans.items (c.in-Some.number - c.self.inside.first) ≡ Some c.index-2.result.now =
     slice_get_read c.self.inside.plans.items (length c.self.inside.plans.items) (c.in-Some.number - c.self.inside.first) c.index-2.result.now refl (in_plans w c.self.inside.slots.items c.self.inside.store c.self.inside.locks c.self.invariant.0 c.self.invariant.1 sound follows c.in-Some.number (c.in-Some.number - c.self.inside.first) o) c.index-2.ensures in
-    subst (λ (s : Schedule). Lends s c.in_ok-job.job (record { work = w; slots = c.put.new.slots.items })) c.self.view_is (record {
+    subst (λ (s : Schedule). LendsJob s c.in_ok-job.job (record { work = w; slots = c.put.new.slots.items })) c.self.view_is (record {
       lent = job_lent w c.self.inside.slots.items c.self.inside.store c.self.inside.locks c.self.invariant.0 c.self.invariant.1 sound follows c.in-Some.number (c.in-Some.number - c.self.inside.first) o c.index.result.now c.index-2.result.now at_entry at_plan c.in_ok-job.job c.in_ok-job.ensures.number c.in_ok-job.ensures.entry c.in_ok-job.ensures.plan c.in_ok-job.ensures.loan_tables c.in_ok-job.ensures.shows;
       apart = job_apart w c.self.inside.slots.items c.self.inside.store c.self.inside.locks c.self.invariant.0 c.self.invariant.1 sound follows c.in-Some.number (c.in-Some.number - c.self.inside.first) o c.index.result.now c.index-2.result.now at_entry at_plan c.in_ok-job.job c.in_ok-job.ensures.number c.in_ok-job.ensures.entry c.in_ok-job.ensures.plan c.in_ok-job.ensures.loan_tables c.in_ok-job.ensures.shows;
       new_is = ap (λ (slots : List Slot). record { work = w; slots = slots }) (c.put.ensures ∙ ap (λ k. slice_set c.self.inside.slots.items (k - c.self.inside.first) Lent) (sym c.in_ok-job.ensures.number));

@@ -5,7 +5,7 @@ use Rattle.std.proofs.lemmas.List.{nil_from_length}
 use Rattle.devices.specs.LineReader.{position_of}
 use Rattle.devices.proofs.Passing.{Passes-at_end}
 use Rattle.devices.proofs.Positions.{byte_lost, last_taken, line_lost, line_taken, numbered_of_line}
-use Rattle.devices.proofs.line_reader.LineReader.read_line.Goals as goal
+use Rattle.devices.proofs.line_reader.LineReader.take_line.Goals as goal
 
 pub returns-then-byte-eq10-clause-line : goal.returns-then-byte-eq10-clause-line
 returns-then-byte-eq10-clause-line g c =

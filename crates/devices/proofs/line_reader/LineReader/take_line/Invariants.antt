@@ -2,7 +2,7 @@ use Rattle.std.proofs.Common.{◌≡◌, ◌<◌, ◌-◌, ◌^◌, true, false,
 use Rattle.std.specs.Io.KnownBytes.{Consumes}
 use Rattle.devices.specs.Lines.{has_newline, next_number}
 use Rattle.devices.specs.LineReader.{came, source_of, source_name, unread}
-use Rattle.devices.proofs.line_reader.LineReader.read_line.Given as goal
+use Rattle.devices.proofs.line_reader.LineReader.take_line.Given as goal
 
 abbrev pub invariant-bytes : goal.invariant-bytes
 invariant-bytes g l = record {

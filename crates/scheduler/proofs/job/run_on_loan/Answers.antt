@@ -3,7 +3,7 @@ use Rattle.scheduler.specs.JobRuns.{JobOf, transaction_of}
 use Rattle.meaning.specs.Outcomes.{as_reply}
 use Rattle.scheduler_core.specs.Sound.{IsRunOf}
 use Rattle.scheduler.proofs.Left.{is_run, with_rows_left}
-use Rattle.scheduler.proofs.job.run_on.Goals as goal
+use Rattle.scheduler.proofs.job.run_on_loan.Goals as goal
 
 pub returns-clause-run : goal.returns-clause-run
 returns-clause-run c = (
