@@ -4,7 +4,7 @@ ghost use Rattle.std.specs.Prelude.{◌≡◌, ◌≤◌, IfSome, length};
 ghost use Rattle.std.specs.List.{AllByRecursion};
 ghost use Rattle.sequencer.specs.Batches.{items_of, AreOver};
 
-use crate::reckoning::{Call, TURNED, calls};
+use crate::texts::{FIRST_CALLS, SECOND_CALLS};
 use calvin::{Batch, LogReader, ReadSource, Setup, read_setup};
 use proclang::{Procs, Request};
 use std::alloc::{AllocError, Global};
@@ -31,32 +31,9 @@ pub(crate) const BANK: &str = r#"["setup",1,
 ["rows",1,[["acct",1,[100]],["acct",2,[100]],["acct",3,[100]],["acct",4,[100]],["acct",5,[100]],["acct",6,[100]],
  ["note",7,[1,"paid"]],["note",8,[2,""]]]]]"#;
 
-/// Appends the line of a call.
-fn push_call(log: &mut String, call: Call) -> Result<(), AllocError> {
-    match call {
-        Call::Pay { from, to, amount } => {
-            let (from, to) = (from.saturating_add(1), to.saturating_add(1));
-            writeln!(log, "[\"call\",\"pay\",[{from},{to},{amount}]]")?
-        }
-        Call::Peek { account } => {
-            let account = account.saturating_add(1);
-            writeln!(log, "[\"call\",\"peek\",[{account}]]")?
-        }
-        Call::Turn => writeln!(log, "[\"call\",\"turn\",[\"{TURNED}\"]]")?,
-    }
-    Ok(())
-}
-
-/// The text of the log. With a cut, it is two batches of 50 calls, and else one of 100.
-pub(crate) fn log_text(alloc: Global, with_cut: bool) -> Result<String, AllocError> {
-    let mut log = String::new(alloc);
-    for (place, call) in calls(alloc)?.iter().enumerate() {
-        if with_cut && place == 50 {
-            log.push_str("[\"cut\"]\n")?;
-        }
-        push_call(&mut log, *call)?;
-    }
-    Ok(log)
+/// The text of the log, with a text between its halves.
+pub(crate) fn log_text(alloc: Global, between: &str) -> Result<String, AllocError> {
+    format!(in alloc; "{FIRST_CALLS}{between}{SECOND_CALLS}")
 }
 
 /// The bank's setup.
@@ -69,7 +46,7 @@ pub(crate) fn requests(alloc: Global, procs: &Procs) -> Option<Vec<Request>>
     ensures tables { IfSome result (λ requests. AllByRecursion (λ request. request.proc.tables ≡ procs.now.tables) requests.items) }
     ensures few { IfSome result (λ requests. length requests.items ≤ 4096) }
 {
-    let log = log_text(alloc, false).ok()?;
+    let log = log_text(alloc, "").ok()?;
     let mut source = ReadSource::new(log.as_bytes());
     let mut reader = LogReader::new(&mut source);
     reader.next_batch(alloc, procs).ok()?

@@ -2,11 +2,11 @@
 
 use crate::answer::Answer;
 use crate::bank::{bank, batch};
-use crate::reckoning::{CALLS, Reckoned, reckon};
 use crate::refusal::Refusal;
-use crate::rows::are_as_in;
-use calvin::{BatchDone, Engine, ExecFault, OpenGate, Settings, Setup};
-use meaning::Outcome;
+use crate::right::is_of_log;
+use crate::texts::CALLS;
+use calvin::{BatchDone, Engine, ExecFault, OpenGate, Reply, Settings, Setup};
+use report_text::push_reply_line;
 use std::alloc::{AllocError, Global};
 use std::sync::Wait;
 use std::thread::Threads;
@@ -17,36 +17,33 @@ fn engine_on(alloc: Global, setup: Setup, workers: usize) -> Option<Engine> {
     Engine::new(alloc, setup, settings).ok()
 }
 
-/// Whether these are the replies to the log.
-fn are_replies(done: &BatchDone, outcomes: &[Outcome]) -> bool {
-    if done.first != 0 || done.replies.len() != outcomes.len() {
-        return false;
-    }
-    let mut no = 0u64;
-    for (reply, outcome) in done.replies.iter().zip(outcomes) {
-        if reply.no != no || reply.client != 0 || reply.number != no || reply.outcome != *outcome {
-            return false;
+/// The reply lines of a batch. A reply that isn't of the log's one client gives a line more.
+fn reply_lines(alloc: Global, replies: &[Reply]) -> Result<String, AllocError> {
+    let mut lines = String::new(alloc);
+    for reply in replies {
+        if reply.client != 0 || reply.number != reply.no {
+            lines.push_str("of another client\n")?;
         }
-        no = no.saturating_add(1);
+        push_reply_line(alloc, &mut lines, reply.no, &reply.outcome)?;
     }
-    true
+    Ok(lines)
 }
 
 /// Whether the log was run as it was reckoned, to its end.
-fn is_run(engine: &Engine, done: &BatchDone, reckoned: &Reckoned) -> bool {
-    !engine.is_busy()
-        && engine.transactions() == CALLS as u64
-        && are_replies(done, &reckoned.outcomes)
-        && are_as_in(engine.rows(), &reckoned.books)
+fn is_run(alloc: Global, engine: &Engine, done: &BatchDone) -> Option<bool> {
+    let lines = reply_lines(alloc, &done.replies).ok()?;
+    if engine.is_busy() || engine.transactions() != CALLS || done.first != 0 {
+        return Some(false);
+    }
+    is_of_log(alloc, lines.as_str(), engine.rows())
 }
 
 /// Whether an engine on this setup runs the log as it was reckoned.
 pub(crate) fn runs_on(alloc: Global, setup: Setup) -> Option<bool> {
     let mut engine = engine_on(alloc, setup, 1)?;
     let batch = batch(alloc, engine.procs())?;
-    let reckoned = reckon(alloc).ok()?;
     match engine.run_alone(alloc, batch, &[]) {
-        Ok(done) => Some(is_run(&engine, &done, &reckoned)),
+        Ok(done) => is_run(alloc, &engine, &done),
         Err(_) => Some(false),
     }
 }
@@ -58,12 +55,11 @@ fn gone_on_with<R: Threads + Wait + Sync + AllocGlobal>(
     ended: Result<BatchDone, ExecFault>,
 ) -> Option<Answer> {
     let alloc = rt.alloc();
-    let reckoned = reckon(alloc).ok()?;
     match ended {
-        Ok(done) => Some(Answer::Right.if_right(is_run(engine, &done, &reckoned))),
+        Ok(done) => Some(Answer::Right.if_right(is_run(alloc, engine, &done)?)),
         Err(ExecFault::NoMemory | ExecFault::Spawn) if engine.is_busy() => {
             match engine.resume(rt, alloc, &OpenGate) {
-                Ok(done) => Some(Answer::Refused.if_right(is_run(engine, &done, &reckoned))),
+                Ok(done) => Some(Answer::Refused.if_right(is_run(alloc, engine, &done)?)),
                 Err(_) => Some(Answer::Wrong),
             }
         }

@@ -12,11 +12,11 @@ mod executing;
 mod outputs;
 mod planning;
 mod reading;
-mod reckoning;
 mod refusal;
 mod reporting;
-mod rows;
+mod right;
 mod scheduling;
+mod texts;
 
 use answer::Answer;
 use refusal::Refusal;

@@ -3,12 +3,11 @@
 use crate::answer::Answer;
 use crate::bank::{BANK, bank, log_text};
 use crate::executing::runs_on;
-use crate::reckoning::{Call, TURNED, calls};
 use crate::refusal::Refusal;
 use calvin::{FaultKind, LogReader, ReadSource, SetupFault, read_setup};
 use proclang::{ProcFault, Request};
 use std::alloc::{AllocError, Global};
-use values::{CatalogueFault, Text, Value};
+use values::{CatalogueFault, Value};
 
 /// The setup is read; the log is run on it as it was reckoned.
 pub(crate) fn try_setup(alloc: Global, refusal: &mut Refusal) -> Option<Answer> {
@@ -26,54 +25,39 @@ pub(crate) fn try_setup(alloc: Global, refusal: &mut Refusal) -> Option<Answer> 
     }
 }
 
-/// The number of an account's key.
-fn key_of(account: usize) -> i64 {
-    i64::try_from(account).unwrap_or(0).saturating_add(1)
-}
-
-/// The values of a call.
-fn arguments(alloc: Global, call: Call) -> Result<Vec<Value>, AllocError> {
-    let mut values = Vec::new(alloc);
-    match call {
-        Call::Pay { from, to, amount } => {
-            values.push(Value::Int(key_of(from)))?;
-            values.push(Value::Int(key_of(to)))?;
-            values.push(Value::Int(amount))?;
+/// Appends the line of a request.
+fn push_request(log: &mut String, request: &Request) -> Result<(), AllocError> {
+    let name = request.proc().name();
+    write!(log, "[\"call\",\"{name}\",[")?;
+    let mut comma = "";
+    for value in request.args() {
+        log.push_str(comma)?;
+        match value {
+            Value::Int(number) => write!(log, "{number}")?,
+            Value::Text(text) => {
+                let text = text.as_str();
+                write!(log, "\"{text}\"")?
+            }
         }
-        Call::Peek { account } => values.push(Value::Int(key_of(account)))?,
-        Call::Turn => values.push(Value::Text(Text::new(alloc, TURNED)?))?,
+        comma = ",";
     }
-    Ok(values)
-}
-
-/// The name of a call's procedure.
-fn name_of(call: Call) -> &'static str {
-    match call {
-        Call::Pay { .. } => "pay",
-        Call::Peek { .. } => "peek",
-        Call::Turn => "turn",
-    }
+    log.push_str("]]\n")
 }
 
 /// Whether these are the requests of the log.
 fn are_requests(alloc: Global, requests: &[Request]) -> Option<bool> {
-    let calls = calls(alloc).ok()?;
-    if requests.len() != calls.len() {
-        return Some(false);
+    let mut log = String::new(alloc);
+    for request in requests {
+        push_request(&mut log, request).ok()?;
     }
-    for (request, call) in requests.iter().zip(&calls) {
-        let arguments = arguments(alloc, *call).ok()?;
-        if request.proc().name() != name_of(*call) || request.args() != arguments.as_slice() {
-            return Some(false);
-        }
-    }
-    Some(true)
+    let text = log_text(alloc, "").ok()?;
+    Some(log.as_str() == text.as_str())
 }
 
 /// The log is read, and its end.
 pub(crate) fn try_log(alloc: Global, refusal: &mut Refusal) -> Option<Answer> {
     let setup = bank(alloc)?;
-    let log = log_text(alloc, false).ok()?;
+    let log = log_text(alloc, "").ok()?;
     let mut source = ReadSource::new(log.as_bytes());
     let mut reader = LogReader::new(&mut source);
     refusal.approach();

@@ -2,11 +2,11 @@
 
 use crate::answer::Answer;
 use crate::bank::{bank, batch};
-use crate::reckoning::{CALLS, reckon};
 use crate::refusal::Refusal;
-use crate::rows::are_as_in;
+use crate::right::is_of_log;
+use crate::texts::CALLS;
 use calvin::Setup;
-use meaning::Outcome;
+use report_text::push_reply_line;
 use row_store::{RowStore, all_is_free_with_nothing_lent};
 use scheduler::{AdmitFault, Scheduler, lent_jobs_come_back, run_job};
 use sequencer::prepare;
@@ -33,7 +33,7 @@ fn scheduler(alloc: Global) -> Option<Scheduler> {
 /// Admits each call of the log. Where memory is refused, it is admitted once more.
 fn admit_all(scheduler: &mut Scheduler) -> Answer {
     let mut answer = Answer::Right;
-    for number in 0..CALLS as u64 {
+    for number in 0..CALLS {
         let mut admitted = scheduler.admit();
         if admitted == Err(AdmitFault::NoMemory) {
             answer = Answer::Refused;
@@ -77,26 +77,24 @@ fn settle_all(scheduler: &mut Scheduler) -> Answer {
     Answer::Wrong
 }
 
-/// Whether the outcomes are kept as they were reckoned.
-fn are_kept(scheduler: &Scheduler, outcomes: &[Outcome]) -> bool {
-    let mut number = 0;
-    for outcome in outcomes {
-        if scheduler.reply(number) != Some(outcome) {
-            return false;
-        }
-        number = number.saturating_add(1);
+/// The reply lines that are kept; `None` where one is missing.
+fn reply_lines(alloc: Global, scheduler: &Scheduler) -> Option<String> {
+    let mut lines = String::new(alloc);
+    for number in 0..CALLS {
+        let outcome = scheduler.reply(number)?;
+        push_reply_line(alloc, &mut lines, number, outcome).ok()?;
     }
-    true
+    Some(lines)
 }
 
 /// Whether all calls are settled as they were reckoned.
 fn is_settled(alloc: Global, scheduler: Scheduler) -> Option<bool> {
-    let reckoned = reckon(alloc).ok()?;
-    if !scheduler.is_done() || !are_kept(&scheduler, &reckoned.outcomes) {
+    if !scheduler.is_done() {
         return Some(false);
     }
+    let lines = reply_lines(alloc, &scheduler)?;
     let finished = scheduler.into_finished();
-    Some(are_as_in(&finished.rows, &reckoned.books))
+    is_of_log(alloc, lines.as_str(), &finished.rows)
 }
 
 /// The calls of the log are admitted.
