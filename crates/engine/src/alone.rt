@@ -1,10 +1,11 @@
 //! Running the transactions of a batch on one thread, event by event.
 
 ghost use Rattle.std.specs.Prelude.{◌≡◌, ◌+◌, ◌*◌, ◌≤◌, true, unwrap_or, option_copied, length, IfOk, OnOk, OnErr};
-ghost use Rattle.scheduler_core.specs.Events.{enabled, step};
-ghost use Rattle.scheduler_core.specs.Choices.{chosen, enabled_events};
+ghost use Rattle.scheduler_core.specs.Events.{step};
+ghost use Rattle.scheduler_core.specs.Choices.{chosen};
 ghost use Rattle.scheduler_core.specs.Phases.{is_done, progress};
-ghost use Rattle.scheduler.specs.Schedules.{log_of, phases_of, KeepsItsJobs, IsChoice};
+ghost use Rattle.scheduler.specs.Schedules.{log_of, phases_of, KeepsItsJobs};
+ghost use Rattle.scheduler.specs.Moments.{can_make, events_at, IsChoiceAt};
 ghost use Rattle.engine.specs.Engines.{NoneIsOut, StaysSettled};
 
 use scheduler::{Event, Scheduler, StepAnswer};
@@ -14,8 +15,8 @@ use values::NoMemory;
 /// The event of a choice among those that are enabled, and of choice 0 where there is none; `None` exactly where all is done.
 fn chosen_event(scheduler: &Scheduler, choice: Option<&u64>) -> Result<Option<Event>, NoMemory>
     requires { KeepsItsJobs scheduler.now }
-    ensures event { IfOk result (λ event. event ≡ chosen (unwrap_or (option_copied choice.entry) 0) (enabled_events scheduler.now.work.nodes scheduler.now.work.first (log_of scheduler.now.work) (phases_of scheduler.now))) }
-    ensures enabled { IfOk result (IsChoice scheduler.now.work.nodes scheduler.now.work.first (log_of scheduler.now.work) (phases_of scheduler.now)) }
+    ensures event { IfOk result (λ event. event ≡ chosen (unwrap_or (option_copied choice.entry) 0) (events_at scheduler.now)) }
+    ensures enabled { IfOk result (IsChoiceAt scheduler.now) }
 {
     match choice {
         Some(n) => scheduler.choose(*n),
@@ -26,7 +27,7 @@ fn chosen_event(scheduler: &Scheduler, choice: Option<&u64>) -> Result<Option<Ev
 /// Makes an enabled event. Where memory is refused nothing has changed.
 fn make(scheduler: &mut Scheduler, event: Event) -> Result<(), NoMemory>
     requires keeps { KeepsItsJobs scheduler.old }
-    requires enabled { enabled scheduler.old.work.nodes scheduler.old.work.first (log_of scheduler.old.work) (phases_of scheduler.old) event ≡ true }
+    requires enabled { can_make scheduler.old event ≡ true }
     ensures work { scheduler.new.work ≡ scheduler.old.work }
     ensures keeps { KeepsItsJobs scheduler.new }
     ensures made { OnOk result (phases_of scheduler.new ≡ step scheduler.old.work.first (phases_of scheduler.old) event) }
@@ -43,7 +44,7 @@ fn make(scheduler: &mut Scheduler, event: Event) -> Result<(), NoMemory>
 /// stays settled.
 fn go_on(scheduler: &mut Scheduler, event: Event) -> Result<(), NoMemory>
     requires keeps { KeepsItsJobs scheduler.old }
-    requires enabled { enabled scheduler.old.work.nodes scheduler.old.work.first (log_of scheduler.old.work) (phases_of scheduler.old) event ≡ true }
+    requires enabled { can_make scheduler.old event ≡ true }
     ensures work { scheduler.new.work ≡ scheduler.old.work }
     ensures keeps { KeepsItsJobs scheduler.new }
     ensures further { OnOk result (progress (phases_of scheduler.new) ≡ progress (phases_of scheduler.old) + 1) }

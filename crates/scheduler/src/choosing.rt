@@ -4,9 +4,10 @@ ghost use Rattle.std.specs.Prelude.{◌≡◌, [], ◌++◌, ◌<◌, ◌+◌, �
 ghost use Rattle.scheduler_core.specs.declared.event.Event.{Event as AnyEvent};
 ghost use Rattle.lock_tree.specs.Ready.{ready};
 ghost use Rattle.scheduler_core.specs.Phases.{is_idle};
-ghost use Rattle.scheduler_core.specs.Events.{enabled, waiting};
-ghost use Rattle.scheduler_core.specs.Choices.{next_event, IsNextEvent, enabled_events, chosen, next_step};
-ghost use Rattle.scheduler.specs.Schedules.{log_of, phases_of, phase_in, KeepsItsJobs, steps_of, next_step_at, IsChoice};
+ghost use Rattle.scheduler_core.specs.Events.{waiting};
+ghost use Rattle.scheduler_core.specs.Choices.{next_event, chosen, next_step};
+ghost use Rattle.scheduler.specs.Schedules.{log_of, phases_of, phase_in, KeepsItsJobs, steps_of, next_step_at};
+ghost use Rattle.scheduler.specs.Moments.{can_make, events_at, IsChoiceAt, IsNextAt};
 
 use crate::scheduler::Scheduler;
 use crate::slot::{Slot, is_idle};
@@ -54,7 +55,7 @@ impl Scheduler {
     pub fn next_event(&self) -> Option<Event>
         requires { KeepsItsJobs self.now }
         ensures event { result ≡ next_event self.now.work.first (log_of self.now.work) (phases_of self.now) }
-        ensures enabled { IsNextEvent self.now.work.nodes self.now.work.first (log_of self.now.work) (phases_of self.now) result }
+        ensures enabled { IsNextAt self.now result }
     {
         events_by_places();
         next_event_is_enabled();
@@ -71,7 +72,7 @@ impl Scheduler {
 
     /// Whether the next transaction can be admitted: there is one, and there is room for its requests.
     fn can_admit(&self) -> bool
-        ensures { result ≡ enabled self.now.work.nodes self.now.work.first (log_of self.now.work) (phases_of self.now) AnyEvent.Admit }
+        ensures { result ≡ can_make self.now AnyEvent.Admit }
     {
         let admitted = self.slots.len();
         if admitted >= self.plans.len() {
@@ -91,7 +92,7 @@ impl Scheduler {
     /// The step that a transaction makes next, if it is enabled.
     fn enabled_step(&self, place: usize) -> Option<Event>
         requires { place < length self.now.slots }
-        ensures { steps_of result ≡ filter (enabled self.now.work.nodes self.now.work.first (log_of self.now.work) (phases_of self.now)) (next_step_at self.now place) }
+        ensures { steps_of result ≡ filter (can_make self.now) (next_step_at self.now place) }
     {
         events_by_places();
         if self.waits(place) {
@@ -102,7 +103,7 @@ impl Scheduler {
 
     /// The enabled events: to admit comes first, then they stand by transaction number.
     fn enabled_events(&self) -> Result<Vec<Event>, NoMemory>
-        ensures { IfOk result (λ events. events.items ≡ enabled_events self.now.work.nodes self.now.work.first (log_of self.now.work) (phases_of self.now)) }
+        ensures { IfOk result (λ events. events.items ≡ events_at self.now) }
     {
         events_by_places();
         let mut events = Vec::new(self.alloc);
@@ -119,8 +120,8 @@ impl Scheduler {
     /// event; `None` exactly where all is done. No job is with the caller, and no memory is taken.
     pub fn first_event(&self) -> Option<Event>
         requires { KeepsItsJobs self.now }
-        ensures event { result ≡ chosen 0 (enabled_events self.now.work.nodes self.now.work.first (log_of self.now.work) (phases_of self.now)) }
-        ensures enabled { IsChoice self.now.work.nodes self.now.work.first (log_of self.now.work) (phases_of self.now) result }
+        ensures event { result ≡ chosen 0 (events_at self.now) }
+        ensures enabled { IsChoiceAt self.now result }
     {
         first_choice();
         enabled_events_are_listed();
@@ -135,8 +136,8 @@ impl Scheduler {
     /// exactly where all is done. No job is with the caller.
     pub fn choose(&self, n: u64) -> Result<Option<Event>, NoMemory>
         requires { KeepsItsJobs self.now }
-        ensures event { IfOk result (λ event. event ≡ chosen n (enabled_events self.now.work.nodes self.now.work.first (log_of self.now.work) (phases_of self.now))) }
-        ensures enabled { IfOk result (IsChoice self.now.work.nodes self.now.work.first (log_of self.now.work) (phases_of self.now)) }
+        ensures event { IfOk result (λ event. event ≡ chosen n (events_at self.now)) }
+        ensures enabled { IfOk result (IsChoiceAt self.now) }
     {
         enabled_events_are_listed();
         let _slots = &self.slots;

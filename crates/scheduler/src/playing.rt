@@ -4,8 +4,8 @@ ghost use Rattle.std.specs.Prelude.{◌≡◌, ◌≢◌, ◌<◌, ◌+◌, ℕ,
 ghost use Rattle.scheduler_core.specs.declared.event.Event.{Event as AnyEvent};
 ghost use Rattle.scheduler_core.specs.declared.event.StepAnswer.{StepAnswer as AnyAnswer};
 ghost use Rattle.scheduler_core.specs.Phases.{phase_of};
-ghost use Rattle.scheduler_core.specs.Events.{Answers, Played};
 ghost use Rattle.scheduler.specs.Schedules.{log_of, phases_of, KeepsItsJobs};
+ghost use Rattle.scheduler.specs.Moments.{AnswersAt, PlaysAt};
 
 use crate::job::run_job;
 use crate::lending::{give_back, lend_to};
@@ -35,7 +35,7 @@ impl Scheduler {
 
     fn play_admit(&mut self) -> StepAnswer
         requires { KeepsItsJobs self.old }
-        ensures answer { Answers self.old.work.nodes self.old.work.first (log_of self.old.work) (phases_of self.old) AnyEvent.Admit result (phases_of self.new) }
+        ensures answer { AnswersAt self.old AnyEvent.Admit result self.new }
         ensures same { result ≢ AnyAnswer.Made → self.new ≡ self.old }
         ensures work { self.new.work ≡ self.old.work }
         ensures keeps { KeepsItsJobs self.new }
@@ -49,7 +49,7 @@ impl Scheduler {
 
     fn play_lend(&mut self, number: u64) -> StepAnswer
         requires { KeepsItsJobs self.old }
-        ensures answer { Answers self.old.work.nodes self.old.work.first (log_of self.old.work) (phases_of self.old) (AnyEvent.Lend number) result (phases_of self.new) }
+        ensures answer { AnswersAt self.old (AnyEvent.Lend number) result self.new }
         ensures same { result ≢ AnyAnswer.Made → self.new ≡ self.old }
         ensures work { self.new.work ≡ self.old.work }
         ensures keeps { KeepsItsJobs self.new }
@@ -85,7 +85,7 @@ impl Scheduler {
 
     fn play_run(&mut self, number: u64) -> StepAnswer
         requires { KeepsItsJobs self.old }
-        ensures answer { Answers self.old.work.nodes self.old.work.first (log_of self.old.work) (phases_of self.old) (AnyEvent.Run number) result (phases_of self.new) }
+        ensures answer { AnswersAt self.old (AnyEvent.Run number) result self.new }
         ensures same { result ≢ AnyAnswer.Made → self.new ≡ self.old }
         ensures work { self.new.work ≡ self.old.work }
         ensures keeps { KeepsItsJobs self.new }
@@ -114,7 +114,7 @@ impl Scheduler {
 
     pub(crate) fn play_settle(&mut self, number: u64) -> StepAnswer
         requires { KeepsItsJobs self.old }
-        ensures answer { Answers self.old.work.nodes self.old.work.first (log_of self.old.work) (phases_of self.old) (AnyEvent.Settle number) result (phases_of self.new) }
+        ensures answer { AnswersAt self.old (AnyEvent.Settle number) result self.new }
         ensures same { result ≢ AnyAnswer.Made → self.new ≡ self.old }
         ensures memory { result ≢ AnyAnswer.NoMemory }
         ensures work { self.new.work ≡ self.old.work }
@@ -139,7 +139,7 @@ impl Scheduler {
     /// memory. No job is with the caller.
     pub fn step(&mut self, event: Event) -> StepAnswer
         requires { KeepsItsJobs self.old }
-        ensures answer { Answers self.old.work.nodes self.old.work.first (log_of self.old.work) (phases_of self.old) event result (phases_of self.new) }
+        ensures answer { AnswersAt self.old event result self.new }
         ensures same { result ≢ AnyAnswer.Made → self.new ≡ self.old }
         ensures memory { (number : ℕ) → event ≡ AnyEvent.Settle number → result ≢ AnyAnswer.NoMemory }
         ensures work { self.new.work ≡ self.old.work }
@@ -157,7 +157,7 @@ impl Scheduler {
     /// is played. No job is with the caller.
     pub fn play(&mut self, events: &[Event]) -> Result<Vec<StepAnswer>, NoMemory>
         requires { KeepsItsJobs self.old }
-        ensures played { IfOk result (λ answers. Played self.old.work.nodes self.old.work.first (log_of self.old.work) (phases_of self.old) events.now answers.items (phases_of self.new)) }
+        ensures played { IfOk result (λ answers. PlaysAt self.old events.now answers.items self.new) }
         ensures work { self.new.work ≡ self.old.work }
         ensures keeps { KeepsItsJobs self.new }
         ensures err { OnErr result (self.new ≡ self.old) }

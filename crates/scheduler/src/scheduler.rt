@@ -2,12 +2,11 @@
 
 ghost use Rattle.std.specs.Prelude.{◌≡◌, ◌↔◌, ◌<◌, ◌≤◌, ◌+◌, ◌-◌, ◌^◌, true, false, [], ◌∷◌, ◌++◌, length, None, Ok, Err, IfOk, IfErr, IfSome, OnOk, OnErr, slice_set};
 ghost use Rattle.std.specs.FinMap as finite;
-ghost use Rattle.scheduler_core.specs.Events.{enabled};
-ghost use Rattle.scheduler_core.specs.Choices.{IsLeastLend};
 ghost use Rattle.scheduler_core.specs.declared.event.Event.{Event as AnyEvent};
 ghost use Rattle.interp.specs.Over.{AreEntriesOver};
 ghost use Rattle.scheduler.specs.Logs.{ArePlansOf};
 ghost use Rattle.scheduler.specs.Schedules.{log_of, phases_of, work_of};
+ghost use Rattle.scheduler.specs.Moments.{can_make, IsLeastLendAt};
 ghost use Rattle.scheduler.specs.Jobs.{LendsTo, ComesBack, number_of_job};
 
 use crate::job::{Done, Job};
@@ -121,13 +120,13 @@ impl Scheduler {
 
     /// Admits the next transaction: makes its lock requests, and room for its reply. On an error nothing has changed.
     pub fn admit(&mut self) -> Result<u64, AdmitFault>
-        ensures enabled { OnOk result (enabled self.old.work.nodes self.old.work.first (log_of self.old.work) (phases_of self.old) AnyEvent.Admit ≡ true) }
+        ensures enabled { OnOk result (can_make self.old AnyEvent.Admit ≡ true) }
         ensures number { IfOk result (λ number. number ≡ self.old.work.first + length self.old.slots) }
         ensures admitted { OnOk result (self.new ≡ record self.old { slots = self.old.slots ++ Slot.Idle ∷ [] }) }
         // All are admitted exactly where it says so.
         ensures all { (result ≡ Err AdmitFault.AllAdmitted) ↔ (length self.old.work.entries ≤ length self.old.slots) }
-        ensures full { result ≡ Err AdmitFault.Full → enabled self.old.work.nodes self.old.work.first (log_of self.old.work) (phases_of self.old) AnyEvent.Admit ≡ false }
-        ensures last { result ≡ Err AdmitFault.AllAdmitted → enabled self.old.work.nodes self.old.work.first (log_of self.old.work) (phases_of self.old) AnyEvent.Admit ≡ false }
+        ensures full { result ≡ Err AdmitFault.Full → can_make self.old AnyEvent.Admit ≡ false }
+        ensures last { result ≡ Err AdmitFault.AllAdmitted → can_make self.old AnyEvent.Admit ≡ false }
         ensures err { OnErr result (self.new ≡ self.old) }
     {
         admitted_and_unsettled_wait();
@@ -150,7 +149,7 @@ impl Scheduler {
     /// Lends its rows to the ready transaction of the least number that is not out, if there is one. On an error nothing has
     /// changed.
     pub fn lend(&mut self) -> Result<Option<Job>, NoMemory>
-        ensures least { IfOk result (λ found. IsLeastLend self.old.work.nodes self.old.work.first (log_of self.old.work) (phases_of self.old) (number_of_job found)) }
+        ensures least { IfOk result (λ found. IsLeastLendAt self.old (number_of_job found)) }
         // The job shows the rows of the serial run at its place, on the row names that its plan locks, and its plan is in
         // conflict with none that is out.
         ensures lent { IfOk result (λ found. LendsTo self.old found self.new) }
@@ -181,7 +180,7 @@ impl Scheduler {
         requires { ComesBack self.old done }
         ensures settled { IfSome done.outcome (λ outcome. self.new ≡ record self.old { slots = slice_set self.old.slots (done.job.number - self.old.work.first) (Slot.Settled outcome) }) }
         ensures back { done.outcome ≡ None → self.new ≡ record self.old { slots = slice_set self.old.slots (done.job.number - self.old.work.first) Slot.Idle } }
-        ensures ready { done.outcome ≡ None → enabled self.new.work.nodes self.new.work.first (log_of self.new.work) (phases_of self.new) (AnyEvent.Lend done.job.number) ≡ true }
+        ensures ready { done.outcome ≡ None → can_make self.new (AnyEvent.Lend done.job.number) ≡ true }
     {
         admitted_and_unsettled_wait();
         rows_are_serial();
