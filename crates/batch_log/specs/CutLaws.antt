@@ -1,3 +1,4 @@
+-- Claimed: what contracts promise to a reader rests on these words.
 -- What the definition of a log's batches amounts to.
 use Rattle.std.specs.Prelude.{◌≡◌, ℕ, ◌<◌, List, [], ◌∷◌, ◌++◌, map, length, Some, None, Ok, Err}
 use Rattle.requests.specs.Requests as requests

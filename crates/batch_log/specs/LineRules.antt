@@ -1,3 +1,4 @@
+-- Claimed: what contracts promise to a reader rests on these words.
 -- Which lines of a log say a call or a cut, and every rule that a line breaks. No rule here hangs on what reading gives.
 use Rattle.std.specs.Prelude.{◌≡◌, ℕ, Bool, true, false, List, [], ◌∷◌, ◌++◌, Option, Some, None, is_some, Ok, if◌then◌else◌, codes}
 use Rattle.std.specs.Str.{is_utf8}

@@ -1,3 +1,4 @@
+-- Claimed: what contracts promise to a reader rests on these words.
 -- What the lines of a log say.
 use Rattle.std.specs.Prelude.{◌≡◌, ℕ, ◌&&◌, nat_eq, length, Bool, List, Option, Some, None, Result, Ok, Err, if◌then◌else◌, map, ⊤}
 use Rattle.std.specs.List.{list_all, zip}

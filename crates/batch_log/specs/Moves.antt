@@ -1,3 +1,4 @@
+-- Claimed: what contracts promise to a reader rests on these words.
 -- What a call takes from a source.
 use Rattle.std.specs.Prelude.{List, ℕ, Option}
 use Rattle.devices.specs.LineReader.{Position, Takes}

@@ -34,22 +34,28 @@ fn next_said<S: Source>(
 ) -> Result<Option<LogLine>, LogFault>
     ensures same { source_name lines.new ≡ source_name lines.old }
     ensures line { IfOk result (λ o. IfSome o (λ said. Passes
-        (λ xs ys. lines_said procs.now.procs (newlines_taken lines.old) xs ≡ (line_begun lines.new, Ok said) ∷ lines_said procs.now.procs (newlines_taken lines.new) ys)
+        (λ xs ys. lines_said procs.now.procs (newlines_taken lines.old) xs ≡ (line_begun lines.new, Ok said)
+        ∷ lines_said procs.now.procs (newlines_taken lines.new) ys)
         (unread S.left lines.old) (unread S.left lines.new))) }
     ensures tables { IfOk result (λ o. IfSome o (IsOver procs.now.tables)) }
-    ensures end { IfOk result (λ o. IsNone o → Passes (λ xs ys. (xs ≡ []) × (ys ≡ [])) (unread S.left lines.old) (unread S.left lines.new)) }
+    ensures end { IfOk result (λ o. IsNone o →
+        Passes (λ xs ys. (xs ≡ []) × (ys ≡ [])) (unread S.left lines.old) (unread S.left lines.new)) }
     ensures fault { IfErr result (λ e. IsOfLine e.kind → Passes
-        (λ xs ys. lines_said procs.now.procs (newlines_taken lines.old) xs ≡ (e.line, Err e.kind) ∷ lines_said procs.now.procs (newlines_taken lines.new) ys)
+        (λ xs ys. lines_said procs.now.procs (newlines_taken lines.old) xs ≡ (e.line, Err e.kind)
+        ∷ lines_said procs.now.procs (newlines_taken lines.new) ys)
         (unread S.left lines.old) (unread S.left lines.new)) }
     ensures first { IfOk result (λ o. IfSome o (λ said. Passes
         (λ xs ys. (line : List ℕ) × IsFirstLine line xs ys × (line_said procs.now.procs line ≡ Ok said))
         (unread S.left lines.old) (unread S.left lines.new))) }
-    ensures lost { IfErr result (λ e. Passes (LosesFirst (is_io e.kind)) (unread S.left lines.old) (unread S.left lines.new)) }
-    ensures moves { Moves (unread S.left lines.old) (unread S.left lines.new) (position_of lines.old) (position_of lines.new) }
+    ensures lost { IfErr result (λ e.
+        Passes (LosesFirst (is_io e.kind)) (unread S.left lines.old) (unread S.left lines.new)) }
+    ensures moves { Moves (unread S.left lines.old) (unread S.left lines.new) (position_of lines.old)
+        (position_of lines.new) }
     ensures stays { OnOk result (fault_of lines.new ≡ None) }
     ensures place { fault_of lines.old ≡ None → IfErr result (λ e. e.line ≡ place_of e.kind (position_of lines.new)) }
     ensures spent { fault_of lines.old ≡ None → ends_in_io result ≡ true → came lines.new ≡ [] }
-    ensures fails { fault_of lines.old ≡ None → S.failed (source_of lines.new) ≡ (S.failed (source_of lines.old) || ends_in_io result) }
+    ensures fails { fault_of lines.old ≡ None →
+        S.failed (source_of lines.new) ≡ (S.failed (source_of lines.old) || ends_in_io result) }
 {
     let line = match lines.next_line(alloc) {
         Ok(Some(line)) => line,
@@ -88,16 +94,20 @@ pub(crate) fn read_batch<S: Source>(
     ensures fault { IfErr result (λ e. IsOfLine e.kind → Passes
         (λ xs ys. IsFault (log_said procs.now.procs (newlines_taken lines.old) total.old xs) e)
         (unread S.left lines.old) (unread S.left lines.new)) }
-    ensures tables { IfOk result (λ o. IfSome o (λ calls. AllByRecursion (λ c. c.proc.tables ≡ procs.now.tables) calls.items)) }
+    ensures tables { IfOk result (λ o.
+        IfSome o (λ calls. AllByRecursion (λ c. c.proc.tables ≡ procs.now.tables) calls.items)) }
     ensures few { IfOk result (λ o. IfSome o (λ calls. length calls.items ≤ 4096)) }
     ensures counted { IfOk result (λ o. total.new ≡ total.old + calls_in o) }
     ensures room { total.new ≤ 2 ^ 48 }
-    ensures taken { Passes (TakesCalls procs.now.procs total.old (ends_in_io result)) (unread S.left lines.old) (unread S.left lines.new) }
-    ensures moves { Moves (unread S.left lines.old) (unread S.left lines.new) (position_of lines.old) (position_of lines.new) }
+    ensures taken { Passes (TakesCalls procs.now.procs total.old (ends_in_io result)) (unread S.left lines.old)
+        (unread S.left lines.new) }
+    ensures moves { Moves (unread S.left lines.old) (unread S.left lines.new) (position_of lines.old)
+        (position_of lines.new) }
     ensures stays { OnOk result (fault_of lines.new ≡ None) }
     ensures place { fault_of lines.old ≡ None → IfErr result (λ e. e.line ≡ place_of e.kind (position_of lines.new)) }
     ensures spent { fault_of lines.old ≡ None → ends_in_io result ≡ true → came lines.new ≡ [] }
-    ensures fails { fault_of lines.old ≡ None → S.failed (source_of lines.new) ≡ (S.failed (source_of lines.old) || ends_in_io result) }
+    ensures fails { fault_of lines.old ≡ None →
+        S.failed (source_of lines.new) ≡ (S.failed (source_of lines.old) || ends_in_io result) }
 {
     let mut calls = Vec::new(alloc);
     'lines: loop {

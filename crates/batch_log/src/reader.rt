@@ -74,14 +74,16 @@ impl<'a, S: Source> LogReader<'a, S> {
     ) -> Result<Option<Vec<Request>>, LogFault>
         ensures same { source_name self.new ≡ source_name self.old }
         ensures batch { IfOk result (λ o. IfSome o (λ calls. Passes
-            (λ xs ys. IsNextBatch (log_said procs.now.procs (newlines_taken self.old) (calls_read self.old) xs) calls.items
+            (λ xs ys. IsNextBatch (log_said procs.now.procs (newlines_taken self.old)
+            (calls_read self.old) xs) calls.items
             (log_said procs.now.procs (newlines_taken self.new) (calls_read self.new) ys))
             (unread S.left self.old) (unread S.left self.new))) }
         ensures end { IfOk result (λ o. IsNone o → Passes
             (λ xs ys. IsEnd (log_said procs.now.procs (newlines_taken self.old) (calls_read self.old) xs) × (ys ≡ []))
             (unread S.left self.old) (unread S.left self.new)) }
         // Each call is of these procedures, so it is over their tables.
-        ensures tables { IfOk result (λ o. IfSome o (λ calls. AllByRecursion (λ c. c.proc.tables ≡ procs.now.tables) calls.items)) }
+        ensures tables { IfOk result (λ o.
+            IfSome o (λ calls. AllByRecursion (λ c. c.proc.tables ≡ procs.now.tables) calls.items)) }
         ensures few { IfOk result (λ o. IfSome o (λ calls. length calls.items ≤ 4096)) }
         ensures counted { IfOk result (λ o. calls_read self.new ≡ calls_read self.old + calls_in o) }
         ensures room { calls_read self.new ≤ 2 ^ 48 }
@@ -91,14 +93,17 @@ impl<'a, S: Source> LogReader<'a, S> {
             (λ xs ys. IsFault (log_said procs.now.procs (newlines_taken self.old) (calls_read self.old) xs) e)
             (unread S.left self.old) (unread S.left self.new)) }
         // Whole lines of calls are taken, and then one more line, or a beginning of it.
-        ensures taken { Passes (TakesCalls procs.now.procs (calls_read self.old) (ends_in_io result)) (unread S.left self.old) (unread S.left self.new) }
-        ensures moves { Moves (unread S.left self.old) (unread S.left self.new) (position_of self.old) (position_of self.new) }
+        ensures taken { Passes (TakesCalls procs.now.procs (calls_read self.old) (ends_in_io result))
+            (unread S.left self.old) (unread S.left self.new) }
+        ensures moves { Moves (unread S.left self.old) (unread S.left self.new) (position_of self.old)
+            (position_of self.new) }
         ensures place { fault_of self.old ≡ None → IfErr result (λ e. e.line ≡ place_of e.kind (position_of self.new)) }
         // Where a read failed, every byte that came was taken.
         ensures spent { fault_of self.old ≡ None → ends_in_io result ≡ true → came self.new ≡ [] }
         ensures stays { fault_of self.new ≡ fault_in result }
         ensures again { IfSome (fault_of self.old) (λ e. (result ≡ Err e) × (source_of self.new ≡ source_of self.old)) }
-        ensures fails { fault_of self.old ≡ None → S.failed (source_of self.new) ≡ (S.failed (source_of self.old) || ends_in_io result) }
+        ensures fails { fault_of self.old ≡ None →
+            S.failed (source_of self.new) ≡ (S.failed (source_of self.old) || ends_in_io result) }
     {
         if let Some(fault) = self.fault {
             return Err(fault);

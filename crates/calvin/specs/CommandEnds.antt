@@ -1,3 +1,4 @@
+-- Claimed: what contracts promise to a reader rests on these words.
 -- How a command ends: its exit status, and what it wrote.
 use Rattle.std.specs.Prelude.{◌≡◌, ℕ, ◌⊎◌, List, [], ◌++◌, length, Bool, true, false, ◌&&◌, Option, Some, None, IfSome, OnOk, Result, Ok, Err, codes, if◌then◌else◌, string_bytes, ⊤}
 use Rattle.std.specs.Fmt.{decimal}

@@ -1,3 +1,4 @@
+-- Claimed: what contracts promise to a reader rests on these words.
 -- Comparing two reports.
 use Rattle.std.specs.Prelude.{◌≡◌, ℕ, ◌≤◌, List, Bool, length, take, slice_get, Option, Some, None}
 use Rattle.calvin.specs.declared.comparison.KeptReport.{KeptReport}

@@ -81,18 +81,29 @@ pub fn run_text<R: Threads + Wait + Sync, G: Gate, S: Source, K: Sink>(
     sink: &mut K,
 ) -> Result<u64, RunFault>
     // `Ok`: the log has no fault, all of it was read, and its report was written.
-    ensures count { IfOk result (λ n. IfSome (S.left source.old) (λ log. n ≡ length (all_entries (batches_in setup.procs log)))) }
+    ensures count { IfOk result (λ n.
+        IfSome (S.left source.old) (λ log. n ≡ length (all_entries (batches_in setup.procs log)))) }
     ensures sound { OnOk result (IfSome (S.left source.old) (λ log. fault_in setup.procs log ≡ None)) }
     ensures read { OnOk result (IfSome (S.left source.old) (λ _. S.left source.new ≡ Some [])) }
-    ensures ok { OnOk result (IfSome (S.left source.old) (λ log. Appends (K.taken sink.old) (K.taken sink.new) (report_of setup.procs (with_rows map_of.empty setup.rows.items) log))) }
+    ensures ok { OnOk result (IfSome (S.left source.old) (λ log.
+        Appends (K.taken sink.old) (K.taken sink.new)
+        (report_of setup.procs (with_rows map_of.empty setup.rows.items) log))) }
     // A fault of a line is the log's first, and the report of the batches before it was written.
-    ensures fault { IfErr result (λ e. IfOfLine e (λ fault. IfSome (S.left source.old) (λ log. fault_in setup.procs log ≡ Some fault))) }
-    ensures until { IfErr result (λ e. IfOfLine e (λ fault. IfSome (S.left source.old) (λ log. Appends (K.taken sink.old) (K.taken sink.new) (report_of setup.procs (with_rows map_of.empty setup.rows.items) log)))) }
+    ensures fault { IfErr result (λ e.
+        IfOfLine e (λ fault. IfSome (S.left source.old) (λ log. fault_in setup.procs log ≡ Some fault))) }
+    ensures until { IfErr result (λ e.
+        IfOfLine e (λ fault. IfSome (S.left source.old) (λ log.
+        Appends (K.taken sink.old) (K.taken sink.new)
+        (report_of setup.procs (with_rows map_of.empty setup.rows.items) log)))) }
     // However it ends, what was written is a beginning of the report.
-    ensures front { IfSome (S.left source.old) (λ log. AppendsFront (K.taken sink.old) (K.taken sink.new) (report_of setup.procs (with_rows map_of.empty setup.rows.items) log)) }
+    ensures front { IfSome (S.left source.old) (λ log.
+        AppendsFront (K.taken sink.old) (K.taken sink.new)
+        (report_of setup.procs (with_rows map_of.empty setup.rows.items) log)) }
     // The fault of a device comes only where one has failed meanwhile. Each fault names its line.
-    ensures devices { (S.failed source.new || K.broken sink.new) ≡ ((S.failed source.old || K.broken sink.old) || ends_in_io result) }
-    ensures line { S.failed source.old ≡ false → IfErr result (λ e. IfOfMachine e (IsLineOf (S.failed source.new) (S.left source.old) (S.left source.new))) }
+    ensures devices { (S.failed source.new || K.broken sink.new)
+        ≡ ((S.failed source.old || K.broken sink.old) || ends_in_io result) }
+    ensures line { S.failed source.old ≡ false →
+        IfErr result (λ e. IfOfMachine e (IsLineOf (S.failed source.new) (S.left source.old) (S.left source.new))) }
 {
     run_log_on_workers(rt, alloc, setup, settings, gate, source, sink)
 }

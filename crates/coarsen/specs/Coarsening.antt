@@ -1,3 +1,4 @@
+-- Claimed: what contracts promise to a reader rests on these words.
 -- The coarsening of a footprint: fewer and greater entries, which cover all that it covers. (This project's own.)
 use Rattle.std.specs.Prelude.{ℕ, Bool, false, not, if◌then◌else◌, nat_lt, Option, Some, None, List, [], ◌∷◌, map, length}
 use Rattle.std.specs.List.{filter, list_any}

@@ -1,3 +1,4 @@
+-- Claimed: what contracts promise to a reader rests on these words.
 -- Laws of the tree, of coarsening, of plans and of clashes.
 use Rattle.std.specs.Prelude.{◌≡◌, ◌↔◌, ◌⊎◌, ℕ, true, if◌then◌else◌, nat_lt, max, List, Some, None}
 use Rattle.std.specs.List.{Contains, list_any}

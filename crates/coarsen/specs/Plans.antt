@@ -1,3 +1,4 @@
+-- Claimed: what contracts promise to a reader rests on these words.
 -- Plans: the lock requests for a footprint.
 use Rattle.std.specs.Prelude.{◌≡◌, ◌≤◌, ◌<◌, ℕ, Bool, true, false, List, length}
 use Rattle.std.specs.List.{Contains}

@@ -1,3 +1,4 @@
+-- Of the code: invariants and steps; no promise rests on these words.
 -- Requests that are put together.
 use Rattle.std.specs.Prelude.{ℕ, Option, Some, None}
 

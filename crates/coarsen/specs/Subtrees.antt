@@ -1,3 +1,4 @@
+-- Claimed: what contracts promise to a reader rests on these words.
 -- The greatest right on a resource, under it and over it, by rank: none 0, Read 1, Write 2.
 use Rattle.std.specs.Prelude.{ℕ, Bool, true, false, ◌&&◌, ◌==◌, if◌then◌else◌, nat_le, max, List, [], ◌∷◌}
 use Rattle.std.specs.FinMap.{entries, get}

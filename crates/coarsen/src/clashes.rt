@@ -46,7 +46,8 @@ fn conflict(first: &[(Resource, Mode)], second: &[(Resource, Mode)]) -> bool
 /// catalogue that is the same as two requests on some resource whose modes are not compatible.
 pub fn clash(first: &Plan, second: &Plan) -> bool
     ensures requests { (result ≡ true) ↔ Conflict first.now second.now }
-    ensures rows { (tables : List TableShape) → IsCatalogue tables → IsPlanOver tables first.now → IsPlanOver tables second.now → (result ≡ true) ↔ Clash tables first.now second.now }
+    ensures rows { (tables : List TableShape) → IsCatalogue tables → IsPlanOver tables first.now →
+        IsPlanOver tables second.now → (result ≡ true) ↔ Clash tables first.now second.now }
 {
     conflict(first.requests(), second.requests())
 }

@@ -41,7 +41,8 @@ fn children(
     footprint: &Footprint,
     level: Level,
 ) -> Result<BTreeMap<Resource, usize>, NoMemory>
-    ensures { IfOk result (λ counts. (parent : AnyResource) → unwrap_or (count_at resource_cmp counts parent) 0 ≡ children level footprint.now parent) }
+    ensures { IfOk result (λ counts. (parent : AnyResource) →
+        unwrap_or (count_at resource_cmp counts parent) 0 ≡ children level footprint.now parent) }
 {
     let mut counts = BTreeMap::new(alloc);
     for (resource, _) in footprint.iter() {

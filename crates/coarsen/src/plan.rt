@@ -49,12 +49,14 @@ impl Plan {
     ) -> Result<Plan, NoMemory>
         requires { 0 < most }
         ensures exact { IfOk result (λ plan. IsPlanFor threshold most footprint.now plan) }
-        ensures covers { IfOk result (λ plan. (resource : AnyResource) (right : AnyRight) → covers footprint.now resource right ≡ true → covers_by_requests plan resource right ≡ true) }
+        ensures covers { IfOk result (λ plan. (resource : AnyResource) (right : AnyRight) →
+            covers footprint.now resource right ≡ true → covers_by_requests plan resource right ≡ true) }
         ensures size { IfOk result (λ plan. length plan ≤ most) }
         ensures protocol { IfOk result (λ plan. KeepsProtocol plan) }
         ensures empty { IfOk result (λ plan. footprint.now ≡ map.empty → plan ≡ []) }
         // The requests are on resources of each catalogue that the footprint is of.
-        ensures over { IfOk result (λ plan. (tables : List TableShape) → IsCatalogue tables → IsFootprintOf tables footprint.now → IsPlanOver tables plan) }
+        ensures over { IfOk result (λ plan. (tables : List TableShape) → IsCatalogue tables →
+            IsFootprintOf tables footprint.now → IsPlanOver tables plan) }
     {
         let coarse = coarsened(alloc, footprint, threshold)?;
         let full = Plan::of(alloc, &coarse)?;

@@ -48,7 +48,8 @@ impl Requests {
     /// The mode on a resource joined with another one.
     fn joined(&self, resource: &Resource, mode: Mode) -> Mode
         ensures own { own result ≡ max (value_of own (get resource_cmp self.now.modes resource.now)) (own mode) }
-        ensures subtree { subtree result ≡ max (value_of subtree (get resource_cmp self.now.modes resource.now)) (subtree mode) }
+        ensures subtree { subtree result
+            ≡ max (value_of subtree (get resource_cmp self.now.modes resource.now)) (subtree mode) }
     {
         match self.modes.get(resource).copied() {
             Some(old) => join(old, mode),
@@ -58,8 +59,12 @@ impl Requests {
 
     /// Joins a mode to the request on a resource.
     fn request(&mut self, resource: Resource, mode: Mode) -> Result<(), NoMemory>
-        ensures own { OnOk result ((r : AnyResource) → own_on self.new.modes.entries r ≡ max (own_on self.old.modes.entries r) (if is_same r resource then own mode else 0)) }
-        ensures subtree { OnOk result ((r : AnyResource) → subtree_on self.new.modes.entries r ≡ max (subtree_on self.old.modes.entries r) (if is_same r resource then subtree mode else 0)) }
+        ensures own { OnOk result ((r : AnyResource) →
+            own_on self.new.modes.entries r ≡ max (own_on self.old.modes.entries r) (if is_same r resource
+            then own mode else 0)) }
+        ensures subtree { OnOk result ((r : AnyResource) →
+            subtree_on self.new.modes.entries r ≡ max (subtree_on self.old.modes.entries r) (if is_same r resource
+            then subtree mode else 0)) }
     {
         let joined = self.joined(&resource, mode);
         self.modes.insert(resource, joined)?;
@@ -68,8 +73,12 @@ impl Requests {
 
     /// Joins a mode to the request on a resource, and its intention to the requests on the ancestors.
     fn request_up(&mut self, resource: Resource, mode: Mode) -> Result<(), NoMemory>
-        ensures own { OnOk result ((r : AnyResource) → own_on self.new.modes.entries r ≡ max (own_on self.old.modes.entries r) (if is_same r resource then own mode else 0)) }
-        ensures subtree { OnOk result ((r : AnyResource) → subtree_on self.new.modes.entries r ≡ max (subtree_on self.old.modes.entries r) (if holds r resource then subtree mode else 0)) }
+        ensures own { OnOk result ((r : AnyResource) →
+            own_on self.new.modes.entries r ≡ max (own_on self.old.modes.entries r) (if is_same r resource
+            then own mode else 0)) }
+        ensures subtree { OnOk result ((r : AnyResource) →
+            subtree_on self.new.modes.entries r ≡ max (subtree_on self.old.modes.entries r) (if holds r resource
+            then subtree mode else 0)) }
     {
         self.request(resource, mode)?;
         match resource.parent() {

@@ -1,3 +1,4 @@
+-- Claimed: what contracts promise to a reader rests on these words.
 -- The command line as its parser sees it: which commands and arguments it has.
 use Rattle.std.specs.Prelude.{ℕ, ◌∷◌, [], Some, true, codes}
 use Rattle.clap.specs.Simple.{on_top}

@@ -80,7 +80,8 @@ fn settings_of(matches: &ArgMatches<'_>) -> Option<Settings>
 // The command `run`, by its arguments.
 fn run_of(alloc: Global, matches: &ArgMatches<'_>) -> Result<Option<Command>, AllocError>
     ensures some { IfOk result (λ o. IfSome o (IsCommand (codes "run") (rows_of (found_of matches.now)))) }
-    ensures none { IfOk result (λ o. IsNone o → (command : Command) → ¬ IsCommand (codes "run") (rows_of (found_of matches.now)) command) }
+    ensures none { IfOk result (λ o. IsNone o → (command : Command) →
+        ¬ IsCommand (codes "run") (rows_of (found_of matches.now)) command) }
 {
     let Some(setup) = matches.get_str("setup") else {
         return Ok(None);
@@ -93,7 +94,8 @@ fn run_of(alloc: Global, matches: &ArgMatches<'_>) -> Result<Option<Command>, Al
 // The command `replicas`, by its arguments.
 fn replicas_of(alloc: Global, matches: &ArgMatches<'_>) -> Result<Option<Command>, AllocError>
     ensures some { IfOk result (λ o. IfSome o (IsCommand (codes "replicas") (rows_of (found_of matches.now)))) }
-    ensures none { IfOk result (λ o. IsNone o → (command : Command) → ¬ IsCommand (codes "replicas") (rows_of (found_of matches.now)) command) }
+    ensures none { IfOk result (λ o. IsNone o → (command : Command) →
+        ¬ IsCommand (codes "replicas") (rows_of (found_of matches.now)) command) }
 {
     let Some(setup) = matches.get_str("setup") else {
         return Ok(None);
@@ -109,7 +111,8 @@ fn replicas_of(alloc: Global, matches: &ArgMatches<'_>) -> Result<Option<Command
 // The command `locks`, by its arguments.
 fn locks_of(alloc: Global, matches: &ArgMatches<'_>) -> Result<Option<Command>, AllocError>
     ensures some { IfOk result (λ o. IfSome o (IsCommand (codes "locks") (rows_of (found_of matches.now)))) }
-    ensures none { IfOk result (λ o. IsNone o → (command : Command) → ¬ IsCommand (codes "locks") (rows_of (found_of matches.now)) command) }
+    ensures none { IfOk result (λ o. IsNone o → (command : Command) →
+        ¬ IsCommand (codes "locks") (rows_of (found_of matches.now)) command) }
 {
     let Some(setup) = matches.get_str("setup") else {
         return Ok(None);
@@ -121,7 +124,8 @@ fn locks_of(alloc: Global, matches: &ArgMatches<'_>) -> Result<Option<Command>, 
 // The command `check`, by its arguments.
 fn check_of(alloc: Global, matches: &ArgMatches<'_>) -> Result<Option<Command>, AllocError>
     ensures some { IfOk result (λ o. IfSome o (IsCommand (codes "check") (rows_of (found_of matches.now)))) }
-    ensures none { IfOk result (λ o. IsNone o → (command : Command) → ¬ IsCommand (codes "check") (rows_of (found_of matches.now)) command) }
+    ensures none { IfOk result (λ o. IsNone o → (command : Command) →
+        ¬ IsCommand (codes "check") (rows_of (found_of matches.now)) command) }
 {
     let Some(setup) = matches.get_str("setup") else {
         return Ok(None);
@@ -137,7 +141,8 @@ fn command_of(
     matches: &ArgMatches<'_>,
 ) -> Result<Option<Command>, AllocError>
     ensures some { IfOk result (λ o. IfSome o (IsCommand name.now (rows_of (found_of matches.now)))) }
-    ensures none { IfOk result (λ o. IsNone o → (command : Command) → ¬ IsCommand name.now (rows_of (found_of matches.now)) command) }
+    ensures none { IfOk result (λ o. IsNone o → (command : Command) →
+        ¬ IsCommand name.now (rows_of (found_of matches.now)) command) }
 {
     match name {
         "run" => run_of(alloc, matches),
@@ -172,7 +177,8 @@ fn line_of(alloc: Global, matches: &ArgMatches<'_>) -> Result<Option<Line>, Allo
 /// a call for help is refused with the help. `NoMemory` is answered where memory was refused.
 pub fn read_line(alloc: Global, words: &[String]) -> Result<Line, LineFault>
     ensures line { IfOk result (IsAskedFor (map string_bytes words.now)) }
-    ensures refused { IfErr result (λ fault. IsRefused fault → (line : Line) → ¬ IsAskedFor (map string_bytes words.now) line) }
+    ensures refused { IfErr result (λ fault. IsRefused fault → (line : Line) →
+        ¬ IsAskedFor (map string_bytes words.now) line) }
 {
     let command = calvin_command(alloc)?;
     let matches = match command.try_get_matches_from(words) {

@@ -1,3 +1,4 @@
+-- Claimed: what contracts promise to a reader rests on these words.
 -- What the devices over std's readers and writers stand on.
 use Rattle.std.specs.Prelude.{Bool}
 use Rattle.devices.specs.declared.read_source.ReadSource.{ReadSource}

@@ -1,3 +1,4 @@
+-- Claimed: what contracts promise to a reader rests on these words.
 -- What calls do to a device whose bytes may be unknown.
 use Rattle.std.specs.Prelude.{◌≡◌, ℕ, ◌&&◌, ◌==◌, List, ◌++◌, length, Bool, true, not, Option, None, Some, ⊤, Result, Ok, Err}
 use Rattle.std.specs.Io.KnownBytes.{Appends}

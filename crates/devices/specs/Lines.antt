@@ -1,3 +1,4 @@
+-- Claimed: what contracts promise to a reader rests on these words.
 -- The lines of a text, and their numbers.
 use Rattle.std.specs.Prelude.{◌≡◌, ℕ, ◌+◌, ◌-◌, ◌^◌, ◌==◌, ◌⊎◌, min, List, [], ◌∷◌, ◌++◌, count_by, Bool, false, if◌then◌else◌}
 use Rattle.std.specs.List.{All, flat_map, list_any}

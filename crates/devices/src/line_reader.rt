@@ -85,10 +85,12 @@ impl<'a, S: Source> LineReader<'a, S> {
     // Reads on where every byte that came was taken. Then none stands in the buffer only at the end.
     fn fill(&mut self) -> Result<(), DeviceFailed>
         ensures same { source_name self.new ≡ source_name self.old }
-        ensures stays { (self.new.newlines ≡ self.old.newlines) × (self.new.begun ≡ self.old.begun) × (self.new.fault ≡ self.old.fault) }
+        ensures stays { (self.new.newlines ≡ self.old.newlines) × (self.new.begun ≡ self.old.begun) ×
+            (self.new.fault ≡ self.old.fault) }
         ensures bytes { Keeps (unread S.left self.old) (unread S.left self.new) }
         ensures end { OnOk result (self.new.start ≡ self.new.end → IsAtEnd (unread S.left self.new)) }
-        ensures late { self.old.start < self.old.end → IsOk result × (source_of self.new ≡ source_of self.old) × (came self.new ≡ came self.old) }
+        ensures late { self.old.start < self.old.end → IsOk result × (source_of self.new ≡ source_of self.old) ×
+            (came self.new ≡ came self.old) }
         ensures spent { OnErr result (came self.new ≡ []) }
         ensures fails { S.failed (source_of self.new) ≡ (S.failed (source_of self.old) || is_err result) }
     {
@@ -103,11 +105,14 @@ impl<'a, S: Source> LineReader<'a, S> {
     // The next byte, which is then taken.
     fn next_byte(&mut self) -> Result<Option<u8>, DeviceFailed>
         ensures same { source_name self.new ≡ source_name self.old }
-        ensures stays { (self.new.newlines ≡ self.old.newlines) × (self.new.begun ≡ self.old.begun) × (self.new.fault ≡ self.old.fault) }
-        ensures bytes { IfOk result (λ o. Consumes (unread S.left self.old) (unread S.left self.new) (option_to_list o)) }
+        ensures stays { (self.new.newlines ≡ self.old.newlines) × (self.new.begun ≡ self.old.begun) ×
+            (self.new.fault ≡ self.old.fault) }
+        ensures bytes { IfOk result (λ o.
+            Consumes (unread S.left self.old) (unread S.left self.new) (option_to_list o)) }
         ensures end { IfOk result (λ o. IsNone o → IsAtEnd (unread S.left self.new)) }
         ensures err { OnErr result (Keeps (unread S.left self.old) (unread S.left self.new)) }
-        ensures late { 0 < length (came self.old) → (source_of self.new ≡ source_of self.old) × IsOkAnd result (λ o. came self.old ≡ option_to_list o ++ came self.new) }
+        ensures late { 0 < length (came self.old) → (source_of self.new ≡ source_of self.old) ×
+            IsOkAnd result (λ o. came self.old ≡ option_to_list o ++ came self.new) }
         ensures spent { OnErr result (came self.new ≡ []) }
         ensures fails { S.failed (source_of self.new) ≡ (S.failed (source_of self.old) || is_err result) }
     {
@@ -125,13 +130,18 @@ impl<'a, S: Source> LineReader<'a, S> {
     fn take_line(&mut self, alloc: Global) -> Result<Option<Vec<u8>>, LineReadFault>
         ensures same { source_name self.new ≡ source_name self.old }
         ensures stays { self.new.fault ≡ self.old.fault }
-        ensures line { IfOk result (λ o. IfSome o (λ line. TakesLine (unread S.left self.old) (unread S.left self.new) (position_of self.old) (position_of self.new) line.items)) }
+        ensures line { IfOk result (λ o.
+            IfSome o (λ line. TakesLine (unread S.left self.old) (unread S.left self.new) (position_of self.old)
+            (position_of self.new) line.items)) }
         ensures numbered { IfOk result (λ o. IfSome o (λ line. Passes
-            (λ xs ys. numbered_lines (newlines_taken self.old) xs ≡ (line_begun self.new, line.items) ∷ numbered_lines (newlines_taken self.new) ys)
+            (λ xs ys. numbered_lines (newlines_taken self.old) xs ≡ (line_begun self.new, line.items)
+            ∷ numbered_lines (newlines_taken self.new) ys)
             (unread S.left self.old) (unread S.left self.new))) }
-        ensures end { IfOk result (λ o. IsNone o → Passes (λ xs ys. (xs ≡ []) × (ys ≡ [])) (unread S.left self.old) (unread S.left self.new)) }
+        ensures end { IfOk result (λ o. IsNone o →
+            Passes (λ xs ys. (xs ≡ []) × (ys ≡ [])) (unread S.left self.old) (unread S.left self.new)) }
         ensures at_end { IfOk result (λ o. IsNone o → position_of self.new ≡ position_of self.old) }
-        ensures lost { OnErr result (LosesLine (unread S.left self.old) (unread S.left self.new) (position_of self.old) (position_of self.new)) }
+        ensures lost { OnErr result (LosesLine (unread S.left self.old) (unread S.left self.new)
+            (position_of self.old) (position_of self.new)) }
         ensures place { IfErr result (λ fault. IsFaultAt fault (position_of self.new)) }
         ensures late { has_newline (came self.old) ≡ true → source_of self.new ≡ source_of self.old }
         ensures spent { is_io result ≡ true → came self.new ≡ [] }
@@ -162,25 +172,32 @@ impl<'a, S: Source> LineReader<'a, S> {
     /// answers the same fault.
     pub fn next_line(&mut self, alloc: Global) -> Result<Option<Vec<u8>>, LineReadFault>
         ensures same { source_name self.new ≡ source_name self.old }
-        ensures line { IfOk result (λ o. IfSome o (λ line. TakesLine (unread S.left self.old) (unread S.left self.new) (position_of self.old) (position_of self.new) line.items)) }
+        ensures line { IfOk result (λ o.
+            IfSome o (λ line. TakesLine (unread S.left self.old) (unread S.left self.new) (position_of self.old)
+            (position_of self.new) line.items)) }
         ensures numbered { IfOk result (λ o. IfSome o (λ line. Passes
-            (λ xs ys. numbered_lines (newlines_taken self.old) xs ≡ (line_begun self.new, line.items) ∷ numbered_lines (newlines_taken self.new) ys)
+            (λ xs ys. numbered_lines (newlines_taken self.old) xs ≡ (line_begun self.new, line.items)
+            ∷ numbered_lines (newlines_taken self.new) ys)
             (unread S.left self.old) (unread S.left self.new))) }
-        ensures end { IfOk result (λ o. IsNone o → Passes (λ xs ys. (xs ≡ []) × (ys ≡ [])) (unread S.left self.old) (unread S.left self.new)) }
+        ensures end { IfOk result (λ o. IsNone o →
+            Passes (λ xs ys. (xs ≡ []) × (ys ≡ [])) (unread S.left self.old) (unread S.left self.new)) }
         ensures at_end { IfOk result (λ o. IsNone o → position_of self.new ≡ position_of self.old) }
 
         // A call that ends with a fault loses the beginning of a line, and each later call answers that fault.
-        ensures lost { OnErr result (LosesLine (unread S.left self.old) (unread S.left self.new) (position_of self.old) (position_of self.new)) }
+        ensures lost { OnErr result (LosesLine (unread S.left self.old) (unread S.left self.new)
+            (position_of self.old) (position_of self.new)) }
         ensures place { fault_of self.old ≡ None → IfErr result (λ fault. IsFaultAt fault (position_of self.new)) }
         ensures stays { fault_of self.new ≡ fault_in result }
-        ensures again { IfSome (fault_of self.old) (λ fault. (result ≡ Err fault) × (source_of self.new ≡ source_of self.old)) }
+        ensures again { IfSome (fault_of self.old) (λ fault. (result ≡ Err fault) ×
+            (source_of self.new ≡ source_of self.old)) }
 
         // Where a whole line has come, no read is made.
         ensures late { has_newline (came self.old) ≡ true → source_of self.new ≡ source_of self.old }
 
         // Where a read failed, every byte that came was taken.
         ensures spent { fault_of self.old ≡ None → is_io result ≡ true → came self.new ≡ [] }
-        ensures fails { fault_of self.old ≡ None → S.failed (source_of self.new) ≡ (S.failed (source_of self.old) || is_io result) }
+        ensures fails { fault_of self.old ≡ None →
+            S.failed (source_of self.new) ≡ (S.failed (source_of self.old) || is_io result) }
     {
         if let Some(fault) = self.fault {
             return Err(fault);

@@ -1,3 +1,4 @@
+-- Claimed: what contracts promise to a reader rests on these words.
 -- The entries of a batch.
 use Rattle.std.specs.Prelude.{List, map}
 use Rattle.meaning.specs.Entries.{EntryShape}

@@ -1,3 +1,4 @@
+-- Claimed: what contracts promise to a reader rests on these words.
 -- An engine as contracts see it.
 use Rattle.std.specs.Prelude.{◌≡◌, ℕ, List, Bool, Option, is_some, true, false, refl, slice_get}
 use Rattle.std.specs.Coded.{Coded, code_by, coded×, coded_ℕ, coded_list, coded_option}

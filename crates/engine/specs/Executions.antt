@@ -1,3 +1,4 @@
+-- Claimed: what contracts promise to a reader rests on these words.
 -- What executing a batch comes to.
 use Rattle.std.specs.Prelude.{◌≡◌, ◌+◌, ◌<◌, ◌^◌, [], length, map, true, Option, Some, None, ⊤}
 use Rattle.meaning.specs.Serial.{serial_end, serial_replies}

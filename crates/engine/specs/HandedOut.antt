@@ -1,3 +1,4 @@
+-- Of the code: invariants and steps; no promise rests on these words.
 -- Jobs that are with the workers.
 use Rattle.std.specs.Prelude.{◌≡◌, ◌≢◌, ℕ, ◌+◌, ◌-◌, true, Option, Some, slice_get}
 use Rattle.scheduler.specs.JobRuns.{JobOf}

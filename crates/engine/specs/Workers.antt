@@ -1,3 +1,4 @@
+-- Of the code: invariants and steps; no promise rests on these words.
 -- A worker's seat between two jobs.
 use Rattle.std.specs.Prelude.{◌≡◌}
 use Rattle.lanes.specs.Seats.{WorkerSeatOf, jobs_in}

@@ -15,7 +15,8 @@ use values::NoMemory;
 /// The event of a choice among those that are enabled, and of choice 0 where there is none; `None` exactly where all is done.
 fn chosen_event(scheduler: &Scheduler, choice: Option<&u64>) -> Result<Option<Event>, NoMemory>
     requires { KeepsItsJobs scheduler.now }
-    ensures event { IfOk result (λ event. event ≡ chosen (unwrap_or (option_copied choice.entry) 0) (events_at scheduler.now)) }
+    ensures event { IfOk result (λ event.
+        event ≡ chosen (unwrap_or (option_copied choice.entry) 0) (events_at scheduler.now)) }
     ensures enabled { IfOk result (IsChoiceAt scheduler.now) }
 {
     match choice {
@@ -30,7 +31,8 @@ fn make(scheduler: &mut Scheduler, event: Event) -> Result<(), NoMemory>
     requires enabled { can_make scheduler.old event ≡ true }
     ensures work { scheduler.new.work ≡ scheduler.old.work }
     ensures keeps { KeepsItsJobs scheduler.new }
-    ensures made { OnOk result (phases_of scheduler.new ≡ step scheduler.old.work.first (phases_of scheduler.old) event) }
+    ensures made { OnOk result (phases_of scheduler.new
+        ≡ step scheduler.old.work.first (phases_of scheduler.old) event) }
     ensures err { OnErr result (phases_of scheduler.new ≡ phases_of scheduler.old) }
 {
     match scheduler.step(event) {

@@ -27,7 +27,8 @@ pub(crate) fn begin(
     ensures start { IfOk result (λ scheduler. scheduler.work.start ≡ store.rows) }
     ensures unadmitted { IfOk result (λ scheduler. scheduler.slots ≡ []) }
     // The locks are coarsened, and find room, as the settings say.
-    ensures plans { IfOk result (λ scheduler. ArePlansOf settings.coarsen settings.arena scheduler.work.entries scheduler.work.plans) }
+    ensures plans { IfOk result (λ scheduler.
+        ArePlansOf settings.coarsen settings.arena scheduler.work.entries scheduler.work.plans) }
     ensures room { IfOk result (λ scheduler. scheduler.work.nodes ≡ settings.arena) }
     ensures back { IfErr result (λ back. back ≡ store) }
 {

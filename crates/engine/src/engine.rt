@@ -57,7 +57,13 @@ impl Model for Engine {
 
     ghost coded = { engine_code };
 
-    ghost view = { λ e. record { procs = e.procs; settings = e.settings; next = e.next; rows = rows_in e.stage; unfinished = unfinished_in e.stage } };
+    ghost view = { λ e. record {
+      procs = e.procs;
+      settings = e.settings;
+      next = e.next;
+      rows = rows_in e.stage;
+      unfinished = unfinished_in e.stage;
+    } };
 
     ghost invariant = { λ e. IsInOrder e.procs.tables e.next e.stage };
 }
@@ -81,7 +87,15 @@ impl Engine {
 
     /// An engine on the starting rows of a setup.
     pub fn new(alloc: Global, setup: Setup, settings: Settings) -> Result<Engine, NoMemory>
-        ensures { IfOk result (λ engine. engine ≡ record { procs = setup.procs; settings = settings; next = 0; rows = with_rows map_of.empty setup.rows.items; unfinished = None }) }
+        ensures { IfOk result (λ engine.
+            engine ≡ record {
+              procs = setup.procs;
+              settings = settings;
+              next = 0;
+              rows = with_rows map_of.empty
+                  setup.rows.items;
+              unfinished = None;
+            }) }
     {
         let Setup {
             catalogue,
@@ -157,7 +171,8 @@ impl Engine {
         ensures same { KeepsSetting self.old self.new }
         ensures taken { OnOk result (self.new ≡ record self.old { unfinished = Some (taken batch) }) }
         ensures busy { is_busy self.old ≡ true → result ≡ Err (ExecFault.Busy batch) }
-        ensures full { is_busy self.old ≡ false → 2 ^ 48 < self.old.next + length (items_of batch) → result ≡ Err (ExecFault.LogFull batch) }
+        ensures full { is_busy self.old ≡ false → 2 ^ 48 < self.old.next + length (items_of batch) →
+            result ≡ Err (ExecFault.LogFull batch) }
         ensures refused { IfErr result (IsRefusal self.old self.new batch) }
         ensures threadless { IfErr result (λ fault. ¬ IsSpawn fault) }
     {
@@ -238,7 +253,8 @@ impl Engine {
         ensures done { IfOk result (IsRunOf self.old self.new batch) }
         // While an earlier batch is unfinished the batch comes back, and so it does where the log would be too long.
         ensures busy { is_busy self.old ≡ true → result ≡ Err (ExecFault.Busy batch) }
-        ensures full { is_busy self.old ≡ false → 2 ^ 48 < self.old.next + length (items_of batch) → result ≡ Err (ExecFault.LogFull batch) }
+        ensures full { is_busy self.old ≡ false → 2 ^ 48 < self.old.next + length (items_of batch) →
+            result ≡ Err (ExecFault.LogFull batch) }
         // No other batch comes back. Where a thread is refused nothing has run. Where a thread or memory is refused the engine
         // holds the batch, and no job of it is out.
         ensures refused { IfErr result (IsRefusal self.old self.new batch) }
@@ -275,7 +291,8 @@ impl Engine {
         ensures same { KeepsSetting self.old self.new }
         ensures done { IfOk result (IsRunOf self.old self.new batch) }
         ensures busy { is_busy self.old ≡ true → result ≡ Err (ExecFault.Busy batch) }
-        ensures full { is_busy self.old ≡ false → 2 ^ 48 < self.old.next + length (items_of batch) → result ≡ Err (ExecFault.LogFull batch) }
+        ensures full { is_busy self.old ≡ false → 2 ^ 48 < self.old.next + length (items_of batch) →
+            result ≡ Err (ExecFault.LogFull batch) }
         ensures refused { IfErr result (IsRefusal self.old self.new batch) }
         // It starts no thread.
         ensures threadless { IfErr result (λ fault. ¬ IsSpawn fault) }

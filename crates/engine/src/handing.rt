@@ -41,7 +41,8 @@ fn hand_out(
     ensures work { scheduler.new.work ≡ scheduler.old.work }
     ensures lanes { AreInLanes scheduler.new seat.new }
     ensures settled { StaysSettled (phases_of scheduler.old) (phases_of scheduler.new) }
-    ensures more { IfOk result (λ more. jobs_in seat.new.jobs ≡ (if more then jobs_in seat.old.jobs + 1 else jobs_in seat.old.jobs)) }
+    ensures more { IfOk result (λ more.
+        jobs_in seat.new.jobs ≡ (if more then jobs_in seat.old.jobs + 1 else jobs_in seat.old.jobs)) }
     ensures err { OnErr result (seat.new ≡ seat.old) }
 {
     let Some(job) = scheduler.lend()? else {

@@ -103,11 +103,13 @@ pub(crate) fn run_on_workers<R: Threads + Wait + Sync, G: Gate>(
         thread::scope_env(),
         rt,
         move |scope| -> Run
-            requires { (seat.lanes ≡ lanes.now) × (count ≡ lanes.now.count) × (seat.jobs ≡ replicate count None) × NoneIsOut (phases_of scheduler) }
+            requires { (seat.lanes ≡ lanes.now) × (count ≡ lanes.now.count) × (seat.jobs ≡ replicate count None) ×
+                NoneIsOut (phases_of scheduler) }
             ensures work { result.scheduler.work ≡ scheduler.work }
             ensures settled { StaysSettled (phases_of scheduler) (phases_of result.scheduler) }
             ensures none_out { NoneIsOut (phases_of result.scheduler) }
-            ensures done { OnOk result.ended (is_done (log_of result.scheduler.work) (phases_of result.scheduler) ≡ true) }
+            ensures done { OnOk result.ended (is_done (log_of result.scheduler.work) (phases_of result.scheduler)
+                ≡ true) }
             ensures thread { result.ended ≡ Err Refusal.Thread → result.scheduler ≡ scheduler }
         {
             let mut seat = seat;

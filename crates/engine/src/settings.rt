@@ -36,7 +36,8 @@ impl Settings {
         coarsen: usize,
         arena: usize,
     ) -> Result<Settings, BadSetting>
-        ensures same { IfOk result (λ s. (s.workers ≡ workers) × (s.lanes ≡ lanes) × (s.coarsen ≡ coarsen) × (s.arena ≡ arena)) }
+        ensures same { IfOk result (λ s. (s.workers ≡ workers) × (s.lanes ≡ lanes) × (s.coarsen ≡ coarsen) ×
+            (s.arena ≡ arena)) }
         ensures accepted { IsOk result ↔ AreInRange workers lanes coarsen arena }
         ensures refused { IsErr result ↔ IsOneOutOfRange workers lanes coarsen arena }
     {

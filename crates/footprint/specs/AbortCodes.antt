@@ -1,3 +1,4 @@
+-- Claimed: what contracts promise to a reader rests on these words.
 -- The numbers of the abort codes.
 use Rattle.std.specs.Prelude.{ℕ}
 use Rattle.footprint.specs.declared.abort_code.AbortCode.{AbortCode}

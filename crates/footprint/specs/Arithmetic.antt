@@ -1,3 +1,4 @@
+-- Claimed: what contracts promise to a reader rests on these words.
 -- Operators on whole numbers in the signed 64-bit range.
 use Rattle.std.specs.Prelude.{◌≡◌, ◌<◌, ℤ, pos, negsuc, ◌^◌, ◌+ℤ◌, ◌-ℤ◌, ◌*ℤ◌, ◌≤ℤ◌, int_div, int_rem, unsigned_abs, nat_lt, Result, Ok, Err, Bool, if◌then◌else◌}
 use Rattle.std.specs.Ordering.{int_eq}

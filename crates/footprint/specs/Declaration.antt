@@ -1,3 +1,4 @@
+-- Claimed: what contracts promise to a reader rests on these words.
 -- The footprint that a procedure declares for its arguments, or the abort of the first fault.
 use Rattle.std.specs.Prelude.{ℕ, ℤ, pos, ◌+◌, nat_lt, List, [], ◌∷◌, Option, Some, None, Result, Ok, slice_get}
 use Rattle.std.specs.FinMap.{empty}

@@ -1,3 +1,4 @@
+-- Claimed: what contracts promise to a reader rests on these words.
 -- Resources and footprints of a catalogue.
 use Rattle.std.specs.Prelude.{◌≡◌, ◌<◌, ◌^◌, nat_lt, ⊤, true, List, length, Some, option_map, IsSome, slice_get}
 use Rattle.std.specs.FinMap.{get}

@@ -1,3 +1,4 @@
+-- Claimed: what contracts promise to a reader rests on these words.
 -- Rights, footprints, and what a footprint covers.
 use Rattle.std.specs.Prelude.{Bool, true, false, List, ◌∷◌, Option, Some, None}
 use Rattle.std.specs.List.{list_any}
@@ -21,12 +22,6 @@ abbrev pub greater : Option Right → Right → Right
 greater None right = right
 greater (Some Write) right = Write
 greater (Some Read) right = right
-
--- two rights clash if one of them is Write
-abbrev pub clash : Right → Right → Bool
-clash Read Read = false
-clash Read Write = true
-clash Write right = true
 
 -- a footprint maps resources to rights
 abbrev pub FootprintOf : Type 0

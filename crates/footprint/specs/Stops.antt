@@ -1,3 +1,4 @@
+-- Of the code: invariants and steps; no promise rests on these words.
 -- What a step of a declaration gives, and how it may stop.
 use Rattle.std.specs.Prelude.{◌≡◌, Result, Ok, Err, ⊤}
 use Rattle.footprint.specs.declared.abort_code.AbortCode.{AbortCode}

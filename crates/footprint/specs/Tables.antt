@@ -1,3 +1,4 @@
+-- Of the code: invariants and steps; no promise rests on these words.
 -- Entries of declared footprints whose tables are a catalogue's.
 use Rattle.std.specs.Prelude.{◌<◌, List, length, ⊤}
 use Rattle.values.specs.Shapes.{TableShape}

@@ -1,3 +1,4 @@
+-- Claimed: what contracts promise to a reader rests on these words.
 -- The tree of resources. The database is the root; its children are the tables, theirs the partitions, theirs the row names.
 -- (A lock hierarchy as in Gray, Lorie, Putzolu and Traiger, 1975; these four levels are this project's own.)
 use Rattle.std.specs.Prelude.{List, [], ◌∷◌, Option, Some, None, unwrap_or}

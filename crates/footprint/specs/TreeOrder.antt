@@ -1,3 +1,4 @@
+-- Claimed: what contracts promise to a reader rests on these words.
 -- Tree order.
 use Rattle.std.specs.Prelude.{◌≡◌, ℕ, ◌<◌, IfSome}
 use Rattle.std.specs.declared.cmp.Ordering.TheVariants.{Less, Equal}

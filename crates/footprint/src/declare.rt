@@ -141,9 +141,11 @@ pub fn declared(
     arguments: &[Value],
 ) -> Result<Result<Footprint, AbortCode>, NoMemory>
     requires { proc.now.tables ≡ catalogue.now }
-    ensures exact { IfOk result (λ declared. declared ≡ declared_footprint catalogue.now arguments.now (proc_syntax proc.now).footprint) }
+    ensures exact { IfOk result (λ declared.
+        declared ≡ declared_footprint catalogue.now arguments.now (proc_syntax proc.now).footprint) }
     // Each resource that it gives a right on is of the catalogue.
-    ensures of_catalogue { IfOk result (λ declared. IfOk declared (λ footprint. IsFootprintOf catalogue.now footprint)) }
+    ensures of_catalogue { IfOk result (λ declared.
+        IfOk declared (λ footprint. IsFootprintOf catalogue.now footprint)) }
 {
     match with_entries(alloc, catalogue, arguments, proc.footprint()) {
         Ok(footprint) => Ok(Ok(footprint)),

@@ -14,7 +14,8 @@ ghost use Rattle.footprint.specs.TreeOrder.{StandsInTreeOrder};
 /// same for arguments of the parameters' types, whatever number stands for it.
 #[tactic(auto, using(crate::proofs::StandIns::never_shows))]
 pub fn stand_in_never_shows()
-    ensures { (tables : List TableShape) (proc : ProcSyntax) (arguments : List Value) (other : ℤ) → ProcFits tables proc → map type_of arguments ≡ kinds_of proc.params
+    ensures { (tables : List TableShape) (proc : ProcSyntax) (arguments : List Value) (other : ℤ) →
+        ProcFits tables proc → map type_of arguments ≡ kinds_of proc.params
         → declared_with other tables arguments proc.footprint ≡ declared_footprint tables arguments proc.footprint }
 {}
 

@@ -1,3 +1,4 @@
+-- Claimed: what contracts promise to a reader rests on these words.
 -- What the rule says of every state of the lanes.
 use Rattle.std.specs.Prelude.{◌≡◌, ◌<◌, ℕ, true, length, Option, Some, None, slice_get, slice_index_or}
 use mathlib.Core.Option.{some}

@@ -1,3 +1,4 @@
+-- Claimed: what contracts promise to a reader rests on these words.
 -- The rule of the lanes: what holds of the words, the slots and all seats' views between any two steps.
 -- Lane i has the word i and the slot i. The phase of a lane says what its word is, where its slot is and what lies there.
 use Rattle.std.specs.Prelude.{◌≡◌, ◌<◌, ◌≤◌, ℕ, true, ⊤, List, length, Option, Some, None, slice_get, slice_index_or}

@@ -1,3 +1,4 @@
+-- Claimed: what contracts promise to a reader rests on these words.
 -- What a clause says of lanes and of their seats.
 use Rattle.std.specs.Prelude.{◌≡◌, ℕ, ◌<◌, true, ⊤, List, [], length, Option, slice_index_or}
 use Rattle.atomic_table.specs.declared.shared.Seat.{Seat}

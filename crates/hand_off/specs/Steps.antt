@@ -1,3 +1,4 @@
+-- Of the code: invariants and steps; no promise rests on these words.
 -- What each of the six kinds of step tells the seat that makes it: of the word found, and of the seat before and after.
 use Rattle.std.specs.Prelude.{◌≡◌, ◌≢◌, ℕ, List, ◌∷◌, Option, Some, None, slice_index_or}
 use Rattle.atomic_table.specs.Table.{Me, Step, rest}

@@ -1,3 +1,4 @@
+-- Claimed: what contracts promise to a reader rests on these words.
 -- What a seat knows, and how the steps change it.
 use Rattle.std.specs.Prelude.{ℕ, true, false, List, [], ◌∷◌, ◌++◌, length, replicate, None, Some, slice_set}
 use Rattle.hand_off.specs.declared.state.LaneState.{LaneState}

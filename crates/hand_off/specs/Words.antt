@@ -1,3 +1,4 @@
+-- Claimed: what contracts promise to a reader rests on these words.
 -- The word of a lane says what the lane is doing.
 use Rattle.std.specs.Prelude.{ℕ}
 use Rattle.hand_off.specs.declared.state.LaneState.{LaneState}

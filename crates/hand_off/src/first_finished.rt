@@ -17,9 +17,12 @@ impl<J, D, W: Work<J, D>, A: Allocator> Lanes<J, D, W, A> {
     pub fn collect(&self, seat: &mut LaneSeat<J, D>) -> Option<(usize, D)>
         requires { Schedules self.now seat.old }
         ensures seat { Schedules self.now seat.new }
-        ensures some { IfSome result (λ r. (r.0 < self.now.count) × ((job : J) × (slice_index_or seat.old.me.0.known r.0 known.Idle ≡ known.Put job) × W.comes_of job r.1)) }
-        ensures looked { IfSome result (λ r. (notes : List Note) × Misses Finished r.0 seat.old.me.0.notes notes × (seat.new.me ≡ (collecting (looked seat.old.me.0 notes) r.0, []))) }
-        ensures none { IfNone result (Misses Finished self.now.count seat.old.me.0.notes seat.new.me.0.notes × (seat.new.me ≡ (looked seat.old.me.0 seat.new.me.0.notes, []))) }
+        ensures some { IfSome result (λ r. (r.0 < self.now.count) ×
+            ((job : J) × (slice_index_or seat.old.me.0.known r.0 known.Idle ≡ known.Put job) × W.comes_of job r.1)) }
+        ensures looked { IfSome result (λ r. (notes : List Note) × Misses Finished r.0 seat.old.me.0.notes notes ×
+            (seat.new.me ≡ (collecting (looked seat.old.me.0 notes) r.0, []))) }
+        ensures none { IfNone result (Misses Finished self.now.count seat.old.me.0.notes seat.new.me.0.notes ×
+            (seat.new.me ≡ (looked seat.old.me.0 seat.new.me.0.notes, []))) }
     {
         for lane in 0..self.count {
             if let Some(done) = self.collect_from(seat, lane) {

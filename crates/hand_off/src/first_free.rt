@@ -14,9 +14,13 @@ impl<J, D, W: Work<J, D>, A: Allocator> Lanes<J, D, W, A> {
     pub fn put(&self, seat: &mut LaneSeat<J, D>, job: J) -> Result<usize, J>
         requires { Schedules self.now seat.old }
         ensures seat { Schedules self.now seat.new }
-        ensures ok { IfOk result (λ lane. (lane < self.now.count) × (slice_index_or seat.old.me.0.known lane known.Idle ≡ known.Idle) × (seat.new.me ≡ (putting seat.old.me.0 lane job, []))) }
-        ensures lowest { IfOk result (λ lane. (k : ℕ) → k < lane → IsPut (slice_index_or seat.old.me.0.known k known.Idle)) }
-        ensures err { IfErr result (λ back. (back ≡ job) × (seat.new.me ≡ seat.old.me) × ((k : ℕ) → k < self.now.count → IsPut (slice_index_or seat.old.me.0.known k known.Idle))) }
+        ensures ok { IfOk result (λ lane. (lane < self.now.count) ×
+            (slice_index_or seat.old.me.0.known lane known.Idle ≡ known.Idle) ×
+            (seat.new.me ≡ (putting seat.old.me.0 lane job, []))) }
+        ensures lowest { IfOk result (λ lane. (k : ℕ) → k < lane →
+            IsPut (slice_index_or seat.old.me.0.known k known.Idle)) }
+        ensures err { IfErr result (λ back. (back ≡ job) × (seat.new.me ≡ seat.old.me) ×
+            ((k : ℕ) → k < self.now.count → IsPut (slice_index_or seat.old.me.0.known k known.Idle))) }
     {
         let mut job = job;
         for lane in 0..self.count {

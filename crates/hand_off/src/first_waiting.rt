@@ -16,9 +16,13 @@ impl<J, D, W: Work<J, D>, A: Allocator> Lanes<J, D, W, A> {
     pub fn claim(&self, seat: &mut LaneSeat<J, D>) -> Option<(usize, J)>
         requires { Works self.now seat.old }
         ensures seat { Works self.now seat.new }
-        ensures some { IfSome result (λ r. (r.0 < self.now.count) × (slice_index_or seat.old.me.0.claimed r.0 None ≡ None)) }
-        ensures looked { IfSome result (λ r. (notes : List Note) × (put : ℕ) × Misses Waiting r.0 seat.old.me.0.notes notes × (seat.new.me ≡ (claiming (looked seat.old.me.0 notes) r.0 put r.1, (r.0, None) ∷ seat.old.me.1))) }
-        ensures none { IfNone result (Misses Waiting self.now.count seat.old.me.0.notes seat.new.me.0.notes × (seat.new.me ≡ (looked seat.old.me.0 seat.new.me.0.notes, seat.old.me.1))) }
+        ensures some { IfSome result (λ r. (r.0 < self.now.count) ×
+            (slice_index_or seat.old.me.0.claimed r.0 None ≡ None)) }
+        ensures looked { IfSome result (λ r. (notes : List Note) × (put : ℕ) ×
+            Misses Waiting r.0 seat.old.me.0.notes notes ×
+            (seat.new.me ≡ (claiming (looked seat.old.me.0 notes) r.0 put r.1, (r.0, None) ∷ seat.old.me.1))) }
+        ensures none { IfNone result (Misses Waiting self.now.count seat.old.me.0.notes seat.new.me.0.notes ×
+            (seat.new.me ≡ (looked seat.old.me.0 seat.new.me.0.notes, seat.old.me.1))) }
     {
         for lane in 0..self.count {
             if let Some(job) = self.claim_from(seat, lane) {

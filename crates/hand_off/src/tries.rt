@@ -41,8 +41,10 @@ impl<J, D, W: Work<J, D>, A: Allocator> Lanes<J, D, W, A> {
     pub fn put_into(&self, seat: &mut LaneSeat<J, D>, lane: usize, job: J) -> Result<(), J>
         requires { Schedules self.now seat.old × (lane < self.now.count) }
         ensures seat { Schedules self.now seat.new }
-        ensures ok { IfOk result (λ _. (slice_index_or seat.old.me.0.known lane known.Idle ≡ known.Idle) × (seat.new.me ≡ (putting seat.old.me.0 lane job, []))) }
-        ensures err { IfErr result (λ back. (back ≡ job) × (seat.new.me ≡ seat.old.me) × IsPut (slice_index_or seat.old.me.0.known lane known.Idle)) }
+        ensures ok { IfOk result (λ _. (slice_index_or seat.old.me.0.known lane known.Idle ≡ known.Idle) ×
+            (seat.new.me ≡ (putting seat.old.me.0 lane job, []))) }
+        ensures err { IfErr result (λ back. (back ≡ job) × (seat.new.me ≡ seat.old.me) ×
+            IsPut (slice_index_or seat.old.me.0.known lane known.Idle)) }
     {
         let found = self
             .table
@@ -64,8 +66,11 @@ impl<J, D, W: Work<J, D>, A: Allocator> Lanes<J, D, W, A> {
     pub fn collect_from(&self, seat: &mut LaneSeat<J, D>, lane: usize) -> Option<D>
         requires { Schedules self.now seat.old × (lane < self.now.count) }
         ensures seat { Schedules self.now seat.new }
-        ensures some { IfSome result (λ done. (job : J) × (slice_index_or seat.old.me.0.known lane known.Idle ≡ known.Put job) × W.comes_of job done × (seat.new.me ≡ (collecting seat.old.me.0 lane, []))) }
-        ensures none { IfNone result ((found : LaneState) × (found ≢ Finished) × (seat.new.me ≡ (noting seat.old.me.0 lane found, []))) }
+        ensures some { IfSome result (λ done. (job : J) ×
+            (slice_index_or seat.old.me.0.known lane known.Idle ≡ known.Put job) × W.comes_of job done ×
+            (seat.new.me ≡ (collecting seat.old.me.0 lane, []))) }
+        ensures none { IfNone result ((found : LaneState) × (found ≢ Finished) ×
+            (seat.new.me ≡ (noting seat.old.me.0 lane found, []))) }
     {
         let found = self
             .table
@@ -87,8 +92,10 @@ impl<J, D, W: Work<J, D>, A: Allocator> Lanes<J, D, W, A> {
     pub fn claim_from(&self, seat: &mut LaneSeat<J, D>, lane: usize) -> Option<J>
         requires { Works self.now seat.old × (lane < self.now.count) }
         ensures seat { Works self.now seat.new }
-        ensures some { IfSome result (λ job. (put : ℕ) × (slice_index_or seat.old.me.0.claimed lane None ≡ None) × (seat.new.me ≡ (claiming seat.old.me.0 lane put job, (lane, None) ∷ seat.old.me.1))) }
-        ensures none { IfNone result ((found : LaneState) × (found ≢ Waiting) × (seat.new.me ≡ (noting seat.old.me.0 lane found, seat.old.me.1))) }
+        ensures some { IfSome result (λ job. (put : ℕ) × (slice_index_or seat.old.me.0.claimed lane None ≡ None) ×
+            (seat.new.me ≡ (claiming seat.old.me.0 lane put job, (lane, None) ∷ seat.old.me.1))) }
+        ensures none { IfNone result ((found : LaneState) × (found ≢ Waiting) ×
+            (seat.new.me ≡ (noting seat.old.me.0 lane found, seat.old.me.1))) }
     {
         let found = self
             .table

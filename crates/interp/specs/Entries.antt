@@ -1,3 +1,4 @@
+-- Claimed: what contracts promise to a reader rests on these words.
 -- Entries as contracts see them, and the shapes whose meaning is defined.
 use Rattle.requests.specs.Requests.{Call}
 use Rattle.proclang_types.specs.Views.{stmts_view}

@@ -1,3 +1,4 @@
+-- Of the code: invariants and steps; no promise rests on these words.
 -- Going through the numbers of a loop one by one.
 use Rattle.std.specs.Prelude.{ℤ, pos, ◌+ℤ◌, int_lt, int_le, List, [], ◌∷◌, Option, None, Some, if◌then◌else◌}
 use Rattle.meaning.specs.Turns.{numbers_between}

@@ -34,7 +34,9 @@ fn effect<V: RowView>(
     statement: &Stmt,
 ) -> Result<(), Stop>
     requires { ShowsCovered permit.now (V.tables view.now) (V.shows view.now) }
-    ensures gives { Gives (λ _. tt) (seen (V.rows view.now) space.new) result (effect nothing (gate_of permit.now) (stmt_view statement.now) (seen (V.rows view.now) space.old)) }
+    ensures gives { Gives (λ _.
+        tt) (seen (V.rows view.now) space.new) result (effect nothing (gate_of permit.now) (stmt_view statement.now)
+        (seen (V.rows view.now) space.old)) }
     ensures kept { OnOk result (KeepsCovered permit.now space.old space.new) }
 {
     match statement {
@@ -97,7 +99,10 @@ fn scoped_block<V: RowView>(
     statements: &Vec<Stmt>,
 ) -> Result<(), Stop>
     requires { ShowsCovered permit.now (V.tables view.now) (V.shows view.now) }
-    ensures gives { Gives (λ _. tt) (seen (V.rows view.now) space.new) result (scoped (in_order nothing (gate_of permit.now) (block_of (stmts_view statements.now.items))) (seen (V.rows view.now) space.old)) }
+    ensures gives { Gives (λ _.
+        tt) (seen (V.rows view.now) space.new) result
+        (scoped (in_order nothing (gate_of permit.now) (block_of (stmts_view statements.now.items)))
+        (seen (V.rows view.now) space.old)) }
     ensures kept { OnOk result (KeepsCovered permit.now space.old space.new) }
 {
     let count = space.variables.len();
@@ -119,7 +124,10 @@ fn for_each_number<V: RowView>(
     statements: &Vec<Stmt>,
 ) -> Result<(), Stop>
     requires { ShowsCovered permit.now (V.tables view.now) (V.shows view.now) }
-    ensures gives { Gives (λ _. tt) (seen (V.rows view.now) space.new) result (turns (in_order nothing (gate_of permit.now) (block_of (stmts_view statements.now.items))) (numbers_between low high) (seen (V.rows view.now) space.old)) }
+    ensures gives { Gives (λ _.
+        tt) (seen (V.rows view.now) space.new) result
+        (turns (in_order nothing (gate_of permit.now) (block_of (stmts_view statements.now.items)))
+        (numbers_between low high) (seen (V.rows view.now) space.old)) }
     ensures kept { OnOk result (KeepsCovered permit.now space.old space.new) }
 {
     let mut next = first_number(low, high);
@@ -141,7 +149,10 @@ fn for_each_key<V: RowView>(
     keys: &Vec<Key>,
 ) -> Result<(), Stop>
     requires { ShowsCovered permit.now (V.tables view.now) (V.shows view.now) }
-    ensures gives { Gives (λ _. tt) (seen (V.rows view.now) space.new) result (turns (in_order nothing (gate_of permit.now) (block_of (stmts_view statements.now.items))) (map pos keys.now.items) (seen (V.rows view.now) space.old)) }
+    ensures gives { Gives (λ _.
+        tt) (seen (V.rows view.now) space.new) result
+        (turns (in_order nothing (gate_of permit.now) (block_of (stmts_view statements.now.items)))
+        (map pos keys.now.items) (seen (V.rows view.now) space.old)) }
     ensures kept { OnOk result (KeepsCovered permit.now space.old space.new) }
 {
     for key in keys {
@@ -161,7 +172,10 @@ fn turn<V: RowView>(
     statements: &Vec<Stmt>,
 ) -> Result<(), Stop>
     requires { ShowsCovered permit.now (V.tables view.now) (V.shows view.now) }
-    ensures gives { Gives (λ _. tt) (seen (V.rows view.now) space.new) result (turn_of (in_order nothing (gate_of permit.now) (block_of (stmts_view statements.now.items))) number (seen (V.rows view.now) space.old)) }
+    ensures gives { Gives (λ _.
+        tt) (seen (V.rows view.now) space.new) result
+        (turn_of (in_order nothing (gate_of permit.now) (block_of (stmts_view statements.now.items))) number
+        (seen (V.rows view.now) space.old)) }
     ensures kept { OnOk result (KeepsCovered permit.now space.old space.new) }
 {
     space.take_step()?;
@@ -182,7 +196,10 @@ pub(crate) fn block<V: RowView>(
     statements: &Vec<Stmt>,
 ) -> Result<(), Stop>
     requires { ShowsCovered permit.now (V.tables view.now) (V.shows view.now) }
-    ensures gives { Gives (λ _. tt) (seen (V.rows view.now) space.new) result (in_order nothing (gate_of permit.now) (block_of (stmts_view statements.now.items)) (seen (V.rows view.now) space.old)) }
+    ensures gives { Gives (λ _.
+        tt) (seen (V.rows view.now) space.new) result
+        (in_order nothing (gate_of permit.now) (block_of (stmts_view statements.now.items))
+        (seen (V.rows view.now) space.old)) }
     ensures kept { OnOk result (KeepsCovered permit.now space.old space.new) }
 {
     for statement in statements {

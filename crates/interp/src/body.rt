@@ -36,7 +36,8 @@ pub(crate) fn run_body<V: RowView>(
     body: &Vec<Stmt>,
 ) -> Result<Effect, NoMemory>
     requires { ShowsCovered permit.now (V.tables view.now) (V.shows view.now) }
-    ensures gives { IfOk result (λ effect. run_of nothing (gate_of permit.now) (stmts_view body.now.items) arguments.now (V.rows view.now)
+    ensures gives { IfOk result (λ effect.
+        run_of nothing (gate_of permit.now) (stmts_view body.now.items) arguments.now (V.rows view.now)
         ≡ (as_reply effect.outcome, applied effect.writes.entries (V.rows view.now))) }
     ensures covered { IfOk result (λ effect. OnlyCovered permit.now effect.writes.entries) }
     ensures unchanged { IfOk result (λ effect. is_commit effect.outcome ≡ false → effect.writes.entries ≡ []) }

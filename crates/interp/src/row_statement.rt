@@ -27,7 +27,9 @@ pub(crate) fn insert_values<V: RowView>(
     values: &Vec<ValueExpr>,
 ) -> Result<(), Stop>
     requires { ShowsCovered permit.now (V.tables view.now) (V.shows view.now) }
-    ensures gives { Gives (λ _. tt) (seen (V.rows view.now) space.new) result (insert_values nothing (gate_of permit.now) table (int_view key.now) (map value_view values.now.items) (seen (V.rows view.now) space.old)) }
+    ensures gives { Gives (λ _.
+        tt) (seen (V.rows view.now) space.new) result (insert_values nothing (gate_of permit.now) table
+        (int_view key.now) (map value_view values.now.items) (seen (V.rows view.now) space.old)) }
     ensures kept { OnOk result (KeepsCovered permit.now space.old space.new) }
 {
     let number = evaluate_int(view, permit, space, key)?;
@@ -49,7 +51,9 @@ pub(crate) fn delete_key<V: RowView>(
     key: &IntExpr,
 ) -> Result<(), Stop>
     requires { ShowsCovered permit.now (V.tables view.now) (V.shows view.now) }
-    ensures gives { Gives (λ _. tt) (seen (V.rows view.now) space.new) result (delete_key nothing (gate_of permit.now) table (int_view key.now) (seen (V.rows view.now) space.old)) }
+    ensures gives { Gives (λ _.
+        tt) (seen (V.rows view.now) space.new) result
+        (delete_key nothing (gate_of permit.now) table (int_view key.now) (seen (V.rows view.now) space.old)) }
     ensures kept { OnOk result (KeepsCovered permit.now space.old space.new) }
 {
     let number = evaluate_int(view, permit, space, key)?;

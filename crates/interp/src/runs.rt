@@ -30,7 +30,9 @@ fn run_here<V: RowView>(
     requires tables { entry.now.request.proc.tables ≡ catalogue.now }
     requires view { V.tables view.now ≡ catalogue.now }
     requires shows { ShowsTouched (entry_shape entry.now) (V.shows view.now) }
-    ensures gives { IfOk result (λ effect. meaning (entry_shape entry.now) (V.rows view.now) ≡ (as_reply effect.outcome, applied effect.writes.entries (V.rows view.now))) }
+    ensures gives { IfOk result (λ effect.
+        meaning (entry_shape entry.now) (V.rows view.now)
+        ≡ (as_reply effect.outcome, applied effect.writes.entries (V.rows view.now))) }
     ensures covered { IfOk result (λ effect. OnlyTouched (entry_shape entry.now) effect.writes.entries) }
     ensures unchanged { IfOk result (λ effect. is_commit effect.outcome ≡ false → effect.writes.entries ≡ []) }
 {
@@ -73,7 +75,8 @@ pub fn run<V: RowView>(
     // Without a commit there is none.
     ensures unchanged { IfOk result (λ effect. is_commit effect.outcome ≡ false → effect.writes.entries ≡ []) }
     // What stands for a variable or a column that is not there makes no difference, on rows of the columns' types.
-    ensures stand_in { (db : Database) → HasTypes entry.now.request.proc.tables db → StandInNeverShows (entry_shape entry.now) db }
+    ensures stand_in { (db : Database) → HasTypes entry.now.request.proc.tables db →
+        StandInNeverShows (entry_shape entry.now) db }
 {
     stays_in_footprint();
     stand_in_never_shows();

@@ -38,7 +38,9 @@ pub(crate) fn assign_value<V: RowView>(
     value: &ValueExpr,
 ) -> Result<(), Stop>
     requires { ShowsCovered permit.now (V.tables view.now) (V.shows view.now) }
-    ensures gives { Gives (λ _. tt) (seen (V.rows view.now) space.new) result (assign_value nothing (gate_of permit.now) variable (value_view value.now) (seen (V.rows view.now) space.old)) }
+    ensures gives { Gives (λ _.
+        tt) (seen (V.rows view.now) space.new) result (assign_value nothing (gate_of permit.now) variable
+        (value_view value.now) (seen (V.rows view.now) space.old)) }
     ensures kept { OnOk result (KeepsCovered permit.now space.old space.new) }
 {
     let value = evaluate(alloc, view, permit, space, value)?;
@@ -57,7 +59,9 @@ pub(crate) fn get_column<V: RowView>(
     column: usize,
 ) -> Result<(), Stop>
     requires { ShowsCovered permit.now (V.tables view.now) (V.shows view.now) }
-    ensures gives { Gives (λ _. tt) (seen (V.rows view.now) space.new) result (get_column nothing (gate_of permit.now) variable table (int_view key.now) column (seen (V.rows view.now) space.old)) }
+    ensures gives { Gives (λ _.
+        tt) (seen (V.rows view.now) space.new) result (get_column nothing (gate_of permit.now) variable table
+        (int_view key.now) column (seen (V.rows view.now) space.old)) }
     ensures kept { OnOk result (KeepsCovered permit.now space.old space.new) }
 {
     let number = evaluate_int(view, permit, space, key)?;
@@ -80,7 +84,10 @@ pub(crate) fn put_column<V: RowView>(
     value: &ValueExpr,
 ) -> Result<(), Stop>
     requires { ShowsCovered permit.now (V.tables view.now) (V.shows view.now) }
-    ensures gives { Gives (λ _. tt) (seen (V.rows view.now) space.new) result (put_column nothing (gate_of permit.now) table (int_view key.now) column (value_view value.now) (seen (V.rows view.now) space.old)) }
+    ensures gives { Gives (λ _.
+        tt) (seen (V.rows view.now) space.new) result
+        (put_column nothing (gate_of permit.now) table (int_view key.now) column (value_view value.now)
+        (seen (V.rows view.now) space.old)) }
     ensures kept { OnOk result (KeepsCovered permit.now space.old space.new) }
 {
     let number = evaluate_int(view, permit, space, key)?;
@@ -101,7 +108,10 @@ pub(crate) fn reply_with<V: RowView>(
     expressions: &Vec<ValueExpr>,
 ) -> Result<(), Stop>
     requires { ShowsCovered permit.now (V.tables view.now) (V.shows view.now) }
-    ensures gives { Gives (λ _. tt) (seen (V.rows view.now) space.new) result (reply_with nothing (gate_of permit.now) (map value_view expressions.now.items) (seen (V.rows view.now) space.old)) }
+    ensures gives { Gives (λ _.
+        tt) (seen (V.rows view.now) space.new) result
+        (reply_with nothing (gate_of permit.now) (map value_view expressions.now.items)
+        (seen (V.rows view.now) space.old)) }
     ensures kept { OnOk result (KeepsCovered permit.now space.old space.new) }
 {
     let values = evaluate_all(alloc, view, permit, space, expressions)?;

@@ -1,3 +1,4 @@
+-- Claimed: what contracts promise to a reader rests on these words.
 -- Scans: the rows of a partition by ascending key.
 use Rattle.std.specs.Prelude.{◌≡◌, ℕ, Bool, true, ◌&&◌, nat_lt, List, Option, None, Some}
 use Rattle.std.specs.FinMap.{get}

@@ -1,3 +1,4 @@
+-- Claimed: what contracts promise to a reader rests on these words.
 -- The state that a workspace stands for.
 use Rattle.std.specs.Prelude.{ℕ, take}
 use Rattle.values.specs.Database.{Database}

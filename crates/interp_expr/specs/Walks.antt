@@ -1,3 +1,4 @@
+-- Of the code: invariants and steps; no promise rests on these words.
 -- A walk over the rows of a partition: the view's rows that were not written over, and the own ones, together by ascending key.
 use Rattle.std.specs.Prelude.{◌≡◌, ℕ, ℤ, pos, ◌+◌, Bool, true, false, cond, not, ◌&&◌, ◌==◌, nat_lt, Option, None, Some, List, option_map, slice_get}
 use Rattle.std.specs.Option.{is_some}

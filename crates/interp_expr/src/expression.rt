@@ -30,7 +30,9 @@ pub fn evaluate_int<V: RowView>(
     expression: &IntExpr,
 ) -> Result<i64, Stop>
     requires { ShowsCovered permit.now (V.tables view.now) (V.shows view.now) }
-    ensures gives { Gives (λ z. z) (seen (V.rows view.now) space.new) result (int_of nothing (gate_of permit.now) (int_view expression.now) (seen (V.rows view.now) space.old)) }
+    ensures gives { Gives (λ z.
+        z) (seen (V.rows view.now) space.new) result (int_of nothing (gate_of permit.now) (int_view expression.now)
+        (seen (V.rows view.now) space.old)) }
     ensures kept { OnOk result (KeepsCovered permit.now space.old space.new) }
 {
     match expression {
@@ -63,7 +65,8 @@ pub fn evaluate_int<V: RowView>(
 
 /// The value of a text expression.
 pub(crate) fn text_of<'a>(space: &'a Workspace, expression: &'a TextExpr) -> &'a str
-    ensures { (db : Database) (gate : Gate) → text_of nothing gate (text_view expression.now) (seen db space.now) ≡ (Ok result.now, seen db space.now) }
+    ensures { (db : Database) (gate : Gate) → text_of nothing gate (text_view expression.now) (seen db space.now)
+        ≡ (Ok result.now, seen db space.now) }
 {
     match expression {
         TextExpr::Literal(text) => text.as_str(),
@@ -80,7 +83,9 @@ pub fn evaluate<V: RowView>(
     expression: &ValueExpr,
 ) -> Result<Value, Stop>
     requires { ShowsCovered permit.now (V.tables view.now) (V.shows view.now) }
-    ensures gives { Gives (λ v. v) (seen (V.rows view.now) space.new) result (value_of nothing (gate_of permit.now) (value_view expression.now) (seen (V.rows view.now) space.old)) }
+    ensures gives { Gives (λ v.
+        v) (seen (V.rows view.now) space.new) result
+        (value_of nothing (gate_of permit.now) (value_view expression.now) (seen (V.rows view.now) space.old)) }
     ensures kept { OnOk result (KeepsCovered permit.now space.old space.new) }
 {
     match expression {
@@ -104,7 +109,10 @@ pub fn evaluate_all<V: RowView>(
     expressions: &Vec<ValueExpr>,
 ) -> Result<Vec<Value>, Stop>
     requires { ShowsCovered permit.now (V.tables view.now) (V.shows view.now) }
-    ensures gives { Gives (λ vs. vs.items) (seen (V.rows view.now) space.new) result (values_of nothing (gate_of permit.now) (map value_view expressions.now.items) (seen (V.rows view.now) space.old)) }
+    ensures gives { Gives (λ vs.
+        vs.items) (seen (V.rows view.now) space.new) result
+        (values_of nothing (gate_of permit.now) (map value_view expressions.now.items)
+        (seen (V.rows view.now) space.old)) }
     ensures kept { OnOk result (KeepsCovered permit.now space.old space.new) }
 {
     let mut values = Vec::new(alloc);

@@ -32,7 +32,8 @@ fn key_of(number: i64) -> Result<Key, Stop>
 /// The name of the row with the key of that number: the key is tested, and then the right to the row.
 #[tactic(auto, unfolding(meaning::specs::Runs::and_then), using(crate::proofs::Covered::covers_read))]
 pub fn access(permit: &Permit, right: Right, table: TableNo, number: i64) -> Result<RowName, Stop>
-    ensures name { (state : State) → Gives (λ name. name) state result (accessed (gate_of permit.now) right table number state) }
+    ensures name { (state : State) →
+        Gives (λ name. name) state result (accessed (gate_of permit.now) right table number state) }
     ensures right { IfOk result (λ name. permits permit.now name right ≡ true) }
     ensures read { IfOk result (λ name. permits permit.now name Read ≡ true) }
 {
@@ -58,7 +59,8 @@ fn part_numbered(catalogue: &Catalogue, table: TableNo, number: i64) -> Option<u
 
 /// The partition with a number: the number is tested, and then the right to read the partition.
 pub fn access_part(permit: &Permit, table: TableNo, number: i64) -> Result<u32, Stop>
-    ensures part { (state : State) → Gives (λ part. part) state result (part_accessed (gate_of permit.now) table number state) }
+    ensures part { (state : State) →
+        Gives (λ part. part) state result (part_accessed (gate_of permit.now) table number state) }
     ensures read { IfOk result (λ part. permits_part permit.now table part ≡ true) }
 {
     let Some(part) = part_numbered(permit.catalogue, table, number) else {
@@ -97,7 +99,10 @@ pub fn present_row<'a, V: RowView>(
 ) -> Result<&'a Row, Stop>
     requires shows { ShowsCovered permit.now (V.tables view.now) (V.shows view.now) }
     requires covered { permits permit.now name.now Read ≡ true }
-    ensures { Gives (λ row. row.now) (seen (V.rows view.now) space.now) result (present (map.get (applied space.now.writes.entries (V.rows view.now)) name.now) (seen (V.rows view.now) space.now)) }
+    ensures { Gives (λ row.
+        row.now) (seen (V.rows view.now) space.now) result
+        (present (map.get (applied space.now.writes.entries (V.rows view.now)) name.now)
+        (seen (V.rows view.now) space.now)) }
 {
     match row_seen(view, permit, space, name) {
         Some(row) => Ok(row),

@@ -33,7 +33,8 @@ fn count_rows<V: RowView>(
 ) -> u64
     requires shows { ShowsCovered permit.now (V.tables view.now) (V.shows view.now) }
     requires covered { permits_part permit.now table part ≡ true }
-    ensures { result ≡ map.len (part_rows permit.now.catalogue.now table part (applied space.now.writes.entries (V.rows view.now))) }
+    ensures { result ≡ map.len
+        (part_rows permit.now.catalogue.now table part (applied space.now.writes.entries (V.rows view.now))) }
 {
     let mut count = 0u64;
     let mut walk = Walk::start(view, permit, space, table, part);
@@ -53,7 +54,10 @@ pub(crate) fn count_in<V: RowView>(
 ) -> Result<i64, Stop>
     requires shows { ShowsCovered permit.now (V.tables view.now) (V.shows view.now) }
     requires covered { permits_part permit.now table part ≡ true }
-    ensures { (state : State) → Gives (λ z. z) state result (in_range (pos (map.len (part_rows permit.now.catalogue.now table part (applied space.now.writes.entries (V.rows view.now))))) state) }
+    ensures { (state : State) →
+        Gives (λ z. z) state result
+        (in_range (pos (map.len
+        (part_rows permit.now.catalogue.now table part (applied space.now.writes.entries (V.rows view.now))))) state) }
 {
     match i64::try_from(count_rows(view, permit, space, table, part)) {
         Ok(number) => Ok(number),
@@ -73,7 +77,9 @@ pub fn keys_in<V: RowView>(
 ) -> Result<Vec<Key>, NoMemory>
     requires shows { ShowsCovered permit.now (V.tables view.now) (V.shows view.now) }
     requires covered { permits_part permit.now table part ≡ true }
-    ensures { IfOk result (λ keys. keys.items ≡ keys_of (map.entries (part_rows permit.now.catalogue.now table part (applied space.now.writes.entries (V.rows view.now))))) }
+    ensures { IfOk result (λ keys.
+        keys.items ≡ keys_of (map.entries
+        (part_rows permit.now.catalogue.now table part (applied space.now.writes.entries (V.rows view.now))))) }
 {
     let mut keys = Vec::new(alloc);
     let mut walk = Walk::start(view, permit, space, table, part);
@@ -128,7 +134,9 @@ fn total_of<V: RowView>(
 ) -> i128
     requires shows { ShowsCovered permit.now (V.tables view.now) (V.shows view.now) }
     requires covered { permits_part permit.now table part ≡ true }
-    ensures { result ≡ total (pos 0) column (map.entries (part_rows permit.now.catalogue.now table part (applied space.now.writes.entries (V.rows view.now)))) }
+    ensures { result ≡ total (pos 0) column
+        (map.entries (part_rows permit.now.catalogue.now table part
+        (applied space.now.writes.entries (V.rows view.now)))) }
 {
     let mut sum = 0i128;
     let mut walk = Walk::start(view, permit, space, table, part);
@@ -151,7 +159,11 @@ pub(crate) fn total_in<V: RowView>(
 ) -> Result<i64, Stop>
     requires shows { ShowsCovered permit.now (V.tables view.now) (V.shows view.now) }
     requires covered { permits_part permit.now table part ≡ true }
-    ensures { (state : State) → Gives (λ z. z) state result (in_range (total (pos 0) column (map.entries (part_rows permit.now.catalogue.now table part (applied space.now.writes.entries (V.rows view.now))))) state) }
+    ensures { (state : State) →
+        Gives (λ z. z) state result
+        (in_range (total (pos 0) column
+        (map.entries (part_rows permit.now.catalogue.now table part
+        (applied space.now.writes.entries (V.rows view.now))))) state) }
 {
     match i64::try_from(total_of(view, permit, space, table, part, column)) {
         Ok(number) => Ok(number),

@@ -47,7 +47,9 @@ pub fn evaluate_bool<V: RowView>(
     expression: &BoolExpr,
 ) -> Result<bool, Stop>
     requires { ShowsCovered permit.now (V.tables view.now) (V.shows view.now) }
-    ensures gives { Gives (λ b. b) (seen (V.rows view.now) space.new) result (bool_of nothing (gate_of permit.now) (bool_view expression.now) (seen (V.rows view.now) space.old)) }
+    ensures gives { Gives (λ b.
+        b) (seen (V.rows view.now) space.new) result (bool_of nothing (gate_of permit.now) (bool_view expression.now)
+        (seen (V.rows view.now) space.old)) }
     ensures kept { OnOk result (KeepsCovered permit.now space.old space.new) }
 {
     match expression {

@@ -32,5 +32,6 @@ pub trait RowView {
     /// there is none. The view shows each name of the partition.
     fn next_row(&self, table: TableNo, part: u32, after: Option<Key>) -> Option<(Key, &Row)>
         requires { ShowsPart (tables self.now) (shows self.now) table part }
-        ensures { IsNext (tables self.now) (rows self.now) table part after (option_map (λ found. (found.0, found.1.now)) result) };
+        ensures { IsNext (tables self.now) (rows self.now) table part after (option_map (λ found.
+            (found.0, found.1.now)) result) };
 }

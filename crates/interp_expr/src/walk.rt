@@ -40,7 +40,8 @@ fn next_untouched<V: RowView>(
 ) -> Option<Key>
     requires shows { ShowsCovered permit.now (V.tables view.now) (V.shows view.now) }
     requires covered { permits_part permit.now table part ≡ true }
-    ensures { IsNextKey permit.now.catalogue.now (untouched space.now.writes.entries (V.rows view.now)) table part after result }
+    ensures { IsNextKey permit.now.catalogue.now
+        (untouched space.now.writes.entries (V.rows view.now)) table part after result }
 {
     let mut at = after;
     while let Some(key) = next_shown(view, permit, table, part, at) {
@@ -117,7 +118,8 @@ impl Walk {
         requires shows { ShowsCovered permit.now (V.tables view.now) (V.shows view.now) }
         requires covered { permits_part permit.now table part ≡ true }
         requires walk { IsWalk permit.now.catalogue.now space.now.writes.entries (V.rows view.now) table part self.old }
-        ensures next { IsNextKey permit.now.catalogue.now (applied space.now.writes.entries (V.rows view.now)) table part self.old.after result }
+        ensures next { IsNextKey permit.now.catalogue.now
+            (applied space.now.writes.entries (V.rows view.now)) table part self.old.after result }
         ensures walk { IsWalk permit.now.catalogue.now space.now.writes.entries (V.rows view.now) table part self.new }
         ensures after { self.new.after ≡ come_to self.old.after result }
     {

@@ -75,7 +75,8 @@ impl Workspace {
 
     /// Declares the variable behind the others, or changes it.
     pub fn set_variable(&mut self, place: usize, value: Value) -> Result<(), Stop>
-        ensures gives { (db : Database) → Gives (λ _. tt) (seen db self.new) result (set_variable place value (seen db self.old)) }
+        ensures gives { (db : Database) →
+            Gives (λ _. tt) (seen db self.new) result (set_variable place value (seen db self.old)) }
         ensures writes { OnOk result (self.new.writes ≡ self.old.writes) }
     {
         if place == self.variables.len() {
@@ -108,8 +109,10 @@ impl Workspace {
 
     /// Puts a row in place of what was there.
     pub fn write(&mut self, name: RowName, row: Row) -> Result<(), Stop>
-        ensures gives { (db : Database) → Gives (λ _. tt) (seen db self.new) result (set_row name row (seen db self.old)) }
-        ensures kept { (permit : PermitOf) → permits permit name Write ≡ true → OnOk result (KeepsCovered permit self.old self.new) }
+        ensures gives { (db : Database) →
+            Gives (λ _. tt) (seen db self.new) result (set_row name row (seen db self.old)) }
+        ensures kept { (permit : PermitOf) → permits permit name Write ≡ true →
+            OnOk result (KeepsCovered permit self.old self.new) }
     {
         self.writes.insert(name, Some(row))?;
         Ok(())
@@ -117,8 +120,10 @@ impl Workspace {
 
     /// Leaves no row.
     pub fn remove(&mut self, name: RowName) -> Result<(), Stop>
-        ensures gives { (db : Database) → Gives (λ _. tt) (seen db self.new) result (remove_row name (seen db self.old)) }
-        ensures kept { (permit : PermitOf) → permits permit name Write ≡ true → OnOk result (KeepsCovered permit self.old self.new) }
+        ensures gives { (db : Database) →
+            Gives (λ _. tt) (seen db self.new) result (remove_row name (seen db self.old)) }
+        ensures kept { (permit : PermitOf) → permits permit name Write ≡ true →
+            OnOk result (KeepsCovered permit self.old self.new) }
     {
         self.writes.insert(name, None)?;
         Ok(())
@@ -126,7 +131,8 @@ impl Workspace {
 
     /// Appends values to the reply, of which there are at most 64.
     pub fn append_reply(&mut self, mut values: Vec<Value>) -> Result<(), Stop>
-        ensures gives { (db : Database) → Gives (λ _. tt) (seen db self.new) result (replying values.items (seen db self.old)) }
+        ensures gives { (db : Database) →
+            Gives (λ _. tt) (seen db self.new) result (replying values.items (seen db self.old)) }
         ensures writes { OnOk result (self.new.writes ≡ self.old.writes) }
     {
         if values.len() > 64 || self.reply.len() > 64 - values.len() {

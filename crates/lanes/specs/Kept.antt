@@ -1,3 +1,4 @@
+-- Claimed: what contracts promise to a reader rests on these words.
 -- How seats keep what they know.
 use Rattle.std.specs.Prelude.{◌≡◌, ◌≤◌, ℕ, List, [], map, length, Option, None, Some, is_some, count_by, Contains, slice_index_or}
 use Rattle.atomic_table.specs.Seated.{TableId}

@@ -1,3 +1,4 @@
+-- Claimed: what contracts promise to a reader rests on these words.
 -- Laws of lanes: what their rule says of the seats that stand together in one state of theirs.
 use Rattle.std.specs.Prelude.{◌≡◌, ◌<◌, ℕ, true, map, length, Option, Some, slice_get}
 use mathlib.Core.Option.{some}

@@ -1,3 +1,4 @@
+-- Of the code: invariants and steps; no promise rests on these words.
 -- The modes that are held on a resource, counted.
 use Rattle.std.specs.Prelude.{◌≡◌, ℕ, ◌+◌, ◌==◌, Bool, true, false, ◌||◌, if◌then◌else◌, List, [], ◌∷◌}
 use Rattle.modes.specs.declared.mode.Mode.{Mode}

@@ -1,3 +1,4 @@
+-- Of the code: invariants and steps; no promise rests on these words.
 -- What a line of requests keeps to.
 use Rattle.std.specs.Prelude.{◌≡◌, ◌-◌, length}
 use Rattle.std.specs.VecDeque.{deque_len, deque_capacity}

@@ -1,3 +1,4 @@
+-- Claimed: what contracts promise to a reader rests on these words.
 -- What a lock tree holds: transactions with their plans, in the order in which they were enqueued.
 use Rattle.std.specs.Prelude.{◌<◌, ◌+◌, ℕ, Bool, ◌==◌, if◌then◌else◌, List, [], ◌∷◌, length, Option, Some, None, ⊤}
 use Rattle.coarsen.specs.Subtrees.{Requests}

@@ -1,3 +1,4 @@
+-- Claimed: what contracts promise to a reader rests on these words.
 -- The queues of resources, and what is granted of them. (Calvin, 2012: locks are granted in the order of the requests.)
 use Rattle.std.specs.Prelude.{ℕ, Bool, ◌==◌, if◌then◌else◌, List, [], ◌∷◌, Option, Some, None}
 use Rattle.std.specs.List.{list_all, list_any}

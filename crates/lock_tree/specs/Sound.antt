@@ -1,3 +1,4 @@
+-- Of the code: invariants and steps; no promise rests on these words.
 -- What the parts of the code's lock tree have to do with each other.
 use Rattle.std.specs.Prelude.{◌≡◌, ℕ, ◌+◌, []}
 use Rattle.footprint.specs.declared.resource.Resource.{Resource}

@@ -24,7 +24,8 @@ impl Entry {
         number: u64,
         plan: &[(Resource, Mode)],
     ) -> Result<Entry, NoMemory>
-        ensures { IfOk result (λ entry. waiting_of entry ≡ record { number = number; plan = plan.now; marked = false }) }
+        ensures { IfOk result (λ entry.
+            waiting_of entry ≡ record { number = number; plan = plan.now; marked = false }) }
     {
         let plan = Vec::from_slice(alloc, plan)?;
         Ok(Entry {

@@ -51,7 +51,8 @@ impl Held {
     /// One more request is granted in a mode.
     pub(crate) fn add(&mut self, mode: Mode)
         requires { (held : List AnyMode) × AreHeld self.old held × (length held < 2 ^ 63) }
-        ensures { (held more : List AnyMode) → AreHeld self.old held → ((m : AnyMode) → times m more ≡ times m (mode ∷ held)) → AreHeld self.new more }
+        ensures { (held more : List AnyMode) → AreHeld self.old held →
+            ((m : AnyMode) → times m more ≡ times m (mode ∷ held)) → AreHeld self.new more }
     {
         match mode {
             Mode::IntentionShared => self.intention_shared += 1,
@@ -65,7 +66,8 @@ impl Held {
     /// One request less is granted in a mode.
     pub(crate) fn take(&mut self, mode: Mode)
         requires { (held : List AnyMode) × AreHeld self.old held × (0 < times mode held) }
-        ensures { (held rest : List AnyMode) → AreHeld self.old held → ((m : AnyMode) → times m held ≡ times m (mode ∷ rest)) → AreHeld self.new rest }
+        ensures { (held rest : List AnyMode) → AreHeld self.old held →
+            ((m : AnyMode) → times m held ≡ times m (mode ∷ rest)) → AreHeld self.new rest }
     {
         match mode {
             Mode::IntentionShared => self.intention_shared -= 1,

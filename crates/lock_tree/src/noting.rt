@@ -21,7 +21,9 @@ fn note(queues: &Queues, transactions: &mut Transactions, number: u64)
     requires { IsIndexed transactions.old }
     ensures indexed { IsIndexed transactions.new }
     ensures same { all_waiting transactions.new.entries.items ≡ all_waiting transactions.old.entries.items }
-    ensures noted { (mode : AnyMode) (lately : Queue) → AreKnown (line queues.now) ((number, mode) ∷ lately) transactions.old.entries.items → AreKnown (line queues.now) lately transactions.new.entries.items }
+    ensures noted { (mode : AnyMode) (lately : Queue) →
+        AreKnown (line queues.now) ((number, mode) ∷ lately) transactions.old.entries.items →
+        AreKnown (line queues.now) lately transactions.new.entries.items }
 {
     if let Some(place) = place_of(&transactions.entries, number) {
         let ready = are_granted(queues, transactions.entries[place].plan.as_slice(), number);
@@ -32,7 +34,8 @@ fn note(queues: &Queues, transactions: &mut Transactions, number: u64)
 /// Notes which of the transactions are ready whose requests on a resource are granted, from a place on.
 fn note_granted(queues: &Queues, transactions: &mut Transactions, resource: &Resource, first: usize)
     requires indexed { IsIndexed transactions.old }
-    requires known { AreKnown (line queues.now) (drop first (granted (line queues.now resource.now))) transactions.old.entries.items }
+    requires known { AreKnown (line queues.now)
+        (drop first (granted (line queues.now resource.now))) transactions.old.entries.items }
     ensures indexed { IsIndexed transactions.new }
     ensures same { all_waiting transactions.new.entries.items ≡ all_waiting transactions.old.entries.items }
     ensures known { AreKnown (line queues.now) [] transactions.new.entries.items }
@@ -47,9 +50,12 @@ fn note_granted(queues: &Queues, transactions: &mut Transactions, resource: &Res
 /// Takes a transaction off a resource's queue, and notes who gets ready.
 fn leave_one(queues: &mut Queues, transactions: &mut Transactions, resource: &Resource, number: u64)
     requires indexed { IsIndexed transactions.old }
-    requires others { AllByRecursion (λ waiting. (waiting.number == number) ≡ false) (all_waiting transactions.old.entries.items) }
+    requires others { AllByRecursion (λ waiting.
+        (waiting.number == number) ≡ false) (all_waiting transactions.old.entries.items) }
     requires known { AreKnown (line queues.old) [] transactions.old.entries.items }
-    ensures left { (other : AnyResource) → line queues.new other ≡ (if is_same other resource.now then others number (line queues.old other) else line queues.old other) }
+    ensures left { (other : AnyResource) →
+        line queues.new other ≡ (if is_same other resource.now then others number (line queues.old other)
+        else line queues.old other) }
     ensures indexed { IsIndexed transactions.new }
     ensures same { all_waiting transactions.new.entries.items ≡ all_waiting transactions.old.entries.items }
     ensures known { AreKnown (line queues.new) [] transactions.new.entries.items }
@@ -66,9 +72,11 @@ pub(crate) fn leave_all(
     number: u64,
 )
     requires indexed { IsIndexed transactions.old }
-    requires others { AllByRecursion (λ waiting. (waiting.number == number) ≡ false) (all_waiting transactions.old.entries.items) }
+    requires others { AllByRecursion (λ waiting.
+        (waiting.number == number) ≡ false) (all_waiting transactions.old.entries.items) }
     requires known { AreKnown (line queues.old) [] transactions.old.entries.items }
-    requires elsewhere { (other : AnyResource) → mode_on other plan.now ≡ None → others number (line queues.old other) ≡ line queues.old other }
+    requires elsewhere { (other : AnyResource) → mode_on other plan.now ≡ None →
+        others number (line queues.old other) ≡ line queues.old other }
     ensures left { (other : AnyResource) → line queues.new other ≡ others number (line queues.old other) }
     ensures indexed { IsIndexed transactions.new }
     ensures same { all_waiting transactions.new.entries.items ≡ all_waiting transactions.old.entries.items }

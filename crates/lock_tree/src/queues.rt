@@ -28,7 +28,8 @@ pub(crate) fn is_granted(queues: &Queues, resource: &Resource, number: u64) -> b
 /// The number of the granted request at a place of a resource's queue, `None` where none is granted there.
 pub(crate) fn granted_at(queues: &Queues, resource: &Resource, place: usize) -> Option<u64>
     ensures within { IfSome result (λ _. place + 1 < 2 ^ 64) }
-    ensures number { result ≡ option_map (λ request. request.0) (slice_get (granted (line queues.now resource.now)) place) }
+    ensures number { result ≡ option_map (λ request.
+        request.0) (slice_get (granted (line queues.now resource.now)) place) }
 {
     match queues.get(resource) {
         Some(line) => line.granted_at(place),
@@ -59,8 +60,11 @@ pub(crate) fn make_room(
 pub(crate) fn push(queues: &mut Queues, resource: &Resource, number: u64, mode: Mode)
     requires room { HasRoom queues.old resource.now }
     requires above { AllUnder number (numbers_of (line queues.old resource.now)) }
-    ensures pushed { (other : AnyResource) → line queues.new other ≡ (if is_same other resource.now then line queues.old other ++ (number, mode) ∷ [] else line queues.old other) }
-    ensures room { (other : AnyResource) → is_same other resource.now ≡ false → HasRoom queues.old other → HasRoom queues.new other }
+    ensures pushed { (other : AnyResource) →
+        line queues.new other ≡ (if is_same other resource.now then line queues.old other ++ (number, mode) ∷ []
+        else line queues.old other) }
+    ensures room { (other : AnyResource) → is_same other resource.now ≡ false → HasRoom queues.old other →
+        HasRoom queues.new other }
 {
     if let Some(line) = queues.get_mut(resource) {
         line.push(number, mode);
@@ -69,7 +73,9 @@ pub(crate) fn push(queues: &mut Queues, resource: &Resource, number: u64, mode: 
 
 /// Takes a transaction off a resource's queue: how many of the others were granted before.
 fn leave_line(queues: &mut Queues, resource: &Resource, number: u64) -> usize
-    ensures left { (other : AnyResource) → line queues.new other ≡ (if is_same other resource.now then others number (line queues.old other) else line queues.old other) }
+    ensures left { (other : AnyResource) →
+        line queues.new other ≡ (if is_same other resource.now then others number (line queues.old other)
+        else line queues.old other) }
     ensures stay { result ≡ length (others number (granted (line queues.old resource.now))) }
 {
     match queues.get_mut(resource) {
@@ -101,7 +107,9 @@ fn forget_empty(queues: &mut Queues, resource: &Resource)
 /// Takes a transaction off a resource's queue, and forgets the resource where none asks for it: how many of the others
 /// were granted before.
 pub(crate) fn remove(queues: &mut Queues, resource: &Resource, number: u64) -> usize
-    ensures left { (other : AnyResource) → line queues.new other ≡ (if is_same other resource.now then others number (line queues.old other) else line queues.old other) }
+    ensures left { (other : AnyResource) →
+        line queues.new other ≡ (if is_same other resource.now then others number (line queues.old other)
+        else line queues.old other) }
     ensures stay { result ≡ length (others number (granted (line queues.old resource.now))) }
     ensures kept { IsKeptForRequests queues.new resource.now }
 {

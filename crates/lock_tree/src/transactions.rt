@@ -47,7 +47,8 @@ pub(crate) fn place_of(entries: &VecDeque<Entry>, number: u64) -> Option<usize>
 /// Notes whether a transaction is open.
 fn note_open(numbers: &mut VecDeque<u64>, entry: &Entry)
     requires rising { AreRising numbers.old.items }
-    requires room { is_open entry.now ≡ true → length (placed entry.now.number true numbers.old.items) ≤ deque_capacity numbers.old }
+    requires room { is_open entry.now ≡ true →
+        length (placed entry.now.number true numbers.old.items) ≤ deque_capacity numbers.old }
     ensures items { numbers.new.items ≡ placed entry.now.number (is_open entry.now) numbers.old.items }
     ensures capacity { deque_capacity numbers.old ≤ deque_capacity numbers.new }
 {
@@ -113,7 +114,10 @@ impl Transactions {
         requires indexed { IsIndexed self.old }
         requires within { place < length self.old.entries.items }
         ensures indexed { IsIndexed self.new }
-        ensures entries { (d : AnyEntry) → self.new.entries.items ≡ slice_set self.old.entries.items place (record (slice_index_or self.old.entries.items place d) { ready = ready }) }
+        ensures entries { (d : AnyEntry) →
+            self.new.entries.items
+            ≡ slice_set self.old.entries.items place
+            (record (slice_index_or self.old.entries.items place d) { ready = ready }) }
     {
         self.entries[place].ready = ready;
         note_open(&mut self.open, &self.entries[place]);
@@ -124,7 +128,10 @@ impl Transactions {
         requires indexed { IsIndexed self.old }
         requires within { place < length self.old.entries.items }
         ensures indexed { IsIndexed self.new }
-        ensures entries { (d : AnyEntry) → self.new.entries.items ≡ slice_set self.old.entries.items place (record (slice_index_or self.old.entries.items place d) { marked = mark }) }
+        ensures entries { (d : AnyEntry) →
+            self.new.entries.items
+            ≡ slice_set self.old.entries.items place
+            (record (slice_index_or self.old.entries.items place d) { marked = mark }) }
     {
         self.entries[place].marked = mark;
         note_open(&mut self.open, &self.entries[place]);

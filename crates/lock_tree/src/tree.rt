@@ -70,7 +70,11 @@ impl LockTree {
     /// requests. On an error nothing has changed.
     pub fn enqueue(&mut self, number: u64, plan: &Plan) -> Result<(), EnqueueFault>
         requires { AreBelow number self.old.waiting }
-        ensures enqueued { OnOk result (self.new ≡ record self.old { waiting = self.old.waiting ++ record { number = number; plan = plan.now; marked = false } ∷ [] }) }
+        ensures enqueued { OnOk result (self.new
+            ≡ record self.old {
+              waiting = self.old.waiting
+                  ++ record { number = number; plan = plan.now; marked = false } ∷ [];
+            }) }
         ensures full { (result ≡ Err EnqueueFault.Full) ↔ (self.old.nodes < used self.old.waiting + length plan.now) }
         ensures err { OnErr result (self.new ≡ self.old) }
     {

@@ -1,3 +1,4 @@
+-- Claimed: what contracts promise to a reader rests on these words.
 -- Tests of numbers and of texts.
 use Rattle.std.specs.Prelude.{ℕ, ℤ, int_lt, int_le, Bool, not, List}
 use Rattle.std.specs.Ordering.{int_eq}

@@ -1,3 +1,4 @@
+-- Claimed: what contracts promise to a reader rests on these words.
 -- The meaning of an entry: its outcome on a database, and the database that it leaves.
 use Rattle.std.specs.Prelude.{pos, List, [], Option, Some, None, Result, Ok, Err}
 use Rattle.values.specs.declared.value.Value.{Value}

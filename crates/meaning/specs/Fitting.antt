@@ -1,3 +1,4 @@
+-- Claimed: what contracts promise to a reader rests on these words.
 -- Calls of procedures that fit their tables, and what stands for a variable or a column that is not there.
 use Rattle.std.specs.Prelude.{◌≡◌, ℕ, List, Some, map, option_map, slice_get}
 use Rattle.std.specs.FinMap.{get}

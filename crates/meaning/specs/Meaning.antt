@@ -1,3 +1,4 @@
+-- Claimed: what contracts promise to a reader rests on these words.
 -- What a procedure's body does, by cases on its statements and expressions.
 use Rattle.std.specs.Prelude.{ℕ, ℤ, pos, Bool, true, false, not, List, [], ◌∷◌, map, Option, Some, None, unwrap_or, slice_get, slice_set}
 use Rattle.std.specs.Option.{is_some}

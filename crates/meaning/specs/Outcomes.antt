@@ -1,3 +1,4 @@
+-- Claimed: what contracts promise to a reader rests on these words.
 -- Outcomes as values of the code, and the replies that they stand for.
 use Rattle.std.specs.Prelude.{Bool, true, false}
 use Rattle.meaning.specs.declared.outcome.Outcome.{Outcome}

@@ -1,3 +1,4 @@
+-- Claimed: what contracts promise to a reader rests on these words.
 -- The rows of a partition.
 use Rattle.std.specs.Prelude.{ℕ, ℤ, pos, ◌+ℤ◌, Bool, ◌&&◌, ◌==◌, List, [], ◌∷◌, map, unwrap_or, slice_get}
 use Rattle.std.specs.FinMap.{retain_keys}

@@ -1,3 +1,4 @@
+-- Claimed: what contracts promise to a reader rests on these words.
 -- The serial run: entries one after another on one database. (Calvin, 2012: the outcome is a function of the log and the
 -- start.)
 use Rattle.std.specs.Prelude.{List, [], ◌∷◌}

@@ -19,12 +19,15 @@ pub fn stays_in_footprint()
 /// its tables, with arguments of the parameters' types and on rows of the columns' types, has one meaning whatever stands
 /// for it. It leaves rows of the columns' types.
 pub fn stand_in_never_shows()
-    ensures { (proc : ProcSyntax) (entry : EntryShape) (db : Database) → IsCallOf proc entry → HasTypes entry.tables db → StandInNeverShows entry db }
+    ensures { (proc : ProcSyntax) (entry : EntryShape) (db : Database) → IsCallOf proc entry →
+        HasTypes entry.tables db → StandInNeverShows entry db }
 {}
 
 /// The numbers from one to another, place by place: each is one more than the one before it, the first is the lower one, and there
 /// are those that are not above the higher one.
 #[tactic(auto, using(crate::proofs::Ranges::numbers_at))]
 pub fn numbers_go_from_low_to_high()
-    ensures { (low high : ℤ) (place : ℕ) → slice_get (numbers_between low high) place ≡ (if int_le (low +ℤ pos place) high then Some (low +ℤ pos place) else None) }
+    ensures { (low high : ℤ) (place : ℕ) →
+        slice_get (numbers_between low high) place ≡ (if int_le (low +ℤ pos place) high then Some (low +ℤ pos place)
+        else None) }
 {}

@@ -43,7 +43,8 @@ pub(crate) fn bank(alloc: Global) -> Option<Setup> {
 
 /// The requests of the log.
 pub(crate) fn requests(alloc: Global, procs: &Procs) -> Option<Vec<Request>>
-    ensures tables { IfSome result (λ requests. AllByRecursion (λ request. request.proc.tables ≡ procs.now.tables) requests.items) }
+    ensures tables { IfSome result (λ requests.
+        AllByRecursion (λ request. request.proc.tables ≡ procs.now.tables) requests.items) }
     ensures few { IfSome result (λ requests. length requests.items ≤ 4096) }
 {
     let log = log_text(alloc, "").ok()?;

@@ -1,15 +1,15 @@
+-- Claimed: what contracts promise to a reader rests on these words.
 -- Laws of rights and modes.
 use Rattle.std.specs.Prelude.{◌≡◌, ◌≤◌, nat_le, max, Option}
 use Rattle.proclang_types.specs.declared.right.Right.{Right}
-use Rattle.footprint.specs.Rights.{is_at_least, greater, clash}
+use Rattle.footprint.specs.Rights.{is_at_least, greater}
 use Rattle.modes.specs.declared.mode.Mode.{Mode}
-use Rattle.modes.specs.Rights.{rank_of, rank, ranks_clash}
+use Rattle.modes.specs.Rights.{rank_of, rank}
 use Rattle.modes.specs.Modes.{own, subtree, are_compatible, IsAtMost, IsJoin}
 
 pub record RanksAreRights : Type 0 where
   pub order : (wanted : Right) (given : Option Right) → is_at_least wanted given ≡ nat_le (rank_of wanted) (rank given)
   pub greatest : (given : Option Right) (right : Right) → rank_of (greater given right) ≡ max (rank given) (rank_of right)
-  pub clashes : (a b : Right) → clash a b ≡ ranks_clash (rank_of a) (rank_of b)
 
 pub record PairsAreModes : Type 0 where
   pub same : (a b : Mode) → own a ≡ own b → subtree a ≡ subtree b → a ≡ b

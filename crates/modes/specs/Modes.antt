@@ -1,3 +1,4 @@
+-- Claimed: what contracts promise to a reader rests on these words.
 -- The five modes, each a pair of rights: on the resource itself, and the greatest in its subtree.
 -- (Gray, Lorie, Putzolu and Traiger, 1975 and 1976, whose table `are_compatible` gives.)
 use Rattle.std.specs.Prelude.{◌≡◌, ◌≤◌, ℕ, Bool, ◌&&◌, not, max}

@@ -1,3 +1,4 @@
+-- Claimed: what contracts promise to a reader rests on these words.
 -- Rights by rank: none 0, Read 1, Write 2. So the greater of two rights is the greater number.
 use Rattle.std.specs.Prelude.{ℕ, Bool, ◌&&◌, ◌||◌, ◌==◌, nat_lt, Option, Some, None}
 use Rattle.proclang_types.specs.declared.right.Right.{Right}

@@ -2,7 +2,7 @@
 
 ghost use Rattle.modes.specs.Laws.{RanksAreRights, PairsAreModes, JoinIsLeast};
 
-/// Ranks say of rights what footprints say: the order of none, Read and Write, the greater of two, and which clash.
+/// Ranks say of rights what footprints say: the order of none, Read and Write, and the greater of two.
 pub fn rights_by_rank()
     ensures { RanksAreRights }
 {}

@@ -1,3 +1,4 @@
+-- Claimed: what contracts promise to a reader rests on these words.
 -- The rules of names of tables and of columns. No rule here hangs on what reading gives.
 use Rattle.std.specs.Prelude.{ℕ, List, Option, is_some, option_and_then, option_map}
 use Rattle.documents.specs.FirstFault.{broken}

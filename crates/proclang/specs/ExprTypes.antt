@@ -1,3 +1,4 @@
+-- Claimed: what contracts promise to a reader rests on these words.
 -- The type that an expression has, by its outermost word alone.
 use Rattle.std.specs.Prelude.{Bool, true, false, List, Option, Some, None, option_map, option_and_then}
 use Rattle.serde_json.specs.Data.{Data}

@@ -1,3 +1,4 @@
+-- Claimed: what contracts promise to a reader rests on these words.
 -- The first fault, and where it stands.
 use Rattle.std.specs.Prelude.{◌≡◌, ℕ, List, Bool, true, false, Result, Err}
 use Rattle.proclang.specs.declared.fault.FaultKind.{FaultKind}

@@ -1,3 +1,4 @@
+-- Claimed: what contracts promise to a reader rests on these words.
 -- Names that are declared, and tables and columns that are named.
 use Rattle.std.specs.Prelude.{ℕ, Bool, true, false, List, Option, option_map, option_and_then, slice_get, Result, ⊤}
 use Rattle.documents.specs.Reading.{formed, rule}

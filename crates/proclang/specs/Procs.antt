@@ -1,3 +1,4 @@
+-- Claimed: what contracts promise to a reader rests on these words.
 -- Reading procedures into typed syntax, with the first fault that is met and its path.
 use Rattle.std.specs.Prelude.{ℕ, List, [], ◌∷◌, ◌++◌, map, not, Result, Ok, codes, ⊤}
 use Rattle.serde_json.specs.Data.{Data}

@@ -1,3 +1,4 @@
+-- Claimed: what contracts promise to a reader rests on these words.
 -- Which documents say a procedure: a relation between documents and typed syntax, apart from paths, faults and the order in which a document is read.
 use Rattle.std.specs.Prelude.{◌≡◌, ◌≤◌, ℕ, pos, List, [], ◌∷◌, length, map, Some, true, codes}
 use Rattle.std.specs.List.{AllByRecursion, IsDistinct}

@@ -1,3 +1,4 @@
+-- Claimed: what contracts promise to a reader rests on these words.
 -- Which documents say an expression: a relation between documents and typed syntax, apart from paths, faults and the order in which a document is read.
 use Rattle.std.specs.Prelude.{◌≡◌, ◌⊎◌, ◌≤◌, ℕ, zero, suc, List, length, Some, true}
 use Rattle.serde_json.specs.Data.{Data}

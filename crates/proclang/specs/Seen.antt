@@ -1,3 +1,4 @@
+-- Claimed: what contracts promise to a reader rests on these words.
 -- The variables that are seen at a place of a procedure.
 use Rattle.std.specs.Prelude.{ℕ, List, [], ◌∷◌, ◌++◌, map, Option, option_map, option_and_then, position, slice_get, string_bytes}
 use Rattle.std.specs.Str.{bytes_eq}

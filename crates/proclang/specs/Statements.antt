@@ -1,3 +1,4 @@
+-- Claimed: what contracts promise to a reader rests on these words.
 -- Reading statements and blocks into typed syntax, with the first fault that is met and its path.
 use Rattle.std.specs.Prelude.{ℕ, zero, suc, ℤ, pos, negsuc, ◌&&◌, ◌==◌, nat_le, List, [], ◌∷◌, ◌++◌, length, unwrap_or, Result, Ok, if◌then◌else◌}
 use Rattle.std.specs.List.{zip}

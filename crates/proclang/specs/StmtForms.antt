@@ -1,3 +1,4 @@
+-- Claimed: what contracts promise to a reader rests on these words.
 -- One level of a statement, before its parts are read.
 use Rattle.std.specs.Prelude.{ℕ, ℤ, List, [], ◌∷◌, Option, Some, None, option_map, option_and_then, map, if◌then◌else◌, codes}
 use Rattle.std.specs.Str.{bytes_eq}

@@ -1,3 +1,4 @@
+-- Claimed: what contracts promise to a reader rests on these words.
 -- Variables that get a value, and the variables of loops.
 use Rattle.std.specs.Prelude.{ℕ, Bool, true, false, not, List, [], ◌∷◌, ◌++◌, length, Option, Some, None, Result, Ok, ⊤, if◌then◌else◌}
 use Rattle.documents.specs.Reading.{◌>>=◌, rule}

@@ -1,3 +1,4 @@
+-- Claimed: what contracts promise to a reader rests on these words.
 -- Parts that are read one behind the other.
 use Rattle.std.specs.Prelude.{ℕ, ◌+◌, List, [], ◌∷◌, ◌++◌, length, nat_le, Result, Ok, ⊤}
 use Rattle.documents.specs.Reading.{◌>>=◌, rule}

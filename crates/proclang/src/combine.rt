@@ -95,7 +95,8 @@ fn conjoin(
     right: Expr,
 ) -> Result<Expr, ProcFault>
     ensures { Gives is_memory expr_view result
-        (two_bools (λ x y. bool (both x y)) (places left_path.now) (expr_view left) (places right_path.now) (expr_view right)) }
+        (two_bools (λ x y. bool (both x y)) (places left_path.now) (expr_view left) (places right_path.now)
+        (expr_view right)) }
 {
     let left = as_bool(alloc, left_path, left)?;
     let right = as_bool(alloc, right_path, right)?;
@@ -113,7 +114,8 @@ fn disjoin(
     right: Expr,
 ) -> Result<Expr, ProcFault>
     ensures { Gives is_memory expr_view result
-        (two_bools (λ x y. bool (either x y)) (places left_path.now) (expr_view left) (places right_path.now) (expr_view right)) }
+        (two_bools (λ x y. bool (either x y)) (places left_path.now) (expr_view left) (places right_path.now)
+        (expr_view right)) }
 {
     let left = as_bool(alloc, left_path, left)?;
     let right = as_bool(alloc, right_path, right)?;

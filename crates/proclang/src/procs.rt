@@ -72,9 +72,11 @@ pub fn read_procs(
     // What is read is what the document says.
     ensures found { IfOk result (λ p. SaysProcs catalogue.now (view document.now) (map proc_syntax p.procs)) }
     // Procedures that the document says are what is read, unless memory runs out.
-    ensures only { (ps : List ProcSyntax) → SaysProcs catalogue.now (view document.now) ps → Gives is_memory (λ p. map proc_syntax p.procs) result (Ok ps) }
+    ensures only { (ps : List ProcSyntax) → SaysProcs catalogue.now (view document.now) ps →
+        Gives is_memory (λ p. map proc_syntax p.procs) result (Ok ps) }
     // The fault is the first rule that the document breaks, with its path.
-    ensures first { IfErr result (λ e. (e ≡ Memory) ⊎ (first (broken_rules catalogue.now (view document.now)) ≡ Some e)) }
+    ensures first { IfErr result (λ e. (e ≡ Memory) ⊎
+        (first (broken_rules catalogue.now (view document.now)) ≡ Some e)) }
     // A document that is read breaks no rule, and one that breaks none is read, unless memory runs out.
     ensures unbroken { OnOk result (broken_rules catalogue.now (view document.now) ≡ []) }
     ensures none { broken_rules catalogue.now (view document.now) ≡ [] → IsOkUnless result Memory }

@@ -82,7 +82,8 @@ fn read_binary(
     form: BinaryForm<'_>,
 ) -> Result<Expr, ProcFault>
     ensures { Gives is_memory expr_view result
-        (binary_at (expr_at section catalogue.now room) (places path.now) scope.now form.entry.operator (view form.entry.left.now) (view form.entry.right.now)) }
+        (binary_at (expr_at section catalogue.now room) (places path.now) scope.now form.entry.operator
+        (view form.entry.left.now) (view form.entry.right.now)) }
 {
     let left_path = Path::Element(&*path, 1);
     let right_path = Path::Element(&*path, 2);
@@ -113,7 +114,8 @@ fn read_exists(
     form: ExistsForm<'_>,
 ) -> Result<Expr, ProcFault>
     ensures { Gives is_memory expr_view result
-        (exists_at catalogue.now (expr_at section catalogue.now room) (places path.now) scope.now form.entry.table.now (view form.entry.key.now)) }
+        (exists_at catalogue.now (expr_at section catalogue.now room) (places path.now) scope.now form.entry.table.now
+        (view form.entry.key.now)) }
 {
     let key_path = Path::Element(&*path, 2);
     let table = read_table(alloc, &Path::Element(&*path, 1), catalogue, form.table)?;
@@ -134,7 +136,8 @@ fn read_count(
     form: CountForm<'_>,
 ) -> Result<Expr, ProcFault>
     ensures { Gives is_memory expr_view result
-        (count_at catalogue.now (expr_at section catalogue.now room) (places path.now) scope.now form.entry.table.now (view form.entry.number.now)) }
+        (count_at catalogue.now (expr_at section catalogue.now room) (places path.now) scope.now form.entry.table.now
+        (view form.entry.number.now)) }
 {
     let part_path = Path::Element(&*path, 2);
     let table = read_table(alloc, &Path::Element(&*path, 1), catalogue, form.table)?;
@@ -164,7 +167,8 @@ fn read_sum(
     form: SumForm<'_>,
 ) -> Result<Expr, ProcFault>
     ensures { Gives is_memory expr_view result
-        (sum_at catalogue.now (expr_at section catalogue.now room) (places path.now) scope.now form.entry.table.now (view form.entry.number.now) form.entry.column.now) }
+        (sum_at catalogue.now (expr_at section catalogue.now room) (places path.now) scope.now form.entry.table.now
+        (view form.entry.number.now) form.entry.column.now) }
 {
     let part_path = Path::Element(&*path, 2);
     let column_path = Path::Element(&*path, 3);

@@ -47,7 +47,8 @@ fn read_parts(
     path: &Path<'_>,
     form: EntryForm<'_>,
 ) -> Result<FootprintEntry, ProcFault>
-    ensures { Gives is_memory entry_view result (entry_of catalogue.now (places path.now) scope.now (entry_form_view form.entry)) }
+    ensures { Gives is_memory entry_view result (entry_of catalogue.now (places path.now) scope.now
+        (entry_form_view form.entry)) }
 {
     let table_path = Path::Element(&*path, 2);
     let number_path = Path::Element(&*path, 3);

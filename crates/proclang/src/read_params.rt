@@ -33,7 +33,8 @@ fn read_param(
     earlier: &[Param],
     value: &Value,
 ) -> Result<Param, ProcFault>
-    ensures { Gives is_memory param_shape result (param_at (places path.now) (map param_shape earlier.now) (view value.now)) }
+    ensures { Gives is_memory param_shape result (param_at (places path.now) (map param_shape earlier.now)
+        (view value.now)) }
 {
     let Some((name, kind)) = column_form(value) else {
         return Err(fault(alloc, FaultKind::Shape, path));
@@ -48,7 +49,8 @@ fn read_param(
 }
 
 fn read_each(alloc: Global, path: &Path<'_>, values: &[Value]) -> Result<Vec<Param>, ProcFault>
-    ensures { Gives is_memory (λ v. map param_shape v.items) result (each_param (places path.now) (map view values.now)) }
+    ensures { Gives is_memory (λ v.
+        map param_shape v.items) result (each_param (places path.now) (map view values.now)) }
 {
     let mut params = Vec::new(alloc);
     for (index, value) in values.iter().enumerate() {
@@ -65,7 +67,8 @@ pub(crate) fn read_params(
     path: &Path<'_>,
     values: &[Value],
 ) -> Result<Vec<Param>, ProcFault>
-    ensures { Gives is_memory (λ v. map param_shape v.items) result (params_at (places path.now) (map view values.now)) }
+    ensures { Gives is_memory (λ v.
+        map param_shape v.items) result (params_at (places path.now) (map view values.now)) }
 {
     at_most(alloc, path, 16, values)?;
     read_each(alloc, path, values)

@@ -41,7 +41,8 @@ pub(crate) fn bind(
     kind: ColType,
     target: Option<Found>,
 ) -> Result<usize, ProcFault>
-    ensures { Gives is_memory (λ place. (place, scope.new)) result (bound (places path.now) scope.old name.now kind target) }
+    ensures { Gives is_memory (λ place.
+        (place, scope.new)) result (bound (places path.now) scope.old name.now kind target) }
 {
     let Some(variable) = target else {
         let place = scope.len();

@@ -48,7 +48,8 @@ pub(crate) fn into_values(
     path: &Path<'_>,
     exprs: Vec<Expr>,
 ) -> Result<Vec<ValueExpr>, ProcFault>
-    ensures { Gives is_memory (λ v. map value_view v.items) result (values_at (places path.now) (map expr_view exprs.items)) }
+    ensures { Gives is_memory (λ v.
+        map value_view v.items) result (values_at (places path.now) (map expr_view exprs.items)) }
 {
     let mut values = Vec::new(alloc);
     for (index, expr) in exprs.into_iter().enumerate() {

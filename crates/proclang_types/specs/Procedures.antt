@@ -1,3 +1,4 @@
+-- Claimed: what contracts promise to a reader rests on these words.
 -- A procedure as contracts see it: its parts, and the tables that it speaks of.
 use Rattle.std.specs.Prelude.{ℕ, List, map, string_bytes}
 use Rattle.values.specs.Shapes.{TableShape}

@@ -1,3 +1,4 @@
+-- Claimed: what contracts promise to a reader rests on these words.
 -- Typed syntax without where it lies in memory. Variables, tables and columns are places.
 use Rattle.std.specs.Prelude.{ℕ, ℤ, List, [], ◌∷◌}
 use Rattle.values.specs.declared.value.ColType.{ColType}

@@ -1,3 +1,4 @@
+-- Claimed: what contracts promise to a reader rests on these words.
 -- When syntax fits a scope and a catalogue: each variable, table and column is there, and has the type that is asked for.
 use Rattle.std.specs.Prelude.{◌≡◌, ◌⊎◌, ◌<◌, ◌≤◌, ℕ, List, [], ◌∷◌, ◌++◌, length, map, Option, Some, option_map, option_and_then, unwrap_or, slice_get, ⊤, ◌==◌, if◌then◌else◌}
 use Rattle.std.specs.List.{AllByRecursion}

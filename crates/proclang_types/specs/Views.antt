@@ -1,3 +1,4 @@
+-- Claimed: what contracts promise to a reader rests on these words.
 -- The syntax that a value of the code stands for.
 use Rattle.std.specs.Prelude.{List, map}
 use Rattle.proclang_types.specs.declared.expression.IntExpr.{IntExpr}

@@ -40,9 +40,25 @@ impl Model for Proc {
 
     ghost coded = { Prim.hlevel (codes, int_expr.the_row.coded, stmt.the_row.coded) };
 
-    ghost view = { λ p. record { tables = p.catalogue.value; name = string_bytes p.name; params = map param_shape p.params.items; footprint = p.footprint.items; body = p.body.items } };
+    ghost view = { λ p. record {
+      tables = p.catalogue.value;
+      name = string_bytes p.name;
+      params = map param_shape
+          p.params.items;
+      footprint = p.footprint.items;
+      body = p.body.items;
+    } };
 
-    ghost invariant = { λ p. ProcFits p.catalogue.value (proc_syntax (record { tables = p.catalogue.value; name = string_bytes p.name; params = map param_shape p.params.items; footprint = p.footprint.items; body = p.body.items })) };
+    ghost invariant = { λ p.
+        ProcFits p.catalogue.value
+        (proc_syntax (record {
+          tables = p.catalogue.value;
+          name = string_bytes p.name;
+          params = map param_shape
+              p.params.items;
+          footprint = p.footprint.items;
+          body = p.body.items;
+        })) };
 }
 
 impl Proc {
@@ -54,8 +70,23 @@ impl Proc {
         footprint: Vec<FootprintEntry>,
         body: Vec<Stmt>,
     ) -> Proc
-        requires { ProcFits catalogue.now (proc_syntax (record { tables = catalogue.now; name = string_bytes name; params = map param_shape params.items; footprint = footprint.items; body = body.items })) }
-        ensures { result ≡ record { tables = catalogue.now; name = string_bytes name; params = map param_shape params.items; footprint = footprint.items; body = body.items } }
+        requires { ProcFits catalogue.now
+            (proc_syntax (record {
+              tables = catalogue.now;
+              name = string_bytes name;
+              params = map param_shape
+                  params.items;
+              footprint = footprint.items;
+              body = body.items;
+            })) }
+        ensures { result ≡ record {
+          tables = catalogue.now;
+          name = string_bytes name;
+          params = map param_shape
+              params.items;
+          footprint = footprint.items;
+          body = body.items;
+        } }
     {
         Proc {
             catalogue: Snapshot::of(catalogue),

@@ -1,3 +1,4 @@
+-- Claimed: what contracts promise to a reader rests on these words.
 -- Going through a table by ascending key, although its rows come partition by partition.
 use Rattle.std.specs.Prelude.{◌≡◌, ℕ, ◌≤◌, Bool, true, ◌&&◌, ◌==◌, if◌then◌else◌, List, filter, Option, None, Some, option_map, unwrap_or}
 use Rattle.std.specs.Borrow.{Bor}

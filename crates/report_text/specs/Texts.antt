@@ -1,3 +1,4 @@
+-- Claimed: what contracts promise to a reader rests on these words.
 -- The lines of a report. Words are separated by one space, and each line ends with a newline byte.
 use Rattle.std.specs.Prelude.{ℕ, nat_lt, List, [], ◌∷◌, ◌++◌, length, filter, codes, option_map, unwrap_or, slice_get}
 use Rattle.std.specs.Fmt.{decimal, signed_decimal}

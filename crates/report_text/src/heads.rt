@@ -39,7 +39,8 @@ impl<'a> Heads<'a> {
     ) -> Result<(), AllocError>
         requires { ShowsPart (V.tables view.now) (V.shows view.now) table part }
         ensures after { self.new.after ≡ self.old.after }
-        ensures next { OnOk result (IsPushed (V.tables view.now) (V.rows view.now) table part self.old.after (heads_in self.old.next.entries) (heads_in self.new.next.entries)) }
+        ensures next { OnOk result (IsPushed (V.tables view.now) (V.rows view.now) table part self.old.after
+            (heads_in self.old.next.entries) (heads_in self.new.next.entries)) }
     {
         if let Some((key, row)) = view.next_row(table, part, self.after) {
             if self.next.insert(key, (part, row)).is_err() {
@@ -51,7 +52,8 @@ impl<'a> Heads<'a> {
 
     /// Takes the row with the least key: its key, its partition and the row.
     pub(crate) fn pop(&mut self) -> Option<(Key, u32, &'a Row)>
-        ensures some { IfSome result (λ found. IsPopped (heads_in self.old.next.entries) (heads_in self.new.next.entries) found.0 (found.1, found.2.now)) }
+        ensures some { IfSome result (λ found.
+            IsPopped (heads_in self.old.next.entries) (heads_in self.new.next.entries) found.0 (found.1, found.2.now)) }
         ensures after { IfSome result (λ found. self.new.after ≡ Some found.0) }
         ensures none { IfNone result (self.old.next.entries ≡ []) }
     {
@@ -76,7 +78,8 @@ pub(crate) fn heads_of<'a, V: RowView>(
     requires shows { ShowsAll (V.shows view.now) }
     requires table { table < length catalogue.now }
     ensures after { IfOk result (λ heads. heads.after ≡ None) }
-    ensures heads { IfOk result (λ heads. AreHeads catalogue.now (V.rows view.now) table None (λ _. true) (heads_in heads.next.entries)) }
+    ensures heads { IfOk result (λ heads. AreHeads catalogue.now (V.rows view.now) table None (λ _.
+        true) (heads_in heads.next.entries)) }
 {
     let mut heads = Heads::new(alloc);
     for part in 0..catalogue.partitions(table) {

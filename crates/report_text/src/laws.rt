@@ -16,15 +16,18 @@ use meaning::stand_in_never_shows;
 /// Where each row of a database is of one of the tables, the row text has a line for each of its rows, in the order of
 /// tables and then of keys.
 pub fn every_row_has_its_line()
-    ensures { (tables : List TableShape) (db : Database) → ((name : RowName) (row : RowOf) → get db name ≡ Some row → name.table < length tables)
+    ensures { (tables : List TableShape) (db : Database) → ((name : RowName) (row : RowOf) → get db name ≡ Some row →
+        name.table < length tables)
         → row_text tables db ≡ row_lines tables (entries db) }
 {}
 
 /// From rows of the columns' types, calls of procedures that fit the tables leave rows of the columns' types, each with its
 /// line in the row text.
 pub fn every_row_left_by_calls_has_its_line()
-    ensures types { (tables : List TableShape) (calls : List EntryShape) (db : Database) → AreCallsOver tables calls → HasTypes tables db → HasTypes tables (serial_end calls db) }
-    ensures lines { (tables : List TableShape) (calls : List EntryShape) (db : Database) → AreCallsOver tables calls → HasTypes tables db
+    ensures types { (tables : List TableShape) (calls : List EntryShape) (db : Database) → AreCallsOver tables calls →
+        HasTypes tables db → HasTypes tables (serial_end calls db) }
+    ensures lines { (tables : List TableShape) (calls : List EntryShape) (db : Database) → AreCallsOver tables calls →
+        HasTypes tables db
         → row_text tables (serial_end calls db) ≡ row_lines tables (entries (serial_end calls db)) }
 {
     stand_in_never_shows();

@@ -85,7 +85,8 @@ fn push_requests(
     number: u64,
     requests: &[(Resource, Mode)],
 ) -> Result<(), AllocError>
-    ensures { OnOk result (string_bytes text.new ≡ string_bytes text.old ++ request_lines catalogue.now number requests.now) }
+    ensures { OnOk result (string_bytes text.new ≡ string_bytes text.old
+        ++ request_lines catalogue.now number requests.now) }
 {
     for request in requests {
         push_request(text, catalogue, number, *request)?;

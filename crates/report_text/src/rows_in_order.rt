@@ -23,7 +23,8 @@ fn feed_table<V: RowView>(
     requires tables { V.tables view.now ≡ catalogue.now }
     requires shows { ShowsAll (V.shows view.now) }
     requires table { table < length catalogue.now }
-    ensures { (m : List ℕ) → Holds256 hasher.old m → OnOk result (Holds256 hasher.new (m ++ row_lines catalogue.now (rows_behind (V.rows view.now) table None))) }
+    ensures { (m : List ℕ) → Holds256 hasher.old m →
+        OnOk result (Holds256 hasher.new (m ++ row_lines catalogue.now (rows_behind (V.rows view.now) table None))) }
 {
     let mut heads = heads_of(alloc, catalogue, view, table)?;
     while let Some((key, part, row)) = heads.pop() {

@@ -1,3 +1,4 @@
+-- Claimed: what contracts promise to a reader rests on these words.
 -- Procedures by name, in declared order.
 use Rattle.std.specs.Prelude.{◌≡◌, ℕ, List, map, String, string_bytes, Option, find, true}
 use Rattle.std.specs.Arc.{arc_value}

@@ -1,3 +1,4 @@
+-- Claimed: what contracts promise to a reader rests on these words.
 -- Calls of procedures.
 use Rattle.std.specs.Prelude.{◌≡◌, ◌≤◌, List, length, map, Bool, true, false, nat_le, ⊤}
 use Rattle.std.specs.List.{AllByRecursion}

@@ -77,7 +77,11 @@ impl Procs {
         requires tables { proc.tables ≡ self.old.tables }
         requires name { is_name proc.name ≡ true }
         requires fresh { proc_named self.old.procs proc.name ≡ None }
-        ensures pushed { OnOk result (self.new ≡ record { tables = self.old.tables; procs = self.old.procs ++ proc ∷ [] }) }
+        ensures pushed { OnOk result (self.new ≡ record {
+          tables = self.old.tables;
+          procs = self.old.procs ++ proc
+              ∷ [];
+        }) }
         ensures same { OnErr result (self.new ≡ self.old) }
     {
         push_proc(alloc, &mut self.procs, proc)

@@ -87,9 +87,11 @@ impl Request {
         // It is over the tables that the procedures are over.
         ensures tables { IfOk result (λ r. r.proc.tables ≡ procs.now.tables) }
         ensures unknown { (result ≡ Err RequestFault.UnknownProc) ↔ (proc_named procs.now.procs name.now ≡ None) }
-        ensures args { (result ≡ Err RequestFault.Args) ↔ IsSomeAnd (proc_named procs.now.procs name.now) (λ p. ¬ AreArgs p.params args.items) }
+        ensures args { (result ≡ Err RequestFault.Args) ↔ IsSomeAnd (proc_named procs.now.procs name.now) (λ p.
+            ¬ AreArgs p.params args.items) }
         // A right call is refused for want of memory alone.
-        ensures right { IsSomeAnd (proc_named procs.now.procs name.now) (λ p. AreArgs p.params args.items) → IsOkUnless result RequestFault.NoMemory }
+        ensures right { IsSomeAnd (proc_named procs.now.procs name.now) (λ p. AreArgs p.params args.items) →
+            IsOkUnless result RequestFault.NoMemory }
     {
         let Some(proc) = procs.find(name) else {
             return Err(RequestFault::UnknownProc);

@@ -1,3 +1,4 @@
+-- Of the code: invariants and steps; no promise rests on these words.
 -- Plans that cover what footprints cover.
 use Rattle.std.specs.Prelude.{◌≡◌, true}
 use Rattle.proclang_types.specs.declared.right.Right.{Right}

@@ -1,3 +1,4 @@
+-- Claimed: what contracts promise to a reader rests on these words.
 -- Laws of what is lent.
 use Rattle.std.specs.Prelude.{◌≡◌, true, List}
 use Rattle.std.specs.Ordering.{nat_cmp}

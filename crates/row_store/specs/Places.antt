@@ -1,3 +1,4 @@
+-- Claimed: what contracts promise to a reader rests on these words.
 -- Places: what stands at row names, and what counts there.
 use Rattle.std.specs.Prelude.{Option, Some, None, option_map, Bool, is_some}
 use Rattle.std.specs.BTreeMap.{BTreeMap, get, is_at}

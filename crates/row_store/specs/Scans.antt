@@ -1,3 +1,4 @@
+-- Of the code: invariants and steps; no promise rests on these words.
 -- Where a scan starts.
 use Rattle.std.specs.Prelude.{ℕ, Option, Some, None}
 use Rattle.std.specs.declared.ops.Bound.{Bound}

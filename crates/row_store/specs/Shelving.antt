@@ -1,3 +1,4 @@
+-- Of the code: invariants and steps; no promise rests on these words.
 -- Where the place of a row name stands.
 use Rattle.std.specs.Prelude.{ℕ, pos, List, Option, Some, None, unwrap_or, slice_get}
 use Rattle.values.specs.declared.name.RowName.{RowName}

@@ -1,3 +1,4 @@
+-- Claimed: what contracts promise to a reader rests on these words.
 -- What a row store and a loan hold.
 use Rattle.std.specs.Prelude.{ℕ, Bool, not, List, [], ◌∷◌}
 use Rattle.std.specs.List.{list_any}

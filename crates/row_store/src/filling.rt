@@ -24,8 +24,11 @@ fn put_row(
     name: RowName,
     row: Row,
 ) -> Result<(), NoMemory>
-    ensures rows { OnOk result (rows_of catalogue.now shelves.new ≡ map.insert (rows_of catalogue.now shelves.old) name row) }
-    ensures here { OnOk result (((q : AnyName) → (found catalogue.now shelves.old q).row ≡ (found catalogue.now shelves.old q).counts_as) → (q : AnyName) → (found catalogue.now shelves.new q).row ≡ (found catalogue.now shelves.new q).counts_as) }
+    ensures rows { OnOk result (rows_of catalogue.now shelves.new
+        ≡ map.insert (rows_of catalogue.now shelves.old) name row) }
+    ensures here { OnOk result (((q : AnyName) →
+        (found catalogue.now shelves.old q).row ≡ (found catalogue.now shelves.old q).counts_as) → (q : AnyName) →
+        (found catalogue.now shelves.new q).row ≡ (found catalogue.now shelves.new q).counts_as) }
 {
     let row = Arc::new(alloc, row)?;
     add_row(alloc, shelves, &shelf_of(catalogue, name), &name, Some(row))?;
@@ -39,7 +42,8 @@ pub(crate) fn filled(
     rows: Vec<(TableNo, Key, Row)>,
 ) -> Result<Shelves, NoMemory>
     ensures rows { IfOk result (λ shelves. rows_of catalogue.now shelves ≡ with_rows map.empty rows.items) }
-    ensures here { IfOk result (λ shelves. (q : AnyName) → (found catalogue.now shelves q).row ≡ (found catalogue.now shelves q).counts_as) }
+    ensures here { IfOk result (λ shelves. (q : AnyName) →
+        (found catalogue.now shelves q).row ≡ (found catalogue.now shelves q).counts_as) }
 {
     let mut shelves = BTreeMap::new(alloc);
     for (table, key, row) in rows {

@@ -40,10 +40,15 @@ fn share(
     requests: &[(Resource, Mode)],
 ) -> Result<Shelves, NoMemory>
     requires { IsPlanOver catalogue.now requests.now }
-    ensures rows { IfOk result (λ copies. (q : AnyName) → locks_row catalogue.now requests.now q Read ≡ true → found catalogue.now copies q ≡ settled (found catalogue.now shelves.now q)) }
-    ensures here { IfOk result (λ copies. (q : AnyName) → (found catalogue.now copies q).row ≡ (found catalogue.now copies q).counts_as) }
-    ensures with_shelf { IfOk result (λ copies. (q : AnyName) → locks_shelf requests.now Read (shelf_of catalogue.now q) ≡ true → has_shelf copies (shelf_of catalogue.now q) ≡ true) }
-    ensures with_place { IfOk result (λ copies. (q : AnyName) → locks_itself requests.now Read q ≡ true → has_place copies (shelf_of catalogue.now q) q ≡ true) }
+    ensures rows { IfOk result (λ copies. (q : AnyName) → locks_row catalogue.now requests.now q Read ≡ true →
+        found catalogue.now copies q ≡ settled (found catalogue.now shelves.now q)) }
+    ensures here { IfOk result (λ copies. (q : AnyName) →
+        (found catalogue.now copies q).row ≡ (found catalogue.now copies q).counts_as) }
+    ensures with_shelf { IfOk result (λ copies. (q : AnyName) →
+        locks_shelf requests.now Read (shelf_of catalogue.now q) ≡ true →
+        has_shelf copies (shelf_of catalogue.now q) ≡ true) }
+    ensures with_place { IfOk result (λ copies. (q : AnyName) → locks_itself requests.now Read q ≡ true →
+        has_place copies (shelf_of catalogue.now q) q ≡ true) }
 {
     let read_shelves = locked_shelves(alloc, catalogue, requests, Right::Read)?;
     let read_names = locked_names(alloc, requests, Right::Read)?;
@@ -63,16 +68,28 @@ pub(crate) fn hold(
     requires { IsPlanOver catalogue.now plan.now }
     ensures sound { IsSound plan.now }
     ensures seen { (d : AnyResource) (q : AnyName) → seen shelves.new d q ≡ seen shelves.old d q }
-    ensures kept { (d : AnyResource) (q : AnyName) → has_place shelves.old d q ≡ true → has_place shelves.new d q ≡ true }
+    ensures kept { (d : AnyResource) (q : AnyName) → has_place shelves.old d q ≡ true →
+        has_place shelves.new d q ≡ true }
     ensures shelves { (d : AnyResource) → has_shelf shelves.old d ≡ true → has_shelf shelves.new d ≡ true }
-    ensures with_shelf { IfOk result (λ held. (q : AnyName) → among held.written_shelves.items (shelf_of catalogue.now q) ≡ true → has_shelf shelves.new (shelf_of catalogue.now q) ≡ true) }
-    ensures with_place { IfOk result (λ held. (q : AnyName) → is_named held.written_names.items q ≡ true → has_place shelves.new (shelf_of catalogue.now q) q ≡ true) }
-    ensures written_shelves { IfOk result (λ held. (q : AnyName) → among held.written_shelves.items (shelf_of catalogue.now q) ≡ locks_shelf plan.now Write (shelf_of catalogue.now q)) }
-    ensures written_names { IfOk result (λ held. (q : AnyName) → is_named held.written_names.items q ≡ locks_itself plan.now Write q) }
-    ensures rows { IfOk result (λ held. (q : AnyName) → locks_row catalogue.now plan.now q Read ≡ true → found catalogue.now held.shelves q ≡ settled (found catalogue.now shelves.old q)) }
-    ensures here { IfOk result (λ held. (q : AnyName) → (found catalogue.now held.shelves q).row ≡ (found catalogue.now held.shelves q).counts_as) }
-    ensures held_shelf { IfOk result (λ held. (q : AnyName) → locks_shelf plan.now Read (shelf_of catalogue.now q) ≡ true → has_shelf held.shelves (shelf_of catalogue.now q) ≡ true) }
-    ensures held_place { IfOk result (λ held. (q : AnyName) → locks_itself plan.now Read q ≡ true → has_place held.shelves (shelf_of catalogue.now q) q ≡ true) }
+    ensures with_shelf { IfOk result (λ held. (q : AnyName) →
+        among held.written_shelves.items (shelf_of catalogue.now q) ≡ true →
+        has_shelf shelves.new (shelf_of catalogue.now q) ≡ true) }
+    ensures with_place { IfOk result (λ held. (q : AnyName) → is_named held.written_names.items q ≡ true →
+        has_place shelves.new (shelf_of catalogue.now q) q ≡ true) }
+    ensures written_shelves { IfOk result (λ held. (q : AnyName) →
+        among held.written_shelves.items (shelf_of catalogue.now q)
+        ≡ locks_shelf plan.now Write (shelf_of catalogue.now q)) }
+    ensures written_names { IfOk result (λ held. (q : AnyName) →
+        is_named held.written_names.items q ≡ locks_itself plan.now Write q) }
+    ensures rows { IfOk result (λ held. (q : AnyName) → locks_row catalogue.now plan.now q Read ≡ true →
+        found catalogue.now held.shelves q ≡ settled (found catalogue.now shelves.old q)) }
+    ensures here { IfOk result (λ held. (q : AnyName) →
+        (found catalogue.now held.shelves q).row ≡ (found catalogue.now held.shelves q).counts_as) }
+    ensures held_shelf { IfOk result (λ held. (q : AnyName) →
+        locks_shelf plan.now Read (shelf_of catalogue.now q) ≡ true →
+        has_shelf held.shelves (shelf_of catalogue.now q) ≡ true) }
+    ensures held_place { IfOk result (λ held. (q : AnyName) → locks_itself plan.now Read q ≡ true →
+        has_place held.shelves (shelf_of catalogue.now q) q ≡ true) }
 {
     let requests = plan.requests();
     let written_shelves = locked_shelves(alloc, catalogue, requests, Right::Write)?;
@@ -89,9 +106,17 @@ pub(crate) fn hold(
 
 /// Puts back what a loan is to give back. It takes no memory and copies no row.
 pub(crate) fn put_back(catalogue: &Catalogue, shelves: &mut Shelves, held: Holdings)
-    ensures places { (q : AnyName) → (among held.written_shelves.items (shelf_of catalogue.now q) ≡ true → has_shelf shelves.old (shelf_of catalogue.now q) ≡ true) → (among held.written_shelves.items (shelf_of catalogue.now q) ≡ true → has_shelf held.shelves (shelf_of catalogue.now q) ≡ true)
-        → (is_named held.written_names.items q ≡ true → has_place shelves.old (shelf_of catalogue.now q) q ≡ true) → (is_named held.written_names.items q ≡ true → has_place held.shelves (shelf_of catalogue.now q) q ≡ true)
-        → place_at shelves.new (shelf_of catalogue.now q) q ≡ (if among held.written_shelves.items (shelf_of catalogue.now q) then place_at held.shelves (shelf_of catalogue.now q) q else (if is_named held.written_names.items q then placed (found catalogue.now held.shelves q).row else place_at shelves.old (shelf_of catalogue.now q) q)) }
+    ensures places { (q : AnyName) → (among held.written_shelves.items (shelf_of catalogue.now q) ≡ true →
+        has_shelf shelves.old (shelf_of catalogue.now q) ≡ true) →
+        (among held.written_shelves.items (shelf_of catalogue.now q) ≡ true →
+        has_shelf held.shelves (shelf_of catalogue.now q) ≡ true)
+        → (is_named held.written_names.items q ≡ true → has_place shelves.old (shelf_of catalogue.now q) q ≡ true) →
+        (is_named held.written_names.items q ≡ true → has_place held.shelves (shelf_of catalogue.now q) q ≡ true)
+        → place_at shelves.new (shelf_of catalogue.now q) q
+        ≡ (if among held.written_shelves.items (shelf_of catalogue.now q)
+        then place_at held.shelves (shelf_of catalogue.now q) q
+        else (if is_named held.written_names.items q then placed (found catalogue.now held.shelves q).row
+        else place_at shelves.old (shelf_of catalogue.now q) q)) }
     ensures shelves { (d : AnyResource) → has_shelf shelves.new d ≡ has_shelf shelves.old d }
 {
     let Holdings {

@@ -35,16 +35,23 @@ impl Model for Loan {
 
     ghost coded = { lent_code };
 
-    ghost view = { λ l. record { tables = l.catalogue; plan = l.plan.value; rows = rows_of l.catalogue l.held.shelves } };
+    ghost view = { λ l. record {
+      tables = l.catalogue;
+      plan = l.plan.value;
+      rows = rows_of l.catalogue
+          l.held.shelves;
+    } };
 
-    ghost invariant = { λ l. IsLoan l.catalogue l.plan.value l.held.shelves l.held.written_shelves.items l.held.written_names.items };
+    ghost invariant = { λ l.
+        IsLoan l.catalogue l.plan.value l.held.shelves l.held.written_shelves.items l.held.written_names.items };
 }
 
 impl Loan {
     /// Makes the writes of a transaction: puts each row in place of what has its name, and takes away the row of each name
     /// without one. All memory is taken first: an `Err` leaves the loan as it was.
     pub fn apply(&mut self, writes: BTreeMap<RowName, Option<Row>>) -> Result<(), NoMemory>
-        requires { (name : AnyName) → IsSome (tree.get name_cmp writes name) → locks_row self.old.tables self.old.plan name Write ≡ true }
+        requires { (name : AnyName) → IsSome (tree.get name_cmp writes name) →
+            locks_row self.old.tables self.old.plan name Write ≡ true }
         ensures tables { self.new.tables ≡ self.old.tables }
         ensures plan { self.new.plan ≡ self.old.plan }
         ensures rows { OnOk result (self.new.rows ≡ applied writes.entries self.old.rows) }

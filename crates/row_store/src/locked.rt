@@ -46,7 +46,9 @@ fn add_shelves_of_table(
     shelves: &mut Vec<Resource>,
 ) -> Result<(), NoMemory>
     requires { table < length catalogue.now }
-    ensures { OnOk result ((q : AnyName) → among shelves.new.items (shelf_of catalogue.now q) ≡ (among shelves.old.items (shelf_of catalogue.now q) || holds (Table table WholeTable) (shelf_of catalogue.now q))) }
+    ensures { OnOk result ((q : AnyName) →
+        among shelves.new.items (shelf_of catalogue.now q) ≡ (among shelves.old.items (shelf_of catalogue.now q)
+        || holds (Table table WholeTable) (shelf_of catalogue.now q))) }
 {
     shelves.push(Resource::Table(table, InTable::WholeTable))?;
     let mut number: u64 = 0;
@@ -78,7 +80,9 @@ fn add_shelves_under(
     shelves: &mut Vec<Resource>,
 ) -> Result<(), NoMemory>
     requires { IsResourceOf catalogue.now resource.now }
-    ensures { OnOk result ((q : AnyName) → among shelves.new.items (shelf_of catalogue.now q) ≡ (among shelves.old.items (shelf_of catalogue.now q) || holds resource.now (shelf_of catalogue.now q))) }
+    ensures { OnOk result ((q : AnyName) →
+        among shelves.new.items (shelf_of catalogue.now q) ≡ (among shelves.old.items (shelf_of catalogue.now q)
+        || holds resource.now (shelf_of catalogue.now q))) }
 {
     match *resource {
         Resource::Db => add_all_shelves(catalogue, shelves),
@@ -101,7 +105,8 @@ pub(crate) fn locked_shelves(
     right: Right,
 ) -> Result<Vec<Resource>, NoMemory>
     requires { IsPlanOver catalogue.now requests.now }
-    ensures { IfOk result (λ shelves. (q : AnyName) → among shelves.items (shelf_of catalogue.now q) ≡ locks_shelf requests.now right (shelf_of catalogue.now q)) }
+    ensures { IfOk result (λ shelves. (q : AnyName) →
+        among shelves.items (shelf_of catalogue.now q) ≡ locks_shelf requests.now right (shelf_of catalogue.now q)) }
 {
     let mut shelves = Vec::new(alloc);
     for (resource, mode) in requests {

@@ -41,9 +41,11 @@ pub(crate) fn make_places(
     names: &[RowName],
 ) -> Result<(), NoMemory>
     ensures seen { (d : AnyResource) (q : AnyName) → seen shelves.new d q ≡ seen shelves.old d q }
-    ensures kept { (d : AnyResource) (q : AnyName) → has_place shelves.old d q ≡ true → has_place shelves.new d q ≡ true }
+    ensures kept { (d : AnyResource) (q : AnyName) → has_place shelves.old d q ≡ true →
+        has_place shelves.new d q ≡ true }
     ensures shelves { (d : AnyResource) → has_shelf shelves.old d ≡ true → has_shelf shelves.new d ≡ true }
-    ensures there { OnOk result ((q : AnyName) → is_named names.now q ≡ true → has_place shelves.new (shelf_of catalogue.now q) q ≡ true) }
+    ensures there { OnOk result ((q : AnyName) → is_named names.now q ≡ true →
+        has_place shelves.new (shelf_of catalogue.now q) q ≡ true) }
 {
     for name in names {
         make_place(alloc, shelves, &shelf_of(catalogue, *name), name)?;
@@ -53,7 +55,9 @@ pub(crate) fn make_places(
 
 /// Empties the places of names. Their rows count as before.
 pub(crate) fn empty_places(catalogue: &Catalogue, shelves: &mut Shelves, names: &[RowName])
-    ensures seen { (q : AnyName) → seen shelves.new (shelf_of catalogue.now q) q ≡ (if is_named names.now q then emptied (seen shelves.old (shelf_of catalogue.now q) q) else seen shelves.old (shelf_of catalogue.now q) q) }
+    ensures seen { (q : AnyName) → seen shelves.new (shelf_of catalogue.now q) q ≡ (if is_named names.now q
+        then emptied (seen shelves.old (shelf_of catalogue.now q) q)
+        else seen shelves.old (shelf_of catalogue.now q) q) }
     ensures places { (d : AnyResource) (q : AnyName) → has_place shelves.new d q ≡ has_place shelves.old d q }
     ensures shelves { (d : AnyResource) → has_shelf shelves.new d ≡ has_shelf shelves.old d }
 {
@@ -69,8 +73,11 @@ fn copy_one(
     copies: &mut Shelves,
     at: &Resource,
 ) -> Result<(), NoMemory>
-    ensures places { OnOk result ((d : AnyResource) (q : AnyName) → place_at copies.new d q ≡ (if is_shelf at.now d then option_map settled (place_at shelves.now d q) else place_at copies.old d q)) }
-    ensures shelves { OnOk result ((d : AnyResource) → has_shelf copies.new d ≡ (if is_shelf at.now d then true else has_shelf copies.old d)) }
+    ensures places { OnOk result ((d : AnyResource) (q : AnyName) →
+        place_at copies.new d q ≡ (if is_shelf at.now d then option_map settled (place_at shelves.now d q)
+        else place_at copies.old d q)) }
+    ensures shelves { OnOk result ((d : AnyResource) →
+        has_shelf copies.new d ≡ (if is_shelf at.now d then true else has_shelf copies.old d)) }
 {
     let copy = copy_shelf(alloc, shelves, at)?;
     add_shelf(copies, at, copy)
@@ -82,7 +89,8 @@ pub(crate) fn copy_shelves(
     shelves: &Shelves,
     at: &[Resource],
 ) -> Result<Shelves, NoMemory>
-    ensures places { IfOk result (λ copies. (d : AnyResource) (q : AnyName) → place_at copies d q ≡ (if among at.now d then option_map settled (place_at shelves.now d q) else None)) }
+    ensures places { IfOk result (λ copies. (d : AnyResource) (q : AnyName) →
+        place_at copies d q ≡ (if among at.now d then option_map settled (place_at shelves.now d q) else None)) }
     ensures shelves { IfOk result (λ copies. (d : AnyResource) → has_shelf copies d ≡ among at.now d) }
 {
     let mut copies = BTreeMap::new(alloc);
@@ -100,7 +108,9 @@ fn share_one(
     at: &Resource,
     name: &RowName,
 ) -> Result<(), NoMemory>
-    ensures places { OnOk result ((d : AnyResource) (q : AnyName) → place_at copies.new d q ≡ (if is_shelf at.now d && is_name name.now q then Some (settled (seen shelves.now d q)) else place_at copies.old d q)) }
+    ensures places { OnOk result ((d : AnyResource) (q : AnyName) →
+        place_at copies.new d q ≡ (if is_shelf at.now d && is_name name.now q
+        then Some (settled (seen shelves.now d q)) else place_at copies.old d q)) }
     ensures shelves { OnOk result ((d : AnyResource) → has_shelf copies.old d ≡ true → has_shelf copies.new d ≡ true) }
 {
     let row = share_row(shelves, at, name)?;
@@ -116,7 +126,10 @@ pub(crate) fn share_rows(
     copies: &mut Shelves,
     names: &[RowName],
 ) -> Result<(), NoMemory>
-    ensures places { OnOk result ((q : AnyName) → place_at copies.new (shelf_of catalogue.now q) q ≡ (if is_named names.now q then Some (settled (seen shelves.now (shelf_of catalogue.now q) q)) else place_at copies.old (shelf_of catalogue.now q) q)) }
+    ensures places { OnOk result ((q : AnyName) →
+        place_at copies.new (shelf_of catalogue.now q) q ≡ (if is_named names.now q
+        then Some (settled (seen shelves.now (shelf_of catalogue.now q) q))
+        else place_at copies.old (shelf_of catalogue.now q) q)) }
     ensures shelves { OnOk result ((d : AnyResource) → has_shelf copies.old d ≡ true → has_shelf copies.new d ≡ true) }
 {
     for name in names {
@@ -127,10 +140,14 @@ pub(crate) fn share_rows(
 
 /// Moves a shelf from a loan into the place of the store's, if both are there.
 fn put_one_shelf(shelves: &mut Shelves, from: &mut Shelves, at: &Resource)
-    ensures places { (d : AnyResource) (q : AnyName) → place_at shelves.new d q ≡ (if is_shelf at.now d && (has_shelf shelves.old d && has_shelf from.old d) then place_at from.old d q else place_at shelves.old d q) }
+    ensures places { (d : AnyResource) (q : AnyName) →
+        place_at shelves.new d q ≡ (if is_shelf at.now d && (has_shelf shelves.old d && has_shelf from.old d)
+        then place_at from.old d q else place_at shelves.old d q) }
     ensures shelves { (d : AnyResource) → has_shelf shelves.new d ≡ has_shelf shelves.old d }
-    ensures left { (d : AnyResource) (q : AnyName) → place_at from.new d q ≡ (if is_shelf at.now d then None else place_at from.old d q) }
-    ensures left_shelves { (d : AnyResource) → has_shelf from.new d ≡ (if is_shelf at.now d then false else has_shelf from.old d) }
+    ensures left { (d : AnyResource) (q : AnyName) →
+        place_at from.new d q ≡ (if is_shelf at.now d then None else place_at from.old d q) }
+    ensures left_shelves { (d : AnyResource) →
+        has_shelf from.new d ≡ (if is_shelf at.now d then false else has_shelf from.old d) }
 {
     if let Some(shelf) = from.remove(at) {
         put_shelf(shelves, at, shelf);
@@ -139,9 +156,12 @@ fn put_one_shelf(shelves: &mut Shelves, from: &mut Shelves, at: &Resource)
 
 /// Moves whole shelves from a loan into the places of the store's. It takes no memory and copies no row.
 pub(crate) fn put_shelves(shelves: &mut Shelves, from: &mut Shelves, at: &[Resource])
-    ensures places { (d : AnyResource) (q : AnyName) → place_at shelves.new d q ≡ (if among at.now d && (has_shelf shelves.old d && has_shelf from.old d) then place_at from.old d q else place_at shelves.old d q) }
+    ensures places { (d : AnyResource) (q : AnyName) →
+        place_at shelves.new d q ≡ (if among at.now d && (has_shelf shelves.old d && has_shelf from.old d)
+        then place_at from.old d q else place_at shelves.old d q) }
     ensures shelves { (d : AnyResource) → has_shelf shelves.new d ≡ has_shelf shelves.old d }
-    ensures left { (d : AnyResource) (q : AnyName) → place_at from.new d q ≡ (if among at.now d then None else place_at from.old d q) }
+    ensures left { (d : AnyResource) (q : AnyName) →
+        place_at from.new d q ≡ (if among at.now d then None else place_at from.old d q) }
 {
     for shelf in at {
         put_one_shelf(shelves, from, shelf);
@@ -151,9 +171,13 @@ pub(crate) fn put_shelves(shelves: &mut Shelves, from: &mut Shelves, at: &[Resou
 /// Moves the row of a name from a loan into the place in the store, if both have a place of that name. Without a row the
 /// place goes.
 fn put_one_row(shelves: &mut Shelves, from: &mut Shelves, at: &Resource, name: &RowName)
-    ensures places { (d : AnyResource) (q : AnyName) → place_at shelves.new d q ≡ (if is_shelf at.now d && (is_name name.now q && (has_place shelves.old d q && has_place from.old d q)) then placed (seen from.old d q).row else place_at shelves.old d q) }
+    ensures places { (d : AnyResource) (q : AnyName) →
+        place_at shelves.new d q
+        ≡ (if is_shelf at.now d && (is_name name.now q && (has_place shelves.old d q && has_place from.old d q))
+        then placed (seen from.old d q).row else place_at shelves.old d q) }
     ensures shelves { (d : AnyResource) → has_shelf shelves.new d ≡ has_shelf shelves.old d }
-    ensures left { (d : AnyResource) (q : AnyName) → place_at from.new d q ≡ (if is_shelf at.now d && is_name name.now q then None else place_at from.old d q) }
+    ensures left { (d : AnyResource) (q : AnyName) →
+        place_at from.new d q ≡ (if is_shelf at.now d && is_name name.now q then None else place_at from.old d q) }
 {
     if let Some(place) = take_place(from, at, name) {
         put_row(shelves, at, name, place.row);
@@ -167,7 +191,12 @@ pub(crate) fn put_rows(
     from: &mut Shelves,
     names: &[RowName],
 )
-    ensures places { (q : AnyName) → place_at shelves.new (shelf_of catalogue.now q) q ≡ (if is_named names.now q && (has_place shelves.old (shelf_of catalogue.now q) q && has_place from.old (shelf_of catalogue.now q) q) then placed (seen from.old (shelf_of catalogue.now q) q).row else place_at shelves.old (shelf_of catalogue.now q) q) }
+    ensures places { (q : AnyName) →
+        place_at shelves.new (shelf_of catalogue.now q) q
+        ≡ (if is_named names.now q && (has_place shelves.old (shelf_of catalogue.now q) q
+        && has_place from.old (shelf_of catalogue.now q) q)
+        then placed (seen from.old (shelf_of catalogue.now q) q).row
+        else place_at shelves.old (shelf_of catalogue.now q) q) }
     ensures shelves { (d : AnyResource) → has_shelf shelves.new d ≡ has_shelf shelves.old d }
 {
     for name in names {

@@ -46,7 +46,8 @@ fn row_ahead<'a>(
     name: &RowName,
     place: &'a Place,
 ) -> Option<&'a Row>
-    ensures { option_map (λ row. row.now) result ≡ (if is_ahead catalogue.now table part after.now name.now then (place_of place.now).row else None) }
+    ensures { option_map (λ row. row.now) result ≡ (if is_ahead catalogue.now table part after.now name.now
+        then (place_of place.now).row else None) }
 {
     if !is_ahead(catalogue, table, part, after, name) {
         return None;
@@ -76,7 +77,9 @@ fn next_on<'a>(
     part: u32,
     after: &Option<Key>,
 ) -> Option<(Key, &'a Row)>
-    ensures { (db : Database) → ((q : AnyName) → is_in_part catalogue.now table part q ≡ true → map.get db q ≡ standing (place_in shelf.now q)) → IsNext catalogue.now db table part after.now (option_map (λ found. (found.0, found.1.now)) result) }
+    ensures { (db : Database) → ((q : AnyName) → is_in_part catalogue.now table part q ≡ true →
+        map.get db q ≡ standing (place_in shelf.now q)) →
+        IsNext catalogue.now db table part after.now (option_map (λ found. (found.0, found.1.now)) result) }
 {
     for (name, place) in shelf.range((start_of(table, after), Bound::Unbounded)) {
         if let Some(row) = row_ahead(catalogue, table, part, after, name, place) {
@@ -94,7 +97,9 @@ pub(crate) fn next_row<'a>(
     part: u32,
     after: &Option<Key>,
 ) -> Option<(Key, &'a Row)>
-    ensures { (db : Database) → ((q : AnyName) → is_in_part catalogue.now table part q ≡ true → map.get db q ≡ (found catalogue.now shelves.now q).row) → IsNext catalogue.now db table part after.now (option_map (λ found. (found.0, found.1.now)) result) }
+    ensures { (db : Database) → ((q : AnyName) → is_in_part catalogue.now table part q ≡ true →
+        map.get db q ≡ (found catalogue.now shelves.now q).row) →
+        IsNext catalogue.now db table part after.now (option_map (λ found. (found.0, found.1.now)) result) }
 {
     match shelves.get(&shelf_at(catalogue, table, part)) {
         Some(shelf) => next_on(catalogue, shelf, table, part, after),

@@ -16,7 +16,9 @@ pub(crate) type Shelf = BTreeMap<RowName, Place>;
 /// Sees to it that a name has a place.
 #[tactic(auto, using(crate::proofs::Exact::place_same))]
 pub(crate) fn make_place(shelf: &mut Shelf, name: &RowName) -> Result<(), NoMemory>
-    ensures made { OnOk result ((q : AnyName) → place_in shelf.new q ≡ (if is_name name.now q then Some (made (place_in shelf.old q)) else place_in shelf.old q)) }
+    ensures made { OnOk result ((q : AnyName) →
+        place_in shelf.new q ≡ (if is_name name.now q then Some (made (place_in shelf.old q))
+        else place_in shelf.old q)) }
     ensures err { OnErr result ((q : AnyName) → place_in shelf.new q ≡ place_in shelf.old q) }
     ensures seen { (q : AnyName) → made (place_in shelf.new q) ≡ made (place_in shelf.old q) }
     ensures kept { (q : AnyName) → is_some (place_in shelf.old q) ≡ true → is_some (place_in shelf.new q) ≡ true }
@@ -31,7 +33,9 @@ pub(crate) fn make_place(shelf: &mut Shelf, name: &RowName) -> Result<(), NoMemo
 /// Empties the place of a name. Its row counts as before.
 #[tactic(auto, using(crate::proofs::Exact::place_same))]
 pub(crate) fn empty_place(shelf: &mut Shelf, name: &RowName)
-    ensures { (q : AnyName) → place_in shelf.new q ≡ (if is_name name.now q then option_map emptied (place_in shelf.old q) else place_in shelf.old q) }
+    ensures { (q : AnyName) →
+        place_in shelf.new q ≡ (if is_name name.now q then option_map emptied (place_in shelf.old q)
+        else place_in shelf.old q) }
 {
     if let Some(place) = shelf.get_mut(name) {
         place.row = None;
@@ -41,7 +45,9 @@ pub(crate) fn empty_place(shelf: &mut Shelf, name: &RowName)
 /// Fills the place of a name, if there is one, with a row or with none.
 #[tactic(auto, using(crate::proofs::Exact::place_same))]
 pub(crate) fn fill_place(shelf: &mut Shelf, name: &RowName, row: Option<Arc<Row>>)
-    ensures { (q : AnyName) → place_in shelf.new q ≡ (if is_name name.now q then option_map (λ _. full (value_of row)) (place_in shelf.old q) else place_in shelf.old q) }
+    ensures { (q : AnyName) →
+        place_in shelf.new q ≡ (if is_name name.now q
+        then option_map (λ _. full (value_of row)) (place_in shelf.old q) else place_in shelf.old q) }
 {
     if let Some(place) = shelf.get_mut(name) {
         place.counts_as = Snapshot::of(&row);
@@ -52,7 +58,9 @@ pub(crate) fn fill_place(shelf: &mut Shelf, name: &RowName, row: Option<Arc<Row>
 /// Puts a row in the place of a name that has one; without a row the place goes.
 #[tactic(auto, using(crate::proofs::Exact::place_same))]
 pub(crate) fn put_row(shelf: &mut Shelf, name: &RowName, row: Option<Arc<Row>>)
-    ensures { (q : AnyName) → place_in shelf.new q ≡ (if is_name name.now q then (if is_some (place_in shelf.old q) then placed (value_of row) else None) else place_in shelf.old q) }
+    ensures { (q : AnyName) →
+        place_in shelf.new q ≡ (if is_name name.now q
+        then (if is_some (place_in shelf.old q) then placed (value_of row) else None) else place_in shelf.old q) }
 {
     match row {
         Some(row) => fill_place(shelf, name, Some(row)),

@@ -23,7 +23,8 @@ pub(crate) fn make_shelf(
     at: &Resource,
 ) -> Result<(), NoMemory>
     ensures places { (d : AnyResource) (q : AnyName) → place_at shelves.new d q ≡ place_at shelves.old d q }
-    ensures made { OnOk result ((d : AnyResource) → has_shelf shelves.new d ≡ (if is_shelf at.now d then true else has_shelf shelves.old d)) }
+    ensures made { OnOk result ((d : AnyResource) →
+        has_shelf shelves.new d ≡ (if is_shelf at.now d then true else has_shelf shelves.old d)) }
     ensures err { OnErr result ((d : AnyResource) → has_shelf shelves.new d ≡ has_shelf shelves.old d) }
 {
     if shelves.contains_key(at) {
@@ -37,9 +38,12 @@ pub(crate) fn make_shelf(
 #[tactic(auto, using(crate::proofs::Exact::get_same))]
 fn make_place_on(shelves: &mut Shelves, at: &Resource, name: &RowName) -> Result<(), NoMemory>
     requires { has_shelf shelves.old at.now ≡ true }
-    ensures made { OnOk result ((d : AnyResource) (q : AnyName) → place_at shelves.new d q ≡ (if is_shelf at.now d && is_name name.now q then Some (made (place_at shelves.old d q)) else place_at shelves.old d q)) }
+    ensures made { OnOk result ((d : AnyResource) (q : AnyName) →
+        place_at shelves.new d q ≡ (if is_shelf at.now d && is_name name.now q
+        then Some (made (place_at shelves.old d q)) else place_at shelves.old d q)) }
     ensures seen { (d : AnyResource) (q : AnyName) → seen shelves.new d q ≡ seen shelves.old d q }
-    ensures kept { (d : AnyResource) (q : AnyName) → has_place shelves.old d q ≡ true → has_place shelves.new d q ≡ true }
+    ensures kept { (d : AnyResource) (q : AnyName) → has_place shelves.old d q ≡ true →
+        has_place shelves.new d q ≡ true }
     ensures shelves { (d : AnyResource) → has_shelf shelves.new d ≡ has_shelf shelves.old d }
 {
     match shelves.get_mut(at) {
@@ -56,10 +60,13 @@ pub(crate) fn make_place(
     name: &RowName,
 ) -> Result<(), NoMemory>
     ensures seen { (d : AnyResource) (q : AnyName) → seen shelves.new d q ≡ seen shelves.old d q }
-    ensures kept { (d : AnyResource) (q : AnyName) → has_place shelves.old d q ≡ true → has_place shelves.new d q ≡ true }
+    ensures kept { (d : AnyResource) (q : AnyName) → has_place shelves.old d q ≡ true →
+        has_place shelves.new d q ≡ true }
     ensures shelves { (d : AnyResource) → has_shelf shelves.old d ≡ true → has_shelf shelves.new d ≡ true }
     ensures there { OnOk result (has_place shelves.new at.now name.now ≡ true) }
-    ensures made { OnOk result ((d : AnyResource) (q : AnyName) → place_at shelves.new d q ≡ (if is_shelf at.now d && is_name name.now q then Some (seen shelves.old d q) else place_at shelves.old d q)) }
+    ensures made { OnOk result ((d : AnyResource) (q : AnyName) →
+        place_at shelves.new d q ≡ (if is_shelf at.now d && is_name name.now q then Some (seen shelves.old d q)
+        else place_at shelves.old d q)) }
 {
     make_shelf(alloc, shelves, at)?;
     make_place_on(shelves, at, name)
@@ -73,8 +80,11 @@ pub(crate) fn add_row(
     name: &RowName,
     row: Option<Arc<Row>>,
 ) -> Result<(), NoMemory>
-    ensures places { OnOk result ((d : AnyResource) (q : AnyName) → place_at shelves.new d q ≡ (if is_shelf at.now d && is_name name.now q then Some (full (value_of row)) else place_at shelves.old d q)) }
-    ensures shelves { OnOk result ((d : AnyResource) → has_shelf shelves.old d ≡ true → has_shelf shelves.new d ≡ true) }
+    ensures places { OnOk result ((d : AnyResource) (q : AnyName) →
+        place_at shelves.new d q ≡ (if is_shelf at.now d && is_name name.now q then Some (full (value_of row))
+        else place_at shelves.old d q)) }
+    ensures shelves { OnOk result ((d : AnyResource) → has_shelf shelves.old d ≡ true →
+        has_shelf shelves.new d ≡ true) }
 {
     make_place(alloc, shelves, at, name)?;
     fill_place(shelves, at, name, row);
@@ -84,8 +94,12 @@ pub(crate) fn add_row(
 /// Empties a place.
 #[tactic(auto, using(crate::proofs::Exact::get_same, crate::proofs::Steps::emptied_made, crate::proofs::Steps::emptied_there))]
 pub(crate) fn empty_place(shelves: &mut Shelves, at: &Resource, name: &RowName)
-    ensures places { (d : AnyResource) (q : AnyName) → place_at shelves.new d q ≡ (if is_shelf at.now d && is_name name.now q then option_map emptied (place_at shelves.old d q) else place_at shelves.old d q) }
-    ensures seen { (d : AnyResource) (q : AnyName) → seen shelves.new d q ≡ (if is_shelf at.now d && is_name name.now q then emptied (seen shelves.old d q) else seen shelves.old d q) }
+    ensures places { (d : AnyResource) (q : AnyName) →
+        place_at shelves.new d q ≡ (if is_shelf at.now d && is_name name.now q
+        then option_map emptied (place_at shelves.old d q) else place_at shelves.old d q) }
+    ensures seen { (d : AnyResource) (q : AnyName) →
+        seen shelves.new d q ≡ (if is_shelf at.now d && is_name name.now q then emptied (seen shelves.old d q)
+        else seen shelves.old d q) }
     ensures kept { (d : AnyResource) (q : AnyName) → has_place shelves.new d q ≡ has_place shelves.old d q }
     ensures shelves { (d : AnyResource) → has_shelf shelves.new d ≡ has_shelf shelves.old d }
 {
@@ -102,8 +116,12 @@ pub(crate) fn fill_place(
     name: &RowName,
     row: Option<Arc<Row>>,
 )
-    ensures places { (d : AnyResource) (q : AnyName) → place_at shelves.new d q ≡ (if is_shelf at.now d && is_name name.now q then option_map (λ _. full (value_of row)) (place_at shelves.old d q) else place_at shelves.old d q) }
-    ensures seen { (d : AnyResource) (q : AnyName) → has_place shelves.old at.now name.now ≡ true → seen shelves.new d q ≡ (if is_shelf at.now d && is_name name.now q then full (value_of row) else seen shelves.old d q) }
+    ensures places { (d : AnyResource) (q : AnyName) →
+        place_at shelves.new d q ≡ (if is_shelf at.now d && is_name name.now q
+        then option_map (λ _. full (value_of row)) (place_at shelves.old d q) else place_at shelves.old d q) }
+    ensures seen { (d : AnyResource) (q : AnyName) → has_place shelves.old at.now name.now ≡ true →
+        seen shelves.new d q ≡ (if is_shelf at.now d && is_name name.now q then full (value_of row)
+        else seen shelves.old d q) }
     ensures kept { (d : AnyResource) (q : AnyName) → has_place shelves.new d q ≡ has_place shelves.old d q }
     ensures shelves { (d : AnyResource) → has_shelf shelves.new d ≡ has_shelf shelves.old d }
 {
@@ -115,7 +133,9 @@ pub(crate) fn fill_place(
 /// Puts a row in the place of a name that has one; without a row the place goes.
 #[tactic(auto, using(crate::proofs::Exact::get_same))]
 pub(crate) fn put_row(shelves: &mut Shelves, at: &Resource, name: &RowName, row: Option<Arc<Row>>)
-    ensures places { (d : AnyResource) (q : AnyName) → place_at shelves.new d q ≡ (if is_shelf at.now d && is_name name.now q then (if has_place shelves.old d q then placed (value_of row) else None) else place_at shelves.old d q) }
+    ensures places { (d : AnyResource) (q : AnyName) →
+        place_at shelves.new d q ≡ (if is_shelf at.now d && is_name name.now q
+        then (if has_place shelves.old d q then placed (value_of row) else None) else place_at shelves.old d q) }
     ensures shelves { (d : AnyResource) → has_shelf shelves.new d ≡ has_shelf shelves.old d }
 {
     if let Some(shelf) = shelves.get_mut(at) {
@@ -148,7 +168,9 @@ pub(crate) fn row_at<'a>(shelves: &'a Shelves, at: &Resource, name: &RowName) ->
 /// Takes a place off its shelf.
 pub(crate) fn take_place(shelves: &mut Shelves, at: &Resource, name: &RowName) -> Option<Place>
     ensures taken { option_map place_of result ≡ place_at shelves.old at.now name.now }
-    ensures places { (d : AnyResource) (q : AnyName) → place_at shelves.new d q ≡ (if is_shelf at.now d && is_name name.now q then None else place_at shelves.old d q) }
+    ensures places { (d : AnyResource) (q : AnyName) →
+        place_at shelves.new d q ≡ (if is_shelf at.now d && is_name name.now q then None
+        else place_at shelves.old d q) }
     ensures shelves { (d : AnyResource) → has_shelf shelves.new d ≡ has_shelf shelves.old d }
 {
     let shelf = shelves.get_mut(at)?;
@@ -157,7 +179,8 @@ pub(crate) fn take_place(shelves: &mut Shelves, at: &Resource, name: &RowName) -
 
 /// A copy of a shelf, with the rows that stand there.
 pub(crate) fn copy_shelf(alloc: Global, shelves: &Shelves, at: &Resource) -> Result<Shelf, NoMemory>
-    ensures { IfOk result (λ copy. (q : AnyName) → place_in copy q ≡ option_map settled (place_at shelves.now at.now q)) }
+    ensures { IfOk result (λ copy. (q : AnyName) →
+        place_in copy q ≡ option_map settled (place_at shelves.now at.now q)) }
 {
     match shelves.get(at) {
         Some(shelf) => Ok(shelf.clone()?),
@@ -167,8 +190,10 @@ pub(crate) fn copy_shelf(alloc: Global, shelves: &Shelves, at: &Resource) -> Res
 
 /// Adds a shelf.
 pub(crate) fn add_shelf(shelves: &mut Shelves, at: &Resource, shelf: Shelf) -> Result<(), NoMemory>
-    ensures places { OnOk result ((d : AnyResource) (q : AnyName) → place_at shelves.new d q ≡ (if is_shelf at.now d then place_in shelf q else place_at shelves.old d q)) }
-    ensures shelves { OnOk result ((d : AnyResource) → has_shelf shelves.new d ≡ (if is_shelf at.now d then true else has_shelf shelves.old d)) }
+    ensures places { OnOk result ((d : AnyResource) (q : AnyName) →
+        place_at shelves.new d q ≡ (if is_shelf at.now d then place_in shelf q else place_at shelves.old d q)) }
+    ensures shelves { OnOk result ((d : AnyResource) →
+        has_shelf shelves.new d ≡ (if is_shelf at.now d then true else has_shelf shelves.old d)) }
 {
     shelves.insert(*at, shelf)?;
     Ok(())
@@ -176,7 +201,9 @@ pub(crate) fn add_shelf(shelves: &mut Shelves, at: &Resource, shelf: Shelf) -> R
 
 /// Puts a shelf in the place of the one at a resource, if there is one.
 pub(crate) fn put_shelf(shelves: &mut Shelves, at: &Resource, shelf: Shelf)
-    ensures places { (d : AnyResource) (q : AnyName) → place_at shelves.new d q ≡ (if is_shelf at.now d && has_shelf shelves.old at.now then place_in shelf q else place_at shelves.old d q) }
+    ensures places { (d : AnyResource) (q : AnyName) →
+        place_at shelves.new d q ≡ (if is_shelf at.now d && has_shelf shelves.old at.now then place_in shelf q
+        else place_at shelves.old d q) }
     ensures shelves { (d : AnyResource) → has_shelf shelves.new d ≡ has_shelf shelves.old d }
 {
     if let Some(old) = shelves.get_mut(at) {

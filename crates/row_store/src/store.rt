@@ -73,14 +73,16 @@ impl RowStore {
     pub fn lend(&mut self, number: u64, plan: &Plan) -> Result<Loan, NoMemory>
         requires over { IsPlanOver self.old.tables plan.now }
         requires unlent { map.get self.old.lent number ≡ None }
-        requires apart { (other : ℕ) (requests : Requests) → map.get self.old.lent other ≡ Some requests → Conflict requests plan.now → ⊥ }
+        requires apart { (other : ℕ) (requests : Requests) → map.get self.old.lent other ≡ Some requests →
+            Conflict requests plan.now → ⊥ }
         ensures tables { self.new.tables ≡ self.old.tables }
         ensures rows { self.new.rows ≡ self.old.rows }
         ensures lent { OnOk result (self.new.lent ≡ map.insert self.old.lent number plan.now) }
         ensures err { OnErr result (self.new ≡ self.old) }
         ensures loan_tables { IfOk result (λ loan. loan.tables ≡ self.old.tables) }
         ensures loan_plan { IfOk result (λ loan. loan.plan ≡ plan.now) }
-        ensures loan_rows { IfOk result (λ loan. (name : AnyName) → locks_row self.old.tables plan.now name Read ≡ true → map.get loan.rows name ≡ map.get self.old.rows name) }
+        ensures loan_rows { IfOk result (λ loan. (name : AnyName) →
+            locks_row self.old.tables plan.now name Read ≡ true → map.get loan.rows name ≡ map.get self.old.rows name) }
     {
         locked_rows_conflict();
         clashes_are_either_way();
@@ -102,7 +104,8 @@ impl RowStore {
         requires lent { map.get self.old.lent number ≡ Some loan.plan }
         requires tables { loan.tables ≡ self.old.tables }
         ensures tables { self.new.tables ≡ self.old.tables }
-        ensures rows { (name : AnyName) → map.get self.new.rows name ≡ (if locks_row loan.tables loan.plan name Write then map.get loan.rows name else map.get self.old.rows name) }
+        ensures rows { (name : AnyName) → map.get self.new.rows name ≡ (if locks_row loan.tables loan.plan name Write
+            then map.get loan.rows name else map.get self.old.rows name) }
         ensures lent { self.new.lent ≡ map.remove self.old.lent number }
     {
         locked_rows_conflict();

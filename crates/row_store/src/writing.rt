@@ -38,10 +38,12 @@ fn add_write(
     row: Option<Row>,
 ) -> Result<(), NoMemory>
     ensures seen { (d : AnyResource) (q : AnyName) → seen shelves.new d q ≡ seen shelves.old d q }
-    ensures kept { (d : AnyResource) (q : AnyName) → has_place shelves.old d q ≡ true → has_place shelves.new d q ≡ true }
+    ensures kept { (d : AnyResource) (q : AnyName) → has_place shelves.old d q ≡ true →
+        has_place shelves.new d q ≡ true }
     ensures shelves { (d : AnyResource) → has_shelf shelves.old d ≡ true → has_shelf shelves.new d ≡ true }
     ensures there { OnOk result (has_place shelves.new (shelf_of catalogue.now name) name ≡ true) }
-    ensures added { OnOk result ((q : AnyName) → write_at writes.new q ≡ (if is_name name q then Some row else write_at writes.old q)) }
+    ensures added { OnOk result ((q : AnyName) →
+        write_at writes.new q ≡ (if is_name name q then Some row else write_at writes.old q)) }
 {
     make_place(alloc, shelves, &shelf_of(catalogue, name), &name)?;
     let row = shared(alloc, row)?;
@@ -57,9 +59,11 @@ fn make_writes(
     writes: BTreeMap<RowName, Option<Row>>,
 ) -> Result<Writes, NoMemory>
     ensures seen { (d : AnyResource) (q : AnyName) → seen shelves.new d q ≡ seen shelves.old d q }
-    ensures kept { (d : AnyResource) (q : AnyName) → has_place shelves.old d q ≡ true → has_place shelves.new d q ≡ true }
+    ensures kept { (d : AnyResource) (q : AnyName) → has_place shelves.old d q ≡ true →
+        has_place shelves.new d q ≡ true }
     ensures shelves { (d : AnyResource) → has_shelf shelves.old d ≡ true → has_shelf shelves.new d ≡ true }
-    ensures there { IfOk result (λ made. (q : AnyName) → is_some (write_at made q) ≡ true → has_place shelves.new (shelf_of catalogue.now q) q ≡ true) }
+    ensures there { IfOk result (λ made. (q : AnyName) → is_some (write_at made q) ≡ true →
+        has_place shelves.new (shelf_of catalogue.now q) q ≡ true) }
     ensures made { IfOk result (λ made. (q : AnyName) → write_at made q ≡ tree.get name_cmp writes q) }
 {
     let mut left = writes;
@@ -72,8 +76,11 @@ fn make_writes(
 
 /// Puts writes in their places.
 fn put_writes(catalogue: &Catalogue, shelves: &mut Shelves, writes: Writes)
-    requires { (q : AnyName) → is_some (write_at writes q) ≡ true → has_place shelves.old (shelf_of catalogue.now q) q ≡ true }
-    ensures seen { (q : AnyName) → seen shelves.new (shelf_of catalogue.now q) q ≡ written (write_at writes q) (seen shelves.old (shelf_of catalogue.now q) q) }
+    requires { (q : AnyName) → is_some (write_at writes q) ≡ true →
+        has_place shelves.old (shelf_of catalogue.now q) q ≡ true }
+    ensures seen { (q : AnyName) →
+        seen shelves.new (shelf_of catalogue.now q) q
+        ≡ written (write_at writes q) (seen shelves.old (shelf_of catalogue.now q) q) }
     ensures kept { (d : AnyResource) (q : AnyName) → has_place shelves.new d q ≡ has_place shelves.old d q }
     ensures shelves { (d : AnyResource) → has_shelf shelves.new d ≡ has_shelf shelves.old d }
 {
@@ -91,9 +98,12 @@ pub(crate) fn write(
     shelves: &mut Shelves,
     writes: BTreeMap<RowName, Option<Row>>,
 ) -> Result<(), NoMemory>
-    ensures seen { OnOk result ((q : AnyName) → seen shelves.new (shelf_of catalogue.now q) q ≡ written (tree.get name_cmp writes q) (seen shelves.old (shelf_of catalogue.now q) q)) }
+    ensures seen { OnOk result ((q : AnyName) →
+        seen shelves.new (shelf_of catalogue.now q) q
+        ≡ written (tree.get name_cmp writes q) (seen shelves.old (shelf_of catalogue.now q) q)) }
     ensures err { OnErr result ((d : AnyResource) (q : AnyName) → seen shelves.new d q ≡ seen shelves.old d q) }
-    ensures kept { (d : AnyResource) (q : AnyName) → has_place shelves.old d q ≡ true → has_place shelves.new d q ≡ true }
+    ensures kept { (d : AnyResource) (q : AnyName) → has_place shelves.old d q ≡ true →
+        has_place shelves.new d q ≡ true }
     ensures shelves { (d : AnyResource) → has_shelf shelves.old d ≡ true → has_shelf shelves.new d ≡ true }
 {
     let made = make_writes(alloc, catalogue, shelves, writes)?;

@@ -1,3 +1,4 @@
+-- Claimed: what contracts promise to a reader rests on these words.
 -- What executes batches.
 use Rattle.std.specs.Prelude.{Result, IfOk, IfErr}
 use denote.Ref.{MutBor}

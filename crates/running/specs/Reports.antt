@@ -1,3 +1,4 @@
+-- Claimed: what contracts promise to a reader rests on these words.
 -- The report of a log on a setup.
 use Rattle.std.specs.Prelude.{ℕ, List, map, is_some, Option}
 use Rattle.values.specs.Database.{Database}

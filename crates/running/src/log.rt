@@ -80,11 +80,14 @@ fn run_batch<X: Fn(&mut Engine, Batch) -> Result<BatchDone, ExecFault>, K: Sink>
     ensures next { OnOk result (engine.new.next ≡ engine.old.next + length requests.items) }
     ensures batch { OnOk result (batch_of transcript.new ≡ next_batch (batch_of transcript.old)) }
     ensures said { OnOk result ((m : List ℕ) → Holds256 (said_of transcript.old) m
-        → Holds256 (said_of transcript.new) (m ++ reply_lines engine.old.next (serial_replies (map prepared requests.items) engine.old.rows))) }
+        → Holds256 (said_of transcript.new) (m
+        ++ reply_lines engine.old.next (serial_replies (map prepared requests.items) engine.old.rows))) }
     ensures text { OnOk result (Appends (K.taken sink.old) (K.taken sink.new)
-        (batch_text (tables_of engine.old) (batch_of transcript.old) engine.old.next engine.old.rows (map prepared requests.items))) }
+        (batch_text (tables_of engine.old) (batch_of transcript.old) engine.old.next engine.old.rows
+        (map prepared requests.items))) }
     ensures front { AppendsFront (K.taken sink.old) (K.taken sink.new)
-        (batch_text (tables_of engine.old) (batch_of transcript.old) engine.old.next engine.old.rows (map prepared requests.items)) }
+        (batch_text (tables_of engine.old) (batch_of transcript.old) engine.old.next engine.old.rows
+        (map prepared requests.items)) }
     ensures stops { IfErr result (IsMachineFault line) }
     ensures fails { K.broken sink.new ≡ (K.broken sink.old || ends_in_io result) }
 {
@@ -113,7 +116,8 @@ fn finish<K: Sink>(
 ) -> Result<u64, RunFault>
     requires { is_busy engine.now ≡ false }
     ensures count { IfOk result (λ n. n ≡ engine.now.next) }
-    ensures text { (m : List ℕ) → Holds256 (said_of transcript) m → OnOk result (Appends (K.taken sink.old) (K.taken sink.new)
+    ensures text { (m : List ℕ) → Holds256 (said_of transcript) m →
+        OnOk result (Appends (K.taken sink.old) (K.taken sink.new)
         (end_line engine.now.next (digest (row_text (tables_of engine.now) engine.now.rows)) (digest m))) }
     ensures front { (m : List ℕ) → Holds256 (said_of transcript) m → AppendsFront (K.taken sink.old) (K.taken sink.new)
         (end_line engine.now.next (digest (row_text (tables_of engine.now) engine.now.rows)) (digest m)) }
@@ -138,7 +142,8 @@ fn run_batches<X: Fn(&mut Engine, Batch) -> Result<BatchDone, ExecFault>, S: Sou
     requires executes { Executes X.Fn executor.now }
     requires idle { is_busy engine.old ≡ false }
     requires unused { engine.old.next ≡ 0 }
-    requires unread { (position_of reader.old ≡ record { newlines = 0; begun = 0 }) × (calls_read reader.old ≡ 0) × (fault_of reader.old ≡ None) }
+    requires unread { (position_of reader.old ≡ record { newlines = 0; begun = 0 }) × (calls_read reader.old ≡ 0) ×
+        (fault_of reader.old ≡ None) }
     ensures same { source_name reader.new ≡ source_name reader.old }
     ensures run { IsRunOfLog engine.old.procs engine.old.rows
         (record { bytes = unread S.left reader.old; failed = S.failed (source_of reader.old) })

@@ -55,7 +55,9 @@ fn batch_text(alloc: Global, batch: u64, rows: &RowStore, lines: &str) -> Result
 /// The end line, from the reply lines by their hasher.
 fn end_text(alloc: Global, count: u64, rows: &RowStore, said: Sha256) -> Result<String, AllocError>
     requires { rows.now.lent ≡ map_of.empty }
-    ensures { (m : List ℕ) → Holds256 said m → IfOk result (λ text. string_bytes text ≡ end_line count (digest (row_text rows.now.tables rows.now.rows)) (digest m)) }
+    ensures { (m : List ℕ) → Holds256 said m →
+        IfOk result (λ text. string_bytes text
+        ≡ end_line count (digest (row_text rows.now.tables rows.now.rows)) (digest m)) }
 {
     all_is_free_with_nothing_lent();
     let rows = rows_digest(alloc, rows.catalogue(), rows)?;
@@ -102,9 +104,13 @@ impl Transcript {
     ) -> Result<(), LogFaultKind>
         requires { rows.now.lent ≡ map_of.empty }
         ensures batch { OnOk result (batch_of self.new ≡ next_batch (batch_of self.old)) }
-        ensures said { OnOk result ((m : List ℕ) → Holds256 (said_of self.old) m → Holds256 (said_of self.new) (m ++ said_lines replies.now)) }
-        ensures text { OnOk result (Appends (K.taken sink.old) (K.taken sink.new) (with_batch_line (batch_of self.old) rows.now.tables rows.now.rows (said_lines replies.now))) }
-        ensures front { AppendsFront (K.taken sink.old) (K.taken sink.new) (with_batch_line (batch_of self.old) rows.now.tables rows.now.rows (said_lines replies.now)) }
+        ensures said { OnOk result ((m : List ℕ) → Holds256 (said_of self.old) m →
+            Holds256 (said_of self.new) (m ++ said_lines replies.now)) }
+        ensures text { OnOk result
+            (Appends (K.taken sink.old) (K.taken sink.new)
+            (with_batch_line (batch_of self.old) rows.now.tables rows.now.rows (said_lines replies.now))) }
+        ensures front { AppendsFront (K.taken sink.old) (K.taken sink.new)
+            (with_batch_line (batch_of self.old) rows.now.tables rows.now.rows (said_lines replies.now)) }
         ensures kind { IfErr result IsOfMachine }
         ensures fails { K.broken sink.new ≡ (K.broken sink.old || write_failed result) }
     {
@@ -132,8 +138,12 @@ impl Transcript {
         count: u64,
     ) -> Result<(), LogFaultKind>
         requires { rows.now.lent ≡ map_of.empty }
-        ensures text { (m : List ℕ) → Holds256 (said_of self) m → OnOk result (Appends (K.taken sink.old) (K.taken sink.new) (end_line count (digest (row_text rows.now.tables rows.now.rows)) (digest m))) }
-        ensures front { (m : List ℕ) → Holds256 (said_of self) m → AppendsFront (K.taken sink.old) (K.taken sink.new) (end_line count (digest (row_text rows.now.tables rows.now.rows)) (digest m)) }
+        ensures text { (m : List ℕ) → Holds256 (said_of self) m →
+            OnOk result (Appends (K.taken sink.old) (K.taken sink.new)
+            (end_line count (digest (row_text rows.now.tables rows.now.rows)) (digest m))) }
+        ensures front { (m : List ℕ) → Holds256 (said_of self) m →
+            AppendsFront (K.taken sink.old) (K.taken sink.new)
+            (end_line count (digest (row_text rows.now.tables rows.now.rows)) (digest m)) }
         ensures kind { IfErr result IsOfMachine }
         ensures fails { K.broken sink.new ≡ (K.broken sink.old || write_failed result) }
     {

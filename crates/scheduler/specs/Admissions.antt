@@ -1,3 +1,4 @@
+-- Of the code: invariants and steps; no promise rests on these words.
 -- Why a transaction is not admitted.
 use Rattle.lock_tree.specs.declared.tree.EnqueueFault.{EnqueueFault}
 use Rattle.lock_tree.specs.declared.tree.EnqueueFault.TheVariants as enqueue

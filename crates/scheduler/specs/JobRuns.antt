@@ -1,3 +1,4 @@
+-- Claimed: what contracts promise to a reader rests on these words.
 -- Jobs, and what running one comes to.
 use Rattle.std.specs.Prelude.{◌≡◌, ℕ, true, Option, Some, None, refl}
 use Rattle.std.specs.Coded.{Coded, code_by, coded×, coded_ℕ, coded_option}

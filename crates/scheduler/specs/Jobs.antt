@@ -1,3 +1,4 @@
+-- Claimed: what contracts promise to a reader rests on these words.
 -- The jobs that a scheduler lends.
 use Rattle.std.specs.Prelude.{◌≡◌, ◌+◌, ◌-◌, ℕ, true, Option, Some, None, slice_get, slice_set}
 use Rattle.coarsen.specs.Clashes.{Conflict}

@@ -1,3 +1,4 @@
+-- Claimed: what contracts promise to a reader rests on these words.
 -- The log that a scheduler is given: entries, and the plans that are made for them.
 use Rattle.std.specs.Prelude.{◌≡◌, ◌≤◌, ℕ, true, length, List, [], ◌∷◌, ⊤}
 use Rattle.values.specs.Shapes.{TableShape}

@@ -1,3 +1,4 @@
+-- Claimed: what contracts promise to a reader rests on these words.
 -- What can be done at a moment of a scheduler, and what answers come to.
 use Rattle.std.specs.Prelude.{ℕ, Bool, List, Option}
 use Rattle.scheduler_core.specs.declared.event.Event.{Event}

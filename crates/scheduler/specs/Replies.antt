@@ -1,3 +1,4 @@
+-- Of the code: invariants and steps; no promise rests on these words.
 -- The replies that are kept.
 use Rattle.std.specs.Prelude.{⊤, List, [], ◌∷◌}
 use Rattle.meaning.specs.declared.outcome.Outcome.{Outcome}

@@ -1,3 +1,4 @@
+-- Of the code: invariants and steps; no promise rests on these words.
 -- What a scheduler keeps to: its rows, its lock tree and its slots follow the core's phases, and what is out is ready.
 use Rattle.std.specs.Prelude.{◌≡◌, ◌<◌, ◌≤◌, ◌+◌, ◌^◌, ⊤, ℕ, true, false, if◌then◌else◌, List, length, map, Option, Some, None, slice_get}
 use Rattle.std.specs.FinMap.{get}

@@ -84,7 +84,9 @@ impl Scheduler {
     /// Whether an admitted transaction is neither out nor settled, and not ready.
     fn waits(&self, place: usize) -> bool
         requires { place < length self.now.slots }
-        ensures { result ≡ (is_idle (slice_get (phases_of self.now) place) && not (ready (waiting self.now.work.first (log_of self.now.work) (phases_of self.now)) (self.now.work.first + place))) }
+        ensures { result ≡ (is_idle (slice_get (phases_of self.now) place)
+            && not (ready (waiting self.now.work.first (log_of self.now.work) (phases_of self.now))
+            (self.now.work.first + place))) }
     {
         is_idle(&self.slots, place) && !self.locks.is_ready(self.first + place as u64)
     }

@@ -78,7 +78,9 @@ impl Scheduler {
     /// The outcome of a transaction, `None` exactly where it isn't settled. It is the one of the serial run.
     pub fn reply(&self, no: u64) -> Option<&Outcome>
         ensures settled { is_some result ≡ is_settled (phase_of self.now.work.first (phases_of self.now) no) }
-        ensures serial { IfSome result (λ outcome. serial_reply (log_of self.now.work) self.now.work.start (no - self.now.work.first) ≡ Some (as_reply outcome.now)) }
+        ensures serial { IfSome result (λ outcome.
+            serial_reply (log_of self.now.work) self.now.work.start (no - self.now.work.first)
+            ≡ Some (as_reply outcome.now)) }
     {
         if no < self.first {
             return None;
@@ -93,7 +95,8 @@ impl Scheduler {
         ensures tables { result.rows.tables ≡ self.work.tables }
         ensures rows { result.rows.rows ≡ serial_end (map entry_shape self.work.entries) self.work.start }
         ensures unlent { result.rows.lent ≡ finite.empty }
-        ensures outcomes { map as_reply result.outcomes ≡ serial_replies (map entry_shape self.work.entries) self.work.start }
+        ensures outcomes { map as_reply result.outcomes
+            ≡ serial_replies (map entry_shape self.work.entries) self.work.start }
     {
         rows_are_serial();
         serial_run_by_places();
@@ -118,9 +121,12 @@ impl Scheduler {
     /// transaction that is out is ready.
     pub fn observe(&self)
         ensures within { length self.now.slots ≤ length self.now.work.entries }
-        ensures jobs { (place : ℕ) (job : JobOf) → slice_get self.now.slots place ≡ Some (Slot.Held job) → IsLentAt self.now.work place job }
-        ensures apart { (i k : ℕ) (t u : Transaction) → i ≢ k → slice_get (log_of self.now.work) i ≡ Some t → slice_get (log_of self.now.work) k ≡ Some u
-            → is_out (slice_get (phases_of self.now) i) ≡ true → is_out (slice_get (phases_of self.now) k) ≡ true → Conflict t.plan u.plan → ⊥ }
+        ensures jobs { (place : ℕ) (job : JobOf) → slice_get self.now.slots place ≡ Some (Slot.Held job) →
+            IsLentAt self.now.work place job }
+        ensures apart { (i k : ℕ) (t u : Transaction) → i ≢ k → slice_get (log_of self.now.work) i ≡ Some t →
+            slice_get (log_of self.now.work) k ≡ Some u
+            → is_out (slice_get (phases_of self.now) i) ≡ true → is_out (slice_get (phases_of self.now) k) ≡ true →
+            Conflict t.plan u.plan → ⊥ }
         ensures ready { OutAreReady self.now.work.first (log_of self.now.work) (phases_of self.now) }
     {
         rows_are_serial();

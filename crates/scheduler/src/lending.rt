@@ -29,10 +29,12 @@ pub(crate) fn lend_to(
     plan: &Plan,
 ) -> Result<Job, NoMemory>
     requires tables { entry.now.request.proc.tables ≡ store.old.tables }
-    requires locks { (name : Name) (right : Right) → touches (entry_shape entry.now) name right ≡ true → locks_row store.old.tables plan.now name right ≡ true }
+    requires locks { (name : Name) (right : Right) → touches (entry_shape entry.now) name right ≡ true →
+        locks_row store.old.tables plan.now name right ≡ true }
     requires over { IsPlanOver store.old.tables plan.now }
     requires unlent { map.get store.old.lent number ≡ None }
-    requires apart { (other : ℕ) (requests : Requests) → map.get store.old.lent other ≡ Some requests → Conflict requests plan.now → ⊥ }
+    requires apart { (other : ℕ) (requests : Requests) → map.get store.old.lent other ≡ Some requests →
+        Conflict requests plan.now → ⊥ }
     requires there { IsSome (plan_of locks.old.waiting number) }
     ensures tables { store.new.tables ≡ store.old.tables }
     ensures rows { store.new.rows ≡ store.old.rows }
@@ -44,7 +46,8 @@ pub(crate) fn lend_to(
     ensures entry { IfOk result (λ job. job.entry ≡ entry.now) }
     ensures plan { IfOk result (λ job. job.loan.plan ≡ plan.now) }
     ensures loan_tables { IfOk result (λ job. job.loan.tables ≡ store.old.tables) }
-    ensures shows { IfOk result (λ job. (name : Name) → locks_row store.old.tables plan.now name Right.Read ≡ true → map.get job.loan.rows name ≡ map.get store.old.rows name) }
+    ensures shows { IfOk result (λ job. (name : Name) → locks_row store.old.tables plan.now name Right.Read ≡ true →
+        map.get job.loan.rows name ≡ map.get store.old.rows name) }
 {
     let entry = entry.clone()?;
     let loan = store.lend(number, plan)?;
@@ -58,7 +61,9 @@ pub(crate) fn give_back(store: &mut RowStore, locks: &mut LockTree, number: u64,
     requires tables { job.loan.tables ≡ store.old.tables }
     requires there { IsSome (plan_of locks.old.waiting number) }
     ensures tables { store.new.tables ≡ store.old.tables }
-    ensures rows { (name : Name) → map.get store.new.rows name ≡ (if locks_row job.loan.tables job.loan.plan name Right.Write then map.get job.loan.rows name else map.get store.old.rows name) }
+    ensures rows { (name : Name) →
+        map.get store.new.rows name ≡ (if locks_row job.loan.tables job.loan.plan name Right.Write
+        then map.get job.loan.rows name else map.get store.old.rows name) }
     ensures lent { store.new.lent ≡ map.remove store.old.lent number }
     ensures released { locks.new ≡ record locks.old { waiting = without number locks.old.waiting } }
 {
@@ -72,7 +77,9 @@ pub(crate) fn take_back(store: &mut RowStore, locks: &mut LockTree, number: u64,
     requires tables { job.loan.tables ≡ store.old.tables }
     requires there { IsSome (plan_of locks.old.waiting number) }
     ensures tables { store.new.tables ≡ store.old.tables }
-    ensures rows { (name : Name) → map.get store.new.rows name ≡ (if locks_row job.loan.tables job.loan.plan name Right.Write then map.get job.loan.rows name else map.get store.old.rows name) }
+    ensures rows { (name : Name) →
+        map.get store.new.rows name ≡ (if locks_row job.loan.tables job.loan.plan name Right.Write
+        then map.get job.loan.rows name else map.get store.old.rows name) }
     ensures lent { store.new.lent ≡ map.remove store.old.lent number }
     ensures unmarked { locks.new ≡ record locks.old { waiting = with_mark number false locks.old.waiting } }
 {

@@ -20,7 +20,8 @@ use values::NoMemory;
 impl Scheduler {
     /// The place of an admitted transaction, `None` exactly where the number is of no such transaction.
     fn place_of(&self, number: u64) -> Option<usize>
-        ensures some { IfSome result (λ place. (number ≡ self.now.work.first + place) × (place < length self.now.slots)) }
+        ensures some { IfSome result (λ place. (number ≡ self.now.work.first + place) ×
+            (place < length self.now.slots)) }
         ensures none { result ≡ None → phase_of self.now.work.first (phases_of self.now) number ≡ None }
     {
         if number < self.first {

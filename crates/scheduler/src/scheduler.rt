@@ -60,10 +60,16 @@ impl Model for Scheduler {
 
     ghost coded = { schedule_code };
 
-    ghost view = { λ s. record { work = work_of s.catalogue s.nodes s.first s.entries.items s.plans.items s.start.value.rows; slots = s.slots.items } };
+    ghost view = { λ s. record {
+      work = work_of s.catalogue s.nodes s.first s.entries.items s.plans.items
+          s.start.value.rows;
+      slots = s.slots.items;
+    } };
 
-    ghost invariant = { λ s. IsFitting (work_of s.catalogue s.nodes s.first s.entries.items s.plans.items s.start.value.rows)
-        × IsScheduled (work_of s.catalogue s.nodes s.first s.entries.items s.plans.items s.start.value.rows) s.slots.items s.store s.locks
+    ghost invariant = { λ s.
+        IsFitting (work_of s.catalogue s.nodes s.first s.entries.items s.plans.items s.start.value.rows)
+        × IsScheduled (work_of s.catalogue s.nodes s.first s.entries.items s.plans.items s.start.value.rows)
+        s.slots.items s.store s.locks
         × AreSettledBefore s.slots.items s.settled };
 }
 
@@ -89,9 +95,14 @@ impl Scheduler {
         requires over { AreEntriesOver catalogue entries.items }
         requires few { first + length entries.items ≤ 2 ^ 48 }
         requires room { 0 < most }
-        ensures start { IfOk result (λ scheduler. scheduler ≡ record { work = work_of catalogue most first entries.items scheduler.work.plans store.rows; slots = [] }) }
+        ensures start { IfOk result (λ scheduler.
+            scheduler ≡ record {
+              work = work_of catalogue most first entries.items scheduler.work.plans store.rows;
+              slots = [];
+            }) }
         ensures plans { IfOk result (λ scheduler. ArePlansOf threshold most entries.items scheduler.work.plans) }
-        ensures back { IfErr result (λ unmade. (unmade.0 ≡ catalogue) × (unmade.1 ≡ store) × (unmade.2.items ≡ entries.items)) }
+        ensures back { IfErr result (λ unmade. (unmade.0 ≡ catalogue) × (unmade.1 ≡ store) ×
+            (unmade.2.items ≡ entries.items)) }
     {
         admitted_and_unsettled_wait();
         rows_are_serial();
@@ -178,8 +189,16 @@ impl Scheduler {
     /// more, and is ready: it can be lent its rows again. It takes no memory.
     pub fn settle(&mut self, done: Done)
         requires { ComesBack self.old done }
-        ensures settled { IfSome done.outcome (λ outcome. self.new ≡ record self.old { slots = slice_set self.old.slots (done.job.number - self.old.work.first) (Slot.Settled outcome) }) }
-        ensures back { done.outcome ≡ None → self.new ≡ record self.old { slots = slice_set self.old.slots (done.job.number - self.old.work.first) Slot.Idle } }
+        ensures settled { IfSome done.outcome (λ outcome.
+            self.new ≡ record self.old {
+              slots = slice_set self.old.slots (done.job.number - self.old.work.first)
+                  (Slot.Settled outcome);
+            }) }
+        ensures back { done.outcome ≡ None →
+            self.new ≡ record self.old {
+              slots = slice_set self.old.slots
+                  (done.job.number - self.old.work.first) Slot.Idle;
+            } }
         ensures ready { done.outcome ≡ None → can_make self.new (AnyEvent.Lend done.job.number) ≡ true }
     {
         admitted_and_unsettled_wait();

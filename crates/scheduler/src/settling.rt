@@ -15,8 +15,10 @@ impl Scheduler {
     /// Takes back the rows of a job that is here and was not run.
     fn take_back_held(&mut self, place: usize)
         requires { KeepsItsJobs self.old }
-        ensures held { (job : JobOf) → slice_get self.old.slots place ≡ Some (Slot.Held job) → phases_of self.new ≡ slice_set (phases_of self.old) place Phase.Idle }
-        ensures other { ((job : JobOf) → slice_get self.old.slots place ≡ Some (Slot.Held job) → ⊥) → phases_of self.new ≡ phases_of self.old }
+        ensures held { (job : JobOf) → slice_get self.old.slots place ≡ Some (Slot.Held job) →
+            phases_of self.new ≡ slice_set (phases_of self.old) place Phase.Idle }
+        ensures other { ((job : JobOf) → slice_get self.old.slots place ≡ Some (Slot.Held job) → ⊥) →
+            phases_of self.new ≡ phases_of self.old }
         ensures work { self.new.work ≡ self.old.work }
         ensures keeps { KeepsItsJobs self.new }
         ensures count { length self.new.slots ≡ length self.old.slots }

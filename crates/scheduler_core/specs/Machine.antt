@@ -1,3 +1,4 @@
+-- Claimed: what contracts promise to a reader rests on these words.
 -- A scheduler as a plain machine: rows, and what each admitted transaction has in hand. It knows nothing of a serial run.
 use Rattle.std.specs.Prelude.{◌≡◌, ◌⊎◌, ℕ, true, false, List, [], ◌∷◌, ◌++◌, map, Some}
 use Rattle.std.specs.FinMap.{get}

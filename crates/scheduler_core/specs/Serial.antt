@@ -1,3 +1,4 @@
+-- Claimed: what contracts promise to a reader rests on these words.
 -- The serial run of a log, by places: what each transaction finds and replies if all run one by one. (Calvin, SIGMOD 2012: the
 -- outcome is a function of the log and the start.)
 use Rattle.std.specs.Prelude.{◌≡◌, ℕ, suc, List, length, take, Option, Some, slice_get}

@@ -1,3 +1,4 @@
+-- Claimed: what contracts promise to a reader rests on these words.
 -- What is true of the rows at every moment, whatever the order in which transactions were lent their rows and settled.
 use Rattle.std.specs.Prelude.{◌≡◌, ◌<◌, ◌≤◌, ℕ, suc, true, false, List, length, Some, slice_get}
 use Rattle.std.specs.FinMap.{get}

@@ -1,3 +1,4 @@
+-- Claimed: what contracts promise to a reader rests on these words.
 -- The entries of requests.
 use Rattle.std.specs.Prelude.{Result, Ok, Err}
 use Rattle.proclang_types.specs.Procedures.{proc_syntax}

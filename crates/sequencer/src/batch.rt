@@ -65,7 +65,8 @@ impl Batch {
     pub fn of(alloc: Global, requests: Vec<Request>) -> Result<Batch, BatchFault>
         ensures items { IfOk result (λ batch. items_of batch ≡ items_from 0 requests.items) }
         // What holds of each request's tables holds of each item's.
-        ensures over { IfOk result (λ batch. (tables : List TableShape) → AllByRecursion (λ request. request.proc.tables ≡ tables) requests.items → AreOver tables (items_of batch)) }
+        ensures over { IfOk result (λ batch. (tables : List TableShape) →
+            AllByRecursion (λ request. request.proc.tables ≡ tables) requests.items → AreOver tables (items_of batch)) }
         ensures too_long { (result ≡ Err BatchFault.TooLong) ↔ (4096 < length requests.items) }
     {
         if requests.len() > MOST_REQUESTS {

@@ -22,7 +22,8 @@ use values::{Catalogue, NoMemory};
 fn footing_of(alloc: Global, catalogue: &Catalogue, request: &Request) -> Result<Footing, NoMemory>
     requires { request.now.proc.tables ≡ catalogue.now }
     ensures exact { IfOk result (λ footing. footing_shape footing ≡ (prepared request.now).footing) }
-    ensures of_catalogue { IfOk result (λ footing. IsFootprintOf catalogue.now (locked_for (footprint_of (footing_shape footing)))) }
+    ensures of_catalogue { IfOk result (λ footing.
+        IsFootprintOf catalogue.now (locked_for (footprint_of (footing_shape footing)))) }
 {
     match declared(alloc, catalogue, request.proc(), request.args())? {
         Ok(footprint) => Ok(Footing::Declared(footprint)),
@@ -51,10 +52,12 @@ pub fn prepare<V: RowView>(
 ) -> Result<Vec<Entry>, NoMemory>
     requires { AreOver catalogue.now (items_of batch.now) }
     // Each entry is over the tables of the catalogue.
-    ensures tables { IfOk result (λ entries. AllByRecursion (λ entry. entry.request.proc.tables ≡ catalogue.now) entries.items) }
+    ensures tables { IfOk result (λ entries.
+        AllByRecursion (λ entry. entry.request.proc.tables ≡ catalogue.now) entries.items) }
     // And so is its footprint.
     ensures of_catalogue { IfOk result (λ entries. AreEntriesOver catalogue.now entries.items) }
-    ensures exact { IfOk result (λ entries. map entry_shape entries.items ≡ map (λ item. prepared item.request) (items_of batch.now)) }
+    ensures exact { IfOk result (λ entries.
+        map entry_shape entries.items ≡ map (λ item. prepared item.request) (items_of batch.now)) }
 {
     let mut entries = Vec::new(alloc);
     for item in batch.items() {

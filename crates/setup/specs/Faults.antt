@@ -1,3 +1,4 @@
+-- Claimed: what contracts promise to a reader rests on these words.
 -- Which faults stand for want of memory.
 use Rattle.std.specs.Prelude.{Bool, true, false}
 use Rattle.setup.specs.declared.fault.SetupFault.{SetupFault}

@@ -1,3 +1,4 @@
+-- Claimed: what contracts promise to a reader rests on these words.
 -- Where a setup breaks a rule first: all that comes before that place is well formed, and the fault is that of the first rule that is broken there.
 use Rattle.std.specs.Prelude.{◌≡◌, ◌⊎◌, ℕ, ℤ, ◌==◌, ◌&&◌, Bool, false, not, List, [], ◌∷◌, ◌++◌, Option, Some, None, is_some, option_and_then, option_map, codes}
 use Rattle.std.specs.List.{list_any}

@@ -1,3 +1,4 @@
+-- Claimed: what contracts promise to a reader rests on these words.
 -- The starting rows that a document says, with the first fault from left to right.
 use Rattle.std.specs.Prelude.{ℕ, ◌==◌, Bool, ◌&&◌, not, List, [], map, codes, Option, Some, None, option_and_then, slice_get, Result, Ok, if◌then◌else◌}
 use Rattle.std.specs.List.{list_any}

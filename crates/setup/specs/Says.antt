@@ -1,3 +1,4 @@
+-- Claimed: what contracts promise to a reader rests on these words.
 -- Which documents say a setup: a relation between documents and what they say, apart from faults and the order in which a document is read.
 use Rattle.std.specs.Prelude.{◌≡◌, ◌⊎◌, ℕ, ◌==◌, ◌&&◌, pos, Bool, true, false, List, [], ◌∷◌, Some, None, codes}
 use Rattle.std.specs.List.{IsDistinct}

@@ -1,3 +1,4 @@
+-- Claimed: what contracts promise to a reader rests on these words.
 -- What a setup document says, with the first fault from left to right.
 use Rattle.std.specs.Prelude.{ℕ, ℤ, List, map, ◌&&◌, codes, Option, Some, None, option_and_then, Result, Ok, Err, if◌then◌else◌}
 use Rattle.std.specs.Str.{bytes_eq, is_utf8}

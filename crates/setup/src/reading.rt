@@ -21,7 +21,8 @@ use values::Catalogue;
 /// The catalogue, the procedures and the rows of a document `["setup", 1, CATALOGUE, PROCEDURES, ROWS]`.
 #[tactic(auto, unfolding(crate::specs::Setups::setup_form))]
 fn setup_form(document: &Value) -> Option<(&Value, &Value, &Value)>
-    ensures { option_map (λ p. record { catalogue = view p.0.now; procs = view p.1.now; rows = view p.2.now }) result ≡ setup_form (view document.now) }
+    ensures { option_map (λ p. record { catalogue = view p.0.now; procs = view p.1.now; rows = view p.2.now }) result
+        ≡ setup_form (view document.now) }
 {
     let (word, version, catalogue, procs, rows) = five(document)?;
     if word.as_str()? == "setup" && version.as_i64()? == 1 {

@@ -41,7 +41,8 @@ fn read_one(
     names: &BTreeSet<RowName>,
     document: &Value,
 ) -> Result<(TableNo, Key, Row), SetupFault>
-    ensures { (before : List RowAt) → HoldsNames names.now before → Gives is_memory (λ r. r) result (row_at catalogue.now before (view document.now)) }
+    ensures { (before : List RowAt) → HoldsNames names.now before →
+        Gives is_memory (λ r. r) result (row_at catalogue.now before (view document.now)) }
 {
     let (name, key, values) = text_number_list(document).ok_or(SetupFault::Shape)?;
     let table = catalogue.table(name).ok_or(SetupFault::RowTable)?;
@@ -81,9 +82,11 @@ pub fn read_rows(
     // What is read is what the document says.
     ensures found { IfOk result (λ v. SaysRows catalogue.now (view document.now) v.items) }
     // Rows that the document says are what is read, unless memory runs out.
-    ensures only { (rows : List RowAt) → SaysRows catalogue.now (view document.now) rows → Gives is_memory (λ v. v.items) result (Ok rows) }
+    ensures only { (rows : List RowAt) → SaysRows catalogue.now (view document.now) rows →
+        Gives is_memory (λ v. v.items) result (Ok rows) }
     // The fault is the first rule that the document breaks.
-    ensures first { IfErr result (λ e. is_memory e ≡ false → first (broken_rules catalogue.now (view document.now)) ≡ Some e) }
+    ensures first { IfErr result (λ e. is_memory e ≡ false →
+        first (broken_rules catalogue.now (view document.now)) ≡ Some e) }
     // A document that is read breaks no rule, and one that breaks none is read, unless memory runs out.
     ensures unbroken { OnOk result (broken_rules catalogue.now (view document.now) ≡ []) }
     ensures none { broken_rules catalogue.now (view document.now) ≡ [] → IfErr result (λ e. is_memory e ≡ true) }

@@ -1,3 +1,4 @@
+-- Claimed: what contracts promise to a reader rests on these words.
 -- Every rule that a catalogue's document breaks, in the order of the document. No rule here hangs on what reading does.
 use Rattle.std.specs.Prelude.{ℕ, ℤ, pos, negsuc, List, [], ◌∷◌, ◌++◌, length, Option, Some, None, option_map, Bool, false, ◌&&◌, not, nat_lt, nat_le, ◌==◌}
 use Rattle.std.specs.Str.{bytes_eq}

@@ -1,3 +1,4 @@
+-- Claimed: what contracts promise to a reader rests on these words.
 -- Keys, and the partition of a table that a key falls in.
 use Rattle.std.specs.Prelude.{ℕ, ℤ, pos, negsuc, ◌%◌, nat_lt, List, Option, Some, None, option_map, option_and_then, if◌then◌else◌, slice_get}
 use Rattle.std.specs.Str.{bytes_eq}

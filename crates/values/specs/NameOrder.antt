@@ -1,3 +1,4 @@
+-- Claimed: what contracts promise to a reader rests on these words.
 -- The order of row names.
 use Rattle.std.specs.Prelude.{◌≡◌, ◌<◌}
 use Rattle.std.specs.declared.cmp.Ordering.TheVariants.{Less, Equal}

@@ -1,3 +1,4 @@
+-- Claimed: what contracts promise to a reader rests on these words.
 -- What a catalogue is, and which documents say it. Apart from the order in which a document is read.
 use Rattle.std.specs.Prelude.{◌≡◌, ℕ, ◌≤◌, pos, List, [], ◌∷◌, length, map, Some, true, codes, ⊤}
 use Rattle.std.specs.Str.{bytes_eq}

@@ -61,7 +61,8 @@ impl Catalogue {
         // What is read is a catalogue, and the document says it.
         ensures found { IfOk result (λ c. SaysCatalogue (view document.now) c × IsCatalogue c) }
         // A catalogue that the document says is what is read, unless memory runs out.
-        ensures only { (c : List TableShape) → IsCatalogue c → SaysCatalogue (view document.now) c → Gives is_memory (λ x. x) result (Ok c) }
+        ensures only { (c : List TableShape) → IsCatalogue c → SaysCatalogue (view document.now) c →
+            Gives is_memory (λ x. x) result (Ok c) }
         // The fault is the first rule that the document breaks.
         ensures first { IfErr result (λ e. (e ≡ Memory) ⊎ (first (broken_rules (view document.now)) ≡ Some e)) }
         // A document that is read breaks no rule, and one that breaks none is read, unless memory runs out.
@@ -124,7 +125,8 @@ impl Catalogue {
     /// The type of a table's column.
     pub fn column_type(&self, table: TableNo, column: usize) -> Option<ColType>
         requires { table < length self.now }
-        ensures { Some result ≡ option_map (λ t. option_map (λ c. c.kind) (slice_get t.columns column)) (slice_get self.now table) }
+        ensures { Some result ≡ option_map (λ t.
+            option_map (λ c. c.kind) (slice_get t.columns column)) (slice_get self.now table) }
     {
         type_of_column(table_at(&self.tables, table), column)
     }
@@ -132,7 +134,8 @@ impl Catalogue {
     /// Whether there is one value for each of the table's columns, of the column's type.
     pub fn takes(&self, table: TableNo, values: &[value::Value]) -> bool
         requires { table < length self.now }
-        ensures { Some result ≡ option_map (λ t. kinds_match (map (λ c. c.kind) t.columns) values.now) (slice_get self.now table) }
+        ensures { Some result ≡ option_map (λ t.
+            kinds_match (map (λ c. c.kind) t.columns) values.now) (slice_get self.now table) }
     {
         columns_take(&table_at(&self.tables, table).columns, values)
     }

@@ -43,7 +43,8 @@ fn read_column(
     earlier: &IndexMap<String, ColType>,
     value: &Value,
 ) -> Result<(String, ColType), CatalogueFault>
-    ensures exact { Gives is_memory column_shape result (column_at (columns_shape earlier.now.entries) (view value.now)) }
+    ensures exact { Gives is_memory column_shape result
+        (column_at (columns_shape earlier.now.entries) (view value.now)) }
     ensures fresh { IfOk result (λ c. is_column (string_bytes c.0) (columns_shape earlier.now.entries) ≡ false) }
 {
     let (name, kind) = column_form(value).ok_or(CatalogueFault::Shape)?;
