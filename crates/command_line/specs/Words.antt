@@ -24,47 +24,36 @@ flag_rule name = record (new_rule name) { long = Some name; action = Some SetTru
 abbrev pub word_rule : Text → Rule
 word_rule name = record (new_rule name) { action = Some Set; value_names = 1; required = true }
 
--- `run [--alone] [--workers N] [--lanes N] [--coarsen N] [--arena N] SETUP`
+-- `[--workers N] [--lanes N] [--coarsen N] [--arena N]`, behind the other arguments of a command
+abbrev pub with_settings : App → App
+with_settings app =
+    with_rule (with_rule (with_rule (with_rule app
+    (number_rule (codes "workers") 1 16 (codes "4")))
+    (number_rule (codes "lanes") 1 64 (codes "8")))
+    (number_rule (codes "coarsen") 0 65535 (codes "64")))
+    (number_rule (codes "arena") 1 1048576 (codes "65536"))
+
+-- `run [--alone] SETUP`, with settings
 unfoldable pub run_app : App
-run_app =
-    with_rule (with_rule (with_rule (with_rule (with_rule (with_rule (new_app (codes "run"))
+run_app = with_settings (with_rule (with_rule (new_app (codes "run"))
     (word_rule (codes "setup")))
     (flag_rule (codes "alone")))
-    (number_rule (codes "workers") 1 16 (codes "4")))
-    (number_rule (codes "lanes") 1 64 (codes "8")))
-    (number_rule (codes "coarsen") 0 65535 (codes "64")))
-    (number_rule (codes "arena") 1 1048576 (codes "65536"))
 
--- `replicas [--workers N] [--lanes N] [--coarsen N] [--arena N] SETUP REPORT`
+-- `replicas SETUP REPORT`, with settings
 unfoldable pub replicas_app : App
-replicas_app =
-    with_rule (with_rule (with_rule (with_rule (with_rule (with_rule (new_app (codes "replicas"))
+replicas_app = with_settings (with_rule (with_rule (new_app (codes "replicas"))
     (word_rule (codes "setup")))
     (word_rule (codes "report")))
-    (number_rule (codes "workers") 1 16 (codes "4")))
-    (number_rule (codes "lanes") 1 64 (codes "8")))
-    (number_rule (codes "coarsen") 0 65535 (codes "64")))
-    (number_rule (codes "arena") 1 1048576 (codes "65536"))
 
--- `locks [--workers N] [--lanes N] [--coarsen N] [--arena N] SETUP`
+-- `locks SETUP`, with settings
 unfoldable pub locks_app : App
-locks_app =
-    with_rule (with_rule (with_rule (with_rule (with_rule (new_app (codes "locks"))
+locks_app = with_settings (with_rule (new_app (codes "locks"))
     (word_rule (codes "setup")))
-    (number_rule (codes "workers") 1 16 (codes "4")))
-    (number_rule (codes "lanes") 1 64 (codes "8")))
-    (number_rule (codes "coarsen") 0 65535 (codes "64")))
-    (number_rule (codes "arena") 1 1048576 (codes "65536"))
 
--- `check [--workers N] [--lanes N] [--coarsen N] [--arena N] SETUP`
+-- `check SETUP`, with settings
 unfoldable pub check_app : App
-check_app =
-    with_rule (with_rule (with_rule (with_rule (with_rule (new_app (codes "check"))
+check_app = with_settings (with_rule (new_app (codes "check"))
     (word_rule (codes "setup")))
-    (number_rule (codes "workers") 1 16 (codes "4")))
-    (number_rule (codes "lanes") 1 64 (codes "8")))
-    (number_rule (codes "coarsen") 0 65535 (codes "64")))
-    (number_rule (codes "arena") 1 1048576 (codes "65536"))
 
 -- the commands, of which one must be named; the words begin behind the program's name
 unfoldable pub calvin_app : App

@@ -3,7 +3,7 @@
 ghost use Rattle.std.specs.Prelude.{◌≡◌, codes, IfOk, false};
 ghost use Rattle.clap.specs.Words.{app_of, rule_of};
 ghost use Rattle.clap.specs.declared.builder.command.Command.TheViews.{out-Command as fields_of};
-ghost use Rattle.command_line.specs.Words.{calvin_app, check_app, flag_rule, locks_app, number_rule, replicas_app, run_app, word_rule};
+ghost use Rattle.command_line.specs.Words.{calvin_app, check_app, flag_rule, locks_app, number_rule, replicas_app, run_app, with_settings, word_rule};
 
 use clap::builder::ValueParser;
 use clap::{Arg, ArgAction, Command};
@@ -135,6 +135,19 @@ fn arena_option<'a>(alloc: Global) -> Arg<'a>
     number_option(alloc, "arena", 1, 1_048_576, "65536", ARENA_HELP)
 }
 
+/// The command with the options of the settings.
+fn with_settings<'a>(alloc: Global, command: Command<'a>) -> Result<Command<'a>, AllocError>
+    requires { (fields_of command).has_globals ≡ false }
+    ensures app { IfOk result (λ r. app_of r ≡ with_settings (app_of command.entry)) }
+    ensures local { IfOk result (λ r. (fields_of r).has_globals ≡ false) }
+{
+    let workers = workers_option(alloc);
+    let lanes = lanes_option(alloc);
+    let coarsen = coarsen_option(alloc);
+    let arena = arena_option(alloc);
+    command.arg(workers)?.arg(lanes)?.arg(coarsen)?.arg(arena)
+}
+
 /// The command `run`.
 fn run_command<'a>(alloc: Global) -> Result<Command<'a>, AllocError>
     ensures app { IfOk result (λ r. app_of r ≡ run_app) }
@@ -146,19 +159,12 @@ fn run_command<'a>(alloc: Global) -> Result<Command<'a>, AllocError>
         "alone",
         "Run on one thread, without workers and lanes",
     );
-    let workers = workers_option(alloc);
-    let lanes = lanes_option(alloc);
-    let coarsen = coarsen_option(alloc);
-    let arena = arena_option(alloc);
-    Command::new(alloc, "run")
+    let command = Command::new(alloc, "run")
         .about(RUN_ABOUT)
         .after_help(RUN_EXAMPLE)
         .arg(setup)?
-        .arg(alone)?
-        .arg(workers)?
-        .arg(lanes)?
-        .arg(coarsen)?
-        .arg(arena)
+        .arg(alone)?;
+    with_settings(alloc, command)
 }
 
 /// The command `locks`.
@@ -167,18 +173,11 @@ fn locks_command<'a>(alloc: Global) -> Result<Command<'a>, AllocError>
     ensures local { IfOk result (λ r. (fields_of r).has_globals ≡ false) }
 {
     let setup = required_word(alloc, "setup", "SETUP", SETUP_HELP);
-    let workers = workers_option(alloc);
-    let lanes = lanes_option(alloc);
-    let coarsen = coarsen_option(alloc);
-    let arena = arena_option(alloc);
-    Command::new(alloc, "locks")
+    let command = Command::new(alloc, "locks")
         .about(LOCKS_ABOUT)
         .after_help(LOCKS_EXAMPLE)
-        .arg(setup)?
-        .arg(workers)?
-        .arg(lanes)?
-        .arg(coarsen)?
-        .arg(arena)
+        .arg(setup)?;
+    with_settings(alloc, command)
 }
 
 /// The command `check`.
@@ -187,18 +186,11 @@ fn check_command<'a>(alloc: Global) -> Result<Command<'a>, AllocError>
     ensures local { IfOk result (λ r. (fields_of r).has_globals ≡ false) }
 {
     let setup = required_word(alloc, "setup", "SETUP", SETUP_HELP);
-    let workers = workers_option(alloc);
-    let lanes = lanes_option(alloc);
-    let coarsen = coarsen_option(alloc);
-    let arena = arena_option(alloc);
-    Command::new(alloc, "check")
+    let command = Command::new(alloc, "check")
         .about(CHECK_ABOUT)
         .after_help(CHECK_EXAMPLE)
-        .arg(setup)?
-        .arg(workers)?
-        .arg(lanes)?
-        .arg(coarsen)?
-        .arg(arena)
+        .arg(setup)?;
+    with_settings(alloc, command)
 }
 
 /// The command `replicas`.
@@ -208,19 +200,12 @@ fn replicas_command<'a>(alloc: Global) -> Result<Command<'a>, AllocError>
 {
     let setup = required_word(alloc, "setup", "SETUP", SETUP_HELP);
     let report = required_word(alloc, "report", "REPORT", REPORT_HELP);
-    let workers = workers_option(alloc);
-    let lanes = lanes_option(alloc);
-    let coarsen = coarsen_option(alloc);
-    let arena = arena_option(alloc);
-    Command::new(alloc, "replicas")
+    let command = Command::new(alloc, "replicas")
         .about(REPLICAS_ABOUT)
         .after_help(REPLICAS_EXAMPLE)
         .arg(setup)?
-        .arg(report)?
-        .arg(workers)?
-        .arg(lanes)?
-        .arg(coarsen)?
-        .arg(arena)
+        .arg(report)?;
+    with_settings(alloc, command)
 }
 
 /// The whole command line, without the program's name.
