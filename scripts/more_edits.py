@@ -4,11 +4,11 @@
     scripts/more_edits.py [CRATE ..]     tries them, of all crates where none is named
     scripts/more_edits.py --form         says only which edits, of the gate and of the others, cannot be made
 
-The prover must refuse each of them. Many are tried in one check, each in functions of its own. The check names each
-open goal by file and line, and looks at no goal of a function that calls one with an open goal. So an edit is refused
-where a goal is open in each function that it changes. The others are tried in the next check without those, and alone at
-last: then any open goal refuses the edit. All is done in a copy of the crates, with what checks have kept there, so that
-nothing in the checkout changes. It ends with status 1 where an edit isn't refused.
+The prover must refuse each of them. Many are tried in one check, each in functions of its own. The check says of each
+function that it isn't proved, or that it has no proof since it calls one that isn't. So an edit is refused where each
+function that it changes has an open goal of its own. The others are tried in the next check without those, and alone at
+last: then any open goal refuses the edit. All is done in a copy of the crates, with what checks have kept there, so
+that nothing in the checkout changes. It ends with status 1 where an edit isn't refused.
 """
 import re
 import shutil
@@ -17,21 +17,39 @@ import sys
 import tempfile
 from pathlib import Path
 
-HEAD = re.compile(r"( *)(?:pub(?:\(\w+\))? )?(?:const )?fn ")
-OPEN_GOAL = re.compile(r"^(?:note: )?(src/\S+?):(\d+):\d+: ", re.MULTILINE)
+IMPL = re.compile(r"impl\b(.*)")
+HEAD = re.compile(r"( *)(?:pub(?:\(\w+\))? )?(?:const )?fn (\w+)")
+OPEN = re.compile(r"^fn (\S+): (?:not proved|no proof: (?!it calls))", re.MULTILINE)
 
 
-def functions_of(text):
-    """The first and the last line of each function."""
-    functions, first, indent = [], None, ""
+def owner_of(header):
+    """What stands for an `impl` in the name of its functions: the type, the trait and what it is made from."""
+    made_from = re.findall(r"From<(\w+)", header)
+    while re.search("<[^<>]*>", header):
+        header = re.sub("<[^<>]*>", "", header)
+    name, _, kind = header.removesuffix("{").strip().rpartition(" for ")[::-1]
+    return "".join([name, kind, *made_from])
+
+
+def functions_of(file, text):
+    """The first line, the last line and the name of each function of a file, which begins with its owner or its module."""
+    functions, first, indent, owner = [], None, "", ""
     for number, line in enumerate(text.split("\n"), 1):
-        head = HEAD.match(line)
+        header, head = IMPL.match(line), HEAD.match(line)
+        if header:
+            owner = owner_of(header[1])
         if head and (first is None or len(head[1]) <= len(indent)):
-            first, indent = number, head[1]
+            first, indent, name = number, head[1], f"{owner if head[1] else Path(file).stem}::{head[2]}"
         elif first and line in (indent + "}", indent + "{}"):
-            functions.append((first, number))
+            functions.append((first, number, name))
             first = None
     return functions
+
+
+def open_in(output):
+    """The functions with an open goal of their own; what a closure leaves open is its function's."""
+    names = [re.sub(r"::fn::(\w+)::.*", r"::\1", name) for name in OPEN.findall(output)]
+    return {re.sub(r"\+[^:]*", "", "::".join(name.split("::")[-2:])) for name in names}
 
 
 class Edit:
@@ -63,15 +81,15 @@ class Edit:
         return texts if self.changes else None
 
     def functions(self):
-        """The functions that it changes, each by its file and last line; `None` where it changes something else, too."""
+        """The names of the functions that it changes, `None` where it changes something else, too."""
         found = set()
         for file, text in self.made_on({}).items():
             before = (self.crate / file).read_text()
+            functions = functions_of(file, before)
             for number, (old, new) in enumerate(zip(before.split("\n"), text.split("\n")), 1):
                 if old != new:
-                    within = [last for first, last in functions_of(before) if first <= number <= last]
-                    found.add((file, within[0] if within else None))
-        return None if any(last is None for _, last in found) else found
+                    found.add(next((name for first, last, name in functions if first <= number <= last), None))
+        return None if None in found else found
 
 
 class Room:
@@ -91,11 +109,7 @@ class Room:
         ran = subprocess.run(["rt", "check"], cwd=folder, capture_output=True, text=True, errors="replace")
         for file in texts:
             shutil.copyfile(crate / file, folder / file)
-        opened = set()
-        for file, line in OPEN_GOAL.findall(ran.stdout):
-            functions = functions_of((crate / file).read_text())
-            opened.add((file, next((last for _, last in functions if int(line) <= last), None)))
-        return "\nlogic=not-proved" in ran.stdout, opened
+        return "\nlogic=not-proved" in ran.stdout, open_in(ran.stdout)
 
 
 def group_of(edits):
