@@ -32,7 +32,7 @@ def owner_of(header):
 
 
 def functions_of(file, text):
-    """The first line, the last line and the name of each function of a file, which begins with its owner or its module."""
+    """The first line, the last line and the name of each function of a file: its owner or its module, and itself."""
     functions, first, indent, owner = [], None, "", ""
     for number, line in enumerate(text.split("\n"), 1):
         header, head = IMPL.match(line), HEAD.match(line)
