@@ -28,7 +28,7 @@ def owner_of(header):
     while re.search("<[^<>]*>", header):
         header = re.sub("<[^<>]*>", "", header)
     name, _, kind = header.removesuffix("{").strip().rpartition(" for ")[::-1]
-    return "".join([name, kind, *made_from])
+    return "".join(part.rpartition("::")[2] for part in [name, kind, *made_from])
 
 
 def functions_of(file, text):
