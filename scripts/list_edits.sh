@@ -25,6 +25,11 @@ overtaken, a reply out of order or a job that is claimed twice. Those in `must-f
 `scripts/more_edits.py`. A file is named after the function whose meaning it turns, and after what it does.
 `scripts/list_edits.sh` writes this list from those names.
 
+Without an edit in the gate are laws, which have no body; `Entry::request`, `RowStore::catalogue`, `Loan::catalogue`,
+`Procs::new`, `ProcFault::from` and `LineFault::from`, for which no other answer can be written down with what their
+crates have; each other `from` of a fault, which says only which refusal is answered; the orders of `RowName` and of
+`Resource`, which are derived; and `NoMemory::from`, `OpenGate::enter` and `Display`, which promise nothing.
+
 | crate | function | in the gate | beside it |
 |---|---|---|---|
 END

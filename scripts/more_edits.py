@@ -28,11 +28,11 @@ def owner_of(header):
     while re.search("<[^<>]*>", header):
         header = re.sub("<[^<>]*>", "", header)
     name, _, kind = header.removesuffix("{").strip().rpartition(" for ")[::-1]
-    return "".join([name, kind, *made_from])
+    return "".join(part.rpartition("::")[2] for part in [name, kind, *made_from])
 
 
 def functions_of(file, text):
-    """The first line, the last line and the name of each function of a file, which begins with its owner or its module."""
+    """The first line, the last line and the name of each function of a file: its owner or its module, and itself."""
     functions, first, indent, owner = [], None, "", ""
     for number, line in enumerate(text.split("\n"), 1):
         header, head = IMPL.match(line), HEAD.match(line)
