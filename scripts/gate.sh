@@ -1,42 +1,53 @@
 #!/usr/bin/env bash
-# Runs the gate, `rt ci`, and says before its last line what each crate took of it.
+# Runs the gate, `rt ci`, and says before its last line how much of a processor's time it took, and what each crate took of it.
 #
-# One check runs on each processor; each takes less than 5 GB of memory. Every ten seconds the crates that are being checked are
-# noted, and whether it is for their own proof, for their tests or for their edits; checks beside the gate are counted, too. It
-# ends as `rt ci` does.
+# One check runs on each processor; each takes less than 5 GB of memory. The time of the whole is exact. The shares of the crates,
+# for their own proof, for their tests and for their edits, are read off the checks every two seconds, so that each lacks the
+# end of its checks. Checks of other sessions count for nothing. It ends as `rt ci` does.
 set -uo pipefail
 cd -- "$(dirname -- "$0")/.."
 
 notes=$(mktemp)
 output=$(mktemp)
-trap 'kill "$sampler" 2> /dev/null; rm -f -- "$notes" "$output"' EXIT
+taken=$(mktemp)
+trap 'kill "$sampler" 2> /dev/null; rm -f -- "$notes" "$output" "$taken"' EXIT
 
-# A line for each process at work on a check: its crate, and what it is for. One that waits for its own forks is not at work.
+# A line for each check: its process, the seconds of a processor that it has taken, its crate, and what it is for.
 running_checks() {
-    ps -eo stat=,args= | awk '
-        $1 ~ /^R/ && $2 ~ /\/rattle$/ && ($3 == "build" || $3 == "check") && $4 == "--crate-name" {
-            made = / --test /  ? "tests" : $3 == "build" || / -o / ? "proof" : "edits"
-            print $5, made
+    ps -o pid=,cputimes=,args= --sid "$(ps -o sid= -p $$ | tr -d ' ')" | awk '
+        $3 ~ /\/rattle$/ && ($4 == "build" || $4 == "check") && $5 == "--crate-name" {
+            made = / --test /  ? "tests" : $4 == "build" || / -o / ? "proof" : "edits"
+            print $1, $2, $6, made
         }'
 }
 
-while sleep 10; do
+while sleep 2; do
     running_checks
 done > "$notes" &
 sampler=$!
 
-RT_JOBS="$(nproc)" rt ci 2>&1 | tee "$output" | head -n -1
+TIMEFORMAT='%U %S'
+{ time RT_JOBS="$(nproc)" rt ci > "$output" 2>&1; } 2> "$taken" &
+gate=$!
+tail -f --pid="$gate" -n +1 -- "$output" | sed -u '/^[0-9]* passed, [0-9]* failed$/d'
+wait "$gate"
 status=$?
 kill "$sampler"
 
-awk -v minutes="$((SECONDS / 60))" '
-    { count[$1, $2]++; of_crate[$1]++ }
+awk -v minutes="$((SECONDS / 60))" -v taken="$(awk '{ print ($1 + $2) / 60 }' "$taken")" '
+    # the last that was seen of a process is what it took
+    { seconds[$1, $3, $4] = $2 }
     END {
-        printf "the gate took %d minutes; its checks took %d minutes of one processor:\n", minutes, NR / 6
-        printf "%-16s %8s %8s %8s\n", "crate", "proof", "tests", "edits"
-        sorted = "sort -k5,5nr | cut -c1-43"
+        for (check in seconds) {
+            split(check, part, SUBSEP)
+            share[part[2], part[3]] += seconds[check] / 60
+            of_crate[part[2]] += seconds[check] / 60
+        }
+        printf "the gate took %d minutes, and %.0f minutes of one processor:\n", minutes, taken
+        printf "%-22s %8s %8s %8s\n", "crate", "proof", "tests", "edits"
+        sorted = "sort -k5,5nr | cut -c1-49"
         for (crate in of_crate)
-            printf "%-16s %8.1f %8.1f %8.1f %d\n", crate, count[crate, "proof"] / 6, count[crate, "tests"] / 6, count[crate, "edits"] / 6, of_crate[crate] | sorted
+            printf "%-22s %8.1f %8.1f %8.1f %.1f\n", crate, share[crate, "proof"], share[crate, "tests"], share[crate, "edits"], of_crate[crate] | sorted
         close(sorted)
     }' "$notes"
 tail -n 1 -- "$output"
