@@ -102,14 +102,14 @@ fn a_write_that_fails_ends_the_command(rt: HostRuntime) -> Result<(), Fail> {
             report,
             is_full: false,
         };
+        let answer = answer.as_bytes();
         for room in 0..answer.len() {
             let fault = if room < first { early } else { late };
             for takes_none in [false, true] {
                 let mut source = Slow::new(log.as_bytes(), 0);
                 let out = Narrow::new(alloc, room, takes_none);
                 let left = left_with(&rt, line, &files, &mut source, out)?;
-                let written = &answer.as_bytes()[..room];
-                assert!(rt; left.is(4, written, fault), "{line} at room {room}");
+                assert!(rt; left.is(4, &answer[..room], fault), "{line} at room {room}");
             }
         }
     }
