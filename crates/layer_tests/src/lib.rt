@@ -3,9 +3,9 @@
 #![tactic(auto)]
 
 #[cfg(test)]
-mod byte_devices;
-#[cfg(test)]
 mod declarations;
+#[cfg(test)]
+mod interruptions;
 #[cfg(test)]
 mod lock_modes;
 #[cfg(test)]
