@@ -103,7 +103,6 @@ def main(name):
             say(f"{failed.name} is not proved: crates/{failed.name}/out/build.log says why")
             status = 1
     except KeyboardInterrupt:
-        say("interrupted; the next run goes on from here")
         status = 130
     # (not by a return, which would wait for the checks that still run: they end with this process, and so does the lock)
     os._exit(status)

@@ -176,7 +176,7 @@ fn run_batches<X: Fn(&mut Engine, Batch) -> Result<BatchDone, ExecFault>, S: Sou
 }
 
 /// Runs the log that a source gives on an engine that has run none.
-fn run_batches<X: Fn(&mut Engine, Batch) -> Result<BatchDone, ExecFault>, S: Source, K: Sink>(
+fn run_source<X: Fn(&mut Engine, Batch) -> Result<BatchDone, ExecFault>, S: Source, K: Sink>(
     alloc: Global,
     executor: &X,
     engine: &mut Engine,
@@ -221,7 +221,7 @@ pub fn run_log<X: Fn(&mut Engine, Batch) -> Result<BatchDone, ExecFault>, S: Sou
         (record { bytes = K.taken sink.new; failed = K.broken sink.new }) result }
 {
     match Engine::new(alloc, setup, settings) {
-        Ok(mut engine) => run_batches(alloc, executor, &mut engine, source, sink),
+        Ok(mut engine) => run_source(alloc, executor, &mut engine, source, sink),
         Err(_) => Err(RunFault::at(LogFaultKind::Memory, 0)),
     }
 }

@@ -1,7 +1,7 @@
 use Rattle.std.proofs.Common.{rules}
 use Rattle.batch_log.specs.Reader.{source_of}
 use Rattle.running.proofs.RunEnds.{run_through}
-use Rattle.running.proofs.log.run_batches.Goals as goal
+use Rattle.running.proofs.log.run_source.Goals as goal
 
 pub returns : goal.returns
 returns g c =
