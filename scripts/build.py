@@ -1,18 +1,19 @@
 #!/usr/bin/env python3
-"""Proves and builds the libraries that a crate of the repository stands on, on all processors:
+"""Proves and builds a program of the repository and the libraries that it stands on, on all processors:
 
-    scripts/build.py CRATE
+    scripts/build.py PROGRAM [WORD ..]
 
-A library is begun once those that it stands on are built; of those that can be begun, the one with the longest chain of code
+and runs the program with these words, whose exit status is then its own. A library is begun once those that it stands on are built; of those that can be begun, the one with the longest chain of code
 above it goes first, and processors that no other library waits for give it further jobs. What is begun, how long it took and
-how many are left goes to standard error; what the toolchain says of a library, to the file `build.log` in its folder `out/`.
-A library whose source is as it was is not built again. However the script ends, its checks end with it, and the next run
+how many are left goes to standard error; what the toolchain says of a crate, to the file `build.log` in its folder `out/`. A
+crate whose source is as it was is not built again. However the script ends, its checks end with it, and the next run
 goes on from the work that they kept.
 
 Several runs of the toolchain's command `rt` wait for each other at the libraries that they share, so this script calls the
 module that `rt` itself is made of.
 """
 import copy
+import functools
 import os
 import subprocess
 import sys
@@ -29,6 +30,11 @@ def toolchain():
     sys.path.insert(0, os.path.join(os.path.dirname(page.strip()), "bin"))
     import rtlib
 
+    # The sum of a crate's sources is asked for along each way down to it, of which there are thousands. What changes while it
+    # is built has another sum the next time.
+    rtlib.Crate.stamp = functools.cache(rtlib.Crate.stamp)
+    # The checks end with this process; that sets a signal's handler, which the main thread alone may.
+    rtlib.guarded()
     return rtlib
 
 
@@ -90,18 +96,21 @@ def build_all(libraries):
     return None
 
 
-def main(name):
+def main(name, *words):
     rtlib = toolchain()
-    rtlib.guarded()  # (so that the checks end with this process; it sets a signal's handler, which the main thread alone may)
     top = os.path.dirname(os.path.dirname(os.path.realpath(__file__)))
     crate = rtlib.Crate(os.path.join(top, "crates", name), top, {})
     crate.held = rtlib.lock([*crate.below(), crate])
-    status = 0
+    os.chdir(crate.folder)
     try:
         failed = build_all([it for it in crate.below() if not it.is_built()])
         if failed:
             say(f"{failed.name} is not proved: crates/{failed.name}/out/build.log says why")
             status = 1
+        else:
+            say(f"proving and compiling {name}, the last crate")
+            with open(os.path.join("out", "build.log"), "w") as crate.out:
+                status = crate.run([], words)
     except KeyboardInterrupt:
         status = 130
     # (not by a return, which would wait for the checks that still run: they end with this process, and so does the lock)

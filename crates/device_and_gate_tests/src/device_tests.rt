@@ -40,7 +40,7 @@ fn a_read_that_fails_ends_the_run(rt: HostRuntime) -> Result<(), Fail> {
         let fault = format!(in alloc; "fault 36 line {line}\n")?;
         let report = if taken < FIRST_BATCH { "" } else { ONE_BATCH };
         assert!(rt;
-            left.is(4, report.as_bytes(), fault.as_str()),
+            left.is(4, report.as_bytes(), fault.as_bytes()),
             "at call {call}"
         );
         assert!(rt; source.failed);
@@ -49,7 +49,7 @@ fn a_read_that_fails_ends_the_run(rt: HostRuntime) -> Result<(), Fail> {
     let mut source = Slow::new(log, 0);
     let out = Narrow::new(alloc, 1000, false);
     let left = left_with(&rt, "run bank.json", &files, &mut source, out)?;
-    assert!(rt; left.is(0, TWO_BATCH_REPORT.as_bytes(), ""));
+    assert!(rt; left.is(0, TWO_BATCH_REPORT.as_bytes(), b""));
     Ok(())
 }
 
@@ -102,7 +102,7 @@ fn a_write_that_fails_ends_the_command(rt: HostRuntime) -> Result<(), Fail> {
             report,
             is_full: false,
         };
-        let answer = answer.as_bytes();
+        let (answer, early, late) = (answer.as_bytes(), early.as_bytes(), late.as_bytes());
         for room in 0..answer.len() {
             let fault = if room < first { early } else { late };
             for takes_none in [false, true] {
@@ -127,7 +127,7 @@ fn a_file_without_memory_is_fault_47(rt: HostRuntime) -> Result<(), Fail> {
         let mut source = Slow::new(log.as_bytes(), 0);
         let out = Narrow::new(rt.alloc(), 1000, false);
         let left = left_with(&rt, line, &files, &mut source, out)?;
-        assert!(rt; left.is(3, b"", "fault 47\n"), "{line}");
+        assert!(rt; left.is(3, b"", b"fault 47\n"), "{line}");
     }
     Ok(())
 }

@@ -164,8 +164,8 @@ pub(crate) struct Left {
 }
 
 impl Left {
-    pub(crate) fn is(&self, status: u8, out: &[u8], err: &str) -> bool {
-        self.status == status && self.out.as_slice() == out && self.err.as_slice() == err.as_bytes()
+    pub(crate) fn is(&self, status: u8, out: &[u8], err: &[u8]) -> bool {
+        self.status == status && self.out.as_slice() == out && self.err.as_slice() == err
     }
 }
 
