@@ -3,7 +3,7 @@
 #
 # One check runs on each processor; each takes less than 5 GB of memory. The time of the whole is exact. The shares of the crates,
 # for their own proof, for their tests and for their edits, are read off the checks every two seconds, so that each lacks the
-# end of its checks. Checks of other sessions count for nothing. It ends as `rt ci` does.
+# end of its checks. Checks of other process sessions count for nothing. It ends as `rt ci` does.
 set -uo pipefail
 cd -- "$(dirname -- "$0")/.."
 
