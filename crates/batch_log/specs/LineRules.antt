@@ -67,8 +67,8 @@ abbrev pub in_document : List ProcParts → Option Data → List LogFaultKind
 in_document procs None = NotJson ∷ []
 in_document procs (Some d) = in_form procs (line_form d)
 
-abbrev pub broken_rules : List ProcParts → List ℕ → List LogFaultKind
-broken_rules procs line = if is_utf8 line then in_document procs (read line) else NotJson ∷ []
+abbrev pub broken_line_rules : List ProcParts → List ℕ → List LogFaultKind
+broken_line_rules procs line = if is_utf8 line then in_document procs (read line) else NotJson ∷ []
 
 -- ---- laws
 
@@ -76,4 +76,4 @@ broken_rules procs line = if is_utf8 line then in_document procs (read line) els
 pub record LineIsExact (procs : List ProcParts) (line : List ℕ) : Type 0 where
   pub found : (said : LogLine) → line_said procs line ≡ Ok said → SaysLine procs line said
   pub only : (said : LogLine) → SaysLine procs line said → line_said procs line ≡ Ok said
-  pub is_first : IsFirst (line_said procs line) (broken_rules procs line)
+  pub is_first : IsFirst (line_said procs line) (broken_line_rules procs line)

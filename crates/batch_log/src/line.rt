@@ -2,7 +2,7 @@
 
 ghost use Rattle.std.specs.Prelude.{◌≡◌, map, IfErr, IfOk, false, Some};
 ghost use Rattle.serde_json.specs.View.{view};
-ghost use Rattle.documents.specs.Reading.{Gives};
+ghost use Rattle.documents.specs.Reading.{Reads};
 ghost use Rattle.batch_log.specs.Faults.{is_io, is_memory};
 ghost use Rattle.batch_log.specs.Lines.{call_said, document_said, line_said, IsOver};
 
@@ -30,7 +30,7 @@ fn read_call(
     name: &str,
     documents: &[Value],
 ) -> Result<Request, LogFaultKind>
-    ensures exact { Gives is_memory (λ r. r) result (call_said procs.now.procs name.now (map view documents.now)) }
+    ensures exact { Reads is_memory (λ r. r) result (call_said procs.now.procs name.now (map view documents.now)) }
     ensures tables { IfOk result (λ r. r.proc.tables ≡ procs.now.tables) }
     ensures no_device { IfErr result (λ kind. is_io kind ≡ false) }
 {
@@ -51,7 +51,7 @@ fn read_call(
 }
 
 fn read_document(alloc: Global, procs: &Procs, document: &Value) -> Result<LogLine, LogFaultKind>
-    ensures exact { Gives is_memory (λ said. said) result (document_said procs.now.procs (Some (view document.now))) }
+    ensures exact { Reads is_memory (λ said. said) result (document_said procs.now.procs (Some (view document.now))) }
     ensures tables { IfOk result (IsOver procs.now.tables) }
     ensures no_device { IfErr result (λ kind. is_io kind ≡ false) }
 {
@@ -71,7 +71,7 @@ pub(crate) fn read_log_line(
     procs: &Procs,
     line: &[u8],
 ) -> Result<LogLine, LogFaultKind>
-    ensures exact { Gives is_memory (λ said. said) result (line_said procs.now.procs line.now) }
+    ensures exact { Reads is_memory (λ said. said) result (line_said procs.now.procs line.now) }
     ensures tables { IfOk result (IsOver procs.now.tables) }
     ensures no_device { IfErr result (λ kind. is_io kind ≡ false) }
 {

@@ -27,11 +27,11 @@ fn push_entry(
     entry: &Entry,
 ) -> Result<(), NoMemory> {
     let plan = match entry.footprint() {
-        Some(footprint) => Plan::new(alloc, footprint, settings.coarsen, settings.arena)?,
+        Some(footprint) => Plan::new(alloc, footprint, settings.threshold, settings.arena)?,
         None => Plan::new(
             alloc,
             &Footprint::new(alloc),
-            settings.coarsen,
+            settings.threshold,
             settings.arena,
         )?,
     };

@@ -8,11 +8,11 @@ use Rattle.footprint.specs.declared.resource.Resource.{Resource}
 use Rattle.footprint.specs.Tree.{row_resource}
 use Rattle.modes.specs.declared.mode.Mode.{Mode}
 use Rattle.modes.specs.declared.mode.Mode.TheVariants.{IntentionShared, IntentionExclusive, Shared, SharedIntentionExclusive, Exclusive}
-use Rattle.modes.specs.Rights.{ranks_clash}
+use Rattle.modes.specs.Rights.{rights_clash}
 use Rattle.modes.specs.Modes.{own, subtree, are_compatible}
 use Rattle.coarsen.specs.Subtrees.{Requests, holds, own_over}
-use Rattle.coarsen.specs.Plans.{IsSound, IsPlanOver, serves}
-use Rattle.coarsen.specs.Clashes.{Clash, Conflict}
+use Rattle.coarsen.specs.Plans.{IsWellFormed, IsPlanOver, serves}
+use Rattle.coarsen.specs.Clashes.{Clash, ModesClash}
 use Rattle.coarsen.specs.Laws.{LockedRowsConflict}
 use Rattle.coarsen.proofs.Tree.{both, and, holds_on, holds_chain}
 use Rattle.coarsen.proofs.Greatest.{has_greatest, some_greatest, greatest_least}
@@ -39,7 +39,7 @@ own_within Shared = omega arith
 own_within SharedIntentionExclusive = omega arith
 own_within Exclusive = omega arith
 
-clash_parts : (x y : ℕ) → ranks_clash x y ≡ true → (0 < x) × (0 < y) × ((x == 2) || (y == 2) ≡ true)
+clash_parts : (x y : ℕ) → rights_clash x y ≡ true → (0 < x) × (0 < y) × ((x == 2) || (y == 2) ≡ true)
 clash_parts x y h =
     let a = both (nat_lt 0 x) (nat_lt 0 y && ((x == 2) || (y == 2))) h in
     let b = both (nat_lt 0 y) ((x == 2) || (y == 2)) a.1 in
@@ -50,7 +50,7 @@ either_more true b c d f g h = ap (λ v. v || d) (f refl)
 either_more false b true d f g h = refl
 either_more false b false d f g h = g h
 
-clash_more : (x y u v : ℕ) → ranks_clash x y ≡ true → x ≤ u → u ≤ 2 → y ≤ v → v ≤ 2 → ranks_clash u v ≡ true
+clash_more : (x y u v : ℕ) → rights_clash x y ≡ true → x ≤ u → u ≤ 2 → y ≤ v → v ≤ 2 → rights_clash u v ≡ true
 clash_more x y u v h a b c d =
     let p = clash_parts x y h in
     and (nat_lt 0 u) (nat_lt 0 v && ((u == 2) || (v == 2))) (grind (arith, nat_tests, p.0))
@@ -67,17 +67,17 @@ and_false : (a : Bool) → a && false ≡ false
 and_false true = refl
 and_false false = refl
 
-clash_turned : (x y : ℕ) → ranks_clash x y ≡ true → ranks_clash y x ≡ true
+clash_turned : (x y : ℕ) → rights_clash x y ≡ true → rights_clash y x ≡ true
 clash_turned x y h =
     let p = clash_parts x y h in
     and (nat_lt 0 y) (nat_lt 0 x && ((y == 2) || (x == 2))) (grind (arith, nat_tests, p.1))
     (and (nat_lt 0 x) ((y == 2) || (x == 2)) (grind (arith, nat_tests, p.0)) (turned (x == 2) (y == 2) p.2))
 
-apart_first : (m n : Mode) → ranks_clash (own m) (subtree n) ≡ true → are_compatible m n ≡ false
-apart_first m n h = ap (λ b. not b && not (ranks_clash (own n) (subtree m))) h
+apart_first : (m n : Mode) → rights_clash (own m) (subtree n) ≡ true → are_compatible m n ≡ false
+apart_first m n h = ap (λ b. not b && not (rights_clash (own n) (subtree m))) h
 
-apart_second : (m n : Mode) → ranks_clash (own n) (subtree m) ≡ true → are_compatible m n ≡ false
-apart_second m n h = ap (λ b. not (ranks_clash (own m) (subtree n)) && not b) h ∙ and_false (not (ranks_clash (own m) (subtree n)))
+apart_second : (m n : Mode) → rights_clash (own n) (subtree m) ≡ true → are_compatible m n ≡ false
+apart_second m n h = ap (λ b. not (rights_clash (own m) (subtree n)) && not b) h ∙ and_false (not (rights_clash (own m) (subtree n)))
 
 apart_parts : (a b : Bool) → not a && not b ≡ false → (a ≡ true) ⊎ (b ≡ true)
 apart_parts true b h = inl refl
@@ -100,15 +100,15 @@ serves_subtree SharedIntentionExclusive m h = own_small m
 serves_subtree Exclusive m h = own_small m
 
 -- a request over another plan's, where each has rights of its own: the other plan has one there too, and the two clash
-meet : (b : Requests) → IsSound b → (x y : ℕ) → ranks_clash x y ≡ true
+meet : (b : Requests) → IsWellFormed b → (x y : ℕ) → rights_clash x y ≡ true
     → (e : Resource × Mode) → x ≤ own e.1 → (f : Resource × Mode) → Contains b f → y ≤ own f.1 → holds e.0 f.0 ≡ true
-    → (n : Mode) × Contains b (e.0, n) × (ranks_clash (own e.1) (subtree n) ≡ true)
+    → (n : Mode) × Contains b (e.0, n) × (rights_clash (own e.1) (subtree n) ≡ true)
 meet b s x y h e l f i j over =
     let n = s.protocol e.0 f.0 f.1 over i in
     let w = serves_subtree n.0 f.1 n.2 in
     (n.0, n.1, clash_more x y (own e.1) (subtree n.0) h l (own_small e.1) (omega (arith, j, w)) (subtree_small n.0))
 
-pub conflict_over : (a b : Requests) → IsSound a → IsSound b → (n : Resource) → ranks_clash (own_over a n) (own_over b n) ≡ true → Conflict a b
+pub conflict_over : (a b : Requests) → IsWellFormed a → IsWellFormed b → (n : Resource) → rights_clash (own_over a n) (own_over b n) ≡ true → ModesClash a b
 conflict_over a b s t n h =
     let p = clash_parts (own_over a n) (own_over b n) h in
     let e = some_greatest own (λ q. holds q n) a (own_over a n) p.0 (omega arith) in
@@ -122,7 +122,7 @@ conflict_over a b s t n h =
           (f.0.0, m.0, f.0.1, m.1, f.1, apart_second m.0 f.0.1 m.2)
     ]
 
-pub conflict_from_clash : (tables : List TableShape) (a b : Requests) → IsSound a → IsSound b → Clash tables a b → Conflict a b
+pub conflict_from_clash : (tables : List TableShape) (a b : Requests) → IsWellFormed a → IsWellFormed b → Clash tables a b → ModesClash a b
 conflict_from_clash tables a b s t (name, is, h) = conflict_over a b s t (row_resource tables name) h
 
 le_of : (x y : ℕ) → nat_le x y ≡ true → x ≤ y
@@ -132,8 +132,8 @@ over_small : (a : Requests) (n : Resource) → own_over a n ≤ 2
 over_small a n = greatest_least own (λ q. holds q n) a 2 (λ e k t. own_small e.1)
 
 -- one side of a conflict: a row name under it
-name_under : (tables : List TableShape) → IsCatalogue tables → (a b : Requests) → IsSound b → IsPlanOver tables b
-    → (r : Resource) (m n : Mode) → Contains a (r, m) → Contains b (r, n) → ranks_clash (own m) (subtree n) ≡ true → Clash tables a b
+name_under : (tables : List TableShape) → IsCatalogue tables → (a b : Requests) → IsWellFormed b → IsPlanOver tables b
+    → (r : Resource) (m n : Mode) → Contains a (r, m) → Contains b (r, n) → rights_clash (own m) (subtree n) ≡ true → Clash tables a b
 name_under tables is a b s of r m n i j h =
     let f = s.backed (r, n) j in
     let name = has_name tables is f.0.0 (of f.0 f.1) in
@@ -147,8 +147,8 @@ name_under tables is a b s of r m n i j h =
 pub clash_either : (tables : List TableShape) (a b : Requests) → Clash tables a b → Clash tables b a
 clash_either tables a b (name, is, h) = (name, is, clash_turned (own_over a (row_resource tables name)) (own_over b (row_resource tables name)) h)
 
-pub clash_from_conflict : (tables : List TableShape) → IsCatalogue tables → (a b : Requests) → IsSound a → IsSound b → IsPlanOver tables a → IsPlanOver tables b → Conflict a b → Clash tables a b
-clash_from_conflict tables is a b s t u v (r, m, n, i, j, h) = elim (apart_parts (ranks_clash (own m) (subtree n)) (ranks_clash (own n) (subtree m)) h) [
+pub clash_from_conflict : (tables : List TableShape) → IsCatalogue tables → (a b : Requests) → IsWellFormed a → IsWellFormed b → IsPlanOver tables a → IsPlanOver tables b → ModesClash a b → Clash tables a b
+clash_from_conflict tables is a b s t u v (r, m, n, i, j, h) = elim (apart_parts (rights_clash (own m) (subtree n)) (rights_clash (own n) (subtree m)) h) [
   | inl c ↦ name_under tables is a b t v r m n i j c
   | inr c ↦ clash_either tables b a (name_under tables is b a s u r n m j i c)
 ]

@@ -12,7 +12,7 @@ use Rattle.footprint.specs.Tree.{resource_cmp}
 use Rattle.footprint.specs.Rights.{FootprintOf, greater, with_right, is_at_least}
 use Rattle.modes.specs.Rights.{rank_of, rank}
 use Rattle.coarsen.specs.Subtrees.{greatest, is_same, right_on}
-use Rattle.coarsen.specs.Requests.{value_of}
+use Rattle.coarsen.specs.Requests.{number_or_none}
 use Rattle.coarsen.specs.Coarsening.{with_rights, gathered}
 use Rattle.coarsen.proofs.Tree.{resources_total}
 use Rattle.coarsen.proofs.Greatest.{found, greatest-put, first_test, second_test, less, first_or_later}
@@ -27,7 +27,7 @@ nothing = empty
 pub entries-empty : entries nothing ≡ []
 entries-empty = none_of_len (entries nothing) (sym (len-entries nothing) ∙ len-empty resource_cmp Right)
 
-rank_value : (o : Option Right) → rank o ≡ value_of rank_of o
+rank_value : (o : Option Right) → rank o ≡ number_or_none rank_of o
 rank_value None = refl
 rank_value (Some x) = refl
 
@@ -35,7 +35,7 @@ rank_value (Some x) = refl
 pub right_on-entries : (f : FootprintOf) (r : Resource) → right_on f r ≡ greatest rank_of (is_same r) (entries f)
 right_on-entries f r = ap rank (get-entries f r) ∙ rank_value (find resource_cmp r (entries f)) ∙ found rank_of (entries f) (entries_sorted f) r
 
-greater_rank : (o : Option Right) (x : Right) → rank_of (greater o x) ≡ max (value_of rank_of o) (rank_of x)
+greater_rank : (o : Option Right) (x : Right) → rank_of (greater o x) ≡ max (number_or_none rank_of o) (rank_of x)
 greater_rank None Read = refl
 greater_rank None Write = refl
 greater_rank (Some Read) Read = refl

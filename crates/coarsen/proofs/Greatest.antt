@@ -12,7 +12,7 @@ use Rattle.std.specs.BTreeMap.{is_at, insert_entry}
 use Rattle.footprint.specs.Tree.{resource_cmp}
 use Rattle.coarsen.proofs.Tree.{same_resource, is_same_itself, ties_same, exact_resources}
 use Rattle.coarsen.specs.Subtrees.{greatest, is_same}
-use Rattle.coarsen.specs.Requests.{value_of}
+use Rattle.coarsen.specs.Requests.{number_or_none}
 
 cases : (b : Bool) → (b ≡ true) ⊎ (b ≡ false)
 cases true = inl refl
@@ -105,12 +105,12 @@ module _ {X : Type 0} (f : X → ℕ) where
       omega (arith, here, rest)
 
   -- what is found at a resource, in a list in order
-  pub found : (es : List (Resource × X)) → T (is_sorted resource_cmp es) → (r : Resource) → value_of f (find resource_cmp r es) ≡ greatest f (is_same r) es
+  pub found : (es : List (Resource × X)) → T (is_sorted resource_cmp es) → (r : Resource) → number_or_none f (find resource_cmp r es) ≡ greatest f (is_same r) es
   found [] s r = refl
   found (e ∷ es) s r =
       let below = first_test (below_all resource_cmp e.0 es) (is_sorted resource_cmp es) s in
       let rest = found es (second_test (below_all resource_cmp e.0 es) (is_sorted resource_cmp es) s) r in
-      elim (is_eq (resource_cmp r e.0)) as (λ v. is_eq (resource_cmp r e.0) ≡ v → value_of f (cond v (Some e.1) (find resource_cmp r es)) ≡ greatest f (is_same r) (e ∷ es)) [
+      elim (is_eq (resource_cmp r e.0)) as (λ v. is_eq (resource_cmp r e.0) ≡ v → number_or_none f (cond v (Some e.1) (find resource_cmp r es)) ≡ greatest f (is_same r) (e ∷ es)) [
         | true ↦ λ is.
             let on : is_same r e.0 ≡ true = sym (ties_same r e.0) ∙ is in
             let none : greatest f (is_same r) es ≡ 0 = ap (λ q. greatest f (is_same q) es) (same_resource r e.0 on) ∙ none_behind e.0 es below in
@@ -122,9 +122,9 @@ module _ {X : Type 0} (f : X → ℕ) where
             omega (arith, rest, here)
       ] refl
 
-  found_under : (test : Resource → Bool) (es : List (Resource × X)) (p : Resource) → test p ≡ true → value_of f (find resource_cmp p es) ≤ greatest f test es
+  found_under : (test : Resource → Bool) (es : List (Resource × X)) (p : Resource) → test p ≡ true → number_or_none f (find resource_cmp p es) ≤ greatest f test es
   found_under test [] p t = omega arith
-  found_under test (e ∷ es) p t = elim (resource_cmp p e.0) as (λ o. resource_cmp p e.0 ≡ o → value_of f (cond (is_eq o) (Some e.1) (find resource_cmp p es)) ≤ greatest f test (e ∷ es)) [
+  found_under test (e ∷ es) p t = elim (resource_cmp p e.0) as (λ o. resource_cmp p e.0 ≡ o → number_or_none f (cond (is_eq o) (Some e.1) (find resource_cmp p es)) ≤ greatest f test (e ∷ es)) [
     | Less ↦ λ is. le_rest (cond (test e.0) (f e.1) 0) _ _ (found_under test es p t)
     | Equal ↦ λ is. has_greatest test (e ∷ es) e (0, omega arith, refl) (ap test (sym (exact_resources p e.0 is)) ∙ t)
     | Greater ↦ λ is. le_rest (cond (test e.0) (f e.1) 0) _ _ (found_under test es p t)
@@ -132,10 +132,10 @@ module _ {X : Type 0} (f : X → ℕ) where
 
   -- an entry is put at a resource, or raised there
   pub greatest-put : (test : Resource → Bool) (es : List (Resource × X)) (p : Resource) (v : X) (w : ℕ)
-      → (f v ≡ max (value_of f (find resource_cmp p es)) w)
+      → (f v ≡ max (number_or_none f (find resource_cmp p es)) w)
       → greatest f test (put resource_cmp p v es) ≡ max (greatest f test es) (cond (test p) w 0)
   greatest-put test [] p v w h = raised (test p) (f v) 0 w 0 0 h (λ _. omega arith) ∙ refl
-  greatest-put test (e ∷ es) p v w h = elim (resource_cmp p e.0) as (λ o. resource_cmp p e.0 ≡ o → f v ≡ max (value_of f (cond (is_eq o) (Some e.1) (find resource_cmp p es))) w
+  greatest-put test (e ∷ es) p v w h = elim (resource_cmp p e.0) as (λ o. resource_cmp p e.0 ≡ o → f v ≡ max (number_or_none f (cond (is_eq o) (Some e.1) (find resource_cmp p es))) w
       → greatest f test (by_order o ((p, v) ∷ e ∷ es) ((e.0, v) ∷ es) (e ∷ put resource_cmp p v es)) ≡ max (greatest f test (e ∷ es)) (cond (test p) w 0)) [
         | Less ↦ λ is k. raised (test p) (f v) _ w _ _ k (found_under test es p)
         | Equal ↦ λ is k. ap (λ b. max (cond b (f v) 0) (greatest f test es)) (ap test (sym (exact_resources p e.0 is)))
@@ -145,9 +145,9 @@ module _ {X : Type 0} (f : X → ℕ) where
             ap (λ n. max (cond (test e.0) (f e.1) 0) n) i ∙ max_on (cond (test e.0) (f e.1) 0) (greatest f test es) (cond (test p) w 0)
       ] refl h
 
-  lookup_under : (test : Resource → Bool) (es : List (Resource × X)) (p : Resource) → test p ≡ true → value_of f (lookup (is_at (resource_cmp p)) es) ≤ greatest f test es
+  lookup_under : (test : Resource → Bool) (es : List (Resource × X)) (p : Resource) → test p ≡ true → number_or_none f (lookup (is_at (resource_cmp p)) es) ≤ greatest f test es
   lookup_under test [] p t = omega arith
-  lookup_under test (e ∷ es) p t = elim (resource_cmp p e.0) as (λ o. resource_cmp p e.0 ≡ o → value_of f (cond (is_eq o) (Some e.1) (lookup (is_at (resource_cmp p)) es)) ≤ greatest f test (e ∷ es)) [
+  lookup_under test (e ∷ es) p t = elim (resource_cmp p e.0) as (λ o. resource_cmp p e.0 ≡ o → number_or_none f (cond (is_eq o) (Some e.1) (lookup (is_at (resource_cmp p)) es)) ≤ greatest f test (e ∷ es)) [
     | Less ↦ λ is. le_rest (cond (test e.0) (f e.1) 0) _ _ (lookup_under test es p t)
     | Equal ↦ λ is. has_greatest test (e ∷ es) e (0, omega arith, refl) (ap test (sym (exact_resources p e.0 is)) ∙ t)
     | Greater ↦ λ is. le_rest (cond (test e.0) (f e.1) 0) _ _ (lookup_under test es p t)
@@ -155,10 +155,10 @@ module _ {X : Type 0} (f : X → ℕ) where
 
   -- an entry is put at a resource, or raised there
   pub greatest-insert : (test : Resource → Bool) (es : List (Resource × X)) (p : Resource) (v : X) (w : ℕ)
-      → (f v ≡ max (value_of f (lookup (is_at (resource_cmp p)) es)) w)
+      → (f v ≡ max (number_or_none f (lookup (is_at (resource_cmp p)) es)) w)
       → greatest f test (insert_entry resource_cmp es p v) ≡ max (greatest f test es) (cond (test p) w 0)
   greatest-insert test [] p v w h = raised (test p) (f v) 0 w 0 0 h (λ _. omega arith) ∙ refl
-  greatest-insert test (e ∷ es) p v w h = elim (resource_cmp p e.0) as (λ o. resource_cmp p e.0 ≡ o → f v ≡ max (value_of f (cond (is_eq o) (Some e.1) (lookup (is_at (resource_cmp p)) es))) w
+  greatest-insert test (e ∷ es) p v w h = elim (resource_cmp p e.0) as (λ o. resource_cmp p e.0 ≡ o → f v ≡ max (number_or_none f (cond (is_eq o) (Some e.1) (lookup (is_at (resource_cmp p)) es))) w
       → greatest f test (match_ordering o ((p, v) ∷ e ∷ es) ((e.0, v) ∷ es) (e ∷ insert_entry resource_cmp es p v)) ≡ max (greatest f test (e ∷ es)) (cond (test p) w 0)) [
         | Less ↦ λ is k. raised (test p) (f v) _ w _ _ k (lookup_under test es p)
         | Equal ↦ λ is k. ap (λ b. max (cond b (f v) 0) (greatest f test es)) (ap test (sym (exact_resources p e.0 is)))

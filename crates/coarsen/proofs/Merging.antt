@@ -11,7 +11,7 @@ use Rattle.modes.specs.declared.mode.Mode.{Mode}
 use Rattle.modes.specs.declared.mode.Mode.TheVariants.{IntentionShared, IntentionExclusive, Shared, SharedIntentionExclusive, Exclusive}
 use Rattle.modes.specs.Modes.{are_compatible}
 use Rattle.coarsen.specs.Subtrees.{Requests}
-use Rattle.coarsen.specs.Clashes.{Conflict}
+use Rattle.coarsen.specs.Clashes.{ModesClash}
 use Rattle.coarsen.proofs.Tree.{resources_total, exact_resources}
 
 either_way : (a b : Mode) → are_compatible a b ≡ are_compatible b a
@@ -42,7 +42,7 @@ either_way Exclusive SharedIntentionExclusive = refl
 either_way Exclusive Exclusive = refl
 
 -- a conflict is one either way
-pub conflict_turned : (a b : Requests) → Conflict a b → Conflict b a
+pub conflict_turned : (a b : Requests) → ModesClash a b → ModesClash b a
 conflict_turned a b (r, m, n, i, j, h) = (r, n, m, j, i, sym (either_way m n) ∙ h)
 
 contains_cases : (e : Resource × Mode) (es : Requests) (x : Resource × Mode) → Contains (e ∷ es) x → (e ≡ x) ⊎ Contains es x
@@ -80,7 +80,7 @@ not_itself a b h e =
 
 -- a request that is before all requests of the other list is in no conflict
 pub past_first : (s t rest more : Requests) (e f : Resource × Mode) → s ≡ e ∷ rest → t ≡ f ∷ more
-    → IsStrictlySortedBy resource_cmp (keys_of t) → resource_cmp e.0 f.0 ≡ Less → Conflict s t → Conflict rest t
+    → IsStrictlySortedBy resource_cmp (keys_of t) → resource_cmp e.0 f.0 ≡ Less → ModesClash s t → ModesClash rest t
 past_first s t rest more e f is it o less (r, m, n, i, j, h) =
     elim (contains_cases e rest (r, m) (subst (λ l. Contains l (r, m)) is i)) [
       | inr k ↦ (r, m, n, k, j, h)
@@ -93,14 +93,14 @@ past_first s t rest more e f is it o less (r, m, n, i, j, h) =
     ]
 
 pub past_second : (s t rest more : Requests) (e f : Resource × Mode) → s ≡ e ∷ rest → t ≡ f ∷ more
-    → IsStrictlySortedBy resource_cmp (keys_of s) → resource_cmp e.0 f.0 ≡ Greater → Conflict s t → Conflict s more
+    → IsStrictlySortedBy resource_cmp (keys_of s) → resource_cmp e.0 f.0 ≡ Greater → ModesClash s t → ModesClash s more
 past_second s t rest more e f is it o greater c =
     conflict_turned more s (past_first t s more rest f e it is o (resources_total.antisymm f.0 e.0 ∙ ap ordering_reverse greater) (conflict_turned s t c))
 
 -- nor are two on one resource whose modes are compatible
 pub past_both : (s t rest more : Requests) (e f : Resource × Mode) → s ≡ e ∷ rest → t ≡ f ∷ more
     → IsStrictlySortedBy resource_cmp (keys_of s) → IsStrictlySortedBy resource_cmp (keys_of t) → resource_cmp e.0 f.0 ≡ Equal → are_compatible e.1 f.1 ≡ true
-    → Conflict s t → Conflict rest more
+    → ModesClash s t → ModesClash rest more
 past_both s t rest more e f is it o p equal fine (r, m, n, i, j, h) =
     let one = exact_resources e.0 f.0 equal in
     elim (contains_cases e rest (r, m) (subst (λ l. Contains l (r, m)) is i)) [
@@ -120,18 +120,18 @@ past_both s t rest more e f is it o p equal fine (r, m, n, i, j, h) =
     ]
 
 -- and a list that is empty has none
-pub no_conflict_first : (s t : Requests) → length s ≡ 0 → Conflict s t → ⊥
+pub no_conflict_first : (s t : Requests) → length s ≡ 0 → ModesClash s t → ⊥
 no_conflict_first s t e (r, m, n, (k, l, at), j, h) = absurd (omega (arith, e, l))
 
-pub no_conflict_second : (s t : Requests) → length t ≡ 0 → Conflict s t → ⊥
+pub no_conflict_second : (s t : Requests) → length t ≡ 0 → ModesClash s t → ⊥
 no_conflict_second s t e (r, m, n, i, (k, l, at), h) = absurd (omega (arith, e, l))
 
-pub conflict_here : (s t rest more : Requests) (e f : Resource × Mode) → s ≡ e ∷ rest → t ≡ f ∷ more → resource_cmp e.0 f.0 ≡ Equal → are_compatible e.1 f.1 ≡ false → Conflict s t
+pub conflict_here : (s t rest more : Requests) (e f : Resource × Mode) → s ≡ e ∷ rest → t ≡ f ∷ more → resource_cmp e.0 f.0 ≡ Equal → are_compatible e.1 f.1 ≡ false → ModesClash s t
 conflict_here s t rest more e f is it equal h =
     let one = exact_resources e.0 f.0 equal in
     let at : f ≡ (e.0, f.1) = ap (λ (q : Resource). (q, f.1)) (sym one) in
     (e.0, e.1, f.1, contains_head s rest e is, subst (Contains t) at (contains_head t more f it), h)
 
 -- what is left of a list is of the list
-pub conflict_within : (s t a b : Requests) → ((x : Resource × Mode) → Contains s x → Contains a x) → ((x : Resource × Mode) → Contains t x → Contains b x) → Conflict s t → Conflict a b
+pub conflict_within : (s t a b : Requests) → ((x : Resource × Mode) → Contains s x → Contains a x) → ((x : Resource × Mode) → Contains t x → Contains b x) → ModesClash s t → ModesClash a b
 conflict_within s t a b f g (r, m, n, i, j, h) = (r, m, n, f (r, m) i, g (r, n) j, h)

@@ -18,7 +18,7 @@ use Rattle.modes.specs.Rights.{rank_of, rank}
 use Rattle.modes.specs.Modes.{own, subtree}
 use Rattle.coarsen.specs.Subtrees.{Requests, holds, is_same, greatest, right_under, own_over, covers_by_requests}
 use Rattle.coarsen.specs.Coarsening.{coarsened, on_database}
-use Rattle.coarsen.specs.Plans.{IsPlanOf, IsSound, KeepsProtocol, IsBacked, IsPlanOver, serves}
+use Rattle.coarsen.specs.Plans.{IsPlanOf, IsWellFormed, KeepsProtocol, IsBacked, IsPlanOver, serves}
 use Rattle.coarsen.proofs.Tree.{holds_on, same_resource, is_same_itself}
 use Rattle.coarsen.proofs.Greatest.{has_greatest, some_greatest, greatest_mono, any_test}
 use Rattle.coarsen.proofs.Entries.{nothing, entries-empty, right_on-entries}
@@ -110,7 +110,7 @@ backed_of f plan is e k =
     (g.0, g.1, ap (λ q. holds e.0 q) (sym (same_resource d.0.0 g.0.0 g.2)) ∙ d.2, g.3)
 
 -- the plan of a footprint is sound
-pub sound_of : (f : FootprintOf) (plan : Requests) → IsPlanOf f plan → IsSound plan
+pub sound_of : (f : FootprintOf) (plan : Requests) → IsPlanOf f plan → IsWellFormed plan
 sound_of f plan is = record { ordered = is.ordered; protocol = protocol_of f plan is; backed = backed_of f plan is }
 
 -- ---- resources of a catalogue

@@ -9,7 +9,7 @@ use Rattle.footprint.specs.declared.resource.Resource.{Resource}
 use Rattle.footprint.specs.Tree.{row_resource}
 use Rattle.footprint.specs.OfCatalogue.{IsRowName}
 use Rattle.modes.specs.declared.mode.Mode.{Mode}
-use Rattle.modes.specs.Rights.{ranks_clash}
+use Rattle.modes.specs.Rights.{rights_clash}
 use Rattle.modes.specs.Modes.{are_compatible}
 use Rattle.coarsen.specs.Subtrees.{Requests, own_over, covers_by_requests}
 
@@ -21,10 +21,10 @@ locks_row tables requests name right = covers_by_requests requests (row_resource
 abbrev pub Clash : List TableShape → Requests → Requests → Type 0
 Clash tables a b =
     (name : RowName) × IsRowName tables name
-    × (ranks_clash (own_over a (row_resource tables name)) (own_over b (row_resource tables name)) ≡ true)
+    × (rights_clash (own_over a (row_resource tables name)) (own_over b (row_resource tables name)) ≡ true)
 
 -- both have a request on some resource, and the modes are not compatible
-abbrev pub Conflict : Requests → Requests → Type 0
-Conflict a b =
+abbrev pub ModesClash : Requests → Requests → Type 0
+ModesClash a b =
     (resource : Resource) × (first : Mode) × (second : Mode)
     × Contains a (resource, first) × Contains b (resource, second) × (are_compatible first second ≡ false)

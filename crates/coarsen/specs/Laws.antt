@@ -17,8 +17,8 @@ use Rattle.modes.specs.Modes.{own, subtree}
 use Rattle.coarsen.specs.declared.level.Level.{Level}
 use Rattle.coarsen.specs.Subtrees.{Requests, holds, greatest, right_on, right_under}
 use Rattle.coarsen.specs.Coarsening.{needed, lifted, children, parent_at, is_parent}
-use Rattle.coarsen.specs.Plans.{IsPlanOf, IsSound}
-use Rattle.coarsen.specs.Clashes.{locks_row, Clash, Conflict}
+use Rattle.coarsen.specs.Plans.{IsPlanOf, IsWellFormed}
+use Rattle.coarsen.specs.Clashes.{locks_row, Clash, ModesClash}
 
 -- a resource holds itself and what it is an ancestor of, and nothing else
 pub record HoldsDescendants : Type 0 where
@@ -50,7 +50,7 @@ pub record PlansAreExact : Type 0 where
 
 -- plans clash either way
 pub record ClashEitherWay : Type 0 where
-  pub requests : (a b : Requests) → Conflict a b → Conflict b a
+  pub requests : (a b : Requests) → ModesClash a b → ModesClash b a
   pub rows : (tables : List TableShape) (a b : Requests) → Clash tables a b → Clash tables b a
 
 -- footprints to which resources of a catalogue are added are of the catalogue, and so are its row names
@@ -62,5 +62,5 @@ pub record FootprintsAreOf : Type 0 where
 -- two plans of which one locks a row name to write and the other locks it at all are in conflict, whatever the name
 abbrev pub LockedRowsConflict : Type 0
 LockedRowsConflict =
-    (tables : List TableShape) (a b : Requests) → IsSound a → IsSound b → (name : RowName)
-    → locks_row tables a name Write ≡ true → locks_row tables b name Read ≡ true → Conflict a b
+    (tables : List TableShape) (a b : Requests) → IsWellFormed a → IsWellFormed b → (name : RowName)
+    → locks_row tables a name Write ≡ true → locks_row tables b name Read ≡ true → ModesClash a b

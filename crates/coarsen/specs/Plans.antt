@@ -54,7 +54,7 @@ IsBacked requests =
     → (f : Resource × Mode) × Contains requests f × (holds e.0 f.0 ≡ true) × (subtree e.1 ≤ own f.1)
 
 -- what holds of each plan
-pub record IsSound (requests : Requests) : Type 0 where
+pub record IsWellFormed (requests : Requests) : Type 0 where
   pub ordered : IsStrictlySortedBy resource_cmp (keys_of requests)
   pub protocol : KeepsProtocol requests
   pub backed : IsBacked requests

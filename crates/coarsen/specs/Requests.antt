@@ -3,6 +3,6 @@
 use Rattle.std.specs.Prelude.{ℕ, Option, Some, None}
 
 -- the value of what may be there, 0 where it isn't
-abbrev pub value_of : {X : Type 0} → (X → ℕ) → Option X → ℕ
-value_of value None = 0
-value_of value (Some x) = value x
+abbrev pub number_or_none : {X : Type 0} → (X → ℕ) → Option X → ℕ
+number_or_none value None = 0
+number_or_none value (Some x) = value x

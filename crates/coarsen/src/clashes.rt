@@ -7,7 +7,7 @@ ghost use Rattle.footprint.specs.Tree.{resource_cmp};
 ghost use Rattle.values.specs.Shapes.{TableShape};
 ghost use Rattle.values.specs.Rules.{IsCatalogue};
 ghost use Rattle.coarsen.specs.Plans.{IsPlanOver};
-ghost use Rattle.coarsen.specs.Clashes.{Clash, Conflict};
+ghost use Rattle.coarsen.specs.Clashes.{Clash, ModesClash};
 
 use crate::plan::Plan;
 use footprint::Resource;
@@ -19,7 +19,7 @@ use std::cmp::Ordering;
 fn conflict(first: &[(Resource, Mode)], second: &[(Resource, Mode)]) -> bool
     requires first { IsStrictlySortedBy resource_cmp (keys_of first.now) }
     requires second { IsStrictlySortedBy resource_cmp (keys_of second.now) }
-    ensures { (result ≡ true) ↔ Conflict first.entry.now second.entry.now }
+    ensures { (result ≡ true) ↔ ModesClash first.entry.now second.entry.now }
 {
     let mut first = first;
     let mut second = second;
@@ -45,7 +45,7 @@ fn conflict(first: &[(Resource, Mode)], second: &[(Resource, Mode)]) -> bool
 /// Whether two plans cover some row name, whether or not such a row is there, with rights that clash. For plans over one
 /// catalogue that is the same as two requests on some resource whose modes are not compatible.
 pub fn clash(first: &Plan, second: &Plan) -> bool
-    ensures requests { (result ≡ true) ↔ Conflict first.now second.now }
+    ensures requests { (result ≡ true) ↔ ModesClash first.now second.now }
     ensures rows { (tables : List TableShape) → IsCatalogue tables → IsPlanOver tables first.now →
         IsPlanOver tables second.now → (result ≡ true) ↔ Clash tables first.now second.now }
 {

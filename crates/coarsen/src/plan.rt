@@ -9,7 +9,7 @@ ghost use Rattle.proclang_types.specs.declared.right.Right.{Right as AnyRight};
 ghost use Rattle.footprint.specs.Rights.{covers};
 ghost use Rattle.footprint.specs.OfCatalogue.{IsFootprintOf};
 ghost use Rattle.coarsen.specs.Subtrees.{covers_by_requests};
-ghost use Rattle.coarsen.specs.Plans.{IsPlanOf, IsPlanFor, IsSound, KeepsProtocol, IsPlanOver};
+ghost use Rattle.coarsen.specs.Plans.{IsPlanOf, IsPlanFor, IsWellFormed, KeepsProtocol, IsPlanOver};
 
 use crate::coarsening::{coarsened, on_database};
 use crate::requests::Requests;
@@ -28,30 +28,30 @@ pub struct Plan {
 
 impl Model for Plan {
     ghost use Rattle.coarsen.specs.Subtrees.{Requests};
-    ghost use Rattle.coarsen.specs.Plans.{IsSound};
+    ghost use Rattle.coarsen.specs.Plans.{IsWellFormed};
 
     ghost Value = { Requests };
 
     ghost view = { λ p. p.requests.items };
 
-    ghost invariant = { λ p. IsSound p.requests.items };
+    ghost invariant = { λ p. IsWellFormed p.requests.items };
 }
 
 impl Plan {
     /// The plan for a footprint. The footprint is coarsened first: entries that an ancestor's entry covers are dropped,
     /// more than `threshold` rows of a partition become one entry on the partition, more than `threshold` partitions of a
-    /// table one entry on the table, and if the plan has more than `most` requests it becomes one on the database.
+    /// table one entry on the table, and if the plan has more than `arena` requests it becomes one on the database.
     pub fn new(
         alloc: Global,
         footprint: &Footprint,
         threshold: usize,
-        most: usize,
+        arena: usize,
     ) -> Result<Plan, NoMemory>
-        requires { 0 < most }
-        ensures exact { IfOk result (λ plan. IsPlanFor threshold most footprint.now plan) }
+        requires { 0 < arena }
+        ensures exact { IfOk result (λ plan. IsPlanFor threshold arena footprint.now plan) }
         ensures covers { IfOk result (λ plan. (resource : AnyResource) (right : AnyRight) →
             covers footprint.now resource right ≡ true → covers_by_requests plan resource right ≡ true) }
-        ensures size { IfOk result (λ plan. length plan ≤ most) }
+        ensures size { IfOk result (λ plan. length plan ≤ arena) }
         ensures protocol { IfOk result (λ plan. KeepsProtocol plan) }
         ensures empty { IfOk result (λ plan. footprint.now ≡ map.empty → plan ≡ []) }
         // The requests are on resources of each catalogue that the footprint is of.
@@ -60,7 +60,7 @@ impl Plan {
     {
         let coarse = coarsened(alloc, footprint, threshold)?;
         let full = Plan::of(alloc, &coarse)?;
-        if full.requests().len() <= most {
+        if full.requests().len() <= arena {
             return Ok(full);
         }
         let whole = on_database(alloc, &coarse)?;
@@ -71,7 +71,7 @@ impl Plan {
     /// The requests, in tree order: a resource's ancestors stand before it.
     pub fn requests(&self) -> &[(Resource, Mode)]
         ensures same { result.now ≡ self.now }
-        ensures sound { IsSound self.now }
+        ensures sound { IsWellFormed self.now }
     {
         self.requests.as_slice()
     }

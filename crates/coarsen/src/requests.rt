@@ -7,7 +7,7 @@ ghost use Rattle.footprint.specs.declared.resource.Resource.{Resource as AnyReso
 ghost use Rattle.modes.specs.Rights.{rank_of};
 ghost use Rattle.modes.specs.Modes.{own, subtree};
 ghost use Rattle.coarsen.specs.Subtrees.{own_on, subtree_on, is_same, holds};
-ghost use Rattle.coarsen.specs.Requests.{value_of};
+ghost use Rattle.coarsen.specs.Requests.{number_or_none};
 ghost use Rattle.coarsen.specs.Plans.{IsPlanOf};
 
 use footprint::{Footprint, Resource, Right};
@@ -47,9 +47,9 @@ fn intention(mode: Mode) -> Mode
 impl Requests {
     /// The mode on a resource joined with another one.
     fn joined(&self, resource: &Resource, mode: Mode) -> Mode
-        ensures own { own result ≡ max (value_of own (get resource_cmp self.now.modes resource.now)) (own mode) }
+        ensures own { own result ≡ max (number_or_none own (get resource_cmp self.now.modes resource.now)) (own mode) }
         ensures subtree { subtree result
-            ≡ max (value_of subtree (get resource_cmp self.now.modes resource.now)) (subtree mode) }
+            ≡ max (number_or_none subtree (get resource_cmp self.now.modes resource.now)) (subtree mode) }
     {
         match self.modes.get(resource).copied() {
             Some(old) => join(old, mode),

@@ -32,20 +32,20 @@ number_read f id r n none value is =
     number_at (rows_of f) id r n (one_text f id) (sym (one_text-rows f id)) none value is
 
 -- settings that were made of numbers that stand in the rows
-pub settings_made : {E : Type 0} (rows : List Row) (r : Result Settings E) (o : Option Settings) (workers lanes coarsen arena : ℕ) → o ≡ result_ok r →
-    IfOk r (λ s. (s.workers ≡ workers) × (s.lanes ≡ lanes) × (s.coarsen ≡ coarsen) × (s.arena ≡ arena)) →
-    IsNumber rows (codes "workers") workers → IsNumber rows (codes "lanes") lanes → IsNumber rows (codes "coarsen") coarsen → IsNumber rows (codes "arena") arena →
+pub settings_made : {E : Type 0} (rows : List Row) (r : Result Settings E) (o : Option Settings) (workers lanes threshold arena : ℕ) → o ≡ result_ok r →
+    IfOk r (λ s. (s.workers ≡ workers) × (s.lanes ≡ lanes) × (s.threshold ≡ threshold) × (s.arena ≡ arena)) →
+    IsNumber rows (codes "workers") workers → IsNumber rows (codes "lanes") lanes → IsNumber rows (codes "coarsen") threshold → IsNumber rows (codes "arena") arena →
     IfSome o (AreSettings rows)
-settings_made rows (Ok s) o workers lanes coarsen arena e same a b c d =
+settings_made rows (Ok s) o workers lanes threshold arena e same a b c d =
     let number : Text → ℕ → Type 0 = IsNumber rows in
     let made : AreSettings rows s = record {
       workers = subst (number (codes "workers")) (sym same.0) a;
       lanes = subst (number (codes "lanes")) (sym same.1) b;
-      coarsen = subst (number (codes "coarsen")) (sym same.2) c;
+      threshold = subst (number (codes "coarsen")) (sym same.2) c;
       arena = subst (number (codes "arena")) (sym same.3) d;
     } in
     rw e made
-settings_made rows (Err x) o workers lanes coarsen arena e same a b c d = rw e tt
+settings_made rows (Err x) o workers lanes threshold arena e same a b c d = rw e tt
 
 -- a flag that was read stands in the rows
 pub flag_read : (f : Found) (id : Text) (flag : Bool) → (one_text f id ≡ Some (codes "true") → flag ≡ true) → (one_text f id ≡ Some (codes "false") → flag ≡ false) →
@@ -87,13 +87,13 @@ same_number rows id n m p q =
     p.value ∙ ap number same ∙ sym q.value
 
 -- numbers that are settings are in range
-in_range : (rows : List Row) (s : Settings) (workers lanes coarsen arena : ℕ) →
-    IsNumber rows (codes "workers") workers → IsNumber rows (codes "lanes") lanes → IsNumber rows (codes "coarsen") coarsen → IsNumber rows (codes "arena") arena →
-    AreSettings rows s → AreInRange workers lanes coarsen arena
-in_range rows s workers lanes coarsen arena a b c d given =
+in_range : (rows : List Row) (s : Settings) (workers lanes threshold arena : ℕ) →
+    IsNumber rows (codes "workers") workers → IsNumber rows (codes "lanes") lanes → IsNumber rows (codes "coarsen") threshold → IsNumber rows (codes "arena") arena →
+    AreSettings rows s → AreInRange workers lanes threshold arena
+in_range rows s workers lanes threshold arena a b c d given =
     let e : workers ≡ s.workers = same_number _ _ _ _ a given.workers in
     let f : lanes ≡ s.lanes = same_number _ _ _ _ b given.lanes in
-    let g : coarsen ≡ s.coarsen = same_number _ _ _ _ c given.coarsen in
+    let g : threshold ≡ s.threshold = same_number _ _ _ _ c given.threshold in
     let h : arena ≡ s.arena = same_number _ _ _ _ d given.arena in
     record {
       some_workers = rw e s.some_workers;
@@ -110,12 +110,12 @@ not_made (Ok s) o e none ok = let bad : IsNone (Some s) = rw e at none in cc
 not_made (Err x) o e none ok = cc
 
 -- where no settings were made of the numbers, the rows give none
-pub no_settings : {E : Type 0} (rows : List Row) (r : Result Settings E) (o : Option Settings) (workers lanes coarsen arena : ℕ) → o ≡ result_ok r →
-    (AreInRange workers lanes coarsen arena → IsOk r) →
-    IsNumber rows (codes "workers") workers → IsNumber rows (codes "lanes") lanes → IsNumber rows (codes "coarsen") coarsen → IsNumber rows (codes "arena") arena →
+pub no_settings : {E : Type 0} (rows : List Row) (r : Result Settings E) (o : Option Settings) (workers lanes threshold arena : ℕ) → o ≡ result_ok r →
+    (AreInRange workers lanes threshold arena → IsOk r) →
+    IsNumber rows (codes "workers") workers → IsNumber rows (codes "lanes") lanes → IsNumber rows (codes "coarsen") threshold → IsNumber rows (codes "arena") arena →
     IsNone o → (s : Settings) → AreSettings rows s → ⊥
-no_settings rows r o workers lanes coarsen arena e accepted a b c d none s given =
-    not_made r o e none (accepted (in_range rows s workers lanes coarsen arena a b c d given))
+no_settings rows r o workers lanes threshold arena e accepted a b c d none s given =
+    not_made r o e none (accepted (in_range rows s workers lanes threshold arena a b c d given))
 
 -- where no text was read, the rows have none
 pub no_text : (f : Found) (id path : Text) → None ≡ first_value f id → first_of id (rows_of f) ≡ Some path → ⊥

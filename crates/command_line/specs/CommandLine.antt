@@ -27,7 +27,7 @@ pub record IsFlag (rows : List Row) (id : Text) (flag : Bool) : Type 0 where
 pub record AreSettings (rows : List Row) (settings : Settings) : Type 0 where
   pub workers : IsNumber rows (codes "workers") settings.workers
   pub lanes : IsNumber rows (codes "lanes") settings.lanes
-  pub coarsen : IsNumber rows (codes "coarsen") settings.coarsen
+  pub threshold : IsNumber rows (codes "coarsen") settings.threshold
   pub arena : IsNumber rows (codes "arena") settings.arena
 
 -- the command, by its name and its arguments

@@ -72,9 +72,9 @@ fn settings_of(matches: &ArgMatches<'_>) -> Option<Settings>
 {
     let workers = matches.get_one::<usize>("workers")?;
     let lanes = matches.get_one::<usize>("lanes")?;
-    let coarsen = matches.get_one::<usize>("coarsen")?;
+    let threshold = matches.get_one::<usize>("coarsen")?;
     let arena = matches.get_one::<usize>("arena")?;
-    Settings::new(workers, lanes, coarsen, arena).ok()
+    Settings::new(workers, lanes, threshold, arena).ok()
 }
 
 // The command `run`, by its arguments.

@@ -10,9 +10,9 @@ abbrev pub ◌>>=◌ : {A B F : Type 0} → Result A F → (A → Result B F) �
 (Err e) >>= f = Err e
 
 -- What a function answered, seen by view, is what reading gives, unless it ran out of memory.
-abbrev pub Gives : {X Y F : Type 0} → (F → Bool) → (X → Y) → Result X F → Result Y F → Type 0
-Gives is_memory view (Ok x) reading = reading ≡ Ok (view x)
-Gives is_memory view (Err e) reading = is_memory e ≡ false → reading ≡ Err e
+abbrev pub Reads : {X Y F : Type 0} → (F → Bool) → (X → Y) → Result X F → Result Y F → Type 0
+Reads is_memory view (Ok x) reading = reading ≡ Ok (view x)
+Reads is_memory view (Err e) reading = is_memory e ≡ false → reading ≡ Err e
 
 -- the parts of a form, or the fault of a wrong one
 abbrev pub formed : {A F : Type 0} → F → Option A → Result A F

@@ -145,7 +145,7 @@ apart_places : (slots : List Slot) (i k : ℕ) (a b : Slot) → slice_get slots 
 apart_places slots i k a b at_i at_k d e = d (some_is a b (sym at_i ∙ ap (slice_get slots) e ∙ at_k))
 
 module _ (s : Schedule) (seat : SchedulerSeatOf) (h : AreInLanes s seat) (job : JobOf) (new : Schedule) (lends : LendsJob s job new)
-    (can : enabled s.work.nodes s.work.first (log_of s.work) (phases_of s) (events.Lend job.number) ≡ true) (lane : ℕ) (lowest : IsLowestFree seat.jobs lane) where
+    (can : enabled s.work.arena s.work.first (log_of s.work) (phases_of s) (events.Lend job.number) ≡ true) (lane : ℕ) (lowest : IsLowestFree seat.jobs lane) where
   abbrev place : ℕ
   place = job.number - s.work.first
 

@@ -19,7 +19,7 @@ pub record KeepsSetting (old new : EngineParts) : Type 0 where
   pub settings : new.settings ≡ old.settings
 
 -- the batch was run: its entries one by one on the rows before it give the replies, and leave the rows
-pub record IsRunOf (old new : EngineParts) (batch : Batch) (run : BatchDone) : Type 0 where
+pub record IsExecutionOf (old new : EngineParts) (batch : Batch) (run : BatchDone) : Type 0 where
   pub first : run.first ≡ old.next
   pub sent : map sent_of run.replies.items ≡ sent_from old.next (items_of batch)
   pub replies : map reply_of run.replies.items ≡ serial_replies (entries_of batch) old.rows
@@ -66,7 +66,7 @@ IsSpawn fault = ⊥
 -- what resuming an unfinished batch comes to
 abbrev pub ResumesTo : EngineParts → EngineParts → Option Unfinished → BatchDone → Type 0
 ResumesTo old new None done = ⊥
-ResumesTo old new (Some unfinished) done = IsRunOf old new unfinished.batch done
+ResumesTo old new (Some unfinished) done = IsExecutionOf old new unfinished.batch done
 
 -- what is answered where the system refused something
 abbrev pub fault_of : Refusal → ExecFault

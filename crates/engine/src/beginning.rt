@@ -28,8 +28,8 @@ pub(crate) fn begin(
     ensures unadmitted { IfOk result (λ scheduler. scheduler.slots ≡ []) }
     // The locks are coarsened, and find room, as the settings say.
     ensures plans { IfOk result (λ scheduler.
-        ArePlansOf settings.coarsen settings.arena scheduler.work.entries scheduler.work.plans) }
-    ensures room { IfOk result (λ scheduler. scheduler.work.nodes ≡ settings.arena) }
+        ArePlansOf settings.threshold settings.arena scheduler.work.entries scheduler.work.plans) }
+    ensures room { IfOk result (λ scheduler. scheduler.work.arena ≡ settings.arena) }
     ensures back { IfErr result (λ back. back ≡ store) }
 {
     all_is_free_with_nothing_lent();
@@ -39,8 +39,8 @@ pub(crate) fn begin(
     let Ok(entries) = prepare(alloc, batch, &catalogue, procs, &store) else {
         return Err(store);
     };
-    let Settings { coarsen, arena, .. } = settings;
-    match Scheduler::new(alloc, catalogue, store, entries, first, coarsen, arena) {
+    let Settings { threshold, arena, .. } = settings;
+    match Scheduler::new(alloc, catalogue, store, entries, first, threshold, arena) {
         Ok(scheduler) => Ok(scheduler),
         Err((_, store, _, _)) => Err(store),
     }

@@ -83,7 +83,7 @@ fn leave(next: &mut u64, stage: &mut Option<Stage>, ended: Ended) -> BatchDone
 
 impl Engine {
     ghost use Rattle.engine.specs.Engines.{tables_of, is_busy};
-    ghost use Rattle.engine.specs.Executions.{IsRunOf, IsRefusal, IsInterruption, IsSpawn, KeepsSetting, ResumesTo, taken};
+    ghost use Rattle.engine.specs.Executions.{IsExecutionOf, IsRefusal, IsInterruption, IsSpawn, KeepsSetting, ResumesTo, taken};
 
     /// An engine on the starting rows of a setup.
     pub fn new(alloc: Global, setup: Setup, settings: Settings) -> Result<Engine, NoMemory>
@@ -250,7 +250,7 @@ impl Engine {
     ) -> Result<BatchDone, ExecFault>
         requires { AreOver (tables_of self.old) (items_of batch) }
         ensures same { KeepsSetting self.old self.new }
-        ensures done { IfOk result (IsRunOf self.old self.new batch) }
+        ensures done { IfOk result (IsExecutionOf self.old self.new batch) }
         // While an earlier batch is unfinished the batch comes back, and so it does where the log would be too long.
         ensures busy { is_busy self.old ≡ true → result ≡ Err (ExecFault.Busy batch) }
         ensures full { is_busy self.old ≡ false → 2 ^ 48 < self.old.next + length (items_of batch) →
@@ -289,7 +289,7 @@ impl Engine {
     ) -> Result<BatchDone, ExecFault>
         requires { AreOver (tables_of self.old) (items_of batch) }
         ensures same { KeepsSetting self.old self.new }
-        ensures done { IfOk result (IsRunOf self.old self.new batch) }
+        ensures done { IfOk result (IsExecutionOf self.old self.new batch) }
         ensures busy { is_busy self.old ≡ true → result ≡ Err (ExecFault.Busy batch) }
         ensures full { is_busy self.old ≡ false → 2 ^ 48 < self.old.next + length (items_of batch) →
             result ≡ Err (ExecFault.LogFull batch) }

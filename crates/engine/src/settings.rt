@@ -12,14 +12,14 @@ pub struct Settings {
     pub lanes: usize,
     /// How many entries below one parent are locked apart before the parent is locked in their
     /// place, 0 to 65,535.
-    pub coarsen: usize,
+    pub threshold: usize,
     /// Lock requests that stand at a time, 1 to 1,048,576.
     pub arena: usize,
     ghost some_workers: { 1 ≤ workers },
     ghost few_workers: { workers ≤ 16 },
     ghost some_lanes: { 1 ≤ lanes },
     ghost few_lanes: { lanes ≤ 64 },
-    ghost few_entries: { coarsen ≤ 65535 },
+    ghost few_entries: { threshold ≤ 65535 },
     ghost some_requests: { 1 ≤ arena },
     ghost few_requests: { arena ≤ 1048576 },
 }
@@ -33,24 +33,24 @@ impl Settings {
     pub fn new(
         workers: usize,
         lanes: usize,
-        coarsen: usize,
+        threshold: usize,
         arena: usize,
     ) -> Result<Settings, BadSetting>
-        ensures same { IfOk result (λ s. (s.workers ≡ workers) × (s.lanes ≡ lanes) × (s.coarsen ≡ coarsen) ×
+        ensures same { IfOk result (λ s. (s.workers ≡ workers) × (s.lanes ≡ lanes) × (s.threshold ≡ threshold) ×
             (s.arena ≡ arena)) }
-        ensures accepted { IsOk result ↔ AreInRange workers lanes coarsen arena }
-        ensures refused { IsErr result ↔ IsOneOutOfRange workers lanes coarsen arena }
+        ensures accepted { IsOk result ↔ AreInRange workers lanes threshold arena }
+        ensures refused { IsErr result ↔ IsOneOutOfRange workers lanes threshold arena }
     {
         if workers < 1 || workers > 16 || lanes < 1 || lanes > 64 {
             return Err(BadSetting);
         }
-        if coarsen > 65_535 || arena < 1 || arena > 1_048_576 {
+        if threshold > 65_535 || arena < 1 || arena > 1_048_576 {
             return Err(BadSetting);
         }
         Ok(Settings {
             workers,
             lanes,
-            coarsen,
+            threshold,
             arena,
         })
     }

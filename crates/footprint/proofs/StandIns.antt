@@ -24,7 +24,7 @@ use Rattle.footprint.specs.declared.resource.InPart.TheVariants.{WholePart}
 use Rattle.footprint.specs.Tree.{row_resource}
 use Rattle.footprint.specs.Rights.{FootprintOf, with_right}
 use Rattle.footprint.specs.Arithmetic.{result_of}
-use Rattle.footprint.specs.Declaration.{number_or, value_of, grant_of, with_entries, declared_with, declared_footprint}
+use Rattle.footprint.specs.Declaration.{number_or, declared_number, grant_of, with_entries, declared_with, declared_footprint}
 
 same_number : (o : Option Value) (x y : ℤ) → option_map type_of o ≡ Some types.Int → number_or y o ≡ number_or x o
 same_number None x y e = absurd (cc)
@@ -38,14 +38,14 @@ alike (Ok x) (Err code) f h same = refl
 alike (Err code) r f h same = refl
 
 module _ (other : ℤ) (kinds : List ColType) (arguments : List Value) (args : map type_of arguments ≡ kinds) where
-  same_value : (tables : List TableShape) (e : IntSyntax) → IntFits tables kinds e → AsksNoRows e → value_of other arguments e ≡ value_of (pos 0) arguments e
+  same_value : (tables : List TableShape) (e : IntSyntax) → IntFits tables kinds e → AsksNoRows e → declared_number other arguments e ≡ declared_number (pos 0) arguments e
   same_value tables (number z) fits asks = refl
   same_value tables (variable place) fits asks =
       let there : option_map type_of (slice_get arguments place) ≡ Some types.Int = sym (slice_get-map type_of arguments place) ∙ ap (λ (ks : List ColType). slice_get ks place) args ∙ fits in
       ap (λ (z : ℤ). Ok z) (same_number (slice_get arguments place) (pos 0) other there)
   same_value tables (binary op a b) fits asks =
-      ap (λ (r : Result ℤ AbortCode). r >>= λ x. value_of other arguments b >>= λ y. result_of op x y) (same_value tables a fits.0 asks.0)
-      ∙ ap (λ (r : Result ℤ AbortCode). value_of (pos 0) arguments a >>= λ x. r >>= λ y. result_of op x y) (same_value tables b fits.1 asks.1)
+      ap (λ (r : Result ℤ AbortCode). r >>= λ x. declared_number other arguments b >>= λ y. result_of op x y) (same_value tables a fits.0 asks.0)
+      ∙ ap (λ (r : Result ℤ AbortCode). declared_number (pos 0) arguments a >>= λ x. r >>= λ y. result_of op x y) (same_value tables b fits.1 asks.1)
   same_value tables (count_rows table part) fits asks = absurd asks
   same_value tables (sum_column table part column) fits asks = absurd asks
 

@@ -27,25 +27,25 @@ number_or other None = other
 
 -- An expression over the parameters, from left to right. The other number stands for a count or a sum too, of which there is none in
 -- an entry that fits.
-abbrev pub value_of : ℤ → List Value → IntSyntax → Result ℤ AbortCode
-value_of other arguments (number z) = Ok z
-value_of other arguments (variable place) = Ok (number_or other (slice_get arguments place))
-value_of other arguments (binary op a b) = do
-  x ← value_of other arguments a
-  y ← value_of other arguments b
+abbrev pub declared_number : ℤ → List Value → IntSyntax → Result ℤ AbortCode
+declared_number other arguments (number z) = Ok z
+declared_number other arguments (variable place) = Ok (number_or other (slice_get arguments place))
+declared_number other arguments (binary op a b) = do
+  x ← declared_number other arguments a
+  y ← declared_number other arguments b
   result_of op x y
-value_of other arguments (count_rows table part) = Ok other
-value_of other arguments (sum_column table part column) = Ok other
+declared_number other arguments (count_rows table part) = Ok other
+declared_number other arguments (sum_column table part column) = Ok other
 
 -- What an entry adds: a resource, and a right on it. A negative key is a bad key, and a number that is no partition of the table a
 -- bad partition.
 abbrev pub grant_of : ℤ → List TableShape → List Value → EntrySyntax → Result (Resource × Right) AbortCode
 grant_of other tables arguments (row_entry right table key) = do
-  z ← value_of other arguments key
+  z ← declared_number other arguments key
   k ← formed BadKey (key_of z)
   Ok (row_resource tables (record { table = table; key = k }), right)
 grant_of other tables arguments (part_entry right table part) = do
-  z ← value_of other arguments part
+  z ← declared_number other arguments part
   p ← formed BadPart (partition_numbered tables table z)
   Ok (Table table (Part p WholePart), right)
 grant_of other tables arguments (table_entry right table) = Ok (Table table WholeTable, right)

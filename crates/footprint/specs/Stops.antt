@@ -2,15 +2,15 @@
 -- What a step of a declaration gives, and how it may stop.
 use Rattle.std.specs.Prelude.{◌≡◌, Result, Ok, Err, ⊤}
 use Rattle.footprint.specs.declared.abort_code.AbortCode.{AbortCode}
-use Rattle.footprint.specs.declared.declare.Stop.{Stop}
-use Rattle.footprint.specs.declared.declare.Stop.TheVariants.{Memory, Abort}
+use Rattle.footprint.specs.declared.declare.DeclarationFault.{DeclarationFault}
+use Rattle.footprint.specs.declared.declare.DeclarationFault.TheVariants.{Memory, Abort}
 
 -- it stopped with the abort, unless memory ran out
-abbrev pub StopsWith : {Y : Type 0} → Stop → Result Y AbortCode → Type 0
-StopsWith Memory meant = ⊤
-StopsWith (Abort code) meant = meant ≡ Err code
+abbrev pub FaultsWith : {Y : Type 0} → DeclarationFault → Result Y AbortCode → Type 0
+FaultsWith Memory meant = ⊤
+FaultsWith (Abort code) meant = meant ≡ Err code
 
 -- what a function answered is what is meant, unless memory ran out
-abbrev pub Gives : {Y : Type 0} → Result Y Stop → Result Y AbortCode → Type 0
-Gives (Ok x) meant = meant ≡ Ok x
-Gives (Err stop) meant = StopsWith stop meant
+abbrev pub EvaluatesTo : {Y : Type 0} → Result Y DeclarationFault → Result Y AbortCode → Type 0
+EvaluatesTo (Ok x) meant = meant ≡ Ok x
+EvaluatesTo (Err stop) meant = FaultsWith stop meant

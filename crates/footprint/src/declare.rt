@@ -4,10 +4,10 @@ ghost use Rattle.std.specs.Prelude.{◌≡◌, pos, IfOk, map, slice_get};
 ghost use Rattle.std.specs.List.{AllByRecursion};
 ghost use Rattle.proclang_types.specs.Views.{int_view, entry_view};
 ghost use Rattle.proclang_types.specs.Procedures.{proc_syntax};
-ghost use Rattle.footprint.specs.Declaration.{value_of, number_or, grant_of, declared_footprint};
+ghost use Rattle.footprint.specs.Declaration.{declared_number, number_or, grant_of, declared_footprint};
 ghost use Rattle.footprint.specs.Tables.{HasTable};
 ghost use Rattle.footprint.specs.OfCatalogue.{IsResourceOf, IsFootprintOf};
-ghost use Rattle.footprint.specs.Stops.{Gives};
+ghost use Rattle.footprint.specs.Stops.{EvaluatesTo};
 
 use crate::abort_code::AbortCode;
 use crate::arithmetic::compute;
@@ -18,28 +18,28 @@ use std::alloc::Global;
 use values::{Catalogue, Key, NoMemory, RowName, Value};
 
 /// Why a declaration ended early.
-enum Stop {
+enum DeclarationFault {
     Memory,
     Abort(AbortCode),
 }
 
-impl From<NoMemory> for Stop {
-    ghost use Rattle.footprint.specs.declared.declare.Stop.TheVariants.{Memory};
+impl From<NoMemory> for DeclarationFault {
+    ghost use Rattle.footprint.specs.declared.declare.DeclarationFault.TheVariants.{Memory};
 
     ghost from_gives = { λ _ stop. stop ≡ Memory };
 
-    fn from(_: NoMemory) -> Stop {
-        Stop::Memory
+    fn from(_: NoMemory) -> DeclarationFault {
+        DeclarationFault::Memory
     }
 }
 
-impl From<AbortCode> for Stop {
-    ghost use Rattle.footprint.specs.declared.declare.Stop.TheVariants.{Abort};
+impl From<AbortCode> for DeclarationFault {
+    ghost use Rattle.footprint.specs.declared.declare.DeclarationFault.TheVariants.{Abort};
 
     ghost from_gives = { λ code stop. stop ≡ Abort code };
 
-    fn from(code: AbortCode) -> Stop {
-        Stop::Abort(code)
+    fn from(code: AbortCode) -> DeclarationFault {
+        DeclarationFault::Abort(code)
     }
 }
 
@@ -57,7 +57,7 @@ fn int_at(arguments: &[Value], place: usize) -> i64
 /// The value of an expression over the parameters, or the abort of its first fault. No entry of a procedure asks for a
 /// count or a sum; 0 stands for one.
 fn int_value(arguments: &[Value], expression: &IntExpr) -> Result<i64, AbortCode>
-    ensures { result ≡ value_of (pos 0) arguments.now (int_view expression.now) }
+    ensures { result ≡ declared_number (pos 0) arguments.now (int_view expression.now) }
 {
     match expression {
         IntExpr::Number(number) => Ok(*number),
@@ -113,9 +113,10 @@ fn with_entries(
     catalogue: &Catalogue,
     arguments: &[Value],
     entries: &Vec<FootprintEntry>,
-) -> Result<Footprint, Stop>
+) -> Result<Footprint, DeclarationFault>
     requires { AllByRecursion (HasTable catalogue.now) (map entry_view entries.now.items) }
-    ensures exact { Gives result (declared_footprint catalogue.now arguments.now (map entry_view entries.now.items)) }
+    ensures exact { EvaluatesTo result
+        (declared_footprint catalogue.now arguments.now (map entry_view entries.now.items)) }
     ensures of_catalogue { IfOk result (λ footprint. IsFootprintOf catalogue.now footprint) }
 {
     let mut footprint = Footprint::new(alloc);
@@ -123,7 +124,7 @@ fn with_entries(
     for entry in entries {
         let (resource, right) = grant_of(catalogue, arguments, entry)?;
         if count >= 65_536 {
-            return Err(Stop::Abort(AbortCode::TooLong));
+            return Err(DeclarationFault::Abort(AbortCode::TooLong));
         }
         footprint.add(resource, right)?;
         count += 1;
@@ -149,7 +150,7 @@ pub fn declared(
 {
     match with_entries(alloc, catalogue, arguments, proc.footprint()) {
         Ok(footprint) => Ok(Ok(footprint)),
-        Err(Stop::Abort(code)) => Ok(Err(code)),
-        Err(Stop::Memory) => Err(NoMemory),
+        Err(DeclarationFault::Abort(code)) => Ok(Err(code)),
+        Err(DeclarationFault::Memory) => Err(NoMemory),
     }
 }

@@ -9,7 +9,7 @@ ghost use Rattle.meaning.specs.Meaning.{effect, in_order, turn_of, turns};
 ghost use Rattle.meaning.specs.Turns.{numbers_between};
 ghost use Rattle.meaning.specs.Entries.{nothing};
 ghost use Rattle.interp_expr.specs.Coverage.{gate_of, ShowsCovered, KeepsCovered};
-ghost use Rattle.interp_expr.specs.States.{seen};
+ghost use Rattle.interp_expr.specs.States.{state_at};
 ghost use Rattle.interp_expr.specs.Answers.{Gives};
 
 use crate::loop_numbers::{first_number, number_after, number_of};
@@ -34,9 +34,8 @@ fn effect<V: RowView>(
     statement: &Stmt,
 ) -> Result<(), Stop>
     requires { ShowsCovered permit.now (V.tables view.now) (V.shows view.now) }
-    ensures gives { Gives (λ _.
-        tt) (seen (V.rows view.now) space.new) result (effect nothing (gate_of permit.now) (stmt_view statement.now)
-        (seen (V.rows view.now) space.old)) }
+    ensures gives { Gives (λ _. tt) (state_at (V.rows view.now) space.new) result
+        (effect nothing (gate_of permit.now) (stmt_view statement.now) (state_at (V.rows view.now) space.old)) }
     ensures kept { OnOk result (KeepsCovered permit.now space.old space.new) }
 {
     match statement {
@@ -99,10 +98,9 @@ fn scoped_block<V: RowView>(
     statements: &Vec<Stmt>,
 ) -> Result<(), Stop>
     requires { ShowsCovered permit.now (V.tables view.now) (V.shows view.now) }
-    ensures gives { Gives (λ _.
-        tt) (seen (V.rows view.now) space.new) result
+    ensures gives { Gives (λ _. tt) (state_at (V.rows view.now) space.new) result
         (scoped (in_order nothing (gate_of permit.now) (block_of (stmts_view statements.now.items)))
-        (seen (V.rows view.now) space.old)) }
+        (state_at (V.rows view.now) space.old)) }
     ensures kept { OnOk result (KeepsCovered permit.now space.old space.new) }
 {
     let count = space.variables.len();
@@ -124,10 +122,9 @@ fn for_each_number<V: RowView>(
     statements: &Vec<Stmt>,
 ) -> Result<(), Stop>
     requires { ShowsCovered permit.now (V.tables view.now) (V.shows view.now) }
-    ensures gives { Gives (λ _.
-        tt) (seen (V.rows view.now) space.new) result
+    ensures gives { Gives (λ _. tt) (state_at (V.rows view.now) space.new) result
         (turns (in_order nothing (gate_of permit.now) (block_of (stmts_view statements.now.items)))
-        (numbers_between low high) (seen (V.rows view.now) space.old)) }
+        (numbers_between low high) (state_at (V.rows view.now) space.old)) }
     ensures kept { OnOk result (KeepsCovered permit.now space.old space.new) }
 {
     let mut next = first_number(low, high);
@@ -149,10 +146,9 @@ fn for_each_key<V: RowView>(
     keys: &Vec<Key>,
 ) -> Result<(), Stop>
     requires { ShowsCovered permit.now (V.tables view.now) (V.shows view.now) }
-    ensures gives { Gives (λ _.
-        tt) (seen (V.rows view.now) space.new) result
+    ensures gives { Gives (λ _. tt) (state_at (V.rows view.now) space.new) result
         (turns (in_order nothing (gate_of permit.now) (block_of (stmts_view statements.now.items)))
-        (map pos keys.now.items) (seen (V.rows view.now) space.old)) }
+        (map pos keys.now.items) (state_at (V.rows view.now) space.old)) }
     ensures kept { OnOk result (KeepsCovered permit.now space.old space.new) }
 {
     for key in keys {
@@ -172,17 +168,16 @@ fn turn<V: RowView>(
     statements: &Vec<Stmt>,
 ) -> Result<(), Stop>
     requires { ShowsCovered permit.now (V.tables view.now) (V.shows view.now) }
-    ensures gives { Gives (λ _.
-        tt) (seen (V.rows view.now) space.new) result
+    ensures gives { Gives (λ _. tt) (state_at (V.rows view.now) space.new) result
         (turn_of (in_order nothing (gate_of permit.now) (block_of (stmts_view statements.now.items))) number
-        (seen (V.rows view.now) space.old)) }
+        (state_at (V.rows view.now) space.old)) }
     ensures kept { OnOk result (KeepsCovered permit.now space.old space.new) }
 {
     space.take_step()?;
-    let seen = space.variables.len();
+    let outer = space.variables.len();
     space.declare(Value::Int(number))?;
     block(alloc, view, permit, space, statements)?;
-    space.leave_block(seen);
+    space.leave_block(outer);
     Ok(())
 }
 
@@ -196,10 +191,9 @@ pub(crate) fn block<V: RowView>(
     statements: &Vec<Stmt>,
 ) -> Result<(), Stop>
     requires { ShowsCovered permit.now (V.tables view.now) (V.shows view.now) }
-    ensures gives { Gives (λ _.
-        tt) (seen (V.rows view.now) space.new) result
+    ensures gives { Gives (λ _. tt) (state_at (V.rows view.now) space.new) result
         (in_order nothing (gate_of permit.now) (block_of (stmts_view statements.now.items))
-        (seen (V.rows view.now) space.old)) }
+        (state_at (V.rows view.now) space.old)) }
     ensures kept { OnOk result (KeepsCovered permit.now space.old space.new) }
 {
     for statement in statements {

@@ -6,7 +6,7 @@ ghost use Rattle.proclang_types.specs.Views.{int_view, value_view};
 ghost use Rattle.meaning.specs.Meaning.{insert_values, delete_key};
 ghost use Rattle.meaning.specs.Entries.{nothing};
 ghost use Rattle.interp_expr.specs.Coverage.{gate_of, ShowsCovered, KeepsCovered};
-ghost use Rattle.interp_expr.specs.States.{seen};
+ghost use Rattle.interp_expr.specs.States.{state_at};
 ghost use Rattle.interp_expr.specs.Answers.{Gives};
 
 use footprint::{AbortCode, Right};
@@ -28,8 +28,8 @@ pub(crate) fn insert_values<V: RowView>(
 ) -> Result<(), Stop>
     requires { ShowsCovered permit.now (V.tables view.now) (V.shows view.now) }
     ensures gives { Gives (λ _.
-        tt) (seen (V.rows view.now) space.new) result (insert_values nothing (gate_of permit.now) table
-        (int_view key.now) (map value_view values.now.items) (seen (V.rows view.now) space.old)) }
+        tt) (state_at (V.rows view.now) space.new) result (insert_values nothing (gate_of permit.now) table
+        (int_view key.now) (map value_view values.now.items) (state_at (V.rows view.now) space.old)) }
     ensures kept { OnOk result (KeepsCovered permit.now space.old space.new) }
 {
     let number = evaluate_int(view, permit, space, key)?;
@@ -52,8 +52,8 @@ pub(crate) fn delete_key<V: RowView>(
 ) -> Result<(), Stop>
     requires { ShowsCovered permit.now (V.tables view.now) (V.shows view.now) }
     ensures gives { Gives (λ _.
-        tt) (seen (V.rows view.now) space.new) result
-        (delete_key nothing (gate_of permit.now) table (int_view key.now) (seen (V.rows view.now) space.old)) }
+        tt) (state_at (V.rows view.now) space.new) result
+        (delete_key nothing (gate_of permit.now) table (int_view key.now) (state_at (V.rows view.now) space.old)) }
     ensures kept { OnOk result (KeepsCovered permit.now space.old space.new) }
 {
     let number = evaluate_int(view, permit, space, key)?;

@@ -7,7 +7,7 @@ ghost use Rattle.proclang_types.specs.Views.{int_view, value_view};
 ghost use Rattle.meaning.specs.Meaning.{assign_value, get_column, put_column, reply_with};
 ghost use Rattle.meaning.specs.Entries.{nothing};
 ghost use Rattle.interp_expr.specs.Coverage.{gate_of, ShowsCovered, KeepsCovered};
-ghost use Rattle.interp_expr.specs.States.{seen};
+ghost use Rattle.interp_expr.specs.States.{state_at};
 ghost use Rattle.interp_expr.specs.Answers.{Gives};
 
 use footprint::Right;
@@ -39,8 +39,8 @@ pub(crate) fn assign_value<V: RowView>(
 ) -> Result<(), Stop>
     requires { ShowsCovered permit.now (V.tables view.now) (V.shows view.now) }
     ensures gives { Gives (λ _.
-        tt) (seen (V.rows view.now) space.new) result (assign_value nothing (gate_of permit.now) variable
-        (value_view value.now) (seen (V.rows view.now) space.old)) }
+        tt) (state_at (V.rows view.now) space.new) result (assign_value nothing (gate_of permit.now) variable
+        (value_view value.now) (state_at (V.rows view.now) space.old)) }
     ensures kept { OnOk result (KeepsCovered permit.now space.old space.new) }
 {
     let value = evaluate(alloc, view, permit, space, value)?;
@@ -60,8 +60,8 @@ pub(crate) fn get_column<V: RowView>(
 ) -> Result<(), Stop>
     requires { ShowsCovered permit.now (V.tables view.now) (V.shows view.now) }
     ensures gives { Gives (λ _.
-        tt) (seen (V.rows view.now) space.new) result (get_column nothing (gate_of permit.now) variable table
-        (int_view key.now) column (seen (V.rows view.now) space.old)) }
+        tt) (state_at (V.rows view.now) space.new) result (get_column nothing (gate_of permit.now) variable table
+        (int_view key.now) column (state_at (V.rows view.now) space.old)) }
     ensures kept { OnOk result (KeepsCovered permit.now space.old space.new) }
 {
     let number = evaluate_int(view, permit, space, key)?;
@@ -85,9 +85,9 @@ pub(crate) fn put_column<V: RowView>(
 ) -> Result<(), Stop>
     requires { ShowsCovered permit.now (V.tables view.now) (V.shows view.now) }
     ensures gives { Gives (λ _.
-        tt) (seen (V.rows view.now) space.new) result
+        tt) (state_at (V.rows view.now) space.new) result
         (put_column nothing (gate_of permit.now) table (int_view key.now) column (value_view value.now)
-        (seen (V.rows view.now) space.old)) }
+        (state_at (V.rows view.now) space.old)) }
     ensures kept { OnOk result (KeepsCovered permit.now space.old space.new) }
 {
     let number = evaluate_int(view, permit, space, key)?;
@@ -109,9 +109,9 @@ pub(crate) fn reply_with<V: RowView>(
 ) -> Result<(), Stop>
     requires { ShowsCovered permit.now (V.tables view.now) (V.shows view.now) }
     ensures gives { Gives (λ _.
-        tt) (seen (V.rows view.now) space.new) result
+        tt) (state_at (V.rows view.now) space.new) result
         (reply_with nothing (gate_of permit.now) (map value_view expressions.now.items)
-        (seen (V.rows view.now) space.old)) }
+        (state_at (V.rows view.now) space.old)) }
     ensures kept { OnOk result (KeepsCovered permit.now space.old space.new) }
 {
     let values = evaluate_all(alloc, view, permit, space, expressions)?;

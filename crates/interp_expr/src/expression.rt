@@ -8,7 +8,7 @@ ghost use Rattle.meaning.specs.Runs.{Gate};
 ghost use Rattle.meaning.specs.Meaning.{int_of, text_of, value_of, values_of};
 ghost use Rattle.meaning.specs.Entries.{nothing};
 ghost use Rattle.interp_expr.specs.Coverage.{gate_of, ShowsCovered, KeepsCovered};
-ghost use Rattle.interp_expr.specs.States.{seen};
+ghost use Rattle.interp_expr.specs.States.{state_at};
 ghost use Rattle.interp_expr.specs.Answers.{Gives};
 
 use crate::permit::Permit;
@@ -30,9 +30,8 @@ pub fn evaluate_int<V: RowView>(
     expression: &IntExpr,
 ) -> Result<i64, Stop>
     requires { ShowsCovered permit.now (V.tables view.now) (V.shows view.now) }
-    ensures gives { Gives (λ z.
-        z) (seen (V.rows view.now) space.new) result (int_of nothing (gate_of permit.now) (int_view expression.now)
-        (seen (V.rows view.now) space.old)) }
+    ensures gives { Gives (λ z. z) (state_at (V.rows view.now) space.new) result
+        (int_of nothing (gate_of permit.now) (int_view expression.now) (state_at (V.rows view.now) space.old)) }
     ensures kept { OnOk result (KeepsCovered permit.now space.old space.new) }
 {
     match expression {
@@ -65,8 +64,8 @@ pub fn evaluate_int<V: RowView>(
 
 /// The value of a text expression.
 pub(crate) fn text_of<'a>(space: &'a Workspace, expression: &'a TextExpr) -> &'a str
-    ensures { (db : Database) (gate : Gate) → text_of nothing gate (text_view expression.now) (seen db space.now)
-        ≡ (Ok result.now, seen db space.now) }
+    ensures { (db : Database) (gate : Gate) → text_of nothing gate (text_view expression.now) (state_at db space.now)
+        ≡ (Ok result.now, state_at db space.now) }
 {
     match expression {
         TextExpr::Literal(text) => text.as_str(),
@@ -83,9 +82,8 @@ pub fn evaluate<V: RowView>(
     expression: &ValueExpr,
 ) -> Result<Value, Stop>
     requires { ShowsCovered permit.now (V.tables view.now) (V.shows view.now) }
-    ensures gives { Gives (λ v.
-        v) (seen (V.rows view.now) space.new) result
-        (value_of nothing (gate_of permit.now) (value_view expression.now) (seen (V.rows view.now) space.old)) }
+    ensures gives { Gives (λ v. v) (state_at (V.rows view.now) space.new) result
+        (value_of nothing (gate_of permit.now) (value_view expression.now) (state_at (V.rows view.now) space.old)) }
     ensures kept { OnOk result (KeepsCovered permit.now space.old space.new) }
 {
     match expression {
@@ -109,10 +107,9 @@ pub fn evaluate_all<V: RowView>(
     expressions: &Vec<ValueExpr>,
 ) -> Result<Vec<Value>, Stop>
     requires { ShowsCovered permit.now (V.tables view.now) (V.shows view.now) }
-    ensures gives { Gives (λ vs.
-        vs.items) (seen (V.rows view.now) space.new) result
+    ensures gives { Gives (λ vs. vs.items) (state_at (V.rows view.now) space.new) result
         (values_of nothing (gate_of permit.now) (map value_view expressions.now.items)
-        (seen (V.rows view.now) space.old)) }
+        (state_at (V.rows view.now) space.old)) }
     ensures kept { OnOk result (KeepsCovered permit.now space.old space.new) }
 {
     let mut values = Vec::new(alloc);

@@ -5,10 +5,10 @@ ghost use Rattle.std.specs.Prelude.{◌≡◌, true, IfOk, is_some, option_copie
 ghost use Rattle.std.specs.FinMap as map;
 ghost use Rattle.values.specs.Keys.{partition_numbered};
 ghost use Rattle.proclang_types.specs.declared.right.Right.TheVariants.{Read};
-ghost use Rattle.meaning.specs.Runs.{State, key_of, accessed, part_accessed, present};
+ghost use Rattle.meaning.specs.Runs.{State, tested_key, accessed, part_accessed, present};
 ghost use Rattle.interp_expr.specs.Overlay.{applied};
 ghost use Rattle.interp_expr.specs.Coverage.{gate_of, ShowsCovered, permits, permits_part};
-ghost use Rattle.interp_expr.specs.States.{seen};
+ghost use Rattle.interp_expr.specs.States.{state_at};
 ghost use Rattle.interp_expr.specs.Answers.{Gives};
 
 use crate::permit::Permit;
@@ -20,8 +20,8 @@ use meaning::Ending;
 use values::{Catalogue, Key, Row, RowName, TableNo};
 
 /// The key of a number, or the end of the run.
-fn key_of(number: i64) -> Result<Key, Stop>
-    ensures { (state : State) → Gives (λ key. key) state result (key_of number state) }
+fn tested_key(number: i64) -> Result<Key, Stop>
+    ensures { (state : State) → Gives (λ key. key) state result (tested_key number state) }
 {
     match Key::new(number) {
         Some(key) => Ok(key),
@@ -37,7 +37,7 @@ pub fn access(permit: &Permit, right: Right, table: TableNo, number: i64) -> Res
     ensures right { IfOk result (λ name. permits permit.now name right ≡ true) }
     ensures read { IfOk result (λ name. permits permit.now name Read ≡ true) }
 {
-    let key = key_of(number)?;
+    let key = tested_key(number)?;
     let name = RowName::new(table, key);
     if permit.covers(&name, right) {
         Ok(name)
@@ -100,9 +100,9 @@ pub fn present_row<'a, V: RowView>(
     requires shows { ShowsCovered permit.now (V.tables view.now) (V.shows view.now) }
     requires covered { permits permit.now name.now Read ≡ true }
     ensures { Gives (λ row.
-        row.now) (seen (V.rows view.now) space.now) result
+        row.now) (state_at (V.rows view.now) space.now) result
         (present (map.get (applied space.now.writes.entries (V.rows view.now)) name.now)
-        (seen (V.rows view.now) space.now)) }
+        (state_at (V.rows view.now) space.now)) }
 {
     match row_seen(view, permit, space, name) {
         Some(row) => Ok(row),

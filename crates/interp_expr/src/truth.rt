@@ -7,7 +7,7 @@ ghost use Rattle.meaning.specs.Comparing.{compare, compare_bytes};
 ghost use Rattle.meaning.specs.Meaning.{bool_of};
 ghost use Rattle.meaning.specs.Entries.{nothing};
 ghost use Rattle.interp_expr.specs.Coverage.{gate_of, ShowsCovered, KeepsCovered};
-ghost use Rattle.interp_expr.specs.States.{seen};
+ghost use Rattle.interp_expr.specs.States.{state_at};
 ghost use Rattle.interp_expr.specs.Answers.{Gives};
 
 use crate::expression::{evaluate_int, text_of};
@@ -47,9 +47,8 @@ pub fn evaluate_bool<V: RowView>(
     expression: &BoolExpr,
 ) -> Result<bool, Stop>
     requires { ShowsCovered permit.now (V.tables view.now) (V.shows view.now) }
-    ensures gives { Gives (λ b.
-        b) (seen (V.rows view.now) space.new) result (bool_of nothing (gate_of permit.now) (bool_view expression.now)
-        (seen (V.rows view.now) space.old)) }
+    ensures gives { Gives (λ b. b) (state_at (V.rows view.now) space.new) result
+        (bool_of nothing (gate_of permit.now) (bool_view expression.now) (state_at (V.rows view.now) space.old)) }
     ensures kept { OnOk result (KeepsCovered permit.now space.old space.new) }
 {
     match expression {

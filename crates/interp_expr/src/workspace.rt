@@ -9,7 +9,7 @@ ghost use Rattle.meaning.specs.Runs.{step, declare, set_row, remove_row, set_var
 ghost use Rattle.meaning.specs.Meaning.{text_or};
 ghost use Rattle.meaning.specs.Entries.{start};
 ghost use Rattle.interp_expr.specs.Coverage.{KeepsCovered, permits};
-ghost use Rattle.interp_expr.specs.States.{seen, with_first};
+ghost use Rattle.interp_expr.specs.States.{state_at, with_first};
 ghost use Rattle.interp_expr.specs.Answers.{Gives};
 ghost use Rattle.interp_expr.specs.declared.permit.Permit.{Permit as PermitOf};
 
@@ -33,7 +33,7 @@ pub struct Workspace {
 impl Workspace {
     /// At the start of a body: the arguments are the first variables.
     pub fn new(alloc: Global, arguments: &[Value]) -> Result<Workspace, NoMemory>
-        ensures gives { (db : Database) → IfOk result (λ space. seen db space ≡ start arguments.now db) }
+        ensures gives { (db : Database) → IfOk result (λ space. state_at db space ≡ start arguments.now db) }
         ensures writes { IfOk result (λ space. space.writes.entries ≡ []) }
     {
         Ok(Workspace {
@@ -66,7 +66,8 @@ impl Workspace {
 
     /// Declares one more variable behind the others.
     pub fn declare(&mut self, value: Value) -> Result<(), Stop>
-        ensures gives { (db : Database) → Gives (λ _. tt) (seen db self.new) result (declare value (seen db self.old)) }
+        ensures gives { (db : Database) →
+            Gives (λ _. tt) (state_at db self.new) result (declare value (state_at db self.old)) }
         ensures writes { OnOk result (self.new.writes ≡ self.old.writes) }
     {
         self.variables.push(value)?;
@@ -76,7 +77,7 @@ impl Workspace {
     /// Declares the variable behind the others, or changes it.
     pub fn set_variable(&mut self, place: usize, value: Value) -> Result<(), Stop>
         ensures gives { (db : Database) →
-            Gives (λ _. tt) (seen db self.new) result (set_variable place value (seen db self.old)) }
+            Gives (λ _. tt) (state_at db self.new) result (set_variable place value (state_at db self.old)) }
         ensures writes { OnOk result (self.new.writes ≡ self.old.writes) }
     {
         if place == self.variables.len() {
@@ -89,7 +90,7 @@ impl Workspace {
 
     /// Ends a block: the variables behind the first `count` are no more.
     pub fn leave_block(&mut self, count: usize)
-        ensures gives { (db : Database) → seen db self.new ≡ with_first count (seen db self.old) }
+        ensures gives { (db : Database) → state_at db self.new ≡ with_first count (state_at db self.old) }
         ensures writes { self.new.writes ≡ self.old.writes }
     {
         self.variables.truncate(count);
@@ -97,7 +98,7 @@ impl Workspace {
 
     /// Takes a step, of which there are 10,000.
     pub fn take_step(&mut self) -> Result<(), Stop>
-        ensures gives { (db : Database) → Gives (λ _. tt) (seen db self.new) result (step (seen db self.old)) }
+        ensures gives { (db : Database) → Gives (λ _. tt) (state_at db self.new) result (step (state_at db self.old)) }
         ensures writes { OnOk result (self.new.writes ≡ self.old.writes) }
     {
         if self.steps >= 10_000 {
@@ -110,7 +111,7 @@ impl Workspace {
     /// Puts a row in place of what was there.
     pub fn write(&mut self, name: RowName, row: Row) -> Result<(), Stop>
         ensures gives { (db : Database) →
-            Gives (λ _. tt) (seen db self.new) result (set_row name row (seen db self.old)) }
+            Gives (λ _. tt) (state_at db self.new) result (set_row name row (state_at db self.old)) }
         ensures kept { (permit : PermitOf) → permits permit name Write ≡ true →
             OnOk result (KeepsCovered permit self.old self.new) }
     {
@@ -121,7 +122,7 @@ impl Workspace {
     /// Leaves no row.
     pub fn remove(&mut self, name: RowName) -> Result<(), Stop>
         ensures gives { (db : Database) →
-            Gives (λ _. tt) (seen db self.new) result (remove_row name (seen db self.old)) }
+            Gives (λ _. tt) (state_at db self.new) result (remove_row name (state_at db self.old)) }
         ensures kept { (permit : PermitOf) → permits permit name Write ≡ true →
             OnOk result (KeepsCovered permit self.old self.new) }
     {
@@ -132,7 +133,7 @@ impl Workspace {
     /// Appends values to the reply, of which there are at most 64.
     pub fn append_reply(&mut self, mut values: Vec<Value>) -> Result<(), Stop>
         ensures gives { (db : Database) →
-            Gives (λ _. tt) (seen db self.new) result (replying values.items (seen db self.old)) }
+            Gives (λ _. tt) (state_at db self.new) result (replying values.items (state_at db self.old)) }
         ensures writes { OnOk result (self.new.writes ≡ self.old.writes) }
     {
         if values.len() > 64 || self.reply.len() > 64 - values.len() {

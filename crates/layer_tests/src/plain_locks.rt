@@ -18,7 +18,7 @@ struct Waits {
 /// All transactions, in order.
 #[derive(Drop)]
 pub(crate) struct Plain {
-    nodes: usize,
+    arena: usize,
     waiting: Vec<Waits>,
 }
 
@@ -80,9 +80,9 @@ fn used(waiting: &[Waits]) -> usize {
 
 impl Plain {
     /// No transactions, and room for so many requests.
-    pub(crate) fn new(alloc: Global, nodes: usize) -> Plain {
+    pub(crate) fn new(alloc: Global, arena: usize) -> Plain {
         Plain {
-            nodes,
+            arena,
             waiting: Vec::new(alloc),
         }
     }
@@ -94,7 +94,7 @@ impl Plain {
         number: u64,
         plan: &Plan,
     ) -> Result<bool, Fail> {
-        if used(self.waiting.as_slice()).saturating_add(plan.requests().len()) > self.nodes {
+        if used(self.waiting.as_slice()).saturating_add(plan.requests().len()) > self.arena {
             return Ok(false);
         }
         let plan = Vec::from_slice(alloc, plan.requests())?;

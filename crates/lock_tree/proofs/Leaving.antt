@@ -8,7 +8,7 @@ use Rattle.footprint.specs.declared.resource.Resource.{Resource}
 use Rattle.modes.specs.declared.mode.Mode.{Mode}
 use Rattle.modes.specs.Modes.{are_compatible}
 use Rattle.coarsen.specs.Subtrees.{Requests}
-use Rattle.lock_tree.specs.declared.entry.Entry.{Entry}
+use Rattle.lock_tree.specs.declared.enqueued.Enqueued.{Enqueued}
 use Rattle.lock_tree.specs.Queues.{Queue, mode_on, granted_beside, granted, has_number}
 use Rattle.lock_tree.specs.Lines.{is_same, others}
 use Rattle.lock_tree.specs.Known.{granted_in, Knows, AreKnown}
@@ -178,7 +178,7 @@ no_one : (n : ℕ) → has_number n [] ≡ true → ⊥
 no_one n h = absurd (cc)
 
 -- an entry that knows goes on knowing, but for what was granted lately
-pub knows_left : (k : ℕ) (r : Resource) (old new : Resource → Queue) → Left k r old new → (e : Entry) → (e.number == k) ≡ false → Knows old [] e → Knows new (newly k (old r)) e
+pub knows_left : (k : ℕ) (r : Resource) (old new : Resource → Queue) → Left k r old new → (e : Enqueued) → (e.number == k) ≡ false → Knows old [] e → Knows new (newly k (old r)) e
 knows_left k r old new left e other known = record {
   sound = λ h. plan_still k r old new left e.number other e.plan.items (known.sound h);
   complete = λ h. elim (plan_newly k r old new left e.number other e.plan.items h) [
@@ -199,7 +199,7 @@ same_itself r = ap is_eq (tied_itself resources_total r)
 pub left_here : (k : ℕ) (r : Resource) (old new : Resource → Queue) → Left k r old new → new r ≡ others k (old r)
 left_here k r old new left = left r ∙ ap (λ v. cond v (others k (old r)) (old r)) (same_itself r)
 
-pub known_left : (k : ℕ) (r : Resource) (old new : Resource → Queue) → Left k r old new → (es : List Entry) → AllByRecursion (λ w. (w.number == k) ≡ false) (all_waiting es)
+pub known_left : (k : ℕ) (r : Resource) (old new : Resource → Queue) → Left k r old new → (es : List Enqueued) → AllByRecursion (λ w. (w.number == k) ≡ false) (all_waiting es)
     → AreKnown old [] es → AreKnown new (newly k (old r)) es
 known_left k r old new left [] other known = tt
 known_left k r old new left (e ∷ es) other known = (knows_left k r old new left e other.0 known.0, known_left k r old new left es other.1 known.1)

@@ -1,7 +1,7 @@
 -- Transactions with the numbers of the open ones, as they change.
 use Rattle.std.proofs.Common.{◌≡◌, ℕ, ◌<◌, ◌≤◌, zero, suc, true, List, [], ◌∷◌, ◌++◌, length, refl, sym, ◌∙◌, ap, subst, arith, slice_set}
 use Rattle.std.specs.List.{remove}
-use Rattle.lock_tree.specs.declared.entry.Entry.{Entry}
+use Rattle.lock_tree.specs.declared.enqueued.Enqueued.{Enqueued}
 use Rattle.lock_tree.specs.Locks.{AreAbove, IsRising}
 use Rattle.lock_tree.specs.Enqueues.{AreBelow}
 use Rattle.lock_tree.specs.Views.{waiting_of, all_waiting}
@@ -9,27 +9,27 @@ use Rattle.lock_tree.specs.Open.{is_open, open_of, placed, AreRising}
 use Rattle.lock_tree.proofs.Places.{at, rising_end}
 use Rattle.lock_tree.proofs.Opens.{open_rising, open_few, open_set}
 
-set_length : (es : List Entry) (i : ℕ) (f : Entry) → length (slice_set es i f) ≡ length es
+set_length : (es : List Enqueued) (i : ℕ) (f : Enqueued) → length (slice_set es i f) ≡ length es
 set_length [] i f = refl
 set_length (e ∷ es) zero f = refl
 set_length (e ∷ es) (suc i) f = let h = set_length es i f in omega (arith, h)
 
-pub removed_few : (es : List Entry) (i : ℕ) → length (remove es i) ≤ length es
+pub removed_few : (es : List Enqueued) (i : ℕ) → length (remove es i) ≤ length es
 removed_few [] zero = omega arith
 removed_few [] (suc i) = omega arith
 removed_few (e ∷ es) zero = omega arith
 removed_few (e ∷ es) (suc i) = let h = removed_few es i in omega (arith, h)
 
-pub set_at : (es : List Entry) (i : ℕ) (d f : Entry) → i < length es → at (slice_set es i f) i d ≡ f
+pub set_at : (es : List Enqueued) (i : ℕ) (d f : Enqueued) → i < length es → at (slice_set es i f) i d ≡ f
 set_at [] i d f l = absurd (omega (arith, l))
 set_at (e ∷ es) zero d f l = refl
 set_at (e ∷ es) (suc i) d f l = set_at es i d f (omega (arith, l))
 
-pub rising_numbers : (xs : List ℕ) (es : List Entry) → xs ≡ open_of es → IsRising (all_waiting es) → AreRising xs
+pub rising_numbers : (xs : List ℕ) (es : List Enqueued) → xs ≡ open_of es → IsRising (all_waiting es) → AreRising xs
 rising_numbers xs es is rising = subst AreRising (sym is) (open_rising es rising)
 
 -- there is room to note that a transaction is open
-pub room_to_note : (xs : List ℕ) (es : List Entry) (i capacity : ℕ) (d f : Entry) → xs ≡ open_of es → IsRising (all_waiting es) → i < length es → f.number ≡ (at es i d).number → length es ≤ capacity
+pub room_to_note : (xs : List ℕ) (es : List Enqueued) (i capacity : ℕ) (d f : Enqueued) → xs ≡ open_of es → IsRising (all_waiting es) → i < length es → f.number ≡ (at es i d).number → length es ≤ capacity
     → is_open f ≡ true → length (placed f.number true xs) ≤ capacity
 room_to_note xs es i capacity d f is rising l same room open_one =
     let e : open_of (slice_set es i f) ≡ placed f.number true xs =
@@ -39,59 +39,59 @@ room_to_note xs es i capacity d f is rising l same room open_one =
     let m = ap length e in
     omega (arith, few, n, m, room)
 
-pub noted_set : (xs new : List ℕ) (es : List Entry) (i : ℕ) (d f : Entry) → xs ≡ open_of es → IsRising (all_waiting es) → i < length es → f.number ≡ (at es i d).number → new ≡ placed f.number (is_open f) xs
+pub noted_set : (xs new : List ℕ) (es : List Enqueued) (i : ℕ) (d f : Enqueued) → xs ≡ open_of es → IsRising (all_waiting es) → i < length es → f.number ≡ (at es i d).number → new ≡ placed f.number (is_open f) xs
     → new ≡ open_of (slice_set es i f)
 noted_set xs new es i d f is rising l same now = now ∙ ap (placed f.number (is_open f)) is ∙ sym (open_set es i f.number d f rising l (sym same) refl)
 
-pub set_few : (es : List Entry) (i capacity : ℕ) (f : Entry) → length es ≤ capacity → length (slice_set es i f) ≤ capacity
+pub set_few : (es : List Enqueued) (i capacity : ℕ) (f : Enqueued) → length es ≤ capacity → length (slice_set es i f) ≤ capacity
 set_few es i capacity f l = let n = set_length es i f in omega (arith, n, l)
 
-above_set : (a : ℕ) (es : List Entry) (i : ℕ) (d f : Entry) → i < length es → f.number ≡ (at es i d).number → AreAbove a (all_waiting es) → AreAbove a (all_waiting (slice_set es i f))
+above_set : (a : ℕ) (es : List Enqueued) (i : ℕ) (d f : Enqueued) → i < length es → f.number ≡ (at es i d).number → AreAbove a (all_waiting es) → AreAbove a (all_waiting (slice_set es i f))
 above_set a [] i d f l same above = tt
 above_set a (e ∷ es) zero d f l same above = (let m = above.0 in omega (arith, m, same), above.1)
 above_set a (e ∷ es) (suc i) d f l same above = (above.0, above_set a es i d f (omega (arith, l)) same above.1)
 
 -- numbers rise on where all else changes
-pub rising_set : (es : List Entry) (i : ℕ) (d f : Entry) → i < length es → f.number ≡ (at es i d).number → IsRising (all_waiting es) → IsRising (all_waiting (slice_set es i f))
+pub rising_set : (es : List Enqueued) (i : ℕ) (d f : Enqueued) → i < length es → f.number ≡ (at es i d).number → IsRising (all_waiting es) → IsRising (all_waiting (slice_set es i f))
 rising_set [] i d f l same rising = tt
 rising_set (e ∷ es) zero d f l same rising = (subst (λ n. AreAbove n (all_waiting es)) (sym same) rising.0, rising.1)
 rising_set (e ∷ es) (suc i) d f l same rising = (above_set e.number es i d f (omega (arith, l)) same rising.0, rising_set es i d f (omega (arith, l)) same rising.1)
 
 -- the same, of the transaction as the code reads it again
-pub room_at : (xs : List ℕ) (es : List Entry) (i capacity : ℕ) (m f seen : Entry) → xs ≡ open_of es → IsRising (all_waiting es) → i < length es → m ≡ at es i m → f.number ≡ m.number → seen ≡ at (slice_set es i f) i seen
+pub room_at : (xs : List ℕ) (es : List Enqueued) (i capacity : ℕ) (m f seen : Enqueued) → xs ≡ open_of es → IsRising (all_waiting es) → i < length es → m ≡ at es i m → f.number ≡ m.number → seen ≡ at (slice_set es i f) i seen
     → length es ≤ capacity → is_open seen ≡ true → length (placed seen.number true xs) ≤ capacity
 room_at xs es i capacity m f seen is rising l item same again room open_one =
     let it : seen ≡ f = again ∙ set_at es i seen f l in
-    subst (λ (e : Entry). length (placed e.number true xs) ≤ capacity) (sym it)
-    (room_to_note xs es i capacity m f is rising l (same ∙ ap (λ (e : Entry). e.number) item) room (sym (ap is_open it) ∙ open_one))
+    subst (λ (e : Enqueued). length (placed e.number true xs) ≤ capacity) (sym it)
+    (room_to_note xs es i capacity m f is rising l (same ∙ ap (λ (e : Enqueued). e.number) item) room (sym (ap is_open it) ∙ open_one))
 
-pub noted_again : (xs new : List ℕ) (es : List Entry) (i : ℕ) (m f seen : Entry) → xs ≡ open_of es → IsRising (all_waiting es) → i < length es → m ≡ at es i m → f.number ≡ m.number → seen ≡ at (slice_set es i f) i seen
+pub noted_again : (xs new : List ℕ) (es : List Enqueued) (i : ℕ) (m f seen : Enqueued) → xs ≡ open_of es → IsRising (all_waiting es) → i < length es → m ≡ at es i m → f.number ≡ m.number → seen ≡ at (slice_set es i f) i seen
     → new ≡ placed seen.number (is_open seen) xs → new ≡ open_of (slice_set es i f)
 noted_again xs new es i m f seen is rising l item same again now =
-    noted_set xs new es i m f is rising l (same ∙ ap (λ (e : Entry). e.number) item) (now ∙ ap (λ (e : Entry). placed e.number (is_open e) xs) (again ∙ set_at es i seen f l))
+    noted_set xs new es i m f is rising l (same ∙ ap (λ (e : Enqueued). e.number) item) (now ∙ ap (λ (e : Enqueued). placed e.number (is_open e) xs) (again ∙ set_at es i seen f l))
 
-pub rising_again : (es : List Entry) (i : ℕ) (m f : Entry) → i < length es → m ≡ at es i m → f.number ≡ m.number → IsRising (all_waiting es) → IsRising (all_waiting (slice_set es i f))
-rising_again es i m f l item same rising = rising_set es i m f l (same ∙ ap (λ (e : Entry). e.number) item) rising
+pub rising_again : (es : List Enqueued) (i : ℕ) (m f : Enqueued) → i < length es → m ≡ at es i m → f.number ≡ m.number → IsRising (all_waiting es) → IsRising (all_waiting (slice_set es i f))
+rising_again es i m f l item same rising = rising_set es i m f l (same ∙ ap (λ (e : Enqueued). e.number) item) rising
 
-waiting_end : (es : List Entry) (e : Entry) → all_waiting (es ++ e ∷ []) ≡ all_waiting es ++ waiting_of e ∷ []
+waiting_end : (es : List Enqueued) (e : Enqueued) → all_waiting (es ++ e ∷ []) ≡ all_waiting es ++ waiting_of e ∷ []
 waiting_end [] e = refl
 waiting_end (f ∷ es) e = ap (λ ws. waiting_of f ∷ ws) (waiting_end es e)
 
-pub below_end : (es : List Entry) (e : Entry) → AreBelow e.number (all_waiting es) → IsRising (all_waiting es) → IsRising (all_waiting (es ++ e ∷ []))
+pub below_end : (es : List Enqueued) (e : Enqueued) → AreBelow e.number (all_waiting es) → IsRising (all_waiting es) → IsRising (all_waiting (es ++ e ∷ []))
 below_end es e below rising = subst IsRising (sym (waiting_end es e)) (rising_end (all_waiting es) (waiting_of e) rising below)
 
-above_removed : (a : ℕ) (es : List Entry) (i : ℕ) → AreAbove a (all_waiting es) → AreAbove a (all_waiting (remove es i))
+above_removed : (a : ℕ) (es : List Enqueued) (i : ℕ) → AreAbove a (all_waiting es) → AreAbove a (all_waiting (remove es i))
 above_removed a [] zero above = tt
 above_removed a [] (suc i) above = tt
 above_removed a (e ∷ es) zero above = above.1
 above_removed a (e ∷ es) (suc i) above = (above.0, above_removed a es i above.1)
 
-pub removed_rising : (es : List Entry) (i : ℕ) → IsRising (all_waiting es) → IsRising (all_waiting (remove es i))
+pub removed_rising : (es : List Enqueued) (i : ℕ) → IsRising (all_waiting es) → IsRising (all_waiting (remove es i))
 removed_rising [] zero rising = tt
 removed_rising [] (suc i) rising = tt
 removed_rising (e ∷ es) zero rising = rising.1
 removed_rising (e ∷ es) (suc i) rising = (above_removed e.number es i rising.0, removed_rising es i rising.1)
 
-pub end_length : (es : List Entry) (e : Entry) → length (es ++ e ∷ []) ≡ suc (length es)
+pub end_length : (es : List Enqueued) (e : Enqueued) → length (es ++ e ∷ []) ≡ suc (length es)
 end_length [] e = refl
 end_length (f ∷ es) e = let h = end_length es e in omega (arith, h)

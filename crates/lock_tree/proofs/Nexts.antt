@@ -2,7 +2,7 @@
 use Rattle.std.proofs.Common.{◌≡◌, ℕ, ◌<◌, ◌≤◌, ◌⊎◌, inl, inr, zero, suc, Bool, true, false, cond, not, ◌&&◌, List, [], ◌∷◌, length, slice_get, refl, sym, ◌∙◌, ap, subst, arith}
 use Rattle.std.specs.List.{Contains}
 use Rattle.footprint.specs.declared.resource.Resource.{Resource}
-use Rattle.lock_tree.specs.declared.entry.Entry.{Entry}
+use Rattle.lock_tree.specs.declared.enqueued.Enqueued.{Enqueued}
 use Rattle.lock_tree.specs.Locks.{Waiting, IsRising}
 use Rattle.lock_tree.specs.Queues.{queue}
 use Rattle.lock_tree.specs.Ready.{ready, IsOpen, IsNextReady}
@@ -15,14 +15,14 @@ use Rattle.lock_tree.proofs.Numbers.{before_member}
 use Rattle.lock_tree.proofs.Trees.{item_flag}
 
 -- an entry that stands at a place
-pub record StandsAt (es : List Entry) (i : ℕ) (e : Entry) : Type 0 where
+pub record StandsAt (es : List Enqueued) (i : ℕ) (e : Enqueued) : Type 0 where
   pub within : i < length es
   pub there : e ≡ at es i e
 
 -- the first of the open ones
-pub record IsFirstOpen (es : List Entry) (n : ℕ) : Type 0 where
-  pub one : (e : Entry) × (i : ℕ) × StandsAt es i e × (is_open e ≡ true) × (e.number ≡ n)
-  pub least : (i : ℕ) (e : Entry) → StandsAt es i e → is_open e ≡ true → n ≤ e.number
+pub record IsFirstOpen (es : List Enqueued) (n : ℕ) : Type 0 where
+  pub one : (e : Enqueued) × (i : ℕ) × StandsAt es i e × (is_open e ≡ true) × (e.number ≡ n)
+  pub least : (i : ℕ) (e : Enqueued) → StandsAt es i e → is_open e ≡ true → n ≤ e.number
 
 true_false : true ≡ false → ⊥
 true_false e = absurd (cc)
@@ -37,14 +37,14 @@ none_first : (n : ℕ) (ns : List ℕ) → [] ≡ n ∷ ns → ⊥
 none_first n ns e = absurd (cc)
 
 -- an entry that stands behind the first, or is the first
-abbrev Behind : Entry → List Entry → ℕ → Entry → Type 0
+abbrev Behind : Enqueued → List Enqueued → ℕ → Enqueued → Type 0
 Behind f es i e = (j : ℕ) × (i ≡ suc j) × StandsAt es j e
 
-first_or_behind : (f : Entry) (es : List Entry) (i : ℕ) (e : Entry) → StandsAt (f ∷ es) i e → (e ≡ f) ⊎ Behind f es i e
+first_or_behind : (f : Enqueued) (es : List Enqueued) (i : ℕ) (e : Enqueued) → StandsAt (f ∷ es) i e → (e ≡ f) ⊎ Behind f es i e
 first_or_behind f es zero e s = inl s.there
 first_or_behind f es (suc j) e s = inr (j, refl, record { within = (let l = s.within in omega (arith, l)); there = s.there })
 
-nobody_open : (es : List Entry) → open_of es ≡ [] → (i : ℕ) (e : Entry) → StandsAt es i e → is_open e ≡ true → ⊥
+nobody_open : (es : List Enqueued) → open_of es ≡ [] → (i : ℕ) (e : Enqueued) → StandsAt es i e → is_open e ≡ true → ⊥
 nobody_open [] none i e s o = (let l = s.within in absurd (omega (arith, l)))
 nobody_open (f ∷ es) none i e s o = elim (is_open f) as (λ v. is_open f ≡ v → cond v (f.number ∷ open_of es) (open_of es) ≡ [] → ⊥) [
   | true ↦ λ u none. no_first f.number (open_of es) none
@@ -54,7 +54,7 @@ nobody_open (f ∷ es) none i e s o = elim (is_open f) as (λ v. is_open f ≡ v
   ]
 ] refl none
 
-first_open : (es : List Entry) (n : ℕ) (ns : List ℕ) → IsRising (all_waiting es) → open_of es ≡ n ∷ ns → IsFirstOpen es n
+first_open : (es : List Enqueued) (n : ℕ) (ns : List ℕ) → IsRising (all_waiting es) → open_of es ≡ n ∷ ns → IsFirstOpen es n
 first_open [] n ns rising is = absurd (none_first n ns is)
 first_open (f ∷ es) n ns rising is = elim (is_open f) as (λ v. is_open f ≡ v → cond v (f.number ∷ open_of es) (open_of es) ≡ n ∷ ns → IsFirstOpen (f ∷ es) n) [
   | true ↦ λ u is.
@@ -62,10 +62,10 @@ first_open (f ∷ es) n ns rising is = elim (is_open f) as (λ v. is_open f ≡ 
       record {
         one = (f, 0, record { within = omega arith; there = refl }, u, same);
         least = λ i e s o. elim (first_or_behind f es i e s) [
-          | inl it ↦ (let k = ap (λ (x : Entry). x.number) it in omega (arith, k, same))
+          | inl it ↦ (let k = ap (λ (x : Enqueued). x.number) it in omega (arith, k, same))
           | inr b ↦
               (let above = before_member f.number es b.0 e rising.0 b.2.within in
-              let k = ap (λ (x : Entry). x.number) b.2.there in
+              let k = ap (λ (x : Enqueued). x.number) b.2.there in
               omega (arith, above, k, same))
         ];
       }
@@ -82,7 +82,7 @@ first_open (f ∷ es) n ns rising is = elim (is_open f) as (λ v. is_open f ≡ 
 ] refl is
 
 -- a transaction among those that are seen
-member_stands : (es : List Entry) (w : Waiting) → Contains (all_waiting es) w → (e : Entry) × (i : ℕ) × StandsAt es i e × (waiting_of e ≡ w)
+member_stands : (es : List Enqueued) (w : Waiting) → Contains (all_waiting es) w → (e : Enqueued) × (i : ℕ) × StandsAt es i e × (waiting_of e ≡ w)
 member_stands [] w k = absurd (let l = k.1 in omega (arith, l))
 member_stands (f ∷ es) w (zero, l, is) = (f, 0, record { within = omega arith; there = refl }, is)
 member_stands (f ∷ es) w (suc n, l, is) =
@@ -96,20 +96,20 @@ both false b h = (refl, h)
 and : (a b : Bool) → a ≡ false → b ≡ true → (not a && b) ≡ true
 and a b e f = ap (λ x. not x && b) e ∙ f
 
-module _ (lines : Lines) (es : List Entry) (ws : List Waiting) (view : all_waiting es ≡ ws) (rising : IsRising (all_waiting es)) (is : (r : Resource) → line lines r ≡ queue r (all_waiting es)) (known : AreKnown (line lines) [] es) where
-  flag : (i : ℕ) (e : Entry) → StandsAt es i e → e.ready ≡ ready ws e.number
+module _ (lines : Lines) (es : List Enqueued) (ws : List Waiting) (view : all_waiting es ≡ ws) (rising : IsRising (all_waiting es)) (is : (r : Resource) → line lines r ≡ queue r (all_waiting es)) (known : AreKnown (line lines) [] es) where
+  flag : (i : ℕ) (e : Enqueued) → StandsAt es i e → e.ready ≡ ready ws e.number
   flag i e s = item_flag lines es es ws i e refl view rising is known s.within s.there
 
-  opens : (i : ℕ) (e : Entry) → StandsAt es i e → is_open e ≡ true → IsOpen ws (waiting_of e)
+  opens : (i : ℕ) (e : Enqueued) → StandsAt es i e → is_open e ≡ true → IsOpen ws (waiting_of e)
   opens i e s o =
       let p = both e.marked e.ready o in
       record {
-        there = subst (λ (xs : List Waiting). Contains xs (waiting_of e)) view (subst (λ (x : Entry). Contains (all_waiting es) (waiting_of x)) (sym s.there) (entry_there es i e s.within));
+        there = subst (λ (xs : List Waiting). Contains xs (waiting_of e)) view (subst (λ (x : Enqueued). Contains (all_waiting es) (waiting_of x)) (sym s.there) (entry_there es i e s.within));
         unmarked = p.0;
         is_ready = sym (flag i e s) ∙ p.1;
       }
 
-  is_opened : (w : Waiting) → IsOpen ws w → (e : Entry) × (i : ℕ) × StandsAt es i e × (is_open e ≡ true) × (e.number ≡ w.number)
+  is_opened : (w : Waiting) → IsOpen ws w → (e : Enqueued) × (i : ℕ) × StandsAt es i e × (is_open e ≡ true) × (e.number ≡ w.number)
   is_opened w o =
       let m = member_stands es w (subst (λ (xs : List Waiting). Contains xs w) (sym view) o.there) in
       let e = m.0 in

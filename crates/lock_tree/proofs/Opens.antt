@@ -3,7 +3,7 @@ use Rattle.std.proofs.Common.{◌≡◌, ℕ, ◌+◌, ◌<◌, ◌≤◌, ◌==
 use Rattle.std.specs.List.{remove, insert}
 use Rattle.std.specs.List.Sorted.{IsPartitionedBy, IsPartitionPoint}
 use Rattle.std.proofs.lemmas.Bool.Decides.{nat_tests}
-use Rattle.lock_tree.specs.declared.entry.Entry.{Entry}
+use Rattle.lock_tree.specs.declared.enqueued.Enqueued.{Enqueued}
 use Rattle.lock_tree.specs.Locks.{AreAbove, IsRising}
 use Rattle.lock_tree.specs.Views.{all_waiting}
 use Rattle.lock_tree.specs.Open.{is_open, open_of, places_before, front_with, placed, AllOver, AreRising}
@@ -86,28 +86,28 @@ placed_new n (x ∷ xs) i is no_one =
 
 -- ---- open transactions
 
-over_open : (n : ℕ) (es : List Entry) → AreAbove n (all_waiting es) → AllOver n (open_of es)
+over_open : (n : ℕ) (es : List Enqueued) → AreAbove n (all_waiting es) → AllOver n (open_of es)
 over_open n [] above = tt
 over_open n (e ∷ es) above = elim (is_open e) as (λ v. AllOver n (cond v (e.number ∷ open_of es) (open_of es))) [
   | true ↦ (above.0, over_open n es above.1)
   | false ↦ over_open n es above.1
 ]
 
-pub open_rising : (es : List Entry) → IsRising (all_waiting es) → AreRising (open_of es)
+pub open_rising : (es : List Enqueued) → IsRising (all_waiting es) → AreRising (open_of es)
 open_rising [] rising = tt
 open_rising (e ∷ es) rising = elim (is_open e) as (λ v. AreRising (cond v (e.number ∷ open_of es) (open_of es))) [
   | true ↦ (over_open e.number es rising.0, open_rising es rising.1)
   | false ↦ open_rising es rising.1
 ]
 
-pub open_few : (es : List Entry) → length (open_of es) ≤ length es
+pub open_few : (es : List Enqueued) → length (open_of es) ≤ length es
 open_few [] = omega arith
 open_few (e ∷ es) = elim (is_open e) as (λ v. length (cond v (e.number ∷ open_of es) (open_of es)) ≤ suc (length es)) [
   | true ↦ let h = open_few es in omega (arith, h)
   | false ↦ let h = open_few es in omega (arith, h)
 ]
 
-pub open_end : (es : List Entry) (e : Entry) → open_of (es ++ e ∷ []) ≡ open_of es ++ cond (is_open e) (e.number ∷ []) []
+pub open_end : (es : List Enqueued) (e : Enqueued) → open_of (es ++ e ∷ []) ≡ open_of es ++ cond (is_open e) (e.number ∷ []) []
 open_end [] e = refl
 open_end (f ∷ es) e = elim (is_open f) as (λ v. cond v (f.number ∷ open_of (es ++ e ∷ [])) (open_of (es ++ e ∷ [])) ≡ cond v (f.number ∷ open_of es) (open_of es) ++ cond (is_open e) (e.number ∷ []) []) [
   | true ↦ ap (λ xs. f.number ∷ xs) (open_end es e)
@@ -130,13 +130,13 @@ placed_itself n x there xs same =
 placed_later : (n x : ℕ) (there : Bool) (xs : List ℕ) → x < n → placed n there (x ∷ xs) ≡ x ∷ placed n there xs
 placed_later n x there xs less = ap (λ v. cond v (x ∷ placed n there xs) (front_with n there x xs)) (is_less x n less)
 
-above_at : (n : ℕ) (es : List Entry) (i : ℕ) (d : Entry) → AreAbove n (all_waiting es) → i < length es → n < (at es i d).number
+above_at : (n : ℕ) (es : List Enqueued) (i : ℕ) (d : Enqueued) → AreAbove n (all_waiting es) → i < length es → n < (at es i d).number
 above_at n [] i d above l = absurd (omega (arith, l))
 above_at n (e ∷ es) zero d above l = above.0
 above_at n (e ∷ es) (suc i) d above l = above_at n es i d above.1 (omega (arith, l))
 
 -- one transaction changes
-pub open_set : (es : List Entry) (i n : ℕ) (d f : Entry) → IsRising (all_waiting es) → i < length es → (at es i d).number ≡ n → f.number ≡ n → open_of (slice_set es i f) ≡ placed n (is_open f) (open_of es)
+pub open_set : (es : List Enqueued) (i n : ℕ) (d f : Enqueued) → IsRising (all_waiting es) → i < length es → (at es i d).number ≡ n → f.number ≡ n → open_of (slice_set es i f) ≡ placed n (is_open f) (open_of es)
 open_set [] i n d f rising l same now = absurd (omega (arith, l))
 open_set (e ∷ es) zero n d f rising l same now =
     ap (λ k. cond (is_open f) (k ∷ open_of es) (open_of es)) now
@@ -153,7 +153,7 @@ open_set (e ∷ es) (suc i) n d f rising l same now =
     ]
 
 -- one transaction goes
-pub open_removed : (es : List Entry) (i n : ℕ) (d : Entry) → IsRising (all_waiting es) → i < length es → (at es i d).number ≡ n → open_of (remove es i) ≡ placed n false (open_of es)
+pub open_removed : (es : List Enqueued) (i n : ℕ) (d : Enqueued) → IsRising (all_waiting es) → i < length es → (at es i d).number ≡ n → open_of (remove es i) ≡ placed n false (open_of es)
 open_removed [] i n d rising l same = absurd (omega (arith, l))
 open_removed (e ∷ es) zero n d rising l same =
     sym (elim (is_open e) as (λ v. placed n false (cond v (e.number ∷ open_of es) (open_of es)) ≡ open_of es) [

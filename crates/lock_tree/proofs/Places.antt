@@ -2,7 +2,7 @@
 use Rattle.std.proofs.Common.{◌≡◌, ℕ, ◌+◌, ◌<◌, ◌≤◌, ◌==◌, zero, suc, Bool, true, false, cond, List, [], ◌∷◌, ◌++◌, length, Option, None, Some, option_map, refl, sym, ◌∙◌, ap, subst, arith, slice_index_or, slice_set}
 use Rattle.std.specs.List.{Contains, remove}
 use Rattle.std.proofs.lemmas.Bool.Decides.{nat_tests}
-use Rattle.lock_tree.specs.declared.entry.Entry.{Entry}
+use Rattle.lock_tree.specs.declared.enqueued.Enqueued.{Enqueued}
 use Rattle.lock_tree.specs.Locks.{Waiting, used, plan_of, without, with_mark, AreAbove, IsRising}
 use Rattle.lock_tree.specs.Enqueues.{AreBelow}
 use Rattle.lock_tree.specs.Placing.{place_of}
@@ -37,10 +37,10 @@ no_plan k (w ∷ ws) h = elim (w.number == k) as (λ v. cond v (Some 0) (option_
 ] h
 
 -- what stands at the place of a number
-abbrev pub at : List Entry → ℕ → Entry → Entry
+abbrev pub at : List Enqueued → ℕ → Enqueued → Enqueued
 at es i d = slice_index_or es i d
 
-pub plan_at : (k : ℕ) (es : List Entry) (i : ℕ) (d : Entry) → place_of k (all_waiting es) ≡ Some i → plan_of (all_waiting es) k ≡ Some (at es i d).plan.items
+pub plan_at : (k : ℕ) (es : List Enqueued) (i : ℕ) (d : Enqueued) → place_of k (all_waiting es) ≡ Some i → plan_of (all_waiting es) k ≡ Some (at es i d).plan.items
 plan_at k [] i d h = absurd (none_some i h)
 plan_at k (e ∷ es) i d h = elim (e.number == k) as (λ v. cond v (Some 0) (option_map (λ n. n + 1) (place_of k (all_waiting es))) ≡ Some i → cond v (Some e.plan.items) (plan_of (all_waiting es) k) ≡ Some (at (e ∷ es) i d).plan.items) [
   | true ↦ λ h. ap (λ n. Some (at (e ∷ es) n d).plan.items) (some_one 0 i h)
@@ -88,7 +88,7 @@ used_end (v ∷ ws) w = let r = used_end ws w in omega (arith, r)
 
 -- ---- what a change at the place of a number does
 
-pub marked_at : (k : ℕ) (m : Bool) (es : List Entry) (i : ℕ) (d : Entry) → IsRising (all_waiting es) → place_of k (all_waiting es) ≡ Some i
+pub marked_at : (k : ℕ) (m : Bool) (es : List Enqueued) (i : ℕ) (d : Enqueued) → IsRising (all_waiting es) → place_of k (all_waiting es) ≡ Some i
     → all_waiting (slice_set es i (record (at es i d) { marked = m })) ≡ with_mark k m (all_waiting es)
 marked_at k m [] i d r h = absurd (none_some i h)
 marked_at k m (e ∷ es) i d r h = elim (e.number == k) as (λ v. (e.number == k) ≡ v → cond v (Some 0) (option_map (λ n. n + 1) (place_of k (all_waiting es))) ≡ Some i
@@ -117,13 +117,13 @@ no_without k (w ∷ ws) h = elim (w.number == k) as (λ v. cond v (Some 0) (opti
   | false ↦ λ h. ap (λ xs. w ∷ xs) (no_without k ws (no_later_place (place_of k ws) h))
 ] h
 
-remove_first : (e : Entry) (es : List Entry) → remove (e ∷ es) 0 ≡ es
+remove_first : (e : Enqueued) (es : List Enqueued) → remove (e ∷ es) 0 ≡ es
 remove_first e es = refl
 
-remove_later : (e : Entry) (es : List Entry) (i : ℕ) → remove (e ∷ es) (suc i) ≡ e ∷ remove es i
+remove_later : (e : Enqueued) (es : List Enqueued) (i : ℕ) → remove (e ∷ es) (suc i) ≡ e ∷ remove es i
 remove_later e es i = refl
 
-pub removed_at : (k : ℕ) (es : List Entry) (i : ℕ) → IsRising (all_waiting es) → place_of k (all_waiting es) ≡ Some i
+pub removed_at : (k : ℕ) (es : List Enqueued) (i : ℕ) → IsRising (all_waiting es) → place_of k (all_waiting es) ≡ Some i
     → all_waiting (remove es i) ≡ without k (all_waiting es)
 removed_at k [] i r h = absurd (none_some i h)
 removed_at k (e ∷ es) i r h = elim (e.number == k) as (λ v. (e.number == k) ≡ v → cond v (Some 0) (option_map (λ n. n + 1) (place_of k (all_waiting es))) ≡ Some i
@@ -137,7 +137,7 @@ removed_at k (e ∷ es) i r h = elim (e.number == k) as (λ v. (e.number == k) �
           ∙ ap (λ xs. waiting_of e ∷ xs) (removed_at k es j.0 r.1 j.1)
     ] refl h
 
-pub used_at : (k : ℕ) (es : List Entry) (i : ℕ) (d : Entry) → IsRising (all_waiting es) → place_of k (all_waiting es) ≡ Some i
+pub used_at : (k : ℕ) (es : List Enqueued) (i : ℕ) (d : Enqueued) → IsRising (all_waiting es) → place_of k (all_waiting es) ≡ Some i
     → used (all_waiting es) ≡ length (at es i d).plan.items + used (without k (all_waiting es))
 used_at k [] i d r h = absurd (none_some i h)
 used_at k (e ∷ es) i d r h = elim (e.number == k) as (λ v. (e.number == k) ≡ v → cond v (Some 0) (option_map (λ n. n + 1) (place_of k (all_waiting es))) ≡ Some i
@@ -156,7 +156,7 @@ used_at k (e ∷ es) i d r h = elim (e.number == k) as (λ v. (e.number == k) �
 
 -- ---- members
 
-pub entry_there : (es : List Entry) (i : ℕ) (d : Entry) → i < length es → Contains (all_waiting es) (waiting_of (at es i d))
+pub entry_there : (es : List Enqueued) (i : ℕ) (d : Enqueued) → i < length es → Contains (all_waiting es) (waiting_of (at es i d))
 entry_there [] i d h = absurd (omega (arith, h))
 entry_there (e ∷ es) zero d h = (0, omega arith, refl)
 entry_there (e ∷ es) (suc i) d h = let r = entry_there es i d (omega (arith, h)) in (suc r.0, (let l = r.1 in omega (arith, l)), r.2)

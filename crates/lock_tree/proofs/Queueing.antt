@@ -10,7 +10,7 @@ use Rattle.footprint.specs.Tree.{resource_cmp}
 use Rattle.modes.specs.declared.mode.Mode.{Mode}
 use Rattle.modes.specs.Modes.{are_compatible}
 use Rattle.coarsen.specs.Subtrees.{Requests}
-use Rattle.lock_tree.specs.declared.entry.Entry.{Entry}
+use Rattle.lock_tree.specs.declared.enqueued.Enqueued.{Enqueued}
 use Rattle.lock_tree.specs.Locks.{Waiting}
 use Rattle.lock_tree.specs.Queues.{Queue, mode_on, asks, queue, granted_beside, granted, has_number}
 use Rattle.lock_tree.specs.Enqueues.{AreBelow}
@@ -122,7 +122,7 @@ module _ (k : ℕ) (old new : Resource → Queue) (modes : Resource → Option M
       ∙ ap (λ v. v && granted_in new n plan) (asked_before n k (modes e.0) (old e.0) other)
       ∙ ap (λ v. has_number n (granted (old e.0)) && v) (plan_before n other plan)
 
-  pub known_before : (es : List Entry) → AreBelow k (all_waiting es) → AreKnown old [] es → AreKnown new [] es
+  pub known_before : (es : List Enqueued) → AreBelow k (all_waiting es) → AreKnown old [] es → AreKnown new [] es
   known_before [] below known = tt
   known_before (e ∷ es) below known =
       let same = plan_before e.number (later_other e.number k below.0) e.plan.items in (
@@ -130,10 +130,10 @@ module _ (k : ℕ) (old new : Resource → Queue) (modes : Resource → Option M
         known_before es below.1 known.1,
       )
 
-pub knows_exactly : (queues : Resource → Queue) (e : Entry) → e.ready ≡ granted_in queues e.number e.plan.items → Knows queues [] e
+pub knows_exactly : (queues : Resource → Queue) (e : Enqueued) → e.ready ≡ granted_in queues e.number e.plan.items → Knows queues [] e
 knows_exactly queues e is = record { sound = λ h. sym is ∙ h; complete = λ g. inl (is ∙ g) }
 
-pub known_and : (queues : Resource → Queue) (es : List Entry) (e : Entry) → AreKnown queues [] es → Knows queues [] e → AreKnown queues [] (es ++ e ∷ [])
+pub known_and : (queues : Resource → Queue) (es : List Enqueued) (e : Enqueued) → AreKnown queues [] es → Knows queues [] e → AreKnown queues [] (es ++ e ∷ [])
 known_and queues [] e known one = (one, tt)
 known_and queues (f ∷ es) e known one = (known.0, known_and queues es e known.1 one)
 

@@ -5,7 +5,7 @@ use Rattle.std.proofs.lemmas.Bool.Decides.{nat_tests}
 use Rattle.footprint.specs.declared.resource.Resource.{Resource}
 use Rattle.modes.specs.declared.mode.Mode.{Mode}
 use Rattle.coarsen.specs.Subtrees.{Requests}
-use Rattle.lock_tree.specs.declared.entry.Entry.{Entry}
+use Rattle.lock_tree.specs.declared.enqueued.Enqueued.{Enqueued}
 use Rattle.lock_tree.specs.declared.transactions.Transactions.{Transactions}
 use Rattle.lock_tree.specs.Indexed.{IsIndexed}
 use Rattle.lock_tree.specs.Locks.{Waiting, used, plan_of, without, with_mark, AreAbove, IsRising}
@@ -86,18 +86,18 @@ others_without k (w ∷ ws) = elim (w.number == k) as (λ v. (w.number == k) ≡
 
 -- ---- what they know
 
-pub known_removed : (queues : Resource → Queue) (es : List Entry) (i : ℕ) → AreKnown queues [] es → AreKnown queues [] (remove es i)
+pub known_removed : (queues : Resource → Queue) (es : List Enqueued) (i : ℕ) → AreKnown queues [] es → AreKnown queues [] (remove es i)
 known_removed queues [] zero known = tt
 known_removed queues [] (suc i) known = tt
 known_removed queues (e ∷ es) zero known = known.1
 known_removed queues (e ∷ es) (suc i) known = (known.0, known_removed queues es i known.1)
 
-pub known_marked : (queues : Resource → Queue) (es : List Entry) (i : ℕ) (d : Entry) (m : Bool) → AreKnown queues [] es → AreKnown queues [] (slice_set es i (record (at es i d) { marked = m }))
+pub known_marked : (queues : Resource → Queue) (es : List Enqueued) (i : ℕ) (d : Enqueued) (m : Bool) → AreKnown queues [] es → AreKnown queues [] (slice_set es i (record (at es i d) { marked = m }))
 known_marked queues [] i d m known = tt
 known_marked queues (e ∷ es) zero d m known = (record { sound = known.0.sound; complete = known.0.complete }, known.1)
 known_marked queues (e ∷ es) (suc i) d m known = (known.0, known_marked queues es i d m known.1)
 
-known_at : (queues : Resource → Queue) (es : List Entry) (i : ℕ) (d : Entry) → i < length es → AreKnown queues [] es → Knows queues [] (at es i d)
+known_at : (queues : Resource → Queue) (es : List Enqueued) (i : ℕ) (d : Enqueued) → i < length es → AreKnown queues [] es → Knows queues [] (at es i d)
 known_at queues [] i d l known = absurd (omega (arith, l))
 known_at queues (e ∷ es) zero d l known = known.0
 known_at queues (e ∷ es) (suc i) d l known = known_at queues es i d (omega (arith, l)) known.1
@@ -120,7 +120,7 @@ was_ready n b (inl h) = h
 was_ready n b (inr h) = absurd (no_one n h)
 
 -- the flag of the transaction at a place
-pub flag_at : (queues : Resource → Queue) (es : List Entry) (k i : ℕ) (d : Entry) → ((r : Resource) → queues r ≡ queue r (all_waiting es)) → AreKnown queues [] es → i < length es
+pub flag_at : (queues : Resource → Queue) (es : List Enqueued) (k i : ℕ) (d : Enqueued) → ((r : Resource) → queues r ≡ queue r (all_waiting es)) → AreKnown queues [] es → i < length es
     → (at es i d).number ≡ k → plan_of (all_waiting es) k ≡ Some (at es i d).plan.items → (at es i d).ready ≡ ready (all_waiting es) k
 flag_at queues es k i d lines known l number plan =
     let e = at es i d in
@@ -130,7 +130,7 @@ flag_at queues es k i d lines known l number plan =
     ∙ ap (λ n. granted_in (λ r. queue r (all_waiting es)) n e.plan.items) number
     ∙ sym (ap (all_granted (all_waiting es) k) plan)
 
-pub number_at : (k : ℕ) (es : List Entry) (i : ℕ) (d : Entry) → place_of k (all_waiting es) ≡ Some i → (at es i d).number ≡ k
+pub number_at : (k : ℕ) (es : List Enqueued) (i : ℕ) (d : Enqueued) → place_of k (all_waiting es) ≡ Some i → (at es i d).number ≡ k
 number_at k [] i d h = absurd (none_some i h)
 number_at k (e ∷ es) i d h = elim (e.number == k) as (λ v. (e.number == k) ≡ v → cond v (Some 0) (option_map (λ n. n + 1) (place_of k (all_waiting es))) ≡ Some i → (at (e ∷ es) i d).number ≡ k) [
   | true ↦ λ here h. ap (λ n. (at (e ∷ es) n d).number) (sym (some_one 0 i h)) ∙ same_numbers e.number k here
@@ -143,12 +143,12 @@ not_ready k ws none = ap (all_granted ws k) none
 
 -- ---- the code's tree
 
-pub ready_flag : (lines : Lines) (seen es : List Entry) (ws : List Waiting) (k i : ℕ) (d : Entry) → seen ≡ es → all_waiting es ≡ ws → ((r : Resource) → line lines r ≡ queue r (all_waiting es)) → AreKnown (line lines) [] es
+pub ready_flag : (lines : Lines) (seen es : List Enqueued) (ws : List Waiting) (k i : ℕ) (d : Enqueued) → seen ≡ es → all_waiting es ≡ ws → ((r : Resource) → line lines r ≡ queue r (all_waiting es)) → AreKnown (line lines) [] es
     → Some i ≡ place_of k (all_waiting seen) → i < length seen → d ≡ at es i d → d.ready ≡ ready ws k
 ready_flag lines seen es ws k i d same view is known found l item =
-    let place : place_of k (all_waiting es) ≡ Some i = sym (found ∙ ap (λ (xs : List Entry). place_of k (all_waiting xs)) same) in
+    let place : place_of k (all_waiting es) ≡ Some i = sym (found ∙ ap (λ (xs : List Enqueued). place_of k (all_waiting xs)) same) in
     let within : i < length es = (let e = ap length same in omega (arith, l, e)) in
-    ap (λ (e : Entry). e.ready) item ∙ flag_at (line lines) es k i d is known within (number_at k es i d place) (plan_at k es i d place) ∙ ap (λ xs. ready xs k) view
+    ap (λ (e : Enqueued). e.ready) item ∙ flag_at (line lines) es k i d is known within (number_at k es i d place) (plan_at k es i d place) ∙ ap (λ xs. ready xs k) view
 
 same_itself : (k : ℕ) → (k == k) ≡ true
 same_itself k = grind (arith, nat_tests)
@@ -156,12 +156,12 @@ same_itself k = grind (arith, nat_tests)
 less_other : (i k : ℕ) → i < k → (i == k) ≡ false
 less_other i k h = grind (arith, nat_tests)
 
-member_above : (n : ℕ) (es : List Entry) (i : ℕ) (d : Entry) → AreAbove n (all_waiting es) → i < length es → n < (at es i d).number
+member_above : (n : ℕ) (es : List Enqueued) (i : ℕ) (d : Enqueued) → AreAbove n (all_waiting es) → i < length es → n < (at es i d).number
 member_above n [] i d above l = absurd (omega (arith, l))
 member_above n (e ∷ es) zero d above l = above.0
 member_above n (e ∷ es) (suc i) d above l = member_above n es i d above.1 (omega (arith, l))
 
-pub place_at : (es : List Entry) (i : ℕ) (d : Entry) → IsRising (all_waiting es) → i < length es → place_of (at es i d).number (all_waiting es) ≡ Some i
+pub place_at : (es : List Enqueued) (i : ℕ) (d : Enqueued) → IsRising (all_waiting es) → i < length es → place_of (at es i d).number (all_waiting es) ≡ Some i
 place_at [] i d rising l = absurd (omega (arith, l))
 place_at (e ∷ es) zero d rising l = ap (λ v. cond v (Some 0) (option_map (λ n. n + 1) (place_of e.number (all_waiting es)))) (same_itself e.number)
 place_at (e ∷ es) (suc i) d rising l =
@@ -170,41 +170,41 @@ place_at (e ∷ es) (suc i) d rising l =
     ap (λ v. cond v (Some 0) (option_map (λ n. n + 1) (place_of (at es i d).number (all_waiting es)))) (less_other e.number (at es i d).number less)
     ∙ ap (option_map (λ n. n + 1)) (place_at es i d rising.1 m) ∙ ap (λ n. Some n) (add-one i)
 
-pub item_flag : (lines : Lines) (seen es : List Entry) (ws : List Waiting) (i : ℕ) (d : Entry) → seen ≡ es → all_waiting es ≡ ws → IsRising (all_waiting es) → ((r : Resource) → line lines r ≡ queue r (all_waiting es))
+pub item_flag : (lines : Lines) (seen es : List Enqueued) (ws : List Waiting) (i : ℕ) (d : Enqueued) → seen ≡ es → all_waiting es ≡ ws → IsRising (all_waiting es) → ((r : Resource) → line lines r ≡ queue r (all_waiting es))
     → AreKnown (line lines) [] es → i < length seen → d ≡ at seen i d → d.ready ≡ ready ws d.number
 item_flag lines seen es ws i d same view rising is known l item =
     let within : i < length es = (let e = ap length same in omega (arith, l, e)) in
-    let read : d ≡ at es i d = item ∙ ap (λ (xs : List Entry). at xs i d) same in
-    let place : place_of d.number (all_waiting es) ≡ Some i = ap (λ (e : Entry). place_of e.number (all_waiting es)) read ∙ place_at es i d rising within in
+    let read : d ≡ at es i d = item ∙ ap (λ (xs : List Enqueued). at xs i d) same in
+    let place : place_of d.number (all_waiting es) ≡ Some i = ap (λ (e : Enqueued). place_of e.number (all_waiting es)) read ∙ place_at es i d rising within in
     ready_flag lines es es ws d.number i d refl view is known (sym place) within read
 
-known_same : (old new : Resource → Queue) → ((r : Resource) → old r ≡ new r) → (es : List Entry) → AreKnown old [] es → AreKnown new [] es
+known_same : (old new : Resource → Queue) → ((r : Resource) → old r ≡ new r) → (es : List Enqueued) → AreKnown old [] es → AreKnown new [] es
 known_same old new same [] known = tt
 known_same old new same (e ∷ es) known =
     let s = same_plan old new same e.number e.plan.items in
     (record { sound = λ h. sym s ∙ known.0.sound h; complete = λ g. known.0.complete (s ∙ g) }, known_same old new same es known.1)
 
-pub known_as_before : (old new : Lines) (es seen : List Entry) → ((r : Resource) → line new r ≡ line old r) → seen ≡ es → AreKnown (line old) [] es → AreKnown (line new) [] seen
+pub known_as_before : (old new : Lines) (es seen : List Enqueued) → ((r : Resource) → line new r ≡ line old r) → seen ≡ es → AreKnown (line old) [] es → AreKnown (line new) [] seen
 known_as_before old new es seen same items known = subst (AreKnown (line new) []) (sym items) (known_same (line old) (line new) (λ r. sym (same r)) es known)
 
 -- more room for queues and transactions
-pub same_tree : (nodes free : ℕ) (ts seen : Transactions) (old new : Lines) → ((r : Resource) → line new r ≡ line old r) → seen.entries.items ≡ ts.entries.items → IsIndexed seen → IsTree nodes free ts old → IsTree nodes free seen new
-same_tree nodes free ts seen old new same items indexed tree = record {
-  room = (let e : used (all_waiting seen.entries.items) ≡ used (all_waiting ts.entries.items) = ap (λ (xs : List Entry). used (all_waiting xs)) items in let r = tree.room in omega (arith, e, r));
+pub same_tree : (arena free : ℕ) (ts seen : Transactions) (old new : Lines) → ((r : Resource) → line new r ≡ line old r) → seen.entries.items ≡ ts.entries.items → IsIndexed seen → IsTree arena free ts old → IsTree arena free seen new
+same_tree arena free ts seen old new same items indexed tree = record {
+  room = (let e : used (all_waiting seen.entries.items) ≡ used (all_waiting ts.entries.items) = ap (λ (xs : List Enqueued). used (all_waiting xs)) items in let r = tree.room in omega (arith, e, r));
   indexed = indexed;
-  lines = λ r. same r ∙ tree.lines r ∙ ap (λ (xs : List Entry). queue r (all_waiting xs)) (sym items);
+  lines = λ r. same r ∙ tree.lines r ∙ ap (λ (xs : List Enqueued). queue r (all_waiting xs)) (sym items);
   known = known_as_before old new ts.entries.items seen.entries.items same items tree.known;
 }
 
 -- one more transaction
-pub joined_tree : (nodes free size : ℕ) (ts seen new : Transactions) (e : Entry) (old lender lines : Lines) → IsTree nodes free ts old → seen.entries.items ≡ ts.entries.items → ((r : Resource) → line lender r ≡ line old r)
+pub joined_tree : (arena free size : ℕ) (ts seen new : Transactions) (e : Enqueued) (old lender lines : Lines) → IsTree arena free ts old → seen.entries.items ≡ ts.entries.items → ((r : Resource) → line lender r ≡ line old r)
     → size ≡ length e.plan.items → size ≤ free → IsIndexed new
     → ((r : Resource) → line lines r ≡ line lender r ++ asks e.number (mode_on r e.plan.items) []) → all_waiting new.entries.items ≡ all_waiting seen.entries.items ++ waiting_of e ∷ [] → AreKnown (line lines) [] new.entries.items
-    → IsTree nodes (free - size) new lines
-joined_tree nodes free size ts seen new e old lender lines tree items same n room indexed joined waiting known =
+    → IsTree arena (free - size) new lines
+joined_tree arena free size ts seen new e old lender lines tree items same n room indexed joined waiting known =
     let ws = all_waiting ts.entries.items in
     let w = waiting_of e in
-    let is : all_waiting new.entries.items ≡ ws ++ w ∷ [] = waiting ∙ ap (λ (xs : List Entry). all_waiting xs ++ w ∷ []) items in
+    let is : all_waiting new.entries.items ≡ ws ++ w ∷ [] = waiting ∙ ap (λ (xs : List Enqueued). all_waiting xs ++ w ∷ []) items in
     let more : used (all_waiting new.entries.items) ≡ used ws + length w.plan = ap used is ∙ used_end ws w in
     record {
       room = (let r = tree.room in omega (arith, more, n, room, r));
@@ -214,10 +214,10 @@ joined_tree nodes free size ts seen new e old lender lines tree items same n roo
     }
 
 -- one transaction less
-pub left_tree : (nodes free size k : ℕ) (ts new : Transactions) (old lines : Lines) → IsTree nodes free ts old → used (all_waiting ts.entries.items) ≡ size + used (without k (all_waiting ts.entries.items))
+pub left_tree : (arena free size k : ℕ) (ts new : Transactions) (old lines : Lines) → IsTree arena free ts old → used (all_waiting ts.entries.items) ≡ size + used (without k (all_waiting ts.entries.items))
     → all_waiting new.entries.items ≡ without k (all_waiting ts.entries.items) → IsIndexed new → ((r : Resource) → line lines r ≡ others k (line old r)) → AreKnown (line lines) [] new.entries.items
-    → IsTree nodes (free + size) new lines
-left_tree nodes free size k ts new old lines tree freed is indexed left known =
+    → IsTree arena (free + size) new lines
+left_tree arena free size k ts new old lines tree freed is indexed left known =
     let ws = all_waiting ts.entries.items in
     record {
       room = (let e : used (all_waiting new.entries.items) ≡ used (without k ws) = ap used is in let r = tree.room in omega (arith, e, freed, r));
@@ -227,9 +227,9 @@ left_tree nodes free size k ts new old lines tree freed is indexed left known =
     }
 
 -- a mark
-pub marked_tree : (nodes free k : ℕ) (m : Bool) (ts new : Transactions) (lines : Lines) → IsTree nodes free ts lines → all_waiting new.entries.items ≡ with_mark k m (all_waiting ts.entries.items) → IsIndexed new
-    → AreKnown (line lines) [] new.entries.items → IsTree nodes free new lines
-marked_tree nodes free k m ts new lines tree is indexed known =
+pub marked_tree : (arena free k : ℕ) (m : Bool) (ts new : Transactions) (lines : Lines) → IsTree arena free ts lines → all_waiting new.entries.items ≡ with_mark k m (all_waiting ts.entries.items) → IsIndexed new
+    → AreKnown (line lines) [] new.entries.items → IsTree arena free new lines
+marked_tree arena free k m ts new lines tree is indexed known =
     let ws = all_waiting ts.entries.items in
     record {
       room = (let e : used (all_waiting new.entries.items) ≡ used ws = ap used is ∙ used_marked k m ws in let r = tree.room in omega (arith, e, r));
@@ -238,20 +238,20 @@ marked_tree nodes free k m ts new lines tree is indexed known =
       known = known;
     }
 
-some_entry : (es : List Entry) (i : ℕ) → i < length es → Entry
+some_entry : (es : List Enqueued) (i : ℕ) → i < length es → Enqueued
 some_entry [] i l = absurd (omega (arith, l))
 some_entry (e ∷ es) i l = e
 
-abbrev Marked : ℕ → Bool → List Entry → List Entry → Type 0
-Marked i m es new = (d : Entry) → new ≡ slice_set es i (record (at es i d) { marked = m })
+abbrev Marked : ℕ → Bool → List Enqueued → List Enqueued → Type 0
+Marked i m es new = (d : Enqueued) → new ≡ slice_set es i (record (at es i d) { marked = m })
 
-pub marked_seen : (k i : ℕ) (m : Bool) (es seen new : List Entry) → seen ≡ es → IsRising (all_waiting es) → Some i ≡ place_of k (all_waiting seen) → i < length seen → Marked i m es new
+pub marked_seen : (k i : ℕ) (m : Bool) (es seen new : List Enqueued) → seen ≡ es → IsRising (all_waiting es) → Some i ≡ place_of k (all_waiting seen) → i < length seen → Marked i m es new
     → all_waiting new ≡ with_mark k m (all_waiting es)
 marked_seen k i m es seen new same rising found l is =
     let d = some_entry es i (let n = ap length same in omega (arith, l, n)) in
-    ap all_waiting (is d) ∙ marked_at k m es i d rising (sym (found ∙ ap (λ (xs : List Entry). place_of k (all_waiting xs)) same))
+    ap all_waiting (is d) ∙ marked_at k m es i d rising (sym (found ∙ ap (λ (xs : List Enqueued). place_of k (all_waiting xs)) same))
 
-pub marked_known : (queues : Resource → Queue) (i : ℕ) (m : Bool) (es seen new : List Entry) → seen ≡ es → i < length seen → Marked i m es new → AreKnown queues [] es → AreKnown queues [] new
+pub marked_known : (queues : Resource → Queue) (i : ℕ) (m : Bool) (es seen new : List Enqueued) → seen ≡ es → i < length seen → Marked i m es new → AreKnown queues [] es → AreKnown queues [] new
 marked_known queues i m es seen new same l is known =
     let d = some_entry es i (let n = ap length same in omega (arith, l, n)) in
     subst (AreKnown queues []) (sym (is d)) (known_marked queues es i d m known)

@@ -13,7 +13,7 @@ abbrev pub line_of : Inside → LineOf
 line_of l = record { requests = l.requests.items; room = deque_capacity l.requests - deque_len l.requests }
 
 -- numbers rise, so many requests are granted, and these are in the modes that are held
-pub record IsKept (l : Inside) : Type 0 where
+pub record IsLockTree (l : Inside) : Type 0 where
   pub rising : AreRising (numbers_of l.requests.items)
   pub front : l.granted ≡ length (granted l.requests.items)
   pub held : AreHeld l.held (modes_of (granted l.requests.items))

@@ -5,8 +5,8 @@ use Rattle.std.specs.List.{Contains, AllPairs}
 use Rattle.modes.specs.declared.mode.Mode.{Mode}
 use Rattle.modes.specs.Modes.{are_compatible}
 use Rattle.coarsen.specs.Subtrees.{Requests}
-use Rattle.coarsen.specs.Plans.{IsSound}
-use Rattle.coarsen.specs.Clashes.{Conflict}
+use Rattle.coarsen.specs.Plans.{IsWellFormed}
+use Rattle.coarsen.specs.Clashes.{ModesClash}
 use Rattle.lock_tree.specs.Locks.{Waiting, plan_of, without, with_mark, IsRising}
 use Rattle.lock_tree.specs.Queues.{Queue, granted}
 use Rattle.lock_tree.specs.Ready.{ready}
@@ -25,7 +25,7 @@ pub record GrantsLongestFront : Type 0 where
 abbrev pub ReadyApart : Type 0
 ReadyApart =
     (waiting : List Waiting) → IsRising waiting → (i k : ℕ) → i < k → (p q : Requests)
-    → plan_of waiting i ≡ Some p → plan_of waiting k ≡ Some q → IsSound p → IsSound q → ready waiting k ≡ true → Conflict p q → ⊥
+    → plan_of waiting i ≡ Some p → plan_of waiting k ≡ Some q → IsWellFormed p → IsWellFormed q → ready waiting k ≡ true → ModesClash p q → ⊥
 
 -- the first of all is ready
 abbrev pub FirstReady : Type 0

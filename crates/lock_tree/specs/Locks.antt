@@ -11,7 +11,7 @@ pub record Waiting : Type 0 where
 
 -- room for so many requests, and the transactions in order
 pub record Locks : Type 0 where
-  pub nodes : ℕ
+  pub arena : ℕ
   pub waiting : List Waiting
 
 -- how many requests there are

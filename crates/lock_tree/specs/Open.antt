@@ -1,18 +1,18 @@
 -- Of the code: invariants and steps; no promise rests on these words.
 -- Transactions that are ready and not marked, and the place of a number among others.
 use Rattle.std.specs.Prelude.{◌<◌, ⊤, ℕ, ◌+◌, Bool, ◌&&◌, not, nat_lt, ◌==◌, if◌then◌else◌, List, [], ◌∷◌}
-use Rattle.lock_tree.specs.declared.entry.Entry.{Entry}
+use Rattle.lock_tree.specs.declared.enqueued.Enqueued.{Enqueued}
 
 -- how many transactions have lesser numbers, where numbers rise
-abbrev pub place_from : ℕ → List Entry → ℕ
+abbrev pub place_from : ℕ → List Enqueued → ℕ
 place_from number [] = 0
 place_from number (e ∷ es) = if nat_lt e.number number then place_from number es + 1 else 0
 
-abbrev pub is_open : Entry → Bool
+abbrev pub is_open : Enqueued → Bool
 is_open e = not e.marked && e.ready
 
 -- the numbers of those that are ready and not marked
-abbrev pub open_of : List Entry → List ℕ
+abbrev pub open_of : List Enqueued → List ℕ
 open_of [] = []
 open_of (e ∷ es) = if is_open e then e.number ∷ open_of es else open_of es
 

@@ -10,10 +10,10 @@ use Rattle.lock_tree.specs.Lines.{Lines, line}
 use Rattle.lock_tree.specs.Indexed.{IsIndexed}
 use Rattle.lock_tree.specs.Known.{AreKnown}
 
--- free room and requests fill the nodes, later transactions have greater numbers and the open ones are noted, the queues are those of the transactions,
+-- free room and requests fill the arena, later transactions have greater numbers and the open ones are noted, the queues are those of the transactions,
 -- and each transaction knows whether it is ready
-pub record IsTree (nodes free : ℕ) (transactions : Transactions) (queues : Lines) : Type 0 where
-  pub room : free + used (all_waiting transactions.entries.items) ≡ nodes
+pub record IsTree (arena free : ℕ) (transactions : Transactions) (queues : Lines) : Type 0 where
+  pub room : free + used (all_waiting transactions.entries.items) ≡ arena
   pub indexed : IsIndexed transactions
   pub lines : (resource : Resource) → line queues resource ≡ queue resource (all_waiting transactions.entries.items)
   pub known : AreKnown (line queues) [] transactions.entries.items

@@ -5,13 +5,13 @@ use Rattle.std.specs.Coded.{Coded, code_by, coded×, coded_list, coded_ℕ, code
 use Rattle.footprint.specs.contracts.resource.Resource as resource
 use Rattle.modes.specs.contracts.mode.Mode as mode
 use Rattle.coarsen.specs.Subtrees.{Requests}
-use Rattle.lock_tree.specs.declared.entry.Entry.{Entry}
+use Rattle.lock_tree.specs.declared.enqueued.Enqueued.{Enqueued}
 use Rattle.lock_tree.specs.Locks.{Waiting, Locks}
 
-abbrev pub waiting_of : Entry → Waiting
+abbrev pub waiting_of : Enqueued → Waiting
 waiting_of e = record { number = e.number; plan = e.plan.items; marked = e.marked }
 
-abbrev pub all_waiting : List Entry → List Waiting
+abbrev pub all_waiting : List Enqueued → List Waiting
 all_waiting es = map waiting_of es
 
 abbrev pub requests_code : Coded Requests
@@ -21,4 +21,4 @@ abbrev pub waiting_code : Coded Waiting
 waiting_code = code_by (ℕ × (Requests × Bool)) (coded× coded_ℕ (coded× requests_code coded_bool)) (λ w. (w.number, (w.plan, w.marked))) (λ p. record { number = p.0; plan = p.1.0; marked = p.1.1 }) (λ _. refl)
 
 abbrev pub locks_code : Coded Locks
-locks_code = code_by (ℕ × List Waiting) (coded× coded_ℕ (coded_list waiting_code)) (λ l. (l.nodes, l.waiting)) (λ p. record { nodes = p.0; waiting = p.1 }) (λ _. refl)
+locks_code = code_by (ℕ × List Waiting) (coded× coded_ℕ (coded_list waiting_code)) (λ l. (l.arena, l.waiting)) (λ p. record { arena = p.0; waiting = p.1 }) (λ _. refl)

@@ -13,7 +13,7 @@ ghost use Rattle.lock_tree.specs.Indexed.{IsIndexed, HasPlace};
 ghost use Rattle.lock_tree.specs.Known.{AreKnown};
 ghost use Rattle.lock_tree.specs.Views.{waiting_of, all_waiting};
 
-use crate::entry::Entry;
+use crate::enqueued::Enqueued;
 use crate::grants::are_granted;
 use crate::queues::{Queues, make_room, push};
 use crate::transactions::Transactions;
@@ -51,7 +51,7 @@ fn join_all(queues: &mut Queues, plan: &[(Resource, Mode)], number: u64)
 }
 
 /// Puts a transaction behind all others. There is room for it.
-pub(crate) fn join(queues: &mut Queues, transactions: &mut Transactions, mut entry: Entry)
+pub(crate) fn join(queues: &mut Queues, transactions: &mut Transactions, mut entry: Enqueued)
     requires room { AllByRecursion (λ request. HasRoom queues.old request.0) entry.plan.items }
     requires indexed { IsIndexed transactions.old }
     requires place { HasPlace transactions.old }

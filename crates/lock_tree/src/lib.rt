@@ -1,7 +1,7 @@
 //! The lock tree: plans in the order in which they were enqueued, and which transactions have all that they ask for.
 #![tactic(auto)]
 
-mod entry;
+mod enqueued;
 mod grants;
 mod held;
 mod joining;

@@ -30,11 +30,11 @@ impl Model for RequestLine {
 
     ghost coded = { line_code };
 
-    ghost use Rattle.lock_tree.specs.Kept.{line_of, IsKept};
+    ghost use Rattle.lock_tree.specs.Kept.{line_of, IsLockTree};
 
     ghost view = { line_of };
 
-    ghost invariant = { IsKept };
+    ghost invariant = { IsLockTree };
 }
 
 /// How many of the requests are of lesser numbers.

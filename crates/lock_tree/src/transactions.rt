@@ -2,14 +2,14 @@
 
 ghost use Rattle.std.specs.Prelude.{◌≡◌, ◌<◌, ◌≤◌, [], ◌∷◌, ◌++◌, if◌then◌else◌, true, length, IfSome, OnOk, slice_set, slice_index_or, remove};
 ghost use Rattle.std.specs.VecDeque.{deque_len, deque_capacity};
-ghost use Rattle.lock_tree.specs.declared.entry.Entry.{Entry as AnyEntry};
+ghost use Rattle.lock_tree.specs.declared.enqueued.Enqueued.{Enqueued as AnyEnqueued};
 ghost use Rattle.lock_tree.specs.Locks.{IsRising};
 ghost use Rattle.lock_tree.specs.Enqueues.{AreBelow};
 ghost use Rattle.lock_tree.specs.Placing.{place_of};
 ghost use Rattle.lock_tree.specs.Views.{all_waiting};
 ghost use Rattle.lock_tree.specs.Open.{place_from, is_open, placed, AreRising};
 
-use crate::entry::Entry;
+use crate::enqueued::Enqueued;
 use crate::opening::{put, take_out};
 use std::alloc::Global;
 use std::collections::VecDeque;
@@ -18,12 +18,12 @@ use values::NoMemory;
 /// The transactions, and the numbers of the open ones: those that are ready and not marked.
 #[derive(Drop)]
 pub(crate) struct Transactions {
-    pub(crate) entries: VecDeque<Entry>,
+    pub(crate) entries: VecDeque<Enqueued>,
     pub(crate) open: VecDeque<u64>,
 }
 
 /// How many transactions have lesser numbers.
-fn place_from(entries: &VecDeque<Entry>, number: u64) -> usize
+fn place_from(entries: &VecDeque<Enqueued>, number: u64) -> usize
     requires { IsRising (all_waiting entries.now.items) }
     ensures exact { result ≡ place_from number entries.now.items }
     ensures within { result ≤ length entries.now.items }
@@ -32,7 +32,7 @@ fn place_from(entries: &VecDeque<Entry>, number: u64) -> usize
 }
 
 /// The place of the transaction with a number, `None` exactly where none has it.
-pub(crate) fn place_of(entries: &VecDeque<Entry>, number: u64) -> Option<usize>
+pub(crate) fn place_of(entries: &VecDeque<Enqueued>, number: u64) -> Option<usize>
     requires { IsRising (all_waiting entries.now.items) }
     ensures exact { result ≡ place_of number (all_waiting entries.now.items) }
     ensures within { IfSome result (λ place. place < length entries.now.items) }
@@ -45,7 +45,7 @@ pub(crate) fn place_of(entries: &VecDeque<Entry>, number: u64) -> Option<usize>
 }
 
 /// Notes whether a transaction is open.
-fn note_open(numbers: &mut VecDeque<u64>, entry: &Entry)
+fn note_open(numbers: &mut VecDeque<u64>, entry: &Enqueued)
     requires rising { AreRising numbers.old.items }
     requires room { is_open entry.now ≡ true →
         length (placed entry.now.number true numbers.old.items) ≤ deque_capacity numbers.old }
@@ -60,7 +60,7 @@ fn note_open(numbers: &mut VecDeque<u64>, entry: &Entry)
 }
 
 /// Notes whether a transaction that comes behind the others is open.
-fn push_open(numbers: &mut VecDeque<u64>, entry: &Entry)
+fn push_open(numbers: &mut VecDeque<u64>, entry: &Enqueued)
     requires { deque_len numbers.old < deque_capacity numbers.old }
     ensures items { numbers.new.items ≡ numbers.old.items ++ (if is_open entry.now then entry.now.number ∷ [] else []) }
     ensures capacity { deque_capacity numbers.new ≡ deque_capacity numbers.old }
@@ -98,7 +98,7 @@ impl Transactions {
     }
 
     /// Puts a transaction behind the others. There is room for it.
-    pub(crate) fn push(&mut self, entry: Entry)
+    pub(crate) fn push(&mut self, entry: Enqueued)
         requires indexed { IsIndexed self.old }
         requires place { HasPlace self.old }
         requires below { AreBelow entry.number (all_waiting self.old.entries.items) }
@@ -114,7 +114,7 @@ impl Transactions {
         requires indexed { IsIndexed self.old }
         requires within { place < length self.old.entries.items }
         ensures indexed { IsIndexed self.new }
-        ensures entries { (d : AnyEntry) →
+        ensures entries { (d : AnyEnqueued) →
             self.new.entries.items
             ≡ slice_set self.old.entries.items place
             (record (slice_index_or self.old.entries.items place d) { ready = ready }) }
@@ -128,7 +128,7 @@ impl Transactions {
         requires indexed { IsIndexed self.old }
         requires within { place < length self.old.entries.items }
         ensures indexed { IsIndexed self.new }
-        ensures entries { (d : AnyEntry) →
+        ensures entries { (d : AnyEnqueued) →
             self.new.entries.items
             ≡ slice_set self.old.entries.items place
             (record (slice_index_or self.old.entries.items place d) { marked = mark }) }
@@ -138,7 +138,7 @@ impl Transactions {
     }
 
     /// Takes out the transaction at a place.
-    pub(crate) fn remove(&mut self, place: usize) -> Entry
+    pub(crate) fn remove(&mut self, place: usize) -> Enqueued
         requires indexed { IsIndexed self.old }
         requires within { place < length self.old.entries.items }
         ensures indexed { IsIndexed self.new }

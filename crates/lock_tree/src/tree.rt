@@ -5,7 +5,7 @@ ghost use Rattle.lock_tree.specs.Locks.{used, plan_of, without, with_mark};
 ghost use Rattle.lock_tree.specs.Ready.{ready, IsNextReady};
 ghost use Rattle.lock_tree.specs.Enqueues.{AreBelow};
 
-use crate::entry::Entry;
+use crate::enqueued::Enqueued;
 use crate::joining::{join, make_room_for};
 use crate::noting::leave_all;
 use crate::opening::least;
@@ -29,7 +29,7 @@ pub enum EnqueueFault {
 #[derive(Drop)]
 pub struct LockTree {
     alloc: Global,
-    nodes: usize,
+    arena: usize,
     pub(crate) free: usize,
     transactions: Transactions,
     queues: Queues,
@@ -45,22 +45,22 @@ impl Model for LockTree {
 
     ghost coded = { locks_code };
 
-    ghost view = { λ t. record { nodes = t.nodes; waiting = all_waiting t.transactions.entries.items } };
+    ghost view = { λ t. record { arena = t.arena; waiting = all_waiting t.transactions.entries.items } };
 
     ghost use Rattle.lock_tree.specs.Sound.{IsTree};
 
-    ghost invariant = { λ t. IsTree t.nodes t.free t.transactions t.queues };
+    ghost invariant = { λ t. IsTree t.arena t.free t.transactions t.queues };
 }
 
 impl LockTree {
     /// A tree with room for so many requests, and no transaction.
-    pub fn new(alloc: Global, nodes: usize) -> Result<LockTree, NoMemory>
-        ensures { IfOk result (λ tree. tree ≡ record { nodes = nodes; waiting = [] }) }
+    pub fn new(alloc: Global, arena: usize) -> Result<LockTree, NoMemory>
+        ensures { IfOk result (λ tree. tree ≡ record { arena = arena; waiting = [] }) }
     {
         Ok(LockTree {
             alloc,
-            nodes,
-            free: nodes,
+            arena,
+            free: arena,
             transactions: Transactions::new(alloc),
             queues: Queues::new(alloc),
         })
@@ -75,14 +75,14 @@ impl LockTree {
               waiting = self.old.waiting
                   ++ record { number = number; plan = plan.now; marked = false } ∷ [];
             }) }
-        ensures full { (result ≡ Err EnqueueFault.Full) ↔ (self.old.nodes < used self.old.waiting + length plan.now) }
+        ensures full { (result ≡ Err EnqueueFault.Full) ↔ (self.old.arena < used self.old.waiting + length plan.now) }
         ensures err { OnErr result (self.new ≡ self.old) }
     {
         let size = plan.requests().len();
         if size > self.free {
             return Err(EnqueueFault::Full);
         }
-        let entry = Entry::new(self.alloc, number, plan.requests())?;
+        let entry = Enqueued::new(self.alloc, number, plan.requests())?;
         self.transactions.make_place()?;
         make_room_for(self.alloc, &mut self.queues, plan.requests())?;
         join(&mut self.queues, &mut self.transactions, entry);

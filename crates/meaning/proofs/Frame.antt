@@ -26,7 +26,7 @@ use Rattle.footprint.specs.Arithmetic.{result_of}
 use Rattle.footprint.specs.Declaration.{number_or}
 use Rattle.meaning.specs.declared.outcome.Ending.{Ending}
 use Rattle.meaning.specs.declared.outcome.Ending.TheVariants as endings
-use Rattle.meaning.specs.Runs.{State, Ran, after, and_then, ok, ended, look, alter, provided, Gate, passing, covered, step, key_of, computed, accessed, part_there, part_accessed, part_now, row_now, present, absent, set_row, remove_row, declare, with_variable, set_variable, scoped, replying}
+use Rattle.meaning.specs.Runs.{State, Ran, continued, and_then, ok, ended, look, alter, provided, Gate, passing, covered, step, tested_key, computed, accessed, part_there, part_accessed, part_now, row_now, present, absent, set_row, remove_row, declare, with_variable, set_variable, scoped, replying}
 use Rattle.meaning.specs.Comparing.{compare, compare_bytes}
 use Rattle.meaning.specs.Partitions.{keys_of}
 use Rattle.meaning.specs.Turns.{numbers_between}
@@ -92,7 +92,7 @@ module _ (tables : List TableShape) (fo : FootprintOf) (uncovered : Ending) (one
   gate = covered tables fo uncovered
 
   then_alike : {A B : Type 0} (Q : A → Type 0) (P : B → Type 0) (r q : Result A Ending × State) (h : A → Ran B)
-      → Alike Q r q → ((v : A) → Q v → Keeps P (h v)) → Alike P (after r h) (after q h)
+      → Alike Q r q → ((v : A) → Q v → Keeps P (h v)) → Alike P (continued r h) (continued q h)
   then_alike Q P (Ok x, s) (Ok y, t) h a n = subst (λ v. Alike P (h x s) (h v t)) (sym a.1) (n x a.0 s t a.2)
   then_alike Q P (Err e, s) (Err f, t) h a n = a
   then_alike Q P (Ok x, s) (Err f, t) h a n = absurd a
@@ -171,7 +171,7 @@ module _ (tables : List TableShape) (fo : FootprintOf) (uncovered : Ending) (one
       bind Any Any _ _ (k_provided (nat_lt n 10000) Budget (n + 1)) (λ k w.
       k_alter (λ st. record st { steps = k }) (λ s. refl) (λ s rows. refl)))
 
-  k_key : (z : ℤ) → Keeps Any (key_of z)
+  k_key : (z : ℤ) → Keeps Any (tested_key z)
   k_key (pos n) = k_ok Any n tt
   k_key (negsuc n) = k_ended {A = ℕ} Any (endings.Abort BadKey)
 

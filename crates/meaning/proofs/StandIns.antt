@@ -18,7 +18,7 @@ use Rattle.values.specs.Database.{Database, RowOf, name_cmp}
 use Rattle.proclang_types.specs.declared.right.Right.{Right}
 use Rattle.proclang_types.specs.declared.right.Right.TheVariants.{Read, Write}
 use Rattle.proclang_types.specs.Syntax.{IntSyntax, number, variable, binary, count_rows, sum_column, TextSyntax, literal, text_variable, BoolSyntax, compare_ints, compare_texts, both, either, negated, row_exists, ValueSyntax, int_value, text_value, StmtSyntax, assign, get as get_syntax, put, insert_row, delete_row, choose, for_numbers, for_keys, abort as abort_syntax, reply, BlockSyntax, no_statements, followed, block_of, ProcSyntax}
-use Rattle.proclang_types.specs.Typing.{column_kind, IntFits, TextFits, BoolFits, ValueFits, kind_of, in_loop, Takes, declared, after as kinds_after, StmtFits, BlockFits, kinds_of}
+use Rattle.proclang_types.specs.Typing.{column_kind, IntFits, TextFits, BoolFits, ValueFits, kind_of, in_loop, Takes, declared, continued as kinds_after, StmtFits, BlockFits, kinds_of}
 use Rattle.footprint.specs.declared.abort_code.AbortCode.{AbortCode}
 use Rattle.footprint.specs.declared.abort_code.AbortCode.TheVariants.{BadKey, BadPart, NoRow, DuplicateRow, Budget, TooLong, Own, Overflow, Uncovered}
 use Rattle.footprint.specs.declared.resource.Resource.TheVariants.{Table}
@@ -29,7 +29,7 @@ use Rattle.footprint.specs.Rights.{FootprintOf, covers}
 use Rattle.footprint.specs.Arithmetic.{result_of, is_int}
 use Rattle.meaning.specs.declared.outcome.Ending.{Ending}
 use Rattle.meaning.specs.declared.outcome.Ending.TheVariants as endings
-use Rattle.meaning.specs.Runs.{State, Ran, after, and_then, ok, ended, look, alter, provided, Gate, passing, covered, step, key_of, in_range, computed, accessed, part_there, part_accessed, part_now, row_now, present, absent, set_row, remove_row, declare, set_variable, scoped, replying}
+use Rattle.meaning.specs.Runs.{State, Ran, continued, and_then, ok, ended, look, alter, provided, Gate, passing, covered, step, tested_key, in_range, computed, accessed, part_there, part_accessed, part_now, row_now, present, absent, set_row, remove_row, declare, set_variable, scoped, replying}
 use Rattle.meaning.specs.Comparing.{compare, compare_bytes}
 use Rattle.meaning.specs.Partitions.{keys_of, total, part_rows}
 use Rattle.meaning.specs.Turns.{numbers_between}
@@ -59,7 +59,7 @@ module _ (tables : List TableShape) where
   Any x = Unit {0}
 
   then_same : {A B : Type 0} (Q : A → Type 0) (P : B → Type 0) (kinds later : List ColType) (r : Result A Ending × State) (h k : A → Ran B) → After Q kinds r → ((v : A) → Q v → Same P kinds later (h v) (k v))
-      → (after r k ≡ after r h) × After P later (after r h)
+      → (continued r k ≡ continued r h) × After P later (continued r h)
   then_same Q P kinds later (Ok x, s) h k a m = m x a.0 s a.1
   then_same Q P kinds later (Err e, s) h k a m = (refl, tt)
 
@@ -68,7 +68,7 @@ module _ (tables : List TableShape) where
   unfolding and_then
   bind Q P kinds between later f g h k a m s typed =
       let both = then_same Q P between later (f s) h k (a s typed).1 m in
-      (ap (λ r. after r k) (a s typed).0 ∙ both.0, both.1)
+      (ap (λ r. continued r k) (a s typed).0 ∙ both.0, both.1)
 
   s_ok : {A : Type 0} (Q : A → Type 0) (kinds : List ColType) (v : A) → Q v → Same Q kinds kinds (ok v) (ok v)
   s_ok Q kinds v q s typed = (refl, (q, typed))
@@ -96,7 +96,7 @@ module _ (tables : List TableShape) where
       bind Any Any kinds kinds kinds _ _ _ _ (s_provided kinds (nat_lt n 10000) Budget (n + 1)) (λ k w.
       s_alter kinds (λ st. record st { steps = k }) (λ s. refl) (λ s. refl)))
 
-  s_key : (kinds : List ColType) (z : ℤ) → Same Any kinds kinds (key_of z) (key_of z)
+  s_key : (kinds : List ColType) (z : ℤ) → Same Any kinds kinds (tested_key z) (tested_key z)
   s_key kinds (pos n) = s_ok Any kinds n tt
   s_key kinds (negsuc n) = s_ended {A = ℕ} Any kinds kinds (endings.Abort BadKey)
 

@@ -13,7 +13,7 @@ use Rattle.values.specs.Shapes.{TableShape}
 use Rattle.values.specs.Rows.{type_of}
 use Rattle.values.specs.Database.{RowOf}
 use Rattle.proclang_types.specs.Syntax.{StmtSyntax, assign, get as get_syntax, put, insert_row, delete_row, choose, for_numbers, for_keys, abort as abort_syntax, reply, BlockSyntax, no_statements, followed}
-use Rattle.proclang_types.specs.Typing.{column_kind, kind_of, in_loop, Takes, declared, after as kinds_after}
+use Rattle.proclang_types.specs.Typing.{column_kind, kind_of, in_loop, Takes, declared, scope_after as kinds_after}
 use Rattle.footprint.specs.Declaration.{number_or}
 use Rattle.meaning.specs.Runs.{with_variable}
 use Rattle.meaning.specs.Meaning.{text_or}

@@ -34,13 +34,13 @@ pub record State : Type 0 where
 abbrev pub Ran : Type 0 → Type 0
 Ran A = State → Result A Ending × State
 
-abbrev pub after : {A B : Type 0} → Result A Ending × State → (A → Ran B) → Result B Ending × State
-after (Ok x, st) next = next x st
-after (Err e, st) next = (Err e, st)
+abbrev pub continued : {A B : Type 0} → Result A Ending × State → (A → Ran B) → Result B Ending × State
+continued (Ok x, st) next = next x st
+continued (Err e, st) next = (Err e, st)
 
 -- one part and then the next, unless the first ended the run
 unfoldable pub and_then : {A B : Type 0} → Ran A → (A → Ran B) → Ran B
-and_then first next st = after (first st) next
+and_then first next st = continued (first st) next
 
 infixl 10 ◌>>=◌
 abbrev pub ◌>>=◌ : {A B : Type 0} → Ran A → (A → Ran B) → Ran B
@@ -99,14 +99,14 @@ abbrev pub computed : {A : Type 0} → Result A AbortCode → Ran A
 computed (Ok x) = ok x
 computed (Err code) = abort code
 
-abbrev pub key_of : ℤ → Ran ℕ
-key_of (pos n) = ok n
-key_of (negsuc n) = abort BadKey
+abbrev pub tested_key : ℤ → Ran ℕ
+tested_key (pos n) = ok n
+tested_key (negsuc n) = abort BadKey
 
 -- the name of a row, once the key was tested and then the right to the row
 abbrev pub accessed : Gate → Right → ℕ → ℤ → Ran RowName
 accessed gate right table z = do
-  key ← key_of z
+  key ← tested_key z
   u ← gate.access (row_resource gate.tables (record { table = table; key = key })) right
   ok (record { table = table; key = key })
 

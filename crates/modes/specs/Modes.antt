@@ -4,7 +4,7 @@
 use Rattle.std.specs.Prelude.{◌≡◌, ◌≤◌, ℕ, Bool, ◌&&◌, not, max}
 use Rattle.modes.specs.declared.mode.Mode.{Mode}
 use Rattle.modes.specs.declared.mode.Mode.TheVariants.{IntentionShared, IntentionExclusive, Shared, SharedIntentionExclusive, Exclusive}
-use Rattle.modes.specs.Rights.{ranks_clash}
+use Rattle.modes.specs.Rights.{rights_clash}
 
 -- the right on the resource itself
 abbrev pub own : Mode → ℕ
@@ -24,7 +24,7 @@ subtree Exclusive = 2
 
 -- neither's own right clashes with the other's right in the subtree
 abbrev pub are_compatible : Mode → Mode → Bool
-are_compatible first second = not (ranks_clash (own first) (subtree second)) && not (ranks_clash (own second) (subtree first))
+are_compatible first second = not (rights_clash (own first) (subtree second)) && not (rights_clash (own second) (subtree first))
 
 -- the second mode is at least as strong as the first: it has at least its rights, on the resource and in the subtree.
 -- So IS < IX < SIX < X and IS < S < SIX, and neither of IX and S is stronger than the other

@@ -14,5 +14,5 @@ rank None = 0
 rank (Some right) = rank_of right
 
 -- two rights clash if both are not none and one of them is Write
-abbrev pub ranks_clash : ℕ → ℕ → Bool
-ranks_clash x y = nat_lt 0 x && (nat_lt 0 y && ((x == 2) || (y == 2)))
+abbrev pub rights_clash : ℕ → ℕ → Bool
+rights_clash x y = nat_lt 0 x && (nat_lt 0 y && ((x == 2) || (y == 2)))

@@ -9,7 +9,7 @@ use Rattle.values.specs.declared.value.ColType.{ColType}
 use Rattle.values.specs.declared.value.ColType.TheVariants as types
 use Rattle.values.specs.Shapes.{TableShape}
 use Rattle.proclang_types.specs.Syntax.{IntSyntax, ExprSyntax, ValueSyntax, StmtSyntax, assign, get, put, insert_row, delete_row, abort, reply}
-use Rattle.proclang_types.specs.Typing.{column_kind, column_kinds, IntFits, ExprFits, ValueFits, kind_of, declared, after, StmtFits}
+use Rattle.proclang_types.specs.Typing.{column_kind, column_kinds, IntFits, ExprFits, ValueFits, kind_of, declared, scope_after, StmtFits}
 use Rattle.proclang.specs.declared.fault.FaultKind.TheVariants.{Shape, UnknownColumn}
 use Rattle.proclang.specs.declared.fault.ProcFault.{ProcFault}
 use Rattle.proclang.specs.declared.fault.ProcFault.TheVariants.{At}
@@ -27,11 +27,11 @@ use Rattle.proclang.proofs.TypedParts.{statement_expr_fits, key_fits, target_is,
 
 -- a statement fits, and leaves the variables that are seen after it
 abbrev pub Fit : List TableShape → List Seen → StmtSyntax × List Seen → Type 0
-Fit tables scope r = StmtFits tables (seen_kinds scope) r.0 × (after tables (seen_kinds scope) r.0 ≡ seen_kinds r.1)
+Fit tables scope r = StmtFits tables (seen_kinds scope) r.0 × (scope_after tables (seen_kinds scope) r.0 ≡ seen_kinds r.1)
 
 -- a statement fits, and declares nothing
 abbrev pub FitAlone : List TableShape → List Seen → StmtSyntax → Type 0
-FitAlone tables scope s = StmtFits tables (seen_kinds scope) s × (after tables (seen_kinds scope) s ≡ seen_kinds scope)
+FitAlone tables scope s = StmtFits tables (seen_kinds scope) s × (scope_after tables (seen_kinds scope) s ≡ seen_kinds scope)
 
 pub let_fits : (tables : List TableShape) (path : List ℕ) (scope : List Seen) (form : LetParts) (r : StmtSyntax × List Seen) → let_at tables path scope form ≡ Ok r → Fit tables scope r
 unfolding let_at

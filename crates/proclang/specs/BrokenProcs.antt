@@ -100,5 +100,5 @@ in_procs_form tables None = At Shape [] ∷ []
 in_procs_form tables (Some ds) = too_many (2 ∷ []) 256 ds ++ in_named_parts name_of_proc (in_proc tables) (2 ∷ []) 0 [] ds
 
 -- every rule that a document of procedures over the tables of a catalogue breaks
-abbrev pub broken_rules : List TableShape → Data → List ProcFault
-broken_rules tables d = in_procs_form tables (versioned_list (codes "procs") d)
+abbrev pub broken_proc_rules : List TableShape → Data → List ProcFault
+broken_proc_rules tables d = in_procs_form tables (versioned_list (codes "procs") d)

@@ -1,7 +1,7 @@
 //! Operators with their operands, each of which stands at its own path.
 
 ghost use Rattle.std.specs.Prelude.{◌≡◌};
-ghost use Rattle.documents.specs.Reading.{Gives};
+ghost use Rattle.documents.specs.Reading.{Reads};
 ghost use Rattle.proclang_types.specs.Syntax.{both, either, bool};
 ghost use Rattle.proclang_types.specs.Views.{expr_view};
 ghost use Rattle.proclang.specs.Paths.{places};
@@ -24,7 +24,7 @@ fn calculate(
     right_path: &Path<'_>,
     right: Expr,
 ) -> Result<Expr, ProcFault>
-    ensures { Gives is_memory expr_view result
+    ensures { Reads is_memory expr_view result
         (calculate operator (places left_path.now) (expr_view left) (places right_path.now) (expr_view right)) }
 {
     let left = as_int(alloc, left_path, left)?;
@@ -43,7 +43,7 @@ fn compare(
     right_path: &Path<'_>,
     right: Expr,
 ) -> Result<Expr, ProcFault>
-    ensures { Gives is_memory expr_view result
+    ensures { Reads is_memory expr_view result
         (compare test (places left_path.now) (expr_view left) (places right_path.now) (expr_view right)) }
 {
     let left = as_int(alloc, left_path, left)?;
@@ -70,7 +70,7 @@ fn equate(
     right_path: &Path<'_>,
     right: Expr,
 ) -> Result<Expr, ProcFault>
-    ensures { Gives is_memory expr_view result
+    ensures { Reads is_memory expr_view result
         (two_alike test (places left_path.now) (expr_view left) (places right_path.now) (expr_view right)) }
 {
     match left {
@@ -94,7 +94,7 @@ fn conjoin(
     right_path: &Path<'_>,
     right: Expr,
 ) -> Result<Expr, ProcFault>
-    ensures { Gives is_memory expr_view result
+    ensures { Reads is_memory expr_view result
         (two_bools (λ x y. bool (both x y)) (places left_path.now) (expr_view left) (places right_path.now)
         (expr_view right)) }
 {
@@ -113,7 +113,7 @@ fn disjoin(
     right_path: &Path<'_>,
     right: Expr,
 ) -> Result<Expr, ProcFault>
-    ensures { Gives is_memory expr_view result
+    ensures { Reads is_memory expr_view result
         (two_bools (λ x y. bool (either x y)) (places left_path.now) (expr_view left) (places right_path.now)
         (expr_view right)) }
 {
@@ -134,7 +134,7 @@ pub(crate) fn combine(
     right_path: &Path<'_>,
     right: Expr,
 ) -> Result<Expr, ProcFault>
-    ensures { Gives is_memory expr_view result
+    ensures { Reads is_memory expr_view result
         (combine operator (places left_path.now) (expr_view left) (places right_path.now) (expr_view right)) }
 {
     match operator {

@@ -2,7 +2,7 @@
 
 ghost use Rattle.std.specs.Prelude.{◌≡◌, ◌<◌, ◌==◌, OnOk, length, map};
 ghost use Rattle.serde_json.specs.View.{view};
-ghost use Rattle.documents.specs.Reading.{Gives, rule};
+ghost use Rattle.documents.specs.Reading.{Reads, rule};
 ghost use Rattle.proclang.specs.Paths.{places};
 ghost use Rattle.proclang.specs.Faults.{is_memory};
 ghost use Rattle.proclang.specs.declared.fault.FaultKind.TheVariants.{Shape};
@@ -23,7 +23,7 @@ pub(crate) fn at_most(
     most: usize,
     values: &[Value],
 ) -> Result<(), ProcFault>
-    ensures { Gives is_memory (λ x. x) result (at_most (places path.now) most (map view values.now)) }
+    ensures { Reads is_memory (λ x. x) result (at_most (places path.now) most (map view values.now)) }
 {
     if values.len() > most {
         return Err(fault(alloc, FaultKind::Limit, path));
@@ -41,7 +41,7 @@ pub(crate) fn as_many(
     values: &[Value],
 ) -> Result<(), ProcFault>
     requires { table < length catalogue.now }
-    ensures exact { Gives is_memory (λ x. x) result
+    ensures exact { Reads is_memory (λ x. x) result
         (rule (length values.now == length (kinds_in catalogue.now table)) (At Shape (places path.now))) }
     ensures many { OnOk result (length values.now ≡ length (kinds_in catalogue.now table)) }
 {

@@ -3,10 +3,10 @@
 ghost use Rattle.std.specs.Prelude.{◌≡◌, ◌⊎◌, List, Some, Ok, map, IfOk, IfErr, OnOk, IsOkUnless, [], ◌∷◌};
 ghost use Rattle.serde_json.specs.View.{view};
 ghost use Rattle.documents.specs.FirstFault.{first};
-ghost use Rattle.documents.specs.Reading.{Gives};
+ghost use Rattle.documents.specs.Reading.{Reads};
 ghost use Rattle.proclang_types.specs.Procedures.{proc_syntax};
 ghost use Rattle.proclang_types.specs.Syntax.{ProcSyntax};
-ghost use Rattle.proclang.specs.BrokenProcs.{broken_rules};
+ghost use Rattle.proclang.specs.BrokenProcs.{broken_proc_rules};
 ghost use Rattle.proclang.specs.Says.{SaysProcs};
 ghost use Rattle.proclang.specs.declared.fault.ProcFault.TheVariants.{Memory};
 ghost use Rattle.proclang.specs.Paths.{places};
@@ -30,7 +30,7 @@ fn read_each(
     path: &Path<'_>,
     values: &[Value],
 ) -> Result<Procs, ProcFault>
-    ensures exact { Gives is_memory (λ p. map proc_syntax p.procs) result
+    ensures exact { Reads is_memory (λ p. map proc_syntax p.procs) result
         (each_proc catalogue.now (places path.now) (map view values.now)) }
     ensures tables { IfOk result (λ p. p.tables ≡ catalogue.now) }
     ensures over { IfOk result (λ p. AreOver catalogue.now p.procs) }
@@ -48,7 +48,7 @@ fn read_each(
 fn read_document(alloc: Global, document: &Value, catalogue: &Catalogue) -> Result<Procs, ProcFault>
     ensures tables { IfOk result (λ p. p.tables ≡ catalogue.now) }
     ensures sound { IfOk result (λ p. AreProcs p.tables p.procs) }
-    ensures exact { Gives is_memory (λ p. map proc_syntax p.procs) result (procs_at catalogue.now (view document.now)) }
+    ensures exact { Reads is_memory (λ p. map proc_syntax p.procs) result (procs_at catalogue.now (view document.now)) }
 {
     let Some(values) = versioned_list("procs", document) else {
         return Err(fault(alloc, FaultKind::Shape, &Path::Document));
@@ -73,14 +73,14 @@ pub fn read_procs(
     ensures found { IfOk result (λ p. SaysProcs catalogue.now (view document.now) (map proc_syntax p.procs)) }
     // Procedures that the document says are what is read, unless memory runs out.
     ensures only { (ps : List ProcSyntax) → SaysProcs catalogue.now (view document.now) ps →
-        Gives is_memory (λ p. map proc_syntax p.procs) result (Ok ps) }
+        Reads is_memory (λ p. map proc_syntax p.procs) result (Ok ps) }
     // The fault is the first rule that the document breaks, with its path.
     ensures first { IfErr result (λ e. (e ≡ Memory) ⊎
-        (first (broken_rules catalogue.now (view document.now)) ≡ Some e)) }
+        (first (broken_proc_rules catalogue.now (view document.now)) ≡ Some e)) }
     // A document that is read breaks no rule, and one that breaks none is read, unless memory runs out.
-    ensures unbroken { OnOk result (broken_rules catalogue.now (view document.now) ≡ []) }
-    ensures none { broken_rules catalogue.now (view document.now) ≡ [] → IsOkUnless result Memory }
-    ensures exact { Gives is_memory (λ p. map proc_syntax p.procs) result (procs_at catalogue.now (view document.now)) }
+    ensures unbroken { OnOk result (broken_proc_rules catalogue.now (view document.now) ≡ []) }
+    ensures none { broken_proc_rules catalogue.now (view document.now) ≡ [] → IsOkUnless result Memory }
+    ensures exact { Reads is_memory (λ p. map proc_syntax p.procs) result (procs_at catalogue.now (view document.now)) }
 {
     match read_document(alloc, document, catalogue) {
         Ok(procs) => Ok(procs),

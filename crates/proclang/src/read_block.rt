@@ -2,7 +2,7 @@
 
 ghost use Rattle.std.specs.Prelude.{◌≡◌, OnOk, List};
 ghost use Rattle.serde_json.specs.View.{view};
-ghost use Rattle.documents.specs.Reading.{Gives};
+ghost use Rattle.documents.specs.Reading.{Reads};
 ghost use Rattle.proclang_types.specs.Views.{stmt_view, stmts_view};
 ghost use Rattle.proclang.specs.Paths.{places};
 ghost use Rattle.proclang.specs.Faults.{is_memory};
@@ -38,7 +38,7 @@ fn read_if(
     path: &Path<'_>,
     form: IfForm<'_>,
 ) -> Result<Stmt, ProcFault>
-    ensures exact { Gives is_memory stmt_view result
+    ensures exact { Reads is_memory stmt_view result
         (if_at catalogue.now (block_at catalogue.now room) (places path.now) scope.old (if_parts_of form.entry)) }
     ensures scope { OnOk result (scope.new ≡ scope.old) }
 {
@@ -67,7 +67,7 @@ fn read_loop_block(
     variable: &str,
     value: &Value,
 ) -> Result<Vec<Stmt>, ProcFault>
-    ensures exact { Gives is_memory (λ v. stmts_view v.items) result
+    ensures exact { Reads is_memory (λ v. stmts_view v.items) result
         (block_at catalogue.now room (places path.now) (seen_in_loop scope.old variable.now) (view value.now)) }
     ensures scope { OnOk result (scope.new ≡ scope.old) }
 {
@@ -89,7 +89,7 @@ fn read_for(
     path: &Path<'_>,
     form: ForForm<'_>,
 ) -> Result<Stmt, ProcFault>
-    ensures exact { Gives is_memory stmt_view result
+    ensures exact { Reads is_memory stmt_view result
         (for_at catalogue.now (block_at catalogue.now room) (places path.now) scope.old (for_parts_of form.entry)) }
     ensures scope { OnOk result (scope.new ≡ scope.old) }
 {
@@ -123,7 +123,7 @@ fn read_each(
     path: &Path<'_>,
     form: EachForm<'_>,
 ) -> Result<Stmt, ProcFault>
-    ensures exact { Gives is_memory stmt_view result
+    ensures exact { Reads is_memory stmt_view result
         (each_at catalogue.now (block_at catalogue.now room) (places path.now) scope.old (each_parts_of form.entry)) }
     ensures scope { OnOk result (scope.new ≡ scope.old) }
 {
@@ -155,7 +155,7 @@ fn read_statement(
     path: &Path<'_>,
     value: &Value,
 ) -> Result<Stmt, ProcFault>
-    ensures { Gives is_memory (λ s. (stmt_view s, scope.new)) result
+    ensures { Reads is_memory (λ s. (stmt_view s, scope.new)) result
         (statement_at catalogue.now (block_at catalogue.now room) (places path.now) scope.old (view value.now)) }
 {
     let Some(form) = statement_form(value) else {
@@ -187,7 +187,7 @@ pub(crate) fn read_block(
     path: &Path<'_>,
     value: &Value,
 ) -> Result<Vec<Stmt>, ProcFault>
-    ensures exact { Gives is_memory (λ v. stmts_view v.items) result
+    ensures exact { Reads is_memory (λ v. stmts_view v.items) result
         (block_at catalogue.now room (places path.now) scope.old (view value.now)) }
     ensures scope { OnOk result (scope.new ≡ scope.old) }
 {

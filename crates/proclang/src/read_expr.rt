@@ -2,7 +2,7 @@
 
 ghost use Rattle.std.specs.Prelude.{◌≡◌};
 ghost use Rattle.serde_json.specs.View.{view};
-ghost use Rattle.documents.specs.Reading.{Gives};
+ghost use Rattle.documents.specs.Reading.{Reads};
 ghost use Rattle.proclang_types.specs.Views.{expr_view};
 ghost use Rattle.proclang.specs.Paths.{places};
 ghost use Rattle.proclang.specs.Faults.{is_memory};
@@ -30,7 +30,7 @@ fn read_variable(
     scope: &Scope,
     name: &str,
 ) -> Result<Expr, ProcFault>
-    ensures { Gives is_memory expr_view result (named (places path.now) (found_in name.now scope.now)) }
+    ensures { Reads is_memory expr_view result (named (places path.now) (found_in name.now scope.now)) }
 {
     let Some(variable) = scope.find(name) else {
         return Err(fault(alloc, FaultKind::UnknownName, path));
@@ -42,7 +42,7 @@ fn read_variable(
 }
 
 fn read_literal(alloc: Global, path: &Path<'_>, text: &str) -> Result<Expr, ProcFault>
-    ensures { Gives is_memory expr_view result (literal_at (places path.now) text.now) }
+    ensures { Reads is_memory expr_view result (literal_at (places path.now) text.now) }
 {
     if text.len() > 64 {
         return Err(fault(alloc, FaultKind::Limit, path));
@@ -61,7 +61,7 @@ fn read_not(
     path: &Path<'_>,
     part: &Value,
 ) -> Result<Expr, ProcFault>
-    ensures { Gives is_memory expr_view result
+    ensures { Reads is_memory expr_view result
         (not_at (expr_at section catalogue.now room) (places path.now) scope.now (view part.now)) }
 {
     let part_path = Path::Element(&*path, 1);
@@ -81,7 +81,7 @@ fn read_binary(
     path: &Path<'_>,
     form: BinaryForm<'_>,
 ) -> Result<Expr, ProcFault>
-    ensures { Gives is_memory expr_view result
+    ensures { Reads is_memory expr_view result
         (binary_at (expr_at section catalogue.now room) (places path.now) scope.now form.entry.operator
         (view form.entry.left.now) (view form.entry.right.now)) }
 {
@@ -113,7 +113,7 @@ fn read_exists(
     path: &Path<'_>,
     form: ExistsForm<'_>,
 ) -> Result<Expr, ProcFault>
-    ensures { Gives is_memory expr_view result
+    ensures { Reads is_memory expr_view result
         (exists_at catalogue.now (expr_at section catalogue.now room) (places path.now) scope.now form.entry.table.now
         (view form.entry.key.now)) }
 {
@@ -135,7 +135,7 @@ fn read_count(
     path: &Path<'_>,
     form: CountForm<'_>,
 ) -> Result<Expr, ProcFault>
-    ensures { Gives is_memory expr_view result
+    ensures { Reads is_memory expr_view result
         (count_at catalogue.now (expr_at section catalogue.now room) (places path.now) scope.now form.entry.table.now
         (view form.entry.number.now)) }
 {
@@ -166,7 +166,7 @@ fn read_sum(
     path: &Path<'_>,
     form: SumForm<'_>,
 ) -> Result<Expr, ProcFault>
-    ensures { Gives is_memory expr_view result
+    ensures { Reads is_memory expr_view result
         (sum_at catalogue.now (expr_at section catalogue.now room) (places path.now) scope.now form.entry.table.now
         (view form.entry.number.now) form.entry.column.now) }
 {
@@ -208,7 +208,7 @@ pub(crate) fn read_expr(
     path: &Path<'_>,
     value: &Value,
 ) -> Result<Expr, ProcFault>
-    ensures { Gives is_memory expr_view result
+    ensures { Reads is_memory expr_view result
         (expr_at section catalogue.now room (places path.now) scope.now (view value.now)) }
 {
     let Some(form) = form_in(section, value) else {
@@ -238,7 +238,7 @@ pub(crate) fn read_statement_expr(
     path: &Path<'_>,
     value: &Value,
 ) -> Result<Expr, ProcFault>
-    ensures { Gives is_memory expr_view result
+    ensures { Reads is_memory expr_view result
         (statement_expr catalogue.now (places path.now) scope.now (view value.now)) }
 {
     read_expr(alloc, Section::Body, catalogue, scope, DEEPEST, path, value)

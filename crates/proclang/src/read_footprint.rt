@@ -2,7 +2,7 @@
 
 ghost use Rattle.std.specs.Prelude.{◌≡◌, map};
 ghost use Rattle.serde_json.specs.View.{view};
-ghost use Rattle.documents.specs.Reading.{Gives};
+ghost use Rattle.documents.specs.Reading.{Reads};
 ghost use Rattle.proclang_types.specs.Views.{int_view, entry_view};
 ghost use Rattle.proclang.specs.Paths.{places};
 ghost use Rattle.proclang.specs.Faults.{is_memory};
@@ -32,7 +32,7 @@ fn read_int(
     path: &Path<'_>,
     value: &Value,
 ) -> Result<IntExpr, ProcFault>
-    ensures { Gives is_memory int_view result (int_at catalogue.now (places path.now) scope.now (view value.now)) }
+    ensures { Reads is_memory int_view result (int_at catalogue.now (places path.now) scope.now (view value.now)) }
 {
     let footprint = Section::Footprint;
     let expr = read_expr(alloc, footprint, catalogue, scope, DEEPEST, path, value)?;
@@ -47,7 +47,7 @@ fn read_parts(
     path: &Path<'_>,
     form: EntryForm<'_>,
 ) -> Result<FootprintEntry, ProcFault>
-    ensures { Gives is_memory entry_view result (entry_of catalogue.now (places path.now) scope.now
+    ensures { Reads is_memory entry_view result (entry_of catalogue.now (places path.now) scope.now
         (entry_form_view form.entry)) }
 {
     let table_path = Path::Element(&*path, 2);
@@ -79,7 +79,7 @@ fn read_entry(
     path: &Path<'_>,
     value: &Value,
 ) -> Result<FootprintEntry, ProcFault>
-    ensures { Gives is_memory entry_view result (entry_at catalogue.now scope.now (places path.now) (view value.now)) }
+    ensures { Reads is_memory entry_view result (entry_at catalogue.now scope.now (places path.now) (view value.now)) }
 {
     let Some(form) = entry_form(value) else {
         return Err(fault(alloc, FaultKind::Shape, path));
@@ -94,7 +94,7 @@ fn read_each(
     path: &Path<'_>,
     values: &[Value],
 ) -> Result<Vec<FootprintEntry>, ProcFault>
-    ensures { Gives is_memory (λ v. map entry_view v.items) result
+    ensures { Reads is_memory (λ v. map entry_view v.items) result
         (each_entry catalogue.now (places path.now) scope.now (map view values.now)) }
 {
     let mut entries = Vec::new(alloc);
@@ -114,7 +114,7 @@ pub(crate) fn read_footprint(
     path: &Path<'_>,
     value: &Value,
 ) -> Result<Vec<FootprintEntry>, ProcFault>
-    ensures { Gives is_memory (λ v. map entry_view v.items) result
+    ensures { Reads is_memory (λ v. map entry_view v.items) result
         (footprint_at catalogue.now (places path.now) scope.now (view value.now)) }
 {
     let Some(values) = declared_form(value) else {

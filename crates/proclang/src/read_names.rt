@@ -1,7 +1,7 @@
 //! Names that are declared, and tables and columns that are named.
 
 ghost use Rattle.std.specs.Prelude.{◌≡◌, ◌<◌, IfOk, length};
-ghost use Rattle.documents.specs.Reading.{Gives};
+ghost use Rattle.documents.specs.Reading.{Reads};
 ghost use Rattle.proclang.specs.Paths.{places};
 ghost use Rattle.proclang.specs.Faults.{is_memory};
 ghost use Rattle.proclang.specs.Lookups.{declared_at, table_at, column_in, column_at};
@@ -13,7 +13,7 @@ use values::{Catalogue, ColType, TableNo, is_name};
 
 /// A name that is declared obeys the rule of names.
 pub(crate) fn declare(alloc: Global, path: &Path<'_>, name: &str) -> Result<(), ProcFault>
-    ensures { Gives is_memory (λ x. x) result (declared_at (places path.now) name.now) }
+    ensures { Reads is_memory (λ x. x) result (declared_at (places path.now) name.now) }
 {
     if !is_name(name) {
         return Err(fault(alloc, FaultKind::Shape, path));
@@ -27,7 +27,7 @@ pub(crate) fn read_table(
     catalogue: &Catalogue,
     name: &str,
 ) -> Result<TableNo, ProcFault>
-    ensures exact { Gives is_memory (λ t. t) result (table_at (places path.now) catalogue.now name.now) }
+    ensures exact { Reads is_memory (λ t. t) result (table_at (places path.now) catalogue.now name.now) }
     ensures within { IfOk result (λ t. t < length catalogue.now) }
 {
     let Some(table) = catalogue.table(name) else {
@@ -53,7 +53,7 @@ pub(crate) fn read_column(
     name: &str,
 ) -> Result<(usize, ColType), ProcFault>
     requires { table < length catalogue.now }
-    ensures { Gives is_memory (λ c. c) result (column_at (places path.now) catalogue.now table name.now) }
+    ensures { Reads is_memory (λ c. c) result (column_at (places path.now) catalogue.now table name.now) }
 {
     let Some(column) = find_column(catalogue, table, name) else {
         return Err(fault(alloc, FaultKind::UnknownColumn, path));

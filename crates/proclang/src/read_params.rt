@@ -4,7 +4,7 @@ ghost use Rattle.std.specs.Prelude.{◌≡◌, string_bytes, map};
 ghost use Rattle.std.specs.Str.{bytes_eq};
 ghost use Rattle.std.specs.List.{list_any};
 ghost use Rattle.serde_json.specs.View.{view};
-ghost use Rattle.documents.specs.Reading.{Gives};
+ghost use Rattle.documents.specs.Reading.{Reads};
 ghost use Rattle.proclang_types.specs.Procedures.{param_shape};
 ghost use Rattle.proclang.specs.Paths.{places};
 ghost use Rattle.proclang.specs.Faults.{is_memory};
@@ -33,7 +33,7 @@ fn read_param(
     earlier: &[Param],
     value: &Value,
 ) -> Result<Param, ProcFault>
-    ensures { Gives is_memory param_shape result (param_at (places path.now) (map param_shape earlier.now)
+    ensures { Reads is_memory param_shape result (param_at (places path.now) (map param_shape earlier.now)
         (view value.now)) }
 {
     let Some((name, kind)) = column_form(value) else {
@@ -49,7 +49,7 @@ fn read_param(
 }
 
 fn read_each(alloc: Global, path: &Path<'_>, values: &[Value]) -> Result<Vec<Param>, ProcFault>
-    ensures { Gives is_memory (λ v.
+    ensures { Reads is_memory (λ v.
         map param_shape v.items) result (each_param (places path.now) (map view values.now)) }
 {
     let mut params = Vec::new(alloc);
@@ -67,7 +67,7 @@ pub(crate) fn read_params(
     path: &Path<'_>,
     values: &[Value],
 ) -> Result<Vec<Param>, ProcFault>
-    ensures { Gives is_memory (λ v.
+    ensures { Reads is_memory (λ v.
         map param_shape v.items) result (params_at (places path.now) (map view values.now)) }
 {
     at_most(alloc, path, 16, values)?;

@@ -2,7 +2,7 @@
 
 ghost use Rattle.std.specs.Prelude.{◌≡◌, IfOk, map};
 ghost use Rattle.serde_json.specs.View.{view};
-ghost use Rattle.documents.specs.Reading.{Gives};
+ghost use Rattle.documents.specs.Reading.{Reads};
 ghost use Rattle.values.specs.Reading.{is_used};
 ghost use Rattle.proclang_types.specs.Procedures.{proc_syntax};
 ghost use Rattle.proclang.specs.Paths.{places};
@@ -40,7 +40,7 @@ fn read_parts(
     path: &Path<'_>,
     form: ProcForm<'_>,
 ) -> Result<Parts, ProcFault>
-    ensures { Gives is_memory parts_view result (parts_at catalogue.now (places path.now) (proc_parts_of form.entry)) }
+    ensures { Reads is_memory parts_view result (parts_at catalogue.now (places path.now) (proc_parts_of form.entry)) }
 {
     let params = read_params(alloc, &Path::Element(&*path, 1), form.params)?;
     let mut scope = Scope::of_params(alloc, &params)?;
@@ -71,7 +71,7 @@ pub(crate) fn read_proc(
     earlier: &Procs,
     value: &Value,
 ) -> Result<Proc, ProcFault>
-    ensures exact { Gives is_memory proc_syntax result
+    ensures exact { Reads is_memory proc_syntax result
         (proc_at catalogue.now (places path.now) (map proc_syntax earlier.now.procs) (view value.now)) }
     ensures tables { IfOk result (λ p. p.tables ≡ catalogue.now) }
 {

@@ -2,7 +2,7 @@
 
 ghost use Rattle.std.specs.Prelude.{◌≡◌, map};
 ghost use Rattle.serde_json.specs.View.{view};
-ghost use Rattle.documents.specs.Reading.{Gives};
+ghost use Rattle.documents.specs.Reading.{Reads};
 ghost use Rattle.proclang_types.specs.Views.{stmt_view};
 ghost use Rattle.proclang.specs.Paths.{places};
 ghost use Rattle.proclang.specs.Faults.{is_memory};
@@ -32,7 +32,7 @@ pub(crate) fn read_let(
     path: &Path<'_>,
     form: LetForm<'_>,
 ) -> Result<Stmt, ProcFault>
-    ensures { Gives is_memory (λ s. (stmt_view s, scope.new)) result
+    ensures { Reads is_memory (λ s. (stmt_view s, scope.new)) result
         (let_at catalogue.now (places path.now) scope.old (let_parts_of form.entry)) }
 {
     let value_path = Path::Element(&*path, 2);
@@ -52,7 +52,7 @@ pub(crate) fn read_get(
     path: &Path<'_>,
     form: GetForm<'_>,
 ) -> Result<Stmt, ProcFault>
-    ensures { Gives is_memory (λ s. (stmt_view s, scope.new)) result
+    ensures { Reads is_memory (λ s. (stmt_view s, scope.new)) result
         (get_at catalogue.now (places path.now) scope.old (get_parts_of form.entry)) }
 {
     let key_path = Path::Element(&*path, 3);
@@ -79,7 +79,7 @@ pub(crate) fn read_put(
     path: &Path<'_>,
     form: PutForm<'_>,
 ) -> Result<Stmt, ProcFault>
-    ensures { Gives is_memory stmt_view result
+    ensures { Reads is_memory stmt_view result
         (put_at catalogue.now (places path.now) scope.now (put_parts_of form.entry)) }
 {
     let key_path = Path::Element(&*path, 2);
@@ -108,7 +108,7 @@ pub(crate) fn read_insert(
     path: &Path<'_>,
     form: InsertForm<'_>,
 ) -> Result<Stmt, ProcFault>
-    ensures { Gives is_memory stmt_view result
+    ensures { Reads is_memory stmt_view result
         (insert_at catalogue.now (places path.now) scope.now (insert_parts_of form.entry)) }
 {
     let key_path = Path::Element(&*path, 2);
@@ -130,7 +130,7 @@ pub(crate) fn read_delete(
     path: &Path<'_>,
     form: DeleteForm<'_>,
 ) -> Result<Stmt, ProcFault>
-    ensures { Gives is_memory stmt_view result
+    ensures { Reads is_memory stmt_view result
         (delete_at catalogue.now (places path.now) scope.now (delete_parts_of form.entry)) }
 {
     let key_path = Path::Element(&*path, 2);
@@ -142,7 +142,7 @@ pub(crate) fn read_delete(
 
 #[tactic(auto, unfolding(crate::specs::Statements::abort_at))]
 pub(crate) fn read_abort(alloc: Global, path: &Path<'_>, code: i64) -> Result<Stmt, ProcFault>
-    ensures { Gives is_memory stmt_view result (abort_at (places path.now) code) }
+    ensures { Reads is_memory stmt_view result (abort_at (places path.now) code) }
 {
     if code < 100 || code > 65535 {
         return Err(fault(alloc, FaultKind::AbortCode, &Path::Element(&*path, 1)));
@@ -158,7 +158,7 @@ pub(crate) fn read_reply(
     path: &Path<'_>,
     values: &[Value],
 ) -> Result<Stmt, ProcFault>
-    ensures { Gives is_memory stmt_view result
+    ensures { Reads is_memory stmt_view result
         (reply_at catalogue.now (places path.now) scope.now (map view values.now)) }
 {
     at_most(alloc, path, 64, values)?;

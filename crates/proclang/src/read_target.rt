@@ -1,7 +1,7 @@
 //! Variables that get a value, and the variables of loops.
 
 ghost use Rattle.std.specs.Prelude.{◌≡◌, OnOk};
-ghost use Rattle.documents.specs.Reading.{Gives};
+ghost use Rattle.documents.specs.Reading.{Reads};
 ghost use Rattle.proclang.specs.Paths.{places};
 ghost use Rattle.proclang.specs.Faults.{is_memory};
 ghost use Rattle.proclang.specs.Targets.{target_at, bound, loop_name_at};
@@ -20,7 +20,7 @@ pub(crate) fn read_target(
     scope: &Scope,
     name: &str,
 ) -> Result<Option<Found>, ProcFault>
-    ensures { Gives is_memory (λ v. v) result (target_at (places path.now) scope.now name.now) }
+    ensures { Reads is_memory (λ v. v) result (target_at (places path.now) scope.now name.now) }
 {
     let Some(variable) = scope.find(name) else {
         declare(alloc, path, name)?;
@@ -41,7 +41,7 @@ pub(crate) fn bind(
     kind: ColType,
     target: Option<Found>,
 ) -> Result<usize, ProcFault>
-    ensures { Gives is_memory (λ place.
+    ensures { Reads is_memory (λ place.
         (place, scope.new)) result (bound (places path.now) scope.old name.now kind target) }
 {
     let Some(variable) = target else {
@@ -63,7 +63,7 @@ pub(crate) fn read_loop_name(
     scope: &Scope,
     name: &str,
 ) -> Result<(), ProcFault>
-    ensures { Gives is_memory (λ x. x) result (loop_name_at (places path.now) scope.now name.now) }
+    ensures { Reads is_memory (λ x. x) result (loop_name_at (places path.now) scope.now name.now) }
 {
     if scope.find(name).is_some() {
         return Err(fault(alloc, FaultKind::DuplicateName, path));

@@ -2,7 +2,7 @@
 
 ghost use Rattle.std.specs.Prelude.{◌≡◌, ◌≤◌, ◌<◌, Some, IfOk, length, map, slice_get};
 ghost use Rattle.serde_json.specs.View.{view};
-ghost use Rattle.documents.specs.Reading.{Gives};
+ghost use Rattle.documents.specs.Reading.{Reads};
 ghost use Rattle.proclang_types.specs.Typing.{kind_of};
 ghost use Rattle.proclang_types.specs.Views.{expr_view, value_view};
 ghost use Rattle.proclang.specs.Paths.{places};
@@ -29,7 +29,7 @@ pub(crate) fn read_exprs(
     values: &[Value],
 ) -> Result<Vec<Expr>, ProcFault>
     requires { first ≤ 1 }
-    ensures exact { Gives is_memory (λ v. map expr_view v.items) result
+    ensures exact { Reads is_memory (λ v. map expr_view v.items) result
         (exprs_at catalogue.now (places path.now) first scope.now (map view values.now)) }
     ensures many { IfOk result (λ v. length v.items ≡ length values.now) }
 {
@@ -48,7 +48,7 @@ pub(crate) fn into_values(
     path: &Path<'_>,
     exprs: Vec<Expr>,
 ) -> Result<Vec<ValueExpr>, ProcFault>
-    ensures { Gives is_memory (λ v.
+    ensures { Reads is_memory (λ v.
         map value_view v.items) result (values_at (places path.now) (map expr_view exprs.items)) }
 {
     let mut values = Vec::new(alloc);
@@ -66,7 +66,7 @@ pub(crate) fn of_type(
     kind: ColType,
     value: ValueExpr,
 ) -> Result<ValueExpr, ProcFault>
-    ensures { Gives is_memory value_view result (of_type (places path.now) kind (value_view value)) }
+    ensures { Reads is_memory value_view result (of_type (places path.now) kind (value_view value)) }
 {
     if value_kind(&value) != kind {
         return Err(fault(alloc, FaultKind::TypeMismatch, path));
@@ -89,7 +89,7 @@ fn as_stored(
     kind: ColType,
     expr: Expr,
 ) -> Result<ValueExpr, ProcFault>
-    ensures { Gives is_memory value_view result (stored_at (places path.now) kind (expr_view expr)) }
+    ensures { Reads is_memory value_view result (stored_at (places path.now) kind (expr_view expr)) }
 {
     let value = as_value(alloc, path, expr)?;
     of_type(alloc, path, kind, value)
@@ -119,7 +119,7 @@ pub(crate) fn into_row(
 ) -> Result<Vec<ValueExpr>, ProcFault>
     requires table { table < length catalogue.now }
     requires many { length exprs.items ≡ length (kinds_in catalogue.now table) }
-    ensures { Gives is_memory (λ v. map value_view v.items) result
+    ensures { Reads is_memory (λ v. map value_view v.items) result
         (row_at (places path.now) (kinds_in catalogue.now table) (map expr_view exprs.items)) }
 {
     let mut values = Vec::new(alloc);

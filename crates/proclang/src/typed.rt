@@ -1,7 +1,7 @@
 //! Expressions of the types that are asked for.
 
 ghost use Rattle.std.specs.Prelude.{◌≡◌};
-ghost use Rattle.documents.specs.Reading.{Gives};
+ghost use Rattle.documents.specs.Reading.{Reads};
 ghost use Rattle.proclang_types.specs.Views.{int_view, text_view, bool_view, value_view, expr_view};
 ghost use Rattle.proclang.specs.Paths.{places};
 ghost use Rattle.proclang.specs.Faults.{is_memory};
@@ -13,7 +13,7 @@ use proclang_types::{BoolExpr, Expr, IntExpr, TextExpr, ValueExpr};
 use std::alloc::Global;
 
 pub(crate) fn as_int(alloc: Global, path: &Path<'_>, expr: Expr) -> Result<IntExpr, ProcFault>
-    ensures { Gives is_memory int_view result (as_int (places path.now) (expr_view expr)) }
+    ensures { Reads is_memory int_view result (as_int (places path.now) (expr_view expr)) }
 {
     match expr {
         Expr::Int(expr) => Ok(expr),
@@ -22,7 +22,7 @@ pub(crate) fn as_int(alloc: Global, path: &Path<'_>, expr: Expr) -> Result<IntEx
 }
 
 pub(crate) fn as_text(alloc: Global, path: &Path<'_>, expr: Expr) -> Result<TextExpr, ProcFault>
-    ensures { Gives is_memory text_view result (as_text (places path.now) (expr_view expr)) }
+    ensures { Reads is_memory text_view result (as_text (places path.now) (expr_view expr)) }
 {
     match expr {
         Expr::Text(expr) => Ok(expr),
@@ -31,7 +31,7 @@ pub(crate) fn as_text(alloc: Global, path: &Path<'_>, expr: Expr) -> Result<Text
 }
 
 pub(crate) fn as_bool(alloc: Global, path: &Path<'_>, expr: Expr) -> Result<BoolExpr, ProcFault>
-    ensures { Gives is_memory bool_view result (as_bool (places path.now) (expr_view expr)) }
+    ensures { Reads is_memory bool_view result (as_bool (places path.now) (expr_view expr)) }
 {
     match expr {
         Expr::Bool(expr) => Ok(expr),
@@ -40,7 +40,7 @@ pub(crate) fn as_bool(alloc: Global, path: &Path<'_>, expr: Expr) -> Result<Bool
 }
 
 pub(crate) fn as_value(alloc: Global, path: &Path<'_>, expr: Expr) -> Result<ValueExpr, ProcFault>
-    ensures { Gives is_memory value_view result (as_value (places path.now) (expr_view expr)) }
+    ensures { Reads is_memory value_view result (as_value (places path.now) (expr_view expr)) }
 {
     match expr {
         Expr::Int(expr) => Ok(ValueExpr::Int(expr)),

@@ -60,10 +60,10 @@ abbrev pub declared : List ColType → ℕ → ColType → List ColType
 declared kinds place kind = if place == length kinds then kinds ++ kind ∷ [] else kinds
 
 -- the types of the variables that are seen after a statement
-abbrev pub after : List TableShape → List ColType → StmtSyntax → List ColType
-after tables kinds (assign place value) = declared kinds place (kind_of value)
-after tables kinds (get place table key column) = declared kinds place (unwrap_or (column_kind tables table column) types.Int)
-after tables kinds s = kinds
+abbrev pub scope_after : List TableShape → List ColType → StmtSyntax → List ColType
+scope_after tables kinds (assign place value) = declared kinds place (kind_of value)
+scope_after tables kinds (get place table key column) = declared kinds place (unwrap_or (column_kind tables table column) types.Int)
+scope_after tables kinds s = kinds
 
 -- one value for each column of the table, of the column's type
 abbrev pub RowFits : List TableShape → List ColType → ℕ → List ValueSyntax → Type 0
@@ -90,7 +90,7 @@ abbrev mutual
 
   pub BlockFits : List TableShape → List ColType → BlockSyntax → Type 0
   BlockFits tables kinds no_statements = ⊤
-  BlockFits tables kinds (followed s rest) = StmtFits tables kinds s × BlockFits tables (after tables kinds s) rest
+  BlockFits tables kinds (followed s rest) = StmtFits tables kinds s × BlockFits tables (scope_after tables kinds s) rest
 
 -- ---- procedures
 

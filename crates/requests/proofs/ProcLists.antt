@@ -15,7 +15,7 @@ use Rattle.values.specs.Reading.{is_used}
 use Rattle.values.proofs.Named.{distinct_push}
 use Rattle.values.specs.Shapes.{TableShape}
 use Rattle.proclang_types.specs.Procedures.{ProcParts, proc_syntax}
-use Rattle.requests.specs.ProcLists.{Entry, procs_of, AreKeyed, AreOver, AreProcs, IsProcMap, proc_named}
+use Rattle.requests.specs.ProcLists.{NamedProc, procs_of, AreKeyed, AreOver, AreProcs, IsProcMap, proc_named}
 
 some_at : {V : Type 0} (b : Bool) (v : V) (o : Option V) (c : Bool) → is_some o ≡ c → is_some (cond b (Some v) o) ≡ (b || c)
 some_at true v o c e = refl
@@ -33,7 +33,7 @@ found_among : {A B : Type 0} (f : A → B) (b : Bool) (x : A) (o : Option A) →
 found_among f true x o = refl
 found_among f false x o = refl
 
-found_entry : (name : List ℕ) (es : List Entry) → AreKeyed es → option_map arc_value (lookup (λ k. bytes_eq name (string_bytes k)) es) ≡ proc_named (procs_of es) name
+found_entry : (name : List ℕ) (es : List NamedProc) → AreKeyed es → option_map arc_value (lookup (λ k. bytes_eq name (string_bytes k)) es) ≡ proc_named (procs_of es) name
 found_entry name [] h = refl
 found_entry name (e ∷ es) h =
     found_among arc_value (bytes_eq name (string_bytes e.0)) e.1 (lookup (λ k. bytes_eq name (string_bytes k)) es)
@@ -52,19 +52,19 @@ neither true b e = absurd cc
 neither false b e = (refl, e)
 
 -- a new name goes last
-pub proc_new : (es : List Entry) (k : String Global) (v : Arc ProcParts Global) → AreKeyed es → string_bytes k ≡ (arc_value v).name → is_used (λ p. p.name) (arc_value v).name (map proc_syntax (procs_of es)) ≡ false
+pub proc_new : (es : List NamedProc) (k : String Global) (v : Arc ProcParts Global) → AreKeyed es → string_bytes k ≡ (arc_value v).name → is_used (λ p. p.name) (arc_value v).name (map proc_syntax (procs_of es)) ≡ false
     → insert_entry string_eq es k v ≡ es ++ (k, v) ∷ []
 proc_new [] k v h is u = refl
 proc_new (e ∷ es) k v h is u =
     let both = neither (bytes_eq (arc_value v).name (arc_value e.1).name) (is_used (λ p. p.name) (arc_value v).name (map proc_syntax (procs_of es))) u in
     let other : bytes_eq (string_bytes k) (string_bytes e.0) ≡ false = rw (is, h.0) both.0 in
-    rw other (ap (λ (rest : List Entry). e ∷ rest) (proc_new es k v h.1 is both.1))
+    rw other (ap (λ (rest : List NamedProc). e ∷ rest) (proc_new es k v h.1 is both.1))
 
-pub keyed_push : (es : List Entry) (k : String Global) (v : Arc ProcParts Global) → AreKeyed es → string_bytes k ≡ (arc_value v).name → AreKeyed (es ++ (k, v) ∷ [])
+pub keyed_push : (es : List NamedProc) (k : String Global) (v : Arc ProcParts Global) → AreKeyed es → string_bytes k ≡ (arc_value v).name → AreKeyed (es ++ (k, v) ∷ [])
 keyed_push [] k v h is = (is, tt)
 keyed_push (e ∷ es) k v h is = (h.0, keyed_push es k v h.1 is)
 
-pub proc_pushed : (es new : List Entry) (k : String Global) (v : Arc ProcParts Global) (p : ProcParts) → AreKeyed es → string_bytes k ≡ p.name → arc_value v ≡ p → proc_named (procs_of es) p.name ≡ None
+pub proc_pushed : (es new : List NamedProc) (k : String Global) (v : Arc ProcParts Global) (p : ProcParts) → AreKeyed es → string_bytes k ≡ p.name → arc_value v ≡ p → proc_named (procs_of es) p.name ≡ None
     → new ≡ insert_entry string_eq es k v → (procs_of new ≡ procs_of es ++ p ∷ []) × AreKeyed new
 proc_pushed es new k v p h is value u e =
     let named : string_bytes k ≡ (arc_value v).name = is ∙ ap (λ (q : ProcParts). q.name) (sym value) in
@@ -102,7 +102,7 @@ procs_pushed tables ps p h over name fresh = record {
     same_used name (x ∷ xs) = ap (λ (b : Bool). bytes_eq name x.name || b) (same_used name xs)
 
 -- the map is as it was where a procedure could not be pushed, and else has one more
-pub map_pushed : {E : Type 0} (tables : List TableShape) (old new : List Entry) (p : ProcParts) (r : Result ⊤ E) → IsProcMap tables old → p.tables ≡ tables → is_name p.name ≡ true → proc_named (procs_of old) p.name ≡ None
+pub map_pushed : {E : Type 0} (tables : List TableShape) (old new : List NamedProc) (p : ProcParts) (r : Result ⊤ E) → IsProcMap tables old → p.tables ≡ tables → is_name p.name ≡ true → proc_named (procs_of old) p.name ≡ None
     → OnOk r (procs_of new ≡ procs_of old ++ p ∷ []) → OnOk r (AreKeyed new) → OnErr r (new ≡ old) → IsProcMap tables new
 map_pushed tables old new p (Ok u) h over name fresh pushed keyed same = record { keyed = keyed; procs = rw pushed (procs_pushed tables (procs_of old) p h.procs over name fresh) }
 map_pushed tables old new p (Err e) h over name fresh pushed keyed same = rw same h

@@ -31,19 +31,19 @@ proc_named procs name = find (λ p. bytes_eq name p.name) procs
 
 -- ---- as they lie in memory
 
-abbrev pub Entry : Type 0
-Entry = String Global × Arc ProcParts Global
+abbrev pub NamedProc : Type 0
+NamedProc = String Global × Arc ProcParts Global
 
-abbrev pub proc_of : Entry → ProcParts
+abbrev pub proc_of : NamedProc → ProcParts
 proc_of e = arc_value e.1
 
-abbrev pub procs_of : List Entry → List ProcParts
+abbrev pub procs_of : List NamedProc → List ProcParts
 procs_of entries = map proc_of entries
 
 -- each stands under its name
-abbrev pub AreKeyed : List Entry → Type 0
+abbrev pub AreKeyed : List NamedProc → Type 0
 AreKeyed entries = AllByRecursion (λ e. string_bytes e.0 ≡ (proc_of e).name) entries
 
-pub record IsProcMap (tables : List TableShape) (entries : List Entry) : Type 0 where
+pub record IsProcMap (tables : List TableShape) (entries : List NamedProc) : Type 0 where
   pub keyed : AreKeyed entries
   pub procs : AreProcs tables (procs_of entries)

@@ -13,13 +13,13 @@ use Rattle.footprint.specs.declared.resource.Resource.{Resource}
 use Rattle.footprint.specs.Tree.{row_resource}
 use Rattle.modes.specs.Modes.{own}
 use Rattle.coarsen.specs.Subtrees.{Requests, own_over, holds}
-use Rattle.coarsen.specs.Plans.{IsSound, IsPlanOver}
-use Rattle.coarsen.specs.Clashes.{locks_row, Conflict}
+use Rattle.coarsen.specs.Plans.{IsWellFormed, IsPlanOver}
+use Rattle.coarsen.specs.Clashes.{locks_row, ModesClash}
 use Rattle.coarsen.specs.Laws.{LockedRowsConflict, ClashEitherWay}
-use Rattle.row_store.specs.Places.{Shelves, PlaceOf, place_at, has_shelf, has_place, seen, made, settled, emptied, full, written, placed}
+use Rattle.row_store.specs.Places.{Shelves, PlaceOf, place_at, has_shelf, has_place, seen_at, made, settled, emptied, full, written, placed}
 use Rattle.row_store.specs.Shelving.{shelf_of}
 use Rattle.row_store.specs.Locked.{gives, name_of, is_of, among, is_named, locks_shelf, locks_itself}
-use Rattle.row_store.specs.Views.{found, rows_of, lent_at, IsKept, IsLoan}
+use Rattle.row_store.specs.Views.{found, rows_of, lent_at, IsRowStore, IsLoan}
 use Rattle.row_store.proofs.Locks.{locks_either}
 use Rattle.row_store.proofs.Rows.{get-rows_of}
 use Rattle.row_store.proofs.Numbers.{lent_after, lent_new, lent_still, lent_left, lent_before}
@@ -75,15 +75,15 @@ emptied_counts true p = refl
 emptied_counts false p = refl
 
 pub counts_after : (tables : List TableShape) (old mid new : Shelves) (ns : List RowName)
-    → ((d : Resource) (q : RowName) → seen mid d q ≡ seen old d q)
-    → ((q : RowName) → seen new (shelf_of tables q) q ≡ (if is_named ns q then emptied (seen mid (shelf_of tables q) q) else seen mid (shelf_of tables q) q))
+    → ((d : Resource) (q : RowName) → seen_at mid d q ≡ seen_at old d q)
+    → ((q : RowName) → seen_at new (shelf_of tables q) q ≡ (if is_named ns q then emptied (seen_at mid (shelf_of tables q) q) else seen_at mid (shelf_of tables q) q))
     → (q : RowName) → (found tables new q).counts_as ≡ (found tables old q).counts_as
 counts_after tables old mid new ns same empties q =
     ap (λ p. p.counts_as) (empties q) ∙ emptied_counts (is_named ns q) (found tables mid q) ∙ ap (λ p. p.counts_as) (same (shelf_of tables q) q)
 
 -- a row that another plan could not write is here
 pub lent_here : (tables : List TableShape) (shelves : Shelves) (lent : BTreeMap ℕ (Snapshot Requests)) (plan : Requests)
-    → LockedRowsConflict → IsSound plan → ((i : ℕ) (p : Requests) → lent_at lent i ≡ Some p → Conflict p plan → ⊥) → IsKept tables shelves lent
+    → LockedRowsConflict → IsWellFormed plan → ((i : ℕ) (p : Requests) → lent_at lent i ≡ Some p → ModesClash p plan → ⊥) → IsRowStore tables shelves lent
     → (q : RowName) → locks_row tables plan q Read ≡ true → (found tables shelves q).row ≡ (found tables shelves q).counts_as
 lent_here tables shelves lent plan law sound free kept q reads = kept.here q (λ i p e.
     elim (cases (locks_row tables p q Write)) [
@@ -92,7 +92,7 @@ lent_here tables shelves lent plan law sound free kept q reads = kept.here q (λ
     ])
 
 pub shown_lent : (tables : List TableShape) (shelves held : Shelves) (lent : BTreeMap ℕ (Snapshot Requests)) (plan : Requests)
-    → LockedRowsConflict → IsSound plan → ((i : ℕ) (p : Requests) → lent_at lent i ≡ Some p → Conflict p plan → ⊥) → IsKept tables shelves lent
+    → LockedRowsConflict → IsWellFormed plan → ((i : ℕ) (p : Requests) → lent_at lent i ≡ Some p → ModesClash p plan → ⊥) → IsRowStore tables shelves lent
     → ((q : RowName) → locks_row tables plan q Read ≡ true → found tables held q ≡ settled (found tables shelves q))
     → (q : RowName) → locks_row tables plan q Read ≡ true → get (rows_of tables held) q ≡ get (rows_of tables shelves) q
 shown_lent tables shelves held lent plan law sound free kept rows q reads =
@@ -115,20 +115,20 @@ loan_made tables plan held at ns over shelves names with_shelf with_place here =
 }
 
 pub kept_lend : (tables : List TableShape) (old mid new : Shelves) (lent then_lent : BTreeMap ℕ (Snapshot Requests)) (number : ℕ) (plan : Requests) (at : List Resource) (ns : List RowName)
-    → ((d : Resource) (q : RowName) → seen mid d q ≡ seen old d q)
+    → ((d : Resource) (q : RowName) → seen_at mid d q ≡ seen_at old d q)
     → ((d : Resource) (q : RowName) → has_place old d q ≡ true → has_place mid d q ≡ true)
     → ((d : Resource) → has_shelf old d ≡ true → has_shelf mid d ≡ true)
     → ((q : RowName) → among at (shelf_of tables q) ≡ true → has_shelf mid (shelf_of tables q) ≡ true)
     → ((q : RowName) → is_named ns q ≡ true → has_place mid (shelf_of tables q) q ≡ true)
     → ((q : RowName) → among at (shelf_of tables q) ≡ locks_shelf plan Write (shelf_of tables q))
     → ((q : RowName) → is_named ns q ≡ locks_itself plan Write q)
-    → ((q : RowName) → seen new (shelf_of tables q) q ≡ (if is_named ns q then emptied (seen mid (shelf_of tables q) q) else seen mid (shelf_of tables q) q))
+    → ((q : RowName) → seen_at new (shelf_of tables q) q ≡ (if is_named ns q then emptied (seen_at mid (shelf_of tables q) q) else seen_at mid (shelf_of tables q) q))
     → ((d : Resource) (q : RowName) → has_place new d q ≡ has_place mid d q)
     → ((d : Resource) → has_shelf new d ≡ has_shelf mid d)
     → ((i : ℕ) → lent_at then_lent i ≡ cond (is_at (nat_cmp number) i) (Some plan) (lent_at lent i))
-    → lent_at lent number ≡ None → IsSound plan → IsPlanOver tables plan
-    → ((i : ℕ) (p : Requests) → lent_at lent i ≡ Some p → Conflict p plan → ⊥) → ClashEitherWay → IsKept tables old lent
-    → IsKept tables new then_lent
+    → lent_at lent number ≡ None → IsWellFormed plan → IsPlanOver tables plan
+    → ((i : ℕ) (p : Requests) → lent_at lent i ≡ Some p → ModesClash p plan → ⊥) → ClashEitherWay → IsRowStore tables old lent
+    → IsRowStore tables new then_lent
 kept_lend tables old mid new lent then_lent number plan at ns same places shelves room_shelf room_place at_is ns_is empties places2 shelves2 put none sound over free turn kept = record {
   here = λ q h.
       let mine : locks_row tables plan q Write ≡ false = h number plan (lent_new lent then_lent number plan put) in
@@ -145,7 +145,7 @@ kept_lend tables old mid new lent then_lent number plan at ns same places shelve
     | inr x ↦ places (shelf_of tables q) q (kept.with_place i p x q h)
   ];
   sound = λ i p e. elim (lent_after lent then_lent number plan put i p e) [
-    | inl x ↦ subst IsSound x.1 sound
+    | inl x ↦ subst IsWellFormed x.1 sound
     | inr x ↦ kept.sound i p x
   ];
   over = λ i p e. elim (lent_after lent then_lent number plan put i p e) [
@@ -155,10 +155,10 @@ kept_lend tables old mid new lent then_lent number plan at ns same places shelve
   apart = λ i j a b ea eb ne c. elim (lent_after lent then_lent number plan put i a ea) [
     | inl x ↦ elim (lent_after lent then_lent number plan put j b eb) [
       | inl y ↦ ne (sym x.0 ∙ y.0)
-      | inr y ↦ free j b y (turn.requests plan b (subst (λ r. Conflict r b) (sym x.1) c))
+      | inr y ↦ free j b y (turn.requests plan b (subst (λ r. ModesClash r b) (sym x.1) c))
     ]
     | inr x ↦ elim (lent_after lent then_lent number plan put j b eb) [
-      | inl y ↦ free i a x (subst (λ r. Conflict a r) (sym y.1) c)
+      | inl y ↦ free i a x (subst (λ r. ModesClash a r) (sym y.1) c)
       | inr y ↦ kept.apart i j a b x y ne c
     ]
   ];
@@ -218,7 +218,7 @@ found_back tables plan old new held at ns back loan q =
     ∙ ap (λ b. if b then settled (found tables held q) else found tables old q) (sym (loan_locks tables plan held at ns loan q))
 
 pub out_and_back : (tables : List TableShape) (plan : Requests) (old new held : Shelves) (at : List Resource) (ns : List RowName) (lent : BTreeMap ℕ (Snapshot Requests)) (number : ℕ)
-    → IsLoan tables plan held at ns → lent_at lent number ≡ Some plan → IsKept tables old lent
+    → IsLoan tables plan held at ns → lent_at lent number ≡ Some plan → IsRowStore tables old lent
     → ((q : RowName) → (among at (shelf_of tables q) ≡ true → has_shelf old (shelf_of tables q) ≡ true) → (among at (shelf_of tables q) ≡ true → has_shelf held (shelf_of tables q) ≡ true)
     → (is_named ns q ≡ true → has_place old (shelf_of tables q) q ≡ true) → (is_named ns q ≡ true → has_place held (shelf_of tables q) q ≡ true)
     → place_at new (shelf_of tables q) q ≡ (if among at (shelf_of tables q) then place_at held (shelf_of tables q) q else (if is_named ns q then placed (found tables held q).row else place_at old (shelf_of tables q) q)))
@@ -249,7 +249,7 @@ settled_here false h s here = here refl
 
 -- what another plan that is lent locks to write is not given back
 apart_from : (tables : List TableShape) (plan : Requests) (old held : Shelves) (at : List Resource) (ns : List RowName) (lent : BTreeMap ℕ (Snapshot Requests)) (number : ℕ)
-    → LockedRowsConflict → IsLoan tables plan held at ns → lent_at lent number ≡ Some plan → IsKept tables old lent
+    → LockedRowsConflict → IsLoan tables plan held at ns → lent_at lent number ≡ Some plan → IsRowStore tables old lent
     → (i : ℕ) (p : Requests) → lent_at lent i ≡ Some p → (number ≡ i → ⊥) → (q : RowName) → locks_itself p Write q ≡ true
     → among at (shelf_of tables q) || is_named ns q ≡ false
 apart_from tables plan old held at ns lent number law loan out kept i p e ne q locks = elim (cases (among at (shelf_of tables q) || is_named ns q)) [
@@ -266,7 +266,7 @@ some_same x y h = cc
 pub kept_back : (tables : List TableShape) (plan : Requests) (old new held : Shelves) (at : List Resource) (ns : List RowName) (lent then_lent : BTreeMap ℕ (Snapshot Requests)) (number : ℕ)
     → IsBack tables old new held at ns → ((d : Resource) → has_shelf new d ≡ has_shelf old d) → IsLoan tables plan held at ns
     → lent_at lent number ≡ Some plan → ((i : ℕ) → lent_at then_lent i ≡ cond (is_at (nat_cmp number) i) None (lent_at lent i))
-    → LockedRowsConflict → IsKept tables old lent → IsKept tables new then_lent
+    → LockedRowsConflict → IsRowStore tables old lent → IsRowStore tables new then_lent
 kept_back tables plan old new held at ns lent then_lent number back shelves loan out taken law kept = record {
   here = λ q h.
       let w : Bool = locks_row tables plan q Write in
@@ -298,7 +298,7 @@ here_written None p h = h
 here_written (Some row) p h = refl
 
 pub loan_written : (tables : List TableShape) (plan : Requests) (old new : Shelves) (at : List Resource) (ns : List RowName) (w : RowName → Option (Option RowOf))
-    → ((q : RowName) → seen new (shelf_of tables q) q ≡ written (w q) (seen old (shelf_of tables q) q))
+    → ((q : RowName) → seen_at new (shelf_of tables q) q ≡ written (w q) (seen_at old (shelf_of tables q) q))
     → ((d : Resource) (q : RowName) → has_place old d q ≡ true → has_place new d q ≡ true)
     → ((d : Resource) → has_shelf old d ≡ true → has_shelf new d ≡ true)
     → IsLoan tables plan old at ns → IsLoan tables plan new at ns
@@ -312,10 +312,10 @@ loan_written tables plan old new at ns w is places shelves loan = record {
 }
 
 pub store_written : (tables : List TableShape) (old new : Shelves) (lent : BTreeMap ℕ (Snapshot Requests)) (w : RowName → Option (Option RowOf))
-    → ((q : RowName) → seen new (shelf_of tables q) q ≡ written (w q) (seen old (shelf_of tables q) q))
+    → ((q : RowName) → seen_at new (shelf_of tables q) q ≡ written (w q) (seen_at old (shelf_of tables q) q))
     → ((d : Resource) (q : RowName) → has_place old d q ≡ true → has_place new d q ≡ true)
     → ((d : Resource) → has_shelf old d ≡ true → has_shelf new d ≡ true)
-    → IsKept tables old lent → IsKept tables new lent
+    → IsRowStore tables old lent → IsRowStore tables new lent
 store_written tables old new lent w is places shelves kept = record {
   here = λ q h. ap (λ p. p.row) (is q) ∙ here_written (w q) (found tables old q) (kept.here q h) ∙ sym (ap (λ p. p.counts_as) (is q));
   with_shelf = λ i p e q h. shelves (shelf_of tables q) (kept.with_shelf i p e q h);
@@ -328,11 +328,11 @@ store_written tables old new lent w is places shelves kept = record {
 -- ---- what is made ready to lend changes nothing
 
 pub kept_held : (tables : List TableShape) (old new : Shelves) (lent then_lent : BTreeMap ℕ (Snapshot Requests))
-    → ((d : Resource) (q : RowName) → seen new d q ≡ seen old d q)
+    → ((d : Resource) (q : RowName) → seen_at new d q ≡ seen_at old d q)
     → ((d : Resource) (q : RowName) → has_place old d q ≡ true → has_place new d q ≡ true)
     → ((d : Resource) → has_shelf old d ≡ true → has_shelf new d ≡ true)
     → ((i : ℕ) → lent_at then_lent i ≡ lent_at lent i)
-    → IsKept tables old lent → IsKept tables new then_lent
+    → IsRowStore tables old lent → IsRowStore tables new then_lent
 kept_held tables old new lent then_lent same places shelves one kept = record {
   here = λ q h.
       ap (λ p. p.row) (same (shelf_of tables q) q) ∙ kept.here q (λ i p e. h i p (one i ∙ e)) ∙ sym (ap (λ p. p.counts_as) (same (shelf_of tables q) q));

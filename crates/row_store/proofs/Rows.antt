@@ -13,7 +13,7 @@ use Rattle.footprint.specs.declared.resource.Resource.{Resource}
 use Rattle.footprint.specs.Tree.{resource_cmp}
 use Rattle.interp_expr.specs.Overlay.{applied, with_write}
 use Rattle.row_store.specs.declared.place.Place.{Place}
-use Rattle.row_store.specs.Places.{Shelf, Shelves, PlaceOf, place_of, place_on, place_at, made, full, seen, written, is_name, is_shelf}
+use Rattle.row_store.specs.Places.{Shelf, Shelves, PlaceOf, place_of, place_on, place_at, made, full, seen_at, written, is_name, is_shelf}
 use Rattle.row_store.specs.Shelving.{shelf_of}
 use Rattle.row_store.specs.Locked.{is_named}
 use Rattle.row_store.specs.Views.{found, names_of, rows_at, rows_of}
@@ -116,7 +116,7 @@ get-applied (w ∷ ws) db q p h =
     ]
 
 pub rows_written : (tables : List TableShape) (old new : Shelves) (writes : BTreeMap RowName (Option RowOf))
-    → ((q : RowName) → seen new (shelf_of tables q) q ≡ written (tree.get name_cmp writes q) (seen old (shelf_of tables q) q))
+    → ((q : RowName) → seen_at new (shelf_of tables q) q ≡ written (tree.get name_cmp writes q) (seen_at old (shelf_of tables q) q))
     → rows_of tables new ≡ applied writes.entries (rows_of tables old)
 rows_written tables old new writes h = same_database _ _ (λ q.
     get-rows_of tables new q ∙ ap (λ p. p.counts_as) (h q)

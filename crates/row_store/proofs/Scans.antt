@@ -19,7 +19,7 @@ use Rattle.row_store.specs.declared.place.Place.{Place}
 use Rattle.std.specs.BTreeMap as tree
 use Rattle.values.specs.Keys.{partition_of}
 use Rattle.footprint.specs.Tree.{resource_cmp}
-use Rattle.row_store.specs.Places.{Shelf, Shelves, place_of, place_in, place_on, made, seen, standing}
+use Rattle.row_store.specs.Places.{Shelf, Shelves, place_of, place_in, place_on, made, seen_at, standing}
 use Rattle.row_store.specs.Shelving.{shelf_of, shelf_at}
 use Rattle.row_store.specs.Views.{found}
 use Rattle.row_store.proofs.Shown.{standing_seen}
@@ -174,7 +174,7 @@ on_shelf o s q is = ap (λ x. (made (place_on x q)).row) is ∙ sym (standing_se
 pub shelf_found : (tables : List TableShape) (shelves : Shelves) (shelf : Shelf) (table part : ℕ) (q : RowName) → is_in_part tables table part q ≡ true
     → tree.get resource_cmp shelves (shelf_at tables table part) ≡ Some shelf → (found tables shelves q).row ≡ standing (place_in shelf q)
 shelf_found tables shelves shelf table part q h is =
-    ap (λ d. (seen shelves d q).row) (part_shelf tables table part q h) ∙ on_shelf (tree.get resource_cmp shelves (shelf_at tables table part)) shelf q is
+    ap (λ d. (seen_at shelves d q).row) (part_shelf tables table part q h) ∙ on_shelf (tree.get resource_cmp shelves (shelf_at tables table part)) shelf q is
 
 no_shelf : (o : Option Shelf) (q : RowName) → o ≡ None → (made (place_on o q)).row ≡ None
 no_shelf o q is = ap (λ x. (made (place_on x q)).row) is
@@ -184,4 +184,4 @@ pub nothing_found : (tables : List TableShape) (shelves : Shelves) (table part :
     → ((q : RowName) → is_in_part tables table part q ≡ true → get db q ≡ (found tables shelves q).row) → IsNext tables db table part after None
 nothing_found tables shelves table part after db is shown = λ q a.
     let h = (both_true (is_in_part tables table part q) (is_after after q.key) a).0 in
-    shown q h ∙ ap (λ d. (seen shelves d q).row) (part_shelf tables table part q h) ∙ no_shelf (tree.get resource_cmp shelves (shelf_at tables table part)) q is
+    shown q h ∙ ap (λ d. (seen_at shelves d q).row) (part_shelf tables table part q h) ∙ no_shelf (tree.get resource_cmp shelves (shelf_at tables table part)) q is

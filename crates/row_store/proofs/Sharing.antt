@@ -7,7 +7,7 @@ use Rattle.footprint.specs.declared.resource.Resource.{Resource}
 use Rattle.coarsen.specs.Subtrees.{Requests}
 use Rattle.coarsen.specs.Plans.{IsPlanOver}
 use Rattle.coarsen.specs.Clashes.{locks_row}
-use Rattle.row_store.specs.Places.{Shelves, PlaceOf, place_at, seen, made, settled}
+use Rattle.row_store.specs.Places.{Shelves, PlaceOf, place_at, seen_at, made, settled}
 use Rattle.row_store.specs.Shelving.{shelf_of}
 use Rattle.row_store.specs.Locked.{among, is_named, locks_shelf, locks_itself}
 use Rattle.row_store.specs.Views.{found}
@@ -33,7 +33,7 @@ pub shared_rows : (tables : List TableShape) (requests : Requests) (s copies : S
     → IsPlanOver tables requests
     → among rs (shelf_of tables q) ≡ locks_shelf requests Read (shelf_of tables q)
     → is_named ns q ≡ locks_itself requests Read q
-    → place_at copies (shelf_of tables q) q ≡ (if is_named ns q then Some (settled (seen s (shelf_of tables q) q)) else (if among rs (shelf_of tables q) then option_map settled (place_at s (shelf_of tables q) q) else None))
+    → place_at copies (shelf_of tables q) q ≡ (if is_named ns q then Some (settled (seen_at s (shelf_of tables q) q)) else (if among rs (shelf_of tables q) then option_map settled (place_at s (shelf_of tables q) q) else None))
     → locks_row tables requests q Read ≡ true → found tables copies q ≡ settled (found tables s q)
 shared_rows tables requests s copies rs ns q over shelves names places locks =
     let d : Resource = shelf_of tables q in
@@ -41,11 +41,11 @@ shared_rows tables requests s copies rs ns q over shelves names places locks =
     ap made places ∙ shared_place (is_named ns q) (among rs d) (place_at s d q) on
 
 pub shared_here : (tables : List TableShape) (s copies : Shelves) (rs : List Resource) (ns : List RowName) (q : RowName)
-    → place_at copies (shelf_of tables q) q ≡ (if is_named ns q then Some (settled (seen s (shelf_of tables q) q)) else (if among rs (shelf_of tables q) then option_map settled (place_at s (shelf_of tables q) q) else None))
+    → place_at copies (shelf_of tables q) q ≡ (if is_named ns q then Some (settled (seen_at s (shelf_of tables q) q)) else (if among rs (shelf_of tables q) then option_map settled (place_at s (shelf_of tables q) q) else None))
     → (found tables copies q).row ≡ (found tables copies q).counts_as
 shared_here tables s copies rs ns q places =
     let d : Resource = shelf_of tables q in
     let o : Option PlaceOf = if among rs d then option_map settled (place_at s d q) else None in
     ap (λ p. (made p).row) places
-    ∙ here_place (is_named ns q) (seen s d q) o (copied_here (among rs d) (place_at s d q))
+    ∙ here_place (is_named ns q) (seen_at s d q) o (copied_here (among rs d) (place_at s d q))
     ∙ sym (ap (λ p. (made p).counts_as) places)

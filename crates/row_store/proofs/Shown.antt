@@ -12,7 +12,7 @@ use Rattle.coarsen.specs.Subtrees.{Requests}
 use Rattle.coarsen.specs.Clashes.{locks_row}
 use Rattle.row_store.specs.Places.{Shelves, PlaceOf, standing, made}
 use Rattle.row_store.specs.Stock.{Stock, is_free}
-use Rattle.row_store.specs.Views.{found, rows_of, lent_of, IsKept}
+use Rattle.row_store.specs.Views.{found, rows_of, lent_of, IsRowStore}
 use Rattle.row_store.proofs.Numbers.{get-lent_of}
 
 pub standing_seen : (o : Option PlaceOf) → standing o ≡ (made o).row
@@ -44,7 +44,7 @@ free_plan tables lent name free i p e =
 
 -- a row that a store shows is here
 pub store_here : (tables : List TableShape) (shelves : Shelves) (lent : BTreeMap ℕ (Snapshot Requests)) (stock : Stock)
-    → record { tables = tables; rows = rows_of tables shelves; lent = lent_of lent } ≡ stock → IsKept tables shelves lent
+    → record { tables = tables; rows = rows_of tables shelves; lent = lent_of lent } ≡ stock → IsRowStore tables shelves lent
     → (name : RowName) → is_free stock.tables stock.lent name ≡ true → (found tables shelves name).row ≡ (found tables shelves name).counts_as
 store_here tables shelves lent stock is kept name free = kept.here name (λ i p e.
     ap (λ (s : Stock). locks_row s.tables p name Write) is

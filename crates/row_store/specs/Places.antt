@@ -16,11 +16,11 @@ pub record PlaceOf : Type 0 where
   pub row : Option RowOf
   pub counts_as : Option RowOf
 
-abbrev pub value_of : Option (Arc RowOf Global) → Option RowOf
-value_of row = option_map arc_value row
+abbrev pub shared_row : Option (Arc RowOf Global) → Option RowOf
+shared_row row = option_map arc_value row
 
 abbrev pub place_of : Place → PlaceOf
-place_of place = record { row = value_of place.row; counts_as = value_of place.counts_as.value }
+place_of place = record { row = shared_row place.row; counts_as = shared_row place.counts_as.value }
 
 -- a place whose row is there
 abbrev pub full : Option RowOf → PlaceOf
@@ -73,8 +73,8 @@ made (Some place) = place
 abbrev pub has_place : Shelves → Resource → RowName → Bool
 has_place shelves at name = is_some (place_at shelves at name)
 
-abbrev pub seen : Shelves → Resource → RowName → PlaceOf
-seen shelves at name = made (place_at shelves at name)
+abbrev pub seen_at : Shelves → Resource → RowName → PlaceOf
+seen_at shelves at name = made (place_at shelves at name)
 
 -- two names, or two resources, are one
 abbrev pub is_name : RowName → RowName → Bool
@@ -85,7 +85,7 @@ is_shelf a b = is_at (resource_cmp a) b
 
 -- writes that are kept apart, and what is at a name after a write
 abbrev pub write_at : BTreeMap RowName (Option (Arc RowOf Global)) → RowName → Option (Option RowOf)
-write_at writes name = option_map value_of (get name_cmp writes name)
+write_at writes name = option_map shared_row (get name_cmp writes name)
 
 abbrev pub written : Option (Option RowOf) → PlaceOf → PlaceOf
 written None place = place

@@ -11,16 +11,16 @@ use Rattle.values.specs.Database.{Database, RowOf}
 use Rattle.proclang_types.specs.declared.right.Right.TheVariants.{Write}
 use Rattle.footprint.specs.declared.resource.Resource.{Resource}
 use Rattle.coarsen.specs.Subtrees.{Requests}
-use Rattle.coarsen.specs.Plans.{IsSound, IsPlanOver}
-use Rattle.coarsen.specs.Clashes.{locks_row, Conflict}
+use Rattle.coarsen.specs.Plans.{IsWellFormed, IsPlanOver}
+use Rattle.coarsen.specs.Clashes.{locks_row, ModesClash}
 use Rattle.interp_expr.specs.Overlay.{with_write}
-use Rattle.row_store.specs.Places.{Shelf, Shelves, PlaceOf, seen, has_shelf, has_place}
+use Rattle.row_store.specs.Places.{Shelf, Shelves, PlaceOf, seen_at, has_shelf, has_place}
 use Rattle.row_store.specs.Shelving.{shelf_of}
 use Rattle.row_store.specs.Locked.{among, is_named, locks_shelf, locks_itself}
 
 -- what stands at a row name
 abbrev pub found : List TableShape → Shelves → RowName → PlaceOf
-found tables shelves name = seen shelves (shelf_of tables name) name
+found tables shelves name = seen_at shelves (shelf_of tables name) name
 
 abbrev pub names_of : List (Resource × Shelf) → List RowName
 names_of [] = []
@@ -43,17 +43,17 @@ lent_of lent = from_entries (map {B = ℕ × Requests} (λ e. (e.0, e.1.value)) 
 
 -- What holds of a store: a row that isn't lent to be written is here; what is lent to be written has its shelf or its place;
 -- and no two plans that are lent are in conflict.
-pub record IsKept (tables : List TableShape) (shelves : Shelves) (lent : BTreeMap ℕ (Snapshot Requests)) : Type 0 where
+pub record IsRowStore (tables : List TableShape) (shelves : Shelves) (lent : BTreeMap ℕ (Snapshot Requests)) : Type 0 where
   pub here : (name : RowName) → ((number : ℕ) (plan : Requests) → lent_at lent number ≡ Some plan → locks_row tables plan name Write ≡ false)
       → (found tables shelves name).row ≡ (found tables shelves name).counts_as
   pub with_shelf : (number : ℕ) (plan : Requests) → lent_at lent number ≡ Some plan → (name : RowName)
       → locks_shelf plan Write (shelf_of tables name) ≡ true → has_shelf shelves (shelf_of tables name) ≡ true
   pub with_place : (number : ℕ) (plan : Requests) → lent_at lent number ≡ Some plan → (name : RowName)
       → locks_itself plan Write name ≡ true → has_place shelves (shelf_of tables name) name ≡ true
-  pub sound : (number : ℕ) (plan : Requests) → lent_at lent number ≡ Some plan → IsSound plan
+  pub sound : (number : ℕ) (plan : Requests) → lent_at lent number ≡ Some plan → IsWellFormed plan
   pub over : (number : ℕ) (plan : Requests) → lent_at lent number ≡ Some plan → IsPlanOver tables plan
   pub apart : (number other : ℕ) (plan others : Requests) → lent_at lent number ≡ Some plan → lent_at lent other ≡ Some others
-      → (number ≡ other → ⊥) → Conflict plan others → ⊥
+      → (number ≡ other → ⊥) → ModesClash plan others → ⊥
 
 -- What holds of a loan of a plan: what it gives back are the shelves and the row names that the plan locks to write, all of
 -- them have their place in it, and all its rows are here.

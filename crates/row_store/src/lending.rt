@@ -4,9 +4,9 @@ ghost use Rattle.std.specs.Prelude.{◌≡◌, true, if◌then◌else◌, IfOk};
 ghost use Rattle.values.specs.declared.name.RowName.{RowName as AnyName};
 ghost use Rattle.proclang_types.specs.declared.right.Right.TheVariants.{Read, Write};
 ghost use Rattle.footprint.specs.declared.resource.Resource.{Resource as AnyResource};
-ghost use Rattle.coarsen.specs.Plans.{IsPlanOver, IsSound};
+ghost use Rattle.coarsen.specs.Plans.{IsPlanOver, IsWellFormed};
 ghost use Rattle.coarsen.specs.Clashes.{locks_row};
-ghost use Rattle.row_store.specs.Places.{place_at, placed, seen, settled, has_shelf, has_place};
+ghost use Rattle.row_store.specs.Places.{place_at, placed, seen_at, settled, has_shelf, has_place};
 ghost use Rattle.row_store.specs.Shelving.{shelf_of};
 ghost use Rattle.row_store.specs.Locked.{among, is_named, locks_shelf, locks_itself};
 ghost use Rattle.row_store.specs.Views.{found};
@@ -66,8 +66,8 @@ pub(crate) fn hold(
     plan: &Plan,
 ) -> Result<Holdings, NoMemory>
     requires { IsPlanOver catalogue.now plan.now }
-    ensures sound { IsSound plan.now }
-    ensures seen { (d : AnyResource) (q : AnyName) → seen shelves.new d q ≡ seen shelves.old d q }
+    ensures sound { IsWellFormed plan.now }
+    ensures seen { (d : AnyResource) (q : AnyName) → seen_at shelves.new d q ≡ seen_at shelves.old d q }
     ensures kept { (d : AnyResource) (q : AnyName) → has_place shelves.old d q ≡ true →
         has_place shelves.new d q ≡ true }
     ensures shelves { (d : AnyResource) → has_shelf shelves.old d ≡ true → has_shelf shelves.new d ≡ true }

@@ -3,7 +3,7 @@
 ghost use Rattle.std.specs.Prelude.{◌≡◌, Some, None, true, false, ◌&&◌, ◌||◌, if◌then◌else◌, option_map, IfOk, OnOk};
 ghost use Rattle.values.specs.declared.name.RowName.{RowName as AnyName};
 ghost use Rattle.footprint.specs.declared.resource.Resource.{Resource as AnyResource};
-ghost use Rattle.row_store.specs.Places.{place_at, has_shelf, has_place, seen, emptied, placed, settled, full, is_shelf, is_name};
+ghost use Rattle.row_store.specs.Places.{place_at, has_shelf, has_place, seen_at, emptied, placed, settled, full, is_shelf, is_name};
 ghost use Rattle.row_store.specs.Shelving.{shelf_of};
 ghost use Rattle.row_store.specs.Locked.{among, is_named};
 
@@ -40,7 +40,7 @@ pub(crate) fn make_places(
     shelves: &mut Shelves,
     names: &[RowName],
 ) -> Result<(), NoMemory>
-    ensures seen { (d : AnyResource) (q : AnyName) → seen shelves.new d q ≡ seen shelves.old d q }
+    ensures seen { (d : AnyResource) (q : AnyName) → seen_at shelves.new d q ≡ seen_at shelves.old d q }
     ensures kept { (d : AnyResource) (q : AnyName) → has_place shelves.old d q ≡ true →
         has_place shelves.new d q ≡ true }
     ensures shelves { (d : AnyResource) → has_shelf shelves.old d ≡ true → has_shelf shelves.new d ≡ true }
@@ -55,9 +55,9 @@ pub(crate) fn make_places(
 
 /// Empties the places of names. Their rows count as before.
 pub(crate) fn empty_places(catalogue: &Catalogue, shelves: &mut Shelves, names: &[RowName])
-    ensures seen { (q : AnyName) → seen shelves.new (shelf_of catalogue.now q) q ≡ (if is_named names.now q
-        then emptied (seen shelves.old (shelf_of catalogue.now q) q)
-        else seen shelves.old (shelf_of catalogue.now q) q) }
+    ensures seen { (q : AnyName) → seen_at shelves.new (shelf_of catalogue.now q) q ≡ (if is_named names.now q
+        then emptied (seen_at shelves.old (shelf_of catalogue.now q) q)
+        else seen_at shelves.old (shelf_of catalogue.now q) q) }
     ensures places { (d : AnyResource) (q : AnyName) → has_place shelves.new d q ≡ has_place shelves.old d q }
     ensures shelves { (d : AnyResource) → has_shelf shelves.new d ≡ has_shelf shelves.old d }
 {
@@ -110,7 +110,7 @@ fn share_one(
 ) -> Result<(), NoMemory>
     ensures places { OnOk result ((d : AnyResource) (q : AnyName) →
         place_at copies.new d q ≡ (if is_shelf at.now d && is_name name.now q
-        then Some (settled (seen shelves.now d q)) else place_at copies.old d q)) }
+        then Some (settled (seen_at shelves.now d q)) else place_at copies.old d q)) }
     ensures shelves { OnOk result ((d : AnyResource) → has_shelf copies.old d ≡ true → has_shelf copies.new d ≡ true) }
 {
     let row = share_row(shelves, at, name)?;
@@ -128,7 +128,7 @@ pub(crate) fn share_rows(
 ) -> Result<(), NoMemory>
     ensures places { OnOk result ((q : AnyName) →
         place_at copies.new (shelf_of catalogue.now q) q ≡ (if is_named names.now q
-        then Some (settled (seen shelves.now (shelf_of catalogue.now q) q))
+        then Some (settled (seen_at shelves.now (shelf_of catalogue.now q) q))
         else place_at copies.old (shelf_of catalogue.now q) q)) }
     ensures shelves { OnOk result ((d : AnyResource) → has_shelf copies.old d ≡ true → has_shelf copies.new d ≡ true) }
 {
@@ -174,7 +174,7 @@ fn put_one_row(shelves: &mut Shelves, from: &mut Shelves, at: &Resource, name: &
     ensures places { (d : AnyResource) (q : AnyName) →
         place_at shelves.new d q
         ≡ (if is_shelf at.now d && (is_name name.now q && (has_place shelves.old d q && has_place from.old d q))
-        then placed (seen from.old d q).row else place_at shelves.old d q) }
+        then placed (seen_at from.old d q).row else place_at shelves.old d q) }
     ensures shelves { (d : AnyResource) → has_shelf shelves.new d ≡ has_shelf shelves.old d }
     ensures left { (d : AnyResource) (q : AnyName) →
         place_at from.new d q ≡ (if is_shelf at.now d && is_name name.now q then None else place_at from.old d q) }
@@ -195,7 +195,7 @@ pub(crate) fn put_rows(
         place_at shelves.new (shelf_of catalogue.now q) q
         ≡ (if is_named names.now q && (has_place shelves.old (shelf_of catalogue.now q) q
         && has_place from.old (shelf_of catalogue.now q) q)
-        then placed (seen from.old (shelf_of catalogue.now q) q).row
+        then placed (seen_at from.old (shelf_of catalogue.now q) q).row
         else place_at shelves.old (shelf_of catalogue.now q) q) }
     ensures shelves { (d : AnyResource) → has_shelf shelves.new d ≡ has_shelf shelves.old d }
 {

@@ -1,7 +1,7 @@
 //! Places: what stands at row names.
 
 ghost use Rattle.std.specs.Prelude.{◌≡◌};
-ghost use Rattle.row_store.specs.Places.{place_of, full, settled, value_of};
+ghost use Rattle.row_store.specs.Places.{place_of, full, settled, shared_row};
 
 use std::alloc::AllocError;
 use std::snapshot::Snapshot;
@@ -18,7 +18,7 @@ pub(crate) struct Place {
 
 impl Place {
     pub(crate) fn new(row: Option<Arc<Row>>) -> Place
-        ensures { place_of result ≡ full (value_of row) }
+        ensures { place_of result ≡ full (shared_row row) }
     {
         let counts_as = Snapshot::of(&row);
         Place { row, counts_as }

@@ -2,7 +2,7 @@
 
 ghost use Rattle.std.specs.Prelude.{◌≡◌, Some, None, true, if◌then◌else◌, is_some, option_map, IfOk, OnOk, OnErr};
 ghost use Rattle.values.specs.declared.name.RowName.{RowName as AnyName};
-ghost use Rattle.row_store.specs.Places.{place_in, standing, made, full, placed, emptied, value_of, is_name, place_of};
+ghost use Rattle.row_store.specs.Places.{place_in, standing, made, full, placed, emptied, shared_row, is_name, place_of};
 
 use crate::place::Place;
 use std::collections::BTreeMap;
@@ -47,7 +47,7 @@ pub(crate) fn empty_place(shelf: &mut Shelf, name: &RowName)
 pub(crate) fn fill_place(shelf: &mut Shelf, name: &RowName, row: Option<Arc<Row>>)
     ensures { (q : AnyName) →
         place_in shelf.new q ≡ (if is_name name.now q
-        then option_map (λ _. full (value_of row)) (place_in shelf.old q) else place_in shelf.old q) }
+        then option_map (λ _. full (shared_row row)) (place_in shelf.old q) else place_in shelf.old q) }
 {
     if let Some(place) = shelf.get_mut(name) {
         place.counts_as = Snapshot::of(&row);
@@ -60,7 +60,7 @@ pub(crate) fn fill_place(shelf: &mut Shelf, name: &RowName, row: Option<Arc<Row>
 pub(crate) fn put_row(shelf: &mut Shelf, name: &RowName, row: Option<Arc<Row>>)
     ensures { (q : AnyName) →
         place_in shelf.new q ≡ (if is_name name.now q
-        then (if is_some (place_in shelf.old q) then placed (value_of row) else None) else place_in shelf.old q) }
+        then (if is_some (place_in shelf.old q) then placed (shared_row row) else None) else place_in shelf.old q) }
 {
     match row {
         Some(row) => fill_place(shelf, name, Some(row)),
@@ -72,7 +72,7 @@ pub(crate) fn put_row(shelf: &mut Shelf, name: &RowName, row: Option<Arc<Row>>)
 
 /// The row that stands at a name, once more.
 pub(crate) fn share_row(shelf: &Shelf, name: &RowName) -> Result<Option<Arc<Row>>, NoMemory>
-    ensures { IfOk result (λ row. value_of row ≡ standing (place_in shelf.now name.now)) }
+    ensures { IfOk result (λ row. shared_row row ≡ standing (place_in shelf.now name.now)) }
 {
     let Some(place) = shelf.get(name) else {
         return Ok(None);

@@ -3,7 +3,7 @@
 ghost use Rattle.std.specs.Prelude.{◌≡◌, Some, None, true, ◌&&◌, if◌then◌else◌, is_some, option_map, IfOk, OnOk, OnErr};
 ghost use Rattle.values.specs.declared.name.RowName.{RowName as AnyName};
 ghost use Rattle.footprint.specs.declared.resource.Resource.{Resource as AnyResource};
-ghost use Rattle.row_store.specs.Places.{place_in, place_at, has_shelf, has_place, seen, standing, made, full, emptied, placed, settled, value_of, is_name, is_shelf, place_of};
+ghost use Rattle.row_store.specs.Places.{place_in, place_at, has_shelf, has_place, seen_at, standing, made, full, emptied, placed, settled, shared_row, is_name, is_shelf, place_of};
 
 use crate::place::Place;
 use crate::shelf::{self, Shelf};
@@ -41,7 +41,7 @@ fn make_place_on(shelves: &mut Shelves, at: &Resource, name: &RowName) -> Result
     ensures made { OnOk result ((d : AnyResource) (q : AnyName) →
         place_at shelves.new d q ≡ (if is_shelf at.now d && is_name name.now q
         then Some (made (place_at shelves.old d q)) else place_at shelves.old d q)) }
-    ensures seen { (d : AnyResource) (q : AnyName) → seen shelves.new d q ≡ seen shelves.old d q }
+    ensures seen { (d : AnyResource) (q : AnyName) → seen_at shelves.new d q ≡ seen_at shelves.old d q }
     ensures kept { (d : AnyResource) (q : AnyName) → has_place shelves.old d q ≡ true →
         has_place shelves.new d q ≡ true }
     ensures shelves { (d : AnyResource) → has_shelf shelves.new d ≡ has_shelf shelves.old d }
@@ -59,13 +59,13 @@ pub(crate) fn make_place(
     at: &Resource,
     name: &RowName,
 ) -> Result<(), NoMemory>
-    ensures seen { (d : AnyResource) (q : AnyName) → seen shelves.new d q ≡ seen shelves.old d q }
+    ensures seen { (d : AnyResource) (q : AnyName) → seen_at shelves.new d q ≡ seen_at shelves.old d q }
     ensures kept { (d : AnyResource) (q : AnyName) → has_place shelves.old d q ≡ true →
         has_place shelves.new d q ≡ true }
     ensures shelves { (d : AnyResource) → has_shelf shelves.old d ≡ true → has_shelf shelves.new d ≡ true }
     ensures there { OnOk result (has_place shelves.new at.now name.now ≡ true) }
     ensures made { OnOk result ((d : AnyResource) (q : AnyName) →
-        place_at shelves.new d q ≡ (if is_shelf at.now d && is_name name.now q then Some (seen shelves.old d q)
+        place_at shelves.new d q ≡ (if is_shelf at.now d && is_name name.now q then Some (seen_at shelves.old d q)
         else place_at shelves.old d q)) }
 {
     make_shelf(alloc, shelves, at)?;
@@ -81,7 +81,7 @@ pub(crate) fn add_row(
     row: Option<Arc<Row>>,
 ) -> Result<(), NoMemory>
     ensures places { OnOk result ((d : AnyResource) (q : AnyName) →
-        place_at shelves.new d q ≡ (if is_shelf at.now d && is_name name.now q then Some (full (value_of row))
+        place_at shelves.new d q ≡ (if is_shelf at.now d && is_name name.now q then Some (full (shared_row row))
         else place_at shelves.old d q)) }
     ensures shelves { OnOk result ((d : AnyResource) → has_shelf shelves.old d ≡ true →
         has_shelf shelves.new d ≡ true) }
@@ -98,8 +98,8 @@ pub(crate) fn empty_place(shelves: &mut Shelves, at: &Resource, name: &RowName)
         place_at shelves.new d q ≡ (if is_shelf at.now d && is_name name.now q
         then option_map emptied (place_at shelves.old d q) else place_at shelves.old d q) }
     ensures seen { (d : AnyResource) (q : AnyName) →
-        seen shelves.new d q ≡ (if is_shelf at.now d && is_name name.now q then emptied (seen shelves.old d q)
-        else seen shelves.old d q) }
+        seen_at shelves.new d q ≡ (if is_shelf at.now d && is_name name.now q then emptied (seen_at shelves.old d q)
+        else seen_at shelves.old d q) }
     ensures kept { (d : AnyResource) (q : AnyName) → has_place shelves.new d q ≡ has_place shelves.old d q }
     ensures shelves { (d : AnyResource) → has_shelf shelves.new d ≡ has_shelf shelves.old d }
 {
@@ -118,10 +118,10 @@ pub(crate) fn fill_place(
 )
     ensures places { (d : AnyResource) (q : AnyName) →
         place_at shelves.new d q ≡ (if is_shelf at.now d && is_name name.now q
-        then option_map (λ _. full (value_of row)) (place_at shelves.old d q) else place_at shelves.old d q) }
+        then option_map (λ _. full (shared_row row)) (place_at shelves.old d q) else place_at shelves.old d q) }
     ensures seen { (d : AnyResource) (q : AnyName) → has_place shelves.old at.now name.now ≡ true →
-        seen shelves.new d q ≡ (if is_shelf at.now d && is_name name.now q then full (value_of row)
-        else seen shelves.old d q) }
+        seen_at shelves.new d q ≡ (if is_shelf at.now d && is_name name.now q then full (shared_row row)
+        else seen_at shelves.old d q) }
     ensures kept { (d : AnyResource) (q : AnyName) → has_place shelves.new d q ≡ has_place shelves.old d q }
     ensures shelves { (d : AnyResource) → has_shelf shelves.new d ≡ has_shelf shelves.old d }
 {
@@ -135,7 +135,7 @@ pub(crate) fn fill_place(
 pub(crate) fn put_row(shelves: &mut Shelves, at: &Resource, name: &RowName, row: Option<Arc<Row>>)
     ensures places { (d : AnyResource) (q : AnyName) →
         place_at shelves.new d q ≡ (if is_shelf at.now d && is_name name.now q
-        then (if has_place shelves.old d q then placed (value_of row) else None) else place_at shelves.old d q) }
+        then (if has_place shelves.old d q then placed (shared_row row) else None) else place_at shelves.old d q) }
     ensures shelves { (d : AnyResource) → has_shelf shelves.new d ≡ has_shelf shelves.old d }
 {
     if let Some(shelf) = shelves.get_mut(at) {
@@ -149,7 +149,7 @@ pub(crate) fn share_row(
     at: &Resource,
     name: &RowName,
 ) -> Result<Option<Arc<Row>>, NoMemory>
-    ensures { IfOk result (λ row. value_of row ≡ standing (place_at shelves.now at.now name.now)) }
+    ensures { IfOk result (λ row. shared_row row ≡ standing (place_at shelves.now at.now name.now)) }
 {
     match shelves.get(at) {
         Some(shelf) => shelf::share_row(shelf, name),

@@ -6,7 +6,7 @@ ghost use Rattle.values.specs.declared.name.RowName.{RowName as AnyName};
 ghost use Rattle.proclang_types.specs.declared.right.Right.TheVariants.{Read, Write};
 ghost use Rattle.coarsen.specs.Subtrees.{Requests};
 ghost use Rattle.coarsen.specs.Plans.{IsPlanOver};
-ghost use Rattle.coarsen.specs.Clashes.{locks_row, Conflict};
+ghost use Rattle.coarsen.specs.Clashes.{locks_row, ModesClash};
 ghost use Rattle.interp_expr.specs.Overlay.{applied};
 ghost use Rattle.row_store.specs.Stock.{with_rows};
 
@@ -35,7 +35,7 @@ pub struct RowStore {
 
 impl Model for RowStore {
     ghost use Rattle.row_store.specs.Stock.{Stock, stock_code};
-    ghost use Rattle.row_store.specs.Views.{rows_of, lent_of, IsKept};
+    ghost use Rattle.row_store.specs.Views.{rows_of, lent_of, IsRowStore};
 
     ghost Value = { Stock };
 
@@ -43,7 +43,7 @@ impl Model for RowStore {
 
     ghost view = { λ s. record { tables = s.catalogue; rows = rows_of s.catalogue s.shelves; lent = lent_of s.lent } };
 
-    ghost invariant = { λ s. IsKept s.catalogue s.shelves s.lent };
+    ghost invariant = { λ s. IsRowStore s.catalogue s.shelves s.lent };
 }
 
 impl RowStore {
@@ -74,7 +74,7 @@ impl RowStore {
         requires over { IsPlanOver self.old.tables plan.now }
         requires unlent { map.get self.old.lent number ≡ None }
         requires apart { (other : ℕ) (requests : Requests) → map.get self.old.lent other ≡ Some requests →
-            Conflict requests plan.now → ⊥ }
+            ModesClash requests plan.now → ⊥ }
         ensures tables { self.new.tables ≡ self.old.tables }
         ensures rows { self.new.rows ≡ self.old.rows }
         ensures lent { OnOk result (self.new.lent ≡ map.insert self.old.lent number plan.now) }

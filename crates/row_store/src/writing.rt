@@ -5,7 +5,7 @@ ghost use Rattle.std.specs.BTreeMap as tree;
 ghost use Rattle.values.specs.declared.name.RowName.{RowName as AnyName};
 ghost use Rattle.values.specs.Database.{name_cmp};
 ghost use Rattle.footprint.specs.declared.resource.Resource.{Resource as AnyResource};
-ghost use Rattle.row_store.specs.Places.{seen, has_shelf, has_place, value_of, write_at, written, is_name};
+ghost use Rattle.row_store.specs.Places.{seen_at, has_shelf, has_place, shared_row, write_at, written, is_name};
 ghost use Rattle.row_store.specs.Shelving.{shelf_of};
 
 use crate::shelves::{Shelves, fill_place, make_place};
@@ -20,7 +20,7 @@ type Writes = BTreeMap<RowName, Option<Arc<Row>>>;
 
 /// A row, or none, to be shared.
 fn shared(alloc: Global, row: Option<Row>) -> Result<Option<Arc<Row>>, NoMemory>
-    ensures { IfOk result (λ shared. value_of shared ≡ row) }
+    ensures { IfOk result (λ shared. shared_row shared ≡ row) }
 {
     match row {
         Some(row) => Ok(Some(Arc::new(alloc, row)?)),
@@ -37,7 +37,7 @@ fn add_write(
     name: RowName,
     row: Option<Row>,
 ) -> Result<(), NoMemory>
-    ensures seen { (d : AnyResource) (q : AnyName) → seen shelves.new d q ≡ seen shelves.old d q }
+    ensures seen { (d : AnyResource) (q : AnyName) → seen_at shelves.new d q ≡ seen_at shelves.old d q }
     ensures kept { (d : AnyResource) (q : AnyName) → has_place shelves.old d q ≡ true →
         has_place shelves.new d q ≡ true }
     ensures shelves { (d : AnyResource) → has_shelf shelves.old d ≡ true → has_shelf shelves.new d ≡ true }
@@ -58,7 +58,7 @@ fn make_writes(
     shelves: &mut Shelves,
     writes: BTreeMap<RowName, Option<Row>>,
 ) -> Result<Writes, NoMemory>
-    ensures seen { (d : AnyResource) (q : AnyName) → seen shelves.new d q ≡ seen shelves.old d q }
+    ensures seen { (d : AnyResource) (q : AnyName) → seen_at shelves.new d q ≡ seen_at shelves.old d q }
     ensures kept { (d : AnyResource) (q : AnyName) → has_place shelves.old d q ≡ true →
         has_place shelves.new d q ≡ true }
     ensures shelves { (d : AnyResource) → has_shelf shelves.old d ≡ true → has_shelf shelves.new d ≡ true }
@@ -79,8 +79,8 @@ fn put_writes(catalogue: &Catalogue, shelves: &mut Shelves, writes: Writes)
     requires { (q : AnyName) → is_some (write_at writes q) ≡ true →
         has_place shelves.old (shelf_of catalogue.now q) q ≡ true }
     ensures seen { (q : AnyName) →
-        seen shelves.new (shelf_of catalogue.now q) q
-        ≡ written (write_at writes q) (seen shelves.old (shelf_of catalogue.now q) q) }
+        seen_at shelves.new (shelf_of catalogue.now q) q
+        ≡ written (write_at writes q) (seen_at shelves.old (shelf_of catalogue.now q) q) }
     ensures kept { (d : AnyResource) (q : AnyName) → has_place shelves.new d q ≡ has_place shelves.old d q }
     ensures shelves { (d : AnyResource) → has_shelf shelves.new d ≡ has_shelf shelves.old d }
 {
@@ -99,9 +99,9 @@ pub(crate) fn write(
     writes: BTreeMap<RowName, Option<Row>>,
 ) -> Result<(), NoMemory>
     ensures seen { OnOk result ((q : AnyName) →
-        seen shelves.new (shelf_of catalogue.now q) q
-        ≡ written (tree.get name_cmp writes q) (seen shelves.old (shelf_of catalogue.now q) q)) }
-    ensures err { OnErr result ((d : AnyResource) (q : AnyName) → seen shelves.new d q ≡ seen shelves.old d q) }
+        seen_at shelves.new (shelf_of catalogue.now q) q
+        ≡ written (tree.get name_cmp writes q) (seen_at shelves.old (shelf_of catalogue.now q) q)) }
+    ensures err { OnErr result ((d : AnyResource) (q : AnyName) → seen_at shelves.new d q ≡ seen_at shelves.old d q) }
     ensures kept { (d : AnyResource) (q : AnyName) → has_place shelves.old d q ≡ true →
         has_place shelves.new d q ≡ true }
     ensures shelves { (d : AnyResource) → has_shelf shelves.old d ≡ true → has_shelf shelves.new d ≡ true }

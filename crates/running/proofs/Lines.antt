@@ -15,7 +15,7 @@ use Rattle.engine.specs.declared.replies.BatchDone.{BatchDone}
 use Rattle.engine.specs.declared.replies.Reply.{Reply}
 use Rattle.engine.specs.Batches.{entries_of}
 use Rattle.engine.specs.Engines.{EngineParts}
-use Rattle.engine.specs.Executions.{IsRunOf}
+use Rattle.engine.specs.Executions.{IsExecutionOf}
 use Rattle.engine.specs.Replies.{reply_of, sent_of, sent_from, Sent}
 use Rattle.running.specs.Transcripts.{said_lines, with_batch_line}
 
@@ -40,13 +40,13 @@ pub entries_in : (requests : List Call) (batch : Batch) → items_of batch ≡ i
 entries_in requests batch e = ap (map (λ item. prepared item.request)) e ∙ requests_in 0 requests
 
 -- the reply lines of a batch that was run are those of its entries one by one
-pub lines_are : (old new : EngineParts) (batch : Batch) (run : BatchDone) (requests : List Call) → IsRunOf old new batch run → items_of batch ≡ items_from 0 requests →
+pub lines_are : (old new : EngineParts) (batch : Batch) (run : BatchDone) (requests : List Call) → IsExecutionOf old new batch run → items_of batch ≡ items_from 0 requests →
     said_lines run.replies.items ≡ reply_lines old.next (serial_replies (map prepared requests) old.rows)
 lines_are old new batch run requests r e =
     said_as old.next run.replies.items (items_of batch) _ r.sent r.replies
     ∙ ap (λ (es : List EntryShape). reply_lines old.next (serial_replies es old.rows)) (entries_in requests batch e)
 
-pub rows_are : (old new : EngineParts) (batch : Batch) (run : BatchDone) (requests : List Call) → IsRunOf old new batch run → items_of batch ≡ items_from 0 requests →
+pub rows_are : (old new : EngineParts) (batch : Batch) (run : BatchDone) (requests : List Call) → IsExecutionOf old new batch run → items_of batch ≡ items_from 0 requests →
     new.rows ≡ serial_end (map prepared requests) old.rows
 rows_are old new batch run requests r e = r.rows ∙ ap (λ (es : List EntryShape). serial_end es old.rows) (entries_in requests batch e)
 
@@ -54,7 +54,7 @@ pub requests_count : (n : ℕ) (requests : List Call) → length (items_from n r
 requests_count n [] = refl
 requests_count n (r ∷ rs) = let rest = requests_count (n + 1) rs in cc
 
-pub next_is : (old new : EngineParts) (batch : Batch) (run : BatchDone) (requests : List Call) → IsRunOf old new batch run → items_of batch ≡ items_from 0 requests →
+pub next_is : (old new : EngineParts) (batch : Batch) (run : BatchDone) (requests : List Call) → IsExecutionOf old new batch run → items_of batch ≡ items_from 0 requests →
     new.next ≡ old.next + length requests
 next_is old new batch run requests r e = r.next ∙ ap (λ n. old.next + n) (ap length e ∙ requests_count 0 requests)
 

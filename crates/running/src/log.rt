@@ -14,7 +14,7 @@ ghost use Rattle.report_text.specs.Texts.{digest, end_line, row_text};
 ghost use Rattle.report_text.specs.Report.{batch_text, next_batch, reply_lines, all_entries};
 ghost use Rattle.batch_log.specs.Reader.{calls_read, fault_of, position_of, source_name, source_of, unread};
 ghost use Rattle.engine.specs.Engines.{tables_of, is_busy};
-ghost use Rattle.engine.specs.Executions.{IsRefusal, IsRunOf, KeepsSetting};
+ghost use Rattle.engine.specs.Executions.{IsRefusal, IsExecutionOf, KeepsSetting};
 ghost use Rattle.running.specs.Executors.{Executes};
 ghost use Rattle.running.specs.Hashers.{batch_of, said_of};
 ghost use Rattle.running.specs.Reports.{batches_in, fault_in, report_of};
@@ -52,7 +52,7 @@ fn execute<X: Fn(&mut Engine, Batch) -> Result<BatchDone, ExecFault>>(
     requires executes { Executes X.Fn executor.now }
     requires over { AreOver (tables_of engine.old) (items_of batch) }
     ensures same { KeepsSetting engine.old engine.new }
-    ensures done { IfOk result (IsRunOf engine.old engine.new batch) }
+    ensures done { IfOk result (IsExecutionOf engine.old engine.new batch) }
     ensures idle { OnOk result (is_busy engine.new ≡ false) }
     ensures refused { IfErr result (IsRefusal engine.old engine.new batch) }
 {

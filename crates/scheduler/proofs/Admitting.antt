@@ -34,21 +34,21 @@ transaction_there (x ∷ entries) (q ∷ plans) (suc place) p e is = transaction
 
 module _ (w : Work) (slots : List Slot) (stock : Stock) (tree : Locks) (s : IsScheduled w slots stock tree) where
   -- whether there is room for the next plan
-  pub room : (t : Transaction) → slice_get (log_of w) (length slots) ≡ Some t → enabled w.nodes w.first (log_of w) (map phase_in slots) Admit ≡ nat_le (used tree.waiting + length t.plan) w.nodes
+  pub room : (t : Transaction) → slice_get (log_of w) (length slots) ≡ Some t → enabled w.arena w.first (log_of w) (map phase_in slots) Admit ≡ nat_le (used tree.waiting + length t.plan) w.arena
   room t at =
       let count : length (map phase_in slots) ≡ length slots = length_map phase_in slots in
-      ap (λ n. has_room w.nodes (waiting w.first (log_of w) (map phase_in slots)) (slice_get (log_of w) n)) count
-      ∙ ap (has_room w.nodes (waiting w.first (log_of w) (map phase_in slots))) at
-      ∙ ap (λ (l : Locks). nat_le (used l.waiting + length t.plan) w.nodes) (sym s.tree_is)
+      ap (λ n. has_room w.arena (waiting w.first (log_of w) (map phase_in slots)) (slice_get (log_of w) n)) count
+      ∙ ap (has_room w.arena (waiting w.first (log_of w) (map phase_in slots))) at
+      ∙ ap (λ (l : Locks). nat_le (used l.waiting + length t.plan) w.arena) (sym s.tree_is)
 
   -- past the last transaction nothing is admitted
-  pub none_next : IsFitting w → length w.plans ≤ length slots → enabled w.nodes w.first (log_of w) (map phase_in slots) Admit ≡ false
+  pub none_next : IsFitting w → length w.plans ≤ length slots → enabled w.arena w.first (log_of w) (map phase_in slots) Admit ≡ false
   none_next fits past =
       let count : length (map phase_in slots) ≡ length slots = length_map phase_in slots in
       let all : length (log_of w) ≡ length w.entries = log_length w.entries w.plans fits.plans in
       let same : length w.plans ≡ length w.entries = fits.plans in
       let none : slice_get (log_of w) (length (map phase_in slots)) ≡ None = slice_get_past (log_of w) (length (map phase_in slots)) (omega (arith, count, all, same, past)) in
-      ap (has_room w.nodes (waiting w.first (log_of w) (map phase_in slots))) none
+      ap (has_room w.arena (waiting w.first (log_of w) (map phase_in slots))) none
 
   -- numbers rise
   pub below_number : FollowsPhases w.first (log_of w) → (number : ℕ) → number ≡ w.first + length slots → AreBelow number tree.waiting
@@ -60,29 +60,29 @@ module _ (w : Work) (slots : List Slot) (stock : Stock) (tree : Locks) (s : IsSc
   pub has_next : (place : ℕ) (t : Transaction) → place ≡ length slots → slice_get (log_of w) place ≡ Some t → slice_get (log_of w) (length slots) ≡ Some t
   has_next place t e at = ap (slice_get (log_of w)) (sym e) ∙ at
 
-  pub enabled_where : (place : ℕ) (t : Transaction) (plan : Requests) → place ≡ length slots → slice_get (log_of w) place ≡ Some t → t.plan ≡ plan → used tree.waiting + length plan ≤ w.nodes
-      → enabled w.nodes w.first (log_of w) (map phase_in slots) Admit ≡ true
+  pub enabled_where : (place : ℕ) (t : Transaction) (plan : Requests) → place ≡ length slots → slice_get (log_of w) place ≡ Some t → t.plan ≡ plan → used tree.waiting + length plan ≤ w.arena
+      → enabled w.arena w.first (log_of w) (map phase_in slots) Admit ≡ true
   enabled_where place t plan e at is fits =
       let size : length t.plan ≡ length plan = ap length is in
-      let less : used tree.waiting + length t.plan ≤ w.nodes = omega (arith, size, fits) in
+      let less : used tree.waiting + length t.plan ≤ w.arena = omega (arith, size, fits) in
       room t (has_next place t e at) ∙ grind (arith, nat_tests)
 
-  pub refused_where : (place : ℕ) (t : Transaction) (plan : Requests) → place ≡ length slots → slice_get (log_of w) place ≡ Some t → t.plan ≡ plan → w.nodes < used tree.waiting + length plan
-      → enabled w.nodes w.first (log_of w) (map phase_in slots) Admit ≡ false
+  pub refused_where : (place : ℕ) (t : Transaction) (plan : Requests) → place ≡ length slots → slice_get (log_of w) place ≡ Some t → t.plan ≡ plan → w.arena < used tree.waiting + length plan
+      → enabled w.arena w.first (log_of w) (map phase_in slots) Admit ≡ false
   refused_where place t plan e at is full =
       let size : length t.plan ≡ length plan = ap length is in
-      let less : w.nodes < used tree.waiting + length t.plan = omega (arith, size, full) in
+      let less : w.arena < used tree.waiting + length t.plan = omega (arith, size, full) in
       room t (has_next place t e at) ∙ grind (arith, nat_tests)
 
 -- what an enqueuing that went well, and one that was refused, say of the room
-pub fits_where : (r : Result (Unit {0}) EnqueueFault) (u : Unit {0}) (x nodes room : ℕ) → r ≡ Ok u → ((r ≡ Err enqueue.Full) ↔ (nodes < x)) → nodes ≡ room → x ≤ room
-fits_where r u x nodes room is full same = elim (nat_le x nodes) as (λ b. nat_le x nodes ≡ b → x ≤ room) [
-  | true ↦ λ e. let l : x ≤ nodes = grind (arith, nat_tests) in omega (arith, l, same)
-  | false ↦ λ e. let l : nodes < x = grind (arith, nat_tests) in
+pub fits_where : (r : Result (Unit {0}) EnqueueFault) (u : Unit {0}) (x arena room : ℕ) → r ≡ Ok u → ((r ≡ Err enqueue.Full) ↔ (arena < x)) → arena ≡ room → x ≤ room
+fits_where r u x arena room is full same = elim (nat_le x arena) as (λ b. nat_le x arena ≡ b → x ≤ room) [
+  | true ↦ λ e. let l : x ≤ arena = grind (arith, nat_tests) in omega (arith, l, same)
+  | false ↦ λ e. let l : arena < x = grind (arith, nat_tests) in
       let g : Ok u ≡ Err enqueue.Full = sym is ∙ full.1 l in absurd (cc)
 ] refl
 
-pub full_where : (r : Result (Unit {0}) EnqueueFault) (fault : EnqueueFault) (given : AdmitFault) (x nodes room : ℕ) → r ≡ Err fault → ((r ≡ Err enqueue.Full) ↔ (nodes < x)) → nodes ≡ room
+pub full_where : (r : Result (Unit {0}) EnqueueFault) (fault : EnqueueFault) (given : AdmitFault) (x arena room : ℕ) → r ≡ Err fault → ((r ≡ Err enqueue.Full) ↔ (arena < x)) → arena ≡ room
     → given ≡ admit_fault fault → ◌≡◌ {A = Result ℕ AdmitFault} (Err given) (Err admit.Full) → room < x
-full_where r enqueue.Full given x nodes room is full same from e = let l : nodes < x = full.0 is in omega (arith, l, same)
-full_where r enqueue.NoMemory given x nodes room is full same from e = let a : given ≡ admit.Full = cc in let g : admit.NoMemory ≡ admit.Full = sym from ∙ a in absurd (cc)
+full_where r enqueue.Full given x arena room is full same from e = let l : arena < x = full.0 is in omega (arith, l, same)
+full_where r enqueue.NoMemory given x arena room is full same from e = let a : given ≡ admit.Full = cc in let g : admit.NoMemory ≡ admit.Full = sym from ∙ a in absurd (cc)

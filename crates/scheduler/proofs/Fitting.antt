@@ -18,51 +18,51 @@ use Rattle.interp.specs.Over.{locked_for, IsEntryOver, AreEntriesOver}
 use Rattle.scheduler.specs.Schedules.{Work}
 use Rattle.scheduler.specs.Scheduled.{IsFitting}
 
-covered : (tables : List TableShape) (most : ℕ) (o : Option FootprintOf) (plan : Requests) → Serves most (locked_for o) plan
+covered : (tables : List TableShape) (arena : ℕ) (o : Option FootprintOf) (plan : Requests) → Serves arena (locked_for o) plan
     → (name : RowName) (right : Right) → may_touch tables o name right ≡ true → locks_row tables plan name right ≡ true
-covered tables most None plan s name right e = absurd (cc)
-covered tables most (Some f) plan s name right e = s.covered (row_resource tables name) right e
+covered tables arena None plan s name right e = absurd (cc)
+covered tables arena (Some f) plan s name right e = s.covered (row_resource tables name) right e
 
-planned_one : (tables : List TableShape) (most : ℕ) (entry : EntryParts) (plan : Requests) → IsEntryOver tables entry → IsPlannedFor most entry plan
+planned_one : (tables : List TableShape) (arena : ℕ) (entry : EntryParts) (plan : Requests) → IsEntryOver tables entry → IsPlannedFor arena entry plan
     → IsPlanned tables (record { entry = entry_shape entry; plan = plan })
-planned_one tables most entry plan over s = record {
+planned_one tables arena entry plan over s = record {
   sound = s.sound;
   locks = λ name right e.
       ap (λ ts. locks_row ts plan name right) (sym over.of_tables)
-      ∙ covered entry.request.proc.tables most (footprint_of (entry_shape entry).footing) plan s name right e;
+      ∙ covered entry.request.proc.tables arena (footprint_of (entry_shape entry).footing) plan s name right e;
 }
 
-record Facts (tables : List TableShape) (most : ℕ) (t : Transaction) : Type 0 where
+record Facts (tables : List TableShape) (arena : ℕ) (t : Transaction) : Type 0 where
   of_tables : t.entry.tables ≡ tables
   plan_over : IsPlanOver tables t.plan
   planned : IsPlanned tables t
-  size : length t.plan ≤ most
+  size : length t.plan ≤ arena
 
-facts : (tables : List TableShape) (most : ℕ) → IsCatalogue tables → (entries : List EntryParts) (plans : List Requests) → AreEntriesOver tables entries → ArePlannedFor most entries plans
-    → (place : ℕ) (t : Transaction) → slice_get (transactions_of entries plans) place ≡ Some t → Facts tables most t
-facts tables most cat [] plans over all place t is = absurd (let g : None ≡ Some t = is in cc)
-facts tables most cat (x ∷ entries) [] over all place t is = absurd all
-facts tables most cat (x ∷ entries) (p ∷ plans) over all zero t is =
+facts : (tables : List TableShape) (arena : ℕ) → IsCatalogue tables → (entries : List EntryParts) (plans : List Requests) → AreEntriesOver tables entries → ArePlannedFor arena entries plans
+    → (place : ℕ) (t : Transaction) → slice_get (transactions_of entries plans) place ≡ Some t → Facts tables arena t
+facts tables arena cat [] plans over all place t is = absurd (let g : None ≡ Some t = is in cc)
+facts tables arena cat (x ∷ entries) [] over all place t is = absurd all
+facts tables arena cat (x ∷ entries) (p ∷ plans) over all zero t is =
     let e : record { entry = entry_shape x; plan = p } ≡ t = (let g : Some (record { entry = entry_shape x; plan = p }) ≡ Some t = is in cc) in
-    subst (Facts tables most) e (record {
+    subst (Facts tables arena) e (record {
       of_tables = over.0.of_tables;
       plan_over = all.0.over tables cat over.0.touches;
-      planned = planned_one tables most x p over.0 all.0;
+      planned = planned_one tables arena x p over.0 all.0;
       size = all.0.size;
     })
-facts tables most cat (x ∷ entries) (p ∷ plans) over all (suc place) t is = facts tables most cat entries plans over.1 all.1 place t is
+facts tables arena cat (x ∷ entries) (p ∷ plans) over all (suc place) t is = facts tables arena cat entries plans over.1 all.1 place t is
 
-as_many : (most : ℕ) (entries : List EntryParts) (plans : List Requests) → ArePlannedFor most entries plans → length plans ≡ length entries
-as_many most [] [] all = refl
-as_many most [] (p ∷ plans) all = absurd all
-as_many most (x ∷ entries) [] all = absurd all
-as_many most (x ∷ entries) (p ∷ plans) all = ap suc (as_many most entries plans all.1)
+as_many : (arena : ℕ) (entries : List EntryParts) (plans : List Requests) → ArePlannedFor arena entries plans → length plans ≡ length entries
+as_many arena [] [] all = refl
+as_many arena [] (p ∷ plans) all = absurd all
+as_many arena (x ∷ entries) [] all = absurd all
+as_many arena (x ∷ entries) (p ∷ plans) all = ap suc (as_many arena entries plans all.1)
 
-pub fitting : (w : Work) → IsCatalogue w.tables → AreEntriesOver w.tables w.entries → ArePlannedFor w.nodes w.entries w.plans → w.first + length w.entries ≤ 2 ^ 48 → IsFitting w
+pub fitting : (w : Work) → IsCatalogue w.tables → AreEntriesOver w.tables w.entries → ArePlannedFor w.arena w.entries w.plans → w.first + length w.entries ≤ 2 ^ 48 → IsFitting w
 fitting w cat over all few = record {
-  over = λ place t is. let f = facts w.tables w.nodes cat w.entries w.plans over all place t is in (f.of_tables, f.plan_over);
-  planned = λ place t is. (facts w.tables w.nodes cat w.entries w.plans over all place t is).planned;
-  fit = λ place t is. (facts w.tables w.nodes cat w.entries w.plans over all place t is).size;
-  plans = as_many w.nodes w.entries w.plans all;
+  over = λ place t is. let f = facts w.tables w.arena cat w.entries w.plans over all place t is in (f.of_tables, f.plan_over);
+  planned = λ place t is. (facts w.tables w.arena cat w.entries w.plans over all place t is).planned;
+  fit = λ place t is. (facts w.tables w.arena cat w.entries w.plans over all place t is).size;
+  plans = as_many w.arena w.entries w.plans all;
   few = few;
 }

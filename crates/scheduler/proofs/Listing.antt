@@ -18,14 +18,14 @@ filter_both p (x ∷ xs) ys = elim (p x) as (λ b. p x ≡ b → (if b then x �
   | false ↦ λ _. filter_both p xs ys
 ] refl
 
-module _ (w : Work) (slots : List Slot) (places : AreByPlaces w.nodes w.first (log_of w) (map phase_in slots)) where
+module _ (w : Work) (slots : List Slot) (places : AreByPlaces w.arena w.first (log_of w) (map phase_in slots)) where
   abbrev test : Event → Bool
-  test = enabled w.nodes w.first (log_of w) (map phase_in slots)
+  test = enabled w.arena w.first (log_of w) (map phase_in slots)
 
   pub one_more : (place : ℕ) (slot : Slot) (items : List Event) (r : Option Event) → slice_get slots place ≡ Some slot
-      → items ≡ filter (enabled w.nodes w.first (log_of w) (map phase_in slots)) (Admit ∷ next_steps w.first (take place (map phase_in slots)))
-      → steps_of r ≡ filter (enabled w.nodes w.first (log_of w) (map phase_in slots)) (next_of (w.first + place) (slice_get slots place))
-      → items ++ steps_of r ≡ filter (enabled w.nodes w.first (log_of w) (map phase_in slots)) (Admit ∷ next_steps w.first (take (place + 1) (map phase_in slots)))
+      → items ≡ filter (enabled w.arena w.first (log_of w) (map phase_in slots)) (Admit ∷ next_steps w.first (take place (map phase_in slots)))
+      → steps_of r ≡ filter (enabled w.arena w.first (log_of w) (map phase_in slots)) (next_of (w.first + place) (slice_get slots place))
+      → items ++ steps_of r ≡ filter (enabled w.arena w.first (log_of w) (map phase_in slots)) (Admit ∷ next_steps w.first (take (place + 1) (map phase_in slots)))
   one_more place slot items r at so_far step =
       let next : next_of (w.first + place) (slice_get slots place) ≡ next_step (w.first + place) (phase_in slot) = ap (next_of (w.first + place)) at in
       ap (λ xs. xs ++ steps_of r) so_far
@@ -35,7 +35,7 @@ module _ (w : Work) (slots : List Slot) (places : AreByPlaces w.nodes w.first (l
       ∙ ap (λ k. filter test (Admit ∷ next_steps w.first (take k (map phase_in slots)))) (let e : suc place ≡ place + 1 = omega arith in e)
 
 -- what is chosen is enabled, and nothing is chosen exactly where all is done
-pub choice_is : EnabledEventsAreListed → (nodes first : ℕ) (log : List Transaction) (phases : List Phase) (n : ℕ) → length phases ≤ length log → FitIn nodes log
-    → (o : Option Event) → o ≡ chosen n (enabled_events nodes first log phases) → IsChoice nodes first log phases o
-choice_is law nodes first log phases n within fit None e = (law.no_choice nodes first log phases n within fit).0 (sym e)
-choice_is law nodes first log phases n within fit (Some event) e = law.choice nodes first log phases n event (sym e)
+pub choice_is : EnabledEventsAreListed → (arena first : ℕ) (log : List Transaction) (phases : List Phase) (n : ℕ) → length phases ≤ length log → FitIn arena log
+    → (o : Option Event) → o ≡ chosen n (enabled_events arena first log phases) → IsChoice arena first log phases o
+choice_is law arena first log phases n within fit None e = (law.no_choice arena first log phases n within fit).0 (sym e)
+choice_is law arena first log phases n within fit (Some event) e = law.choice arena first log phases n event (sym e)

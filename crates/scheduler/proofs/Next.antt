@@ -28,7 +28,7 @@ first_of r number phase.Ran open_yet e = one_step r (Settle number) e
 first_of r number phase.Settled open_yet e = absurd (cc)
 
 module _ (w : Work) (slots : List Slot) (stock : Stock) (tree : Locks) (fits : IsFitting w) (s : IsScheduled w slots stock tree) (n : ℕ) (leading : AreSettledBefore slots n)
-    (places : AreByPlaces w.nodes w.first (log_of w) (map phase_in slots)) where
+    (places : AreByPlaces w.arena w.first (log_of w) (map phase_in slots)) where
   pub open_next : (slot : Slot) (r : Option Event) → slice_get slots n ≡ Some slot → steps_of r ≡ next_step (w.first + n) (phase_in slot) → r ≡ next_event w.first (log_of w) (map phase_in slots)
   open_next slot r at e =
       let open_yet : is_settled (Some (phase_in slot)) ≡ false = sym (ap is_settled (phase_at slots n slot at)) ∙ leading.next in

@@ -7,7 +7,7 @@ use Rattle.proclang_types.specs.declared.right.Right.{Right}
 use Rattle.proclang_types.specs.declared.right.Right.TheVariants.{Read}
 use Rattle.coarsen.specs.Subtrees.{Requests}
 use Rattle.coarsen.specs.Plans.{IsPlanOver}
-use Rattle.coarsen.specs.Clashes.{locks_row, Conflict}
+use Rattle.coarsen.specs.Clashes.{locks_row, ModesClash}
 use Rattle.coarsen.specs.Laws.{ClashEitherWay}
 use Rattle.lock_tree.specs.Locks.{Locks, plan_of}
 use Rattle.lock_tree.specs.Ready.{ready, IsNextReady}
@@ -76,8 +76,8 @@ module _ (w : Work) (slots : List Slot) (stock : Stock) (tree : Locks) (fits : I
       }
 
   -- the least ready number without a mark is the least to which rows may be lent
-  pub least : (found : Option ℕ) → IsNextReady tree.waiting found → IsLeastLend w.nodes w.first (log_of w) (map phase_in slots) found
-  least found next = follows.next_ready w.nodes (map phase_in slots) found s.sound.within (subst (λ (l : Locks). IsNextReady l.waiting found) s.tree_is next)
+  pub least : (found : Option ℕ) → IsNextReady tree.waiting found → IsLeastLend w.arena w.first (log_of w) (map phase_in slots) found
+  least found next = follows.next_ready w.arena (map phase_in slots) found s.sound.within (subst (λ (l : Locks). IsNextReady l.waiting found) s.tree_is next)
 
   pub next_opening : (number : ℕ) → IsNextReady tree.waiting (Some number) → Opening w slots tree number (number - w.first)
   next_opening number next = opening number (least (Some number) next).0
@@ -128,11 +128,11 @@ module _ (w : Work) (slots : List Slot) (stock : Stock) (tree : Locks) (fits : I
           let found_here : plan_of tree.waiting number ≡ Some p = ap (plan_of tree.waiting) o.number_is ∙ ap (λ (l : Locks). plan_of l.waiting (w.first + (place))) s.tree_is ∙ found in
           subst (λ q. IsSome q) (sym found_here) refl
 
-      pub apart : ClashEitherWay → (other : ℕ) (requests : Requests) → get stock.lent other ≡ Some requests → Conflict requests p → ⊥
+      pub apart : ClashEitherWay → (other : ℕ) (requests : Requests) → get stock.lent other ≡ Some requests → ModesClash requests p → ⊥
       apart turn other requests is conflict =
           let u = who w (map phase_in slots) other requests (sym (s.lent_is other) ∙ is) in
           sound.lends_apart (map phase_in slots) stock.rows (place) u.0 t u.1 s.sound idle_phase ready_there u.3 at u.2
-          (turn.requests u.1.plan p (subst (λ q. Conflict q p) u.4 conflict))
+          (turn.requests u.1.plan p (subst (λ q. ModesClash q p) u.4 conflict))
 
       module _ (job : JobOf) (n : job.number ≡ number) (je : job.entry ≡ e) (jp : job.loan.plan ≡ p) (jt : job.loan.tables ≡ stock.tables)
           (shows : (name : RowName) → locks_row stock.tables p name Read ≡ true → get job.loan.rows name ≡ get stock.rows name) where
@@ -152,6 +152,6 @@ module _ (w : Work) (slots : List Slot) (stock : Stock) (tree : Locks) (fits : I
         pub job_lent : IsLentAt w (job.number - w.first) job
         job_lent = subst (λ k. IsLentAt w k job) (sym place_is) lent_at_place
 
-        pub job_apart : (k : ℕ) (u : Transaction) → slice_get (log_of w) k ≡ Some u → is_out (slice_get (map phase_in slots) k) ≡ true → Conflict job.loan.plan u.plan → ⊥
+        pub job_apart : (k : ℕ) (u : Transaction) → slice_get (log_of w) k ≡ Some u → is_out (slice_get (map phase_in slots) k) ≡ true → ModesClash job.loan.plan u.plan → ⊥
         job_apart k u is out conflict =
-            sound.lends_apart (map phase_in slots) stock.rows (place) k t u s.sound idle_phase ready_there out at is (subst (λ q. Conflict q u.plan) jp conflict)
+            sound.lends_apart (map phase_in slots) stock.rows (place) k t u s.sound idle_phase ready_there out at is (subst (λ q. ModesClash q u.plan) jp conflict)

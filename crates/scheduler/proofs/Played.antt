@@ -37,15 +37,15 @@ lent_only (Some (slot.Held job)) a b = absurd (b job refl)
 lent_only (Some (slot.Ran job outcome)) a b = refl
 lent_only (Some (slot.Settled outcome)) a b = refl
 
-module _ (w : Work) (slots : List Slot) (by_places : AreByPlaces w.nodes w.first (log_of w) (map phase_in slots)) (number place : ℕ) (n : number ≡ w.first + place) where
+module _ (w : Work) (slots : List Slot) (by_places : AreByPlaces w.arena w.first (log_of w) (map phase_in slots)) (number place : ℕ) (n : number ≡ w.first + place) where
   phases : List Phase
   phases = map phase_in slots
 
-  pub lend_made : (tree : Locks) (new : List Slot) (s : Slot) → tree ≡ record { nodes = w.nodes; waiting = waiting w.first (log_of w) (map phase_in slots) }
+  pub lend_made : (tree : Locks) (new : List Slot) (s : Slot) → tree ≡ record { arena = w.arena; waiting = waiting w.first (log_of w) (map phase_in slots) }
       → slice_get slots place ≡ Some slot.Idle → ready tree.waiting number ≡ true → phase_in s ≡ phase.Out → new ≡ slice_set slots place s
-      → Answers w.nodes w.first (log_of w) (map phase_in slots) (Lend number) Made (map phase_in new)
+      → Answers w.arena w.first (log_of w) (map phase_in slots) (Lend number) Made (map phase_in new)
   lend_made tree new s tree_is is r out e = (
-    ap (λ k. enabled w.nodes w.first (log_of w) (map phase_in slots) (Lend k)) n
+    ap (λ k. enabled w.arena w.first (log_of w) (map phase_in slots) (Lend k)) n
         ∙ by_places.lend place
         ∙ ap (λ b. b && ready (waiting w.first (log_of w) (map phase_in slots)) (w.first + place)) (ap is_idle (phase_at slots place slot.Idle is))
         ∙ ap (ready (waiting w.first (log_of w) (map phase_in slots))) (sym n)
@@ -55,22 +55,22 @@ module _ (w : Work) (slots : List Slot) (by_places : AreByPlaces w.nodes w.first
   )
 
   pub run_made : (new : List Slot) (job job2 : JobOf) (outcome : Outcome) → slice_get slots place ≡ Some (slot.Held job) → new ≡ slice_set slots place (slot.Ran job2 outcome)
-      → Answers w.nodes w.first (log_of w) (map phase_in slots) (Run number) Made (map phase_in new)
+      → Answers w.arena w.first (log_of w) (map phase_in slots) (Run number) Made (map phase_in new)
   run_made new job job2 outcome is e = (
-    ap (λ k. enabled w.nodes w.first (log_of w) (map phase_in slots) (Run k)) n ∙ by_places.run place ∙ ap is_lent (phase_at slots place (slot.Held job) is),
+    ap (λ k. enabled w.arena w.first (log_of w) (map phase_in slots) (Run k)) n ∙ by_places.run place ∙ ap is_lent (phase_at slots place (slot.Held job) is),
     ap (map phase_in) e ∙ map_set phase_in slots place (slot.Ran job2 outcome) ∙ sym (by_places.after_run place) ∙ ap (λ k. step w.first (map phase_in slots) (Run k)) (sym n),
   )
 
   pub run_refused : ((k : ℕ) → slice_get slots k ≡ Some slot.Lent → ⊥) → ((job : JobOf) → slice_get slots place ≡ Some (slot.Held job) → ⊥)
-      → enabled w.nodes w.first (log_of w) (map phase_in slots) (Run number) ≡ false
+      → enabled w.arena w.first (log_of w) (map phase_in slots) (Run number) ≡ false
   run_refused keeps other =
-      ap (λ k. enabled w.nodes w.first (log_of w) (map phase_in slots) (Run k)) n ∙ by_places.run place
+      ap (λ k. enabled w.arena w.first (log_of w) (map phase_in slots) (Run k)) n ∙ by_places.run place
       ∙ ap is_lent (slice_get-map phase_in slots place) ∙ lent_only (slice_get slots place) (keeps place) other
 
   pub settle_made : (new : List Slot) (job : JobOf) (ran outcome : Outcome) → slice_get slots place ≡ Some (slot.Ran job ran) → new ≡ slice_set slots place (slot.Settled outcome)
-      → Answers w.nodes w.first (log_of w) (map phase_in slots) (Settle number) Made (map phase_in new)
+      → Answers w.arena w.first (log_of w) (map phase_in slots) (Settle number) Made (map phase_in new)
   settle_made new job ran outcome is e = (
-    ap (λ k. enabled w.nodes w.first (log_of w) (map phase_in slots) (Settle k)) n ∙ by_places.settle place ∙ ap was_run (phase_at slots place (slot.Ran job ran) is),
+    ap (λ k. enabled w.arena w.first (log_of w) (map phase_in slots) (Settle k)) n ∙ by_places.settle place ∙ ap was_run (phase_at slots place (slot.Ran job ran) is),
     ap (map phase_in) e ∙ map_set phase_in slots place (slot.Settled outcome) ∙ sym (by_places.after_settle place) ∙ ap (λ k. step w.first (map phase_in slots) (Settle k)) (sym n),
   )
 
@@ -84,12 +84,12 @@ one_longer [] x = refl
 one_longer (y ∷ xs) x = let e = one_longer xs x in omega (arith, e)
 
 -- one more event
-pub played_more : (nodes first : ℕ) (log : List Transaction) (old mid new : List Phase) (events : List Event) (answers : List StepAnswer) (event : Event) (answer : StepAnswer)
-    → Played nodes first log old events answers mid → Answers nodes first log mid event answer new → Played nodes first log old (events ++ event ∷ []) (answers ++ answer ∷ []) new
-played_more nodes first log old mid new [] [] event answer played one = (new, subst (λ ps. Answers nodes first log ps event answer new) played one, refl)
-played_more nodes first log old mid new [] (a ∷ answers) event answer played one = absurd played
-played_more nodes first log old mid new (e ∷ events) [] event answer played one = absurd played
-played_more nodes first log old mid new (e ∷ events) (a ∷ answers) event answer played one = (played.0, played.1, played_more nodes first log played.0 mid new events answers event answer played.2 one)
+pub played_more : (arena first : ℕ) (log : List Transaction) (old mid new : List Phase) (events : List Event) (answers : List StepAnswer) (event : Event) (answer : StepAnswer)
+    → Played arena first log old events answers mid → Answers arena first log mid event answer new → Played arena first log old (events ++ event ∷ []) (answers ++ answer ∷ []) new
+played_more arena first log old mid new [] [] event answer played one = (new, subst (λ ps. Answers arena first log ps event answer new) played one, refl)
+played_more arena first log old mid new [] (a ∷ answers) event answer played one = absurd played
+played_more arena first log old mid new (e ∷ events) [] event answer played one = absurd played
+played_more arena first log old mid new (e ∷ events) (a ∷ answers) event answer played one = (played.0, played.1, played_more arena first log played.0 mid new events answers event answer played.2 one)
 
 pub count_more : (xs new : List StepAnswer) (x : StepAnswer) (n : ℕ) → new ≡ xs ++ x ∷ [] → length xs ≡ n → length new ≡ n + 1
 count_more xs new x n e c = ap length e ∙ one_longer xs x ∙ ap (λ k. k + 1) c

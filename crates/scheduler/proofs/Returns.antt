@@ -117,15 +117,15 @@ module _ (w : Work) (place : ℕ) (sound : StaysSound w.tables w.first (log_of w
     ] refl
 
     -- where it is given back, its transaction can be lent its rows again
-    pub can_be_lent : AreByPlaces w.nodes w.first (log_of w) (map phase_in (slice_set slots place Idle)) → (number : ℕ) → number ≡ w.first + place
-        → enabled w.nodes w.first (log_of w) (map phase_in (slice_set slots place Idle)) (Lend number) ≡ true
+    pub can_be_lent : AreByPlaces w.arena w.first (log_of w) (map phase_in (slice_set slots place Idle)) → (number : ℕ) → number ≡ w.first + place
+        → enabled w.arena w.first (log_of w) (map phase_in (slice_set slots place Idle)) (Lend number) ≡ true
     can_be_lent by number e =
         let ps = map phase_in (slice_set slots place Idle) in
         let idle : slice_get ps place ≡ Some phase.Idle = phase_at (slice_set slots place Idle) place Idle (set_here slots place old Idle at) in
         let is_ready : ready (waiting w.first (log_of w) ps) (w.first + place) ≡ true =
         ap (λ (qs : List Phase). ready (waiting w.first (log_of w) qs) (w.first + place)) (map_set phase_in slots place Idle)
         ∙ follows.stays_ready.gives_back (map phase_in slots) place (ap (λ (o : Option Phase). is_out o) was ∙ out) s.ready in
-        ap (λ (n : ℕ). enabled w.nodes w.first (log_of w) ps (Lend n)) e
+        ap (λ (n : ℕ). enabled w.arena w.first (log_of w) ps (Lend n)) e
         ∙ by.lend place
         ∙ ap (λ (o : Option Phase). is_idle o && ready (waiting w.first (log_of w) ps) (w.first + place)) idle
         ∙ is_ready

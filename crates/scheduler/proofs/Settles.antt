@@ -57,14 +57,14 @@ stays (Some (slot.Held job)) p e a b r = absurd (b job refl)
 stays (Some (slot.Ran job outcome)) p e a b r = let g : phase.Ran ≡ p = cc in let h : true ≡ false = ap (λ x. was_run (Some x)) g ∙ r in absurd (cc)
 stays (Some (slot.Settled outcome)) p e a b r = let g : phase.Settled ≡ p = cc in sym (ap after_settling g) ∙ g
 
-module _ (nodes first : ℕ) (log : List Transaction) (one two three : List Slot) (place : ℕ) (places : AreByPlaces nodes first log (map phase_in one))
+module _ (arena first : ℕ) (log : List Transaction) (one two three : List Slot) (place : ℕ) (places : AreByPlaces arena first log (map phase_in one))
     (keeps : (k : ℕ) → slice_get two k ≡ Some slot.Lent → ⊥)
     (held : (job : JobOf) → slice_get two place ≡ Some (slot.Held job) → map phase_in three ≡ slice_set (map phase_in two) place phase.Idle)
     (other : ((job : JobOf) → slice_get two place ≡ Some (slot.Held job) → ⊥) → map phase_in three ≡ map phase_in two) where
   out_there : (job : JobOf) → slice_get two place ≡ Some (slot.Held job) → slice_get (map phase_in two) place ≡ Some phase.Out
   out_there job is = slice_get-map phase_in two place ∙ ap (option_map phase_in) is
 
-  pub settles_place : (answer : StepAnswer) → answer ≢ NoMemory → Answers nodes first log (map phase_in one) (Settle (first + place)) answer (map phase_in two)
+  pub settles_place : (answer : StepAnswer) → answer ≢ NoMemory → Answers arena first log (map phase_in one) (Settle (first + place)) answer (map phase_in two)
       → map phase_in three ≡ settled_at place (map phase_in one)
   settles_place Made memory a =
       let ran : slice_get (map phase_in one) place ≡ Some phase.Ran = run_there (slice_get (map phase_in one) place) (sym (places.settle place) ∙ a.0) in

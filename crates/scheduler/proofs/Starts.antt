@@ -13,13 +13,13 @@ use Rattle.scheduler.specs.Scheduled.{IsScheduled, AreSettledBefore}
 use Rattle.scheduler.proofs.Numbers.{nothing_lent}
 
 pub starts : (w : Work) → StaysSound w.tables w.first (log_of w) w.start → FollowsPhases w.first (log_of w) → (stock : Stock) (tree : Locks)
-    → stock.tables ≡ w.tables → stock.rows ≡ w.start → stock.lent ≡ empty → tree ≡ record { nodes = w.nodes; waiting = [] } → IsScheduled w [] stock tree
+    → stock.tables ≡ w.tables → stock.rows ≡ w.start → stock.lent ≡ empty → tree ≡ record { arena = w.arena; waiting = [] } → IsScheduled w [] stock tree
 starts w sound follows stock tree tables rows unlent is = record {
   tables = tables;
   sound = subst (λ (d : Database). core.IsSound w.tables (log_of w) w.start [] d) (sym rows) sound.starts;
   ready = follows.stays_ready.starts;
   kept = λ place slot at. absurd (let g : None ≡ Some slot = at in cc);
-  tree_is = is ∙ ap (λ (ws : List Waiting). record { nodes = w.nodes; waiting = ws }) (sym follows.starts);
+  tree_is = is ∙ ap (λ (ws : List Waiting). record { arena = w.arena; waiting = ws }) (sym follows.starts);
   lent_is = λ number. ap (λ (m : FinMap nat_cmp Requests). get m number) unlent ∙ get-empty {X = Requests} nat_cmp number ∙ sym (nothing_lent w number);
 }
 

@@ -86,7 +86,7 @@ module _ (w : Work) (sound : StaysSound w.tables w.first (log_of w) w.start) (fo
   Good slots stock tree = IsScheduled w slots stock tree
 
   abbrev tree_at : List Phase → Locks
-  tree_at ps = record { nodes = w.nodes; waiting = waiting w.first (log_of w) ps }
+  tree_at ps = record { arena = w.arena; waiting = waiting w.first (log_of w) ps }
 
   tree_same : (ps qs : List Phase) → ps ≡ qs → tree_at ps ≡ tree_at qs
   tree_same ps qs e = ap tree_at e
@@ -109,9 +109,9 @@ module _ (w : Work) (sound : StaysSound w.tables w.first (log_of w) w.start) (fo
         ready = still_ready more (follows.stays_ready.admits ps t at_end s.ready);
         kept = kept_more w slots s.kept;
         tree_is =
-            is ∙ ap (λ (l : Locks). record { nodes = l.nodes; waiting = l.waiting ++ record { number = number; plan = t.plan; marked = false } ∷ [] }) s.tree_is
-            ∙ ap (λ (c : ℕ). record { nodes = w.nodes; waiting = waiting w.first (log_of w) ps ++ record { number = c; plan = t.plan; marked = false } ∷ [] }) k
-            ∙ ap (λ (ws : List Waiting). record { nodes = w.nodes; waiting = ws }) (sym (follows.admits ps t at_end))
+            is ∙ ap (λ (l : Locks). record { arena = l.arena; waiting = l.waiting ++ record { number = number; plan = t.plan; marked = false } ∷ [] }) s.tree_is
+            ∙ ap (λ (c : ℕ). record { arena = w.arena; waiting = waiting w.first (log_of w) ps ++ record { number = c; plan = t.plan; marked = false } ∷ [] }) k
+            ∙ ap (λ (ws : List Waiting). record { arena = w.arena; waiting = ws }) (sym (follows.admits ps t at_end))
             ∙ tree_same (ps ++ phase.Idle ∷ []) (map phase_in (slots ++ Idle ∷ [])) (sym more);
         lent_is = λ i. s.lent_is i ∙ sym (lent_pushed w ps i) ∙ ap (λ (qs : List Phase). lent_to w qs i) (sym more);
       }
@@ -133,8 +133,8 @@ module _ (w : Work) (sound : StaysSound w.tables w.first (log_of w) w.start) (fo
         ready = still_ready set (follows.stays_ready.lends ps place idle r2 s.ready);
         kept = kept_set w slots place Idle slot s.kept is fits;
         tree_is =
-            later_is ∙ ap (λ (l : Locks). record { nodes = l.nodes; waiting = with_mark (w.first + place) true l.waiting }) s.tree_is
-            ∙ ap (λ (ws : List Waiting). record { nodes = w.nodes; waiting = ws }) (sym (follows.lends ps place idle))
+            later_is ∙ ap (λ (l : Locks). record { arena = l.arena; waiting = with_mark (w.first + place) true l.waiting }) s.tree_is
+            ∙ ap (λ (ws : List Waiting). record { arena = w.arena; waiting = ws }) (sym (follows.lends ps place idle))
             ∙ tree_same (slice_set ps place phase.Out) (map phase_in (slice_set slots place slot)) (sym set);
         lent_is = λ i.
             lent_changes w ps stock.lent new.lent place phase.Idle phase.Out s.lent_is idle (inserted stock.lent new.lent (w.first + place) t.plan lent_is ∙ sym (ap (λ o. plan_out o (Some phase.Out)) at))
@@ -155,7 +155,7 @@ module _ (w : Work) (sound : StaysSound w.tables w.first (log_of w) w.start) (fo
         ready = still_ready set (follows.stays_ready.runs ps place was s.ready);
         kept = kept_set w slots place old slot s.kept is fits;
         tree_is =
-            s.tree_is ∙ ap (λ (ws : List Waiting). record { nodes = w.nodes; waiting = ws }) (sym (follows.runs ps place was))
+            s.tree_is ∙ ap (λ (ws : List Waiting). record { arena = w.arena; waiting = ws }) (sym (follows.runs ps place was))
             ∙ tree_same (slice_set ps place phase.Ran) (map phase_in (slice_set slots place slot)) (sym set);
         lent_is = λ i.
             lent_changes w ps stock.lent stock.lent place phase.Out phase.Ran s.lent_is was
@@ -180,8 +180,8 @@ module _ (w : Work) (sound : StaysSound w.tables w.first (log_of w) w.start) (fo
         ready = still_ready set (follows.stays_ready.takes_back ps place is_out_there s.ready);
         kept = kept_set w slots place old Idle s.kept is tt;
         tree_is =
-            later_is ∙ ap (λ (l : Locks). record { nodes = l.nodes; waiting = with_mark (w.first + place) false l.waiting }) s.tree_is
-            ∙ ap (λ (ws : List Waiting). record { nodes = w.nodes; waiting = ws }) (sym (follows.takes_back ps place is_out_there))
+            later_is ∙ ap (λ (l : Locks). record { arena = l.arena; waiting = with_mark (w.first + place) false l.waiting }) s.tree_is
+            ∙ ap (λ (ws : List Waiting). record { arena = w.arena; waiting = ws }) (sym (follows.takes_back ps place is_out_there))
             ∙ tree_same (slice_set ps place phase.Idle) (map phase_in (slice_set slots place Idle)) (sym set);
         lent_is = λ i.
             lent_changes w ps stock.lent new.lent place (phase_in old) phase.Idle s.lent_is was
@@ -211,8 +211,8 @@ module _ (w : Work) (sound : StaysSound w.tables w.first (log_of w) w.start) (fo
         ready = still_ready set (follows.stays_ready.settles ps place is_out_there s.ready);
         kept = kept_set w slots place old (Settled outcome) s.kept is run.run.replied;
         tree_is =
-            later_is ∙ ap (λ (l : Locks). record { nodes = l.nodes; waiting = without (w.first + place) l.waiting }) s.tree_is
-            ∙ ap (λ (ws : List Waiting). record { nodes = w.nodes; waiting = ws }) (sym (follows.settles ps place is_out_there))
+            later_is ∙ ap (λ (l : Locks). record { arena = l.arena; waiting = without (w.first + place) l.waiting }) s.tree_is
+            ∙ ap (λ (ws : List Waiting). record { arena = w.arena; waiting = ws }) (sym (follows.settles ps place is_out_there))
             ∙ tree_same (slice_set ps place phase.Settled) (map phase_in (slice_set slots place (Settled outcome))) (sym set);
         lent_is = λ i.
             lent_changes w ps stock.lent new.lent place (phase_in old) phase.Settled s.lent_is was

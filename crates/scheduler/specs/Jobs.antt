@@ -1,7 +1,7 @@
 -- Claimed: what contracts promise to a reader rests on these words.
 -- The jobs that a scheduler lends.
 use Rattle.std.specs.Prelude.{◌≡◌, ◌+◌, ◌-◌, ℕ, true, Option, Some, None, slice_get, slice_set}
-use Rattle.coarsen.specs.Clashes.{Conflict}
+use Rattle.coarsen.specs.Clashes.{ModesClash}
 use Rattle.meaning.specs.declared.outcome.Outcome.{Outcome}
 use Rattle.meaning.specs.Outcomes.{as_reply}
 use Rattle.scheduler.specs.JobRuns.{JobOf, DoneOf, IsDoneOf, transaction_of}
@@ -29,7 +29,7 @@ pub record IsRunAt (w : Work) (place : ℕ) (job : JobOf) (outcome : Outcome) : 
 
 -- the job's plan is in conflict with none that is out
 abbrev pub IsApart : Schedule → JobOf → Type 0
-IsApart s job = (place : ℕ) (t : Transaction) → slice_get (log_of s.work) place ≡ Some t → is_out (slice_get (phases_of s) place) ≡ true → Conflict job.loan.plan t.plan → ⊥
+IsApart s job = (place : ℕ) (t : Transaction) → slice_get (log_of s.work) place ≡ Some t → is_out (slice_get (phases_of s) place) ≡ true → ModesClash job.loan.plan t.plan → ⊥
 
 -- a job that is lent, and what it leaves
 pub record LendsJob (old : Schedule) (job : JobOf) (new : Schedule) : Type 0 where

@@ -8,7 +8,7 @@ use Rattle.values.specs.Rules.{IsCatalogue}
 use Rattle.proclang_types.specs.declared.right.Right.{Right}
 use Rattle.footprint.specs.declared.resource.Resource.{Resource}
 use Rattle.coarsen.specs.Subtrees.{Requests, covers_by_requests}
-use Rattle.coarsen.specs.Plans.{IsPlanFor, IsSound, IsPlanOver}
+use Rattle.coarsen.specs.Plans.{IsPlanFor, IsWellFormed, IsPlanOver}
 use Rattle.meaning.specs.Entries.{footprint_of}
 use Rattle.interp.specs.Entries.{EntryParts, entry_shape}
 use Rattle.interp.specs.Over.{locked_for}
@@ -22,7 +22,7 @@ transactions_of (entry ∷ entries) (plan ∷ plans) = record { entry = entry_sh
 
 -- an entry's plan is made for its footprint, and for nothing where its declaration faults
 abbrev pub IsPlanOfEntry : ℕ → ℕ → EntryParts → Requests → Type 0
-IsPlanOfEntry threshold most entry plan = IsPlanFor threshold most (locked_for (footprint_of (entry_shape entry).footing)) plan
+IsPlanOfEntry threshold arena entry plan = IsPlanFor threshold arena (locked_for (footprint_of (entry_shape entry).footing)) plan
 
 -- as many of the one as of the other, and of each pair at one place this holds
 abbrev pub Paired : {A B : Type 0} → (A → B → Type 0) → List A → List B → Type 0
@@ -33,18 +33,18 @@ Paired holds (a ∷ rest) (b ∷ bs) = holds a b × Paired holds rest bs
 
 -- a plan for each entry
 abbrev pub ArePlansOf : ℕ → ℕ → List EntryParts → List Requests → Type 0
-ArePlansOf threshold most = Paired (IsPlanOfEntry threshold most)
+ArePlansOf threshold arena = Paired (IsPlanOfEntry threshold arena)
 
 -- a plan that serves a footprint: it is sound, it covers what the footprint covers, it is over each tables that the
 -- footprint is over, and it is not larger than the room
-pub record Serves (most : ℕ) (touched : FootprintOf) (plan : Requests) : Type 0 where
-  pub sound : IsSound plan
+pub record Serves (arena : ℕ) (touched : FootprintOf) (plan : Requests) : Type 0 where
+  pub sound : IsWellFormed plan
   pub covered : (resource : Resource) (right : Right) → covers touched resource right ≡ true → covers_by_requests plan resource right ≡ true
   pub over : (tables : List TableShape) → IsCatalogue tables → IsFootprintOf tables touched → IsPlanOver tables plan
-  pub size : length plan ≤ most
+  pub size : length plan ≤ arena
 
 abbrev pub IsPlannedFor : ℕ → EntryParts → Requests → Type 0
-IsPlannedFor most entry plan = Serves most (locked_for (footprint_of (entry_shape entry).footing)) plan
+IsPlannedFor arena entry plan = Serves arena (locked_for (footprint_of (entry_shape entry).footing)) plan
 
 abbrev pub ArePlannedFor : ℕ → List EntryParts → List Requests → Type 0
-ArePlannedFor most = Paired (IsPlannedFor most)
+ArePlannedFor arena = Paired (IsPlannedFor arena)

@@ -9,28 +9,28 @@ use Rattle.scheduler.specs.Schedules.{Schedule, log_of, phases_of, IsChoice}
 
 -- whether the event can be made
 abbrev pub can_make : Schedule → Event → Bool
-can_make s = enabled s.work.nodes s.work.first (log_of s.work) (phases_of s)
+can_make s = enabled s.work.arena s.work.first (log_of s.work) (phases_of s)
 
 -- the events that can be made, in their order
 abbrev pub events_at : Schedule → List Event
-events_at s = enabled_events s.work.nodes s.work.first (log_of s.work) (phases_of s)
+events_at s = enabled_events s.work.arena s.work.first (log_of s.work) (phases_of s)
 
 -- an event that can be made, or none where all is done
 abbrev pub IsChoiceAt : Schedule → Option Event → Type 0
-IsChoiceAt s = IsChoice s.work.nodes s.work.first (log_of s.work) (phases_of s)
+IsChoiceAt s = IsChoice s.work.arena s.work.first (log_of s.work) (phases_of s)
 
 -- the event that comes next, or none where all is done
 abbrev pub IsNextAt : Schedule → Option Event → Type 0
-IsNextAt s = IsNextEvent s.work.nodes s.work.first (log_of s.work) (phases_of s)
+IsNextAt s = IsNextEvent s.work.arena s.work.first (log_of s.work) (phases_of s)
 
 -- the least number to which rows can be lent, or none where there is none
 abbrev pub IsLeastLendAt : Schedule → Option ℕ → Type 0
-IsLeastLendAt s = IsLeastLend s.work.nodes s.work.first (log_of s.work) (phases_of s)
+IsLeastLendAt s = IsLeastLend s.work.arena s.work.first (log_of s.work) (phases_of s)
 
 -- the answer to an event, and what it leaves
 abbrev pub AnswersAt : Schedule → Event → StepAnswer → Schedule → Type 0
-AnswersAt s event answer left = Answers s.work.nodes s.work.first (log_of s.work) (phases_of s) event answer (phases_of left)
+AnswersAt s event answer left = Answers s.work.arena s.work.first (log_of s.work) (phases_of s) event answer (phases_of left)
 
 -- the answers to events, one after the other, and what they leave
 abbrev pub PlaysAt : Schedule → List Event → List StepAnswer → Schedule → Type 0
-PlaysAt s events answers left = Played s.work.nodes s.work.first (log_of s.work) (phases_of s) events answers (phases_of left)
+PlaysAt s events answers left = Played s.work.arena s.work.first (log_of s.work) (phases_of s) events answers (phases_of left)

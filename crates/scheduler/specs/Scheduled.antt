@@ -39,7 +39,7 @@ lent_to w phases number = plan_out (at_number w.first (log_of w) number) (at_num
 pub record IsFitting (w : Work) : Type 0 where
   pub over : (place : ℕ) (t : Transaction) → slice_get (log_of w) place ≡ Some t → (t.entry.tables ≡ w.tables) × IsPlanOver w.tables t.plan
   pub planned : ArePlanned w.tables (log_of w)
-  pub fit : FitIn w.nodes (log_of w)
+  pub fit : FitIn w.arena (log_of w)
   pub plans : length w.plans ≡ length w.entries
   pub few : w.first + length w.entries ≤ 2 ^ 48
 
@@ -48,7 +48,7 @@ pub record IsScheduled (w : Work) (slots : List Slot) (stock : Stock) (tree : Lo
   pub sound : IsSound w.tables (log_of w) w.start (map phase_in slots) stock.rows
   pub ready : OutAreReady w.first (log_of w) (map phase_in slots)
   pub kept : (place : ℕ) (slot : Slot) → slice_get slots place ≡ Some slot → Fits w place slot
-  pub tree_is : tree ≡ record { nodes = w.nodes; waiting = waiting w.first (log_of w) (map phase_in slots) }
+  pub tree_is : tree ≡ record { arena = w.arena; waiting = waiting w.first (log_of w) (map phase_in slots) }
   pub lent_is : (number : ℕ) → get stock.lent number ≡ lent_to w (map phase_in slots) number
 
 -- the first so many are settled, and the next is not

@@ -25,14 +25,14 @@ use Rattle.scheduler.specs.Logs.{transactions_of}
 -- with their plans, and the rows at the start
 pub record Work : Type 0 where
   pub tables : List TableShape
-  pub nodes : ℕ
+  pub arena : ℕ
   pub first : ℕ
   pub entries : List EntryParts
   pub plans : List Requests
   pub start : Database
 
 abbrev pub work_of : List TableShape → ℕ → ℕ → List EntryParts → List Requests → Database → Work
-work_of tables nodes first entries plans start = record { tables = tables; nodes = nodes; first = first; entries = entries; plans = plans; start = start }
+work_of tables arena first entries plans start = record { tables = tables; arena = arena; first = first; entries = entries; plans = plans; start = start }
 
 -- and what there is of each admitted transaction
 pub record Schedule : Type 0 where
@@ -73,14 +73,14 @@ next_step_at s place = next_of (s.work.first + place) (slice_get s.slots place)
 
 -- an event that is enabled, or none where all is done
 abbrev pub IsChoice : ℕ → ℕ → List Transaction → List Phase → Option Event → Type 0
-IsChoice nodes first log phases None = is_done log phases ≡ true
-IsChoice nodes first log phases (Some event) = enabled nodes first log phases event ≡ true
+IsChoice arena first log phases None = is_done log phases ≡ true
+IsChoice arena first log phases (Some event) = enabled arena first log phases event ≡ true
 
 abbrev pub work_code : Coded Work
 work_code = code_by (List TableShape × (ℕ × (ℕ × (List EntryParts × (List Requests × Database)))))
     (coded× catalogue.the_row.coded (coded× coded_ℕ (coded× coded_ℕ (coded× (coded_list entries.the_row.coded) (coded× (coded_list plan_code) rows_code)))))
-    (λ s. (s.tables, (s.nodes, (s.first, (s.entries, (s.plans, s.start))))))
-    (λ p. record { tables = p.0; nodes = p.1.0; first = p.1.1.0; entries = p.1.1.1.0; plans = p.1.1.1.1.0; start = p.1.1.1.1.1 })
+    (λ s. (s.tables, (s.arena, (s.first, (s.entries, (s.plans, s.start))))))
+    (λ p. record { tables = p.0; arena = p.1.0; first = p.1.1.0; entries = p.1.1.1.0; plans = p.1.1.1.1.0; start = p.1.1.1.1.1 })
     (λ _. refl)
 
 abbrev pub schedule_code : Coded Schedule

@@ -2,7 +2,7 @@
 
 ghost use Rattle.std.specs.Prelude.{◌≡◌, ◌≢◌, ◌≤◌, ◌-◌, ℕ, true, [], ◌∷◌, Some, None, IfSome, is_some, length, map, slice_get};
 ghost use Rattle.std.specs.FinMap as finite;
-ghost use Rattle.coarsen.specs.Clashes.{Conflict};
+ghost use Rattle.coarsen.specs.Clashes.{ModesClash};
 ghost use Rattle.meaning.specs.Outcomes.{as_reply};
 ghost use Rattle.meaning.specs.Serial.{serial_end, serial_replies};
 ghost use Rattle.interp.specs.Entries.{entry_shape};
@@ -126,7 +126,7 @@ impl Scheduler {
         ensures apart { (i k : ℕ) (t u : Transaction) → i ≢ k → slice_get (log_of self.now.work) i ≡ Some t →
             slice_get (log_of self.now.work) k ≡ Some u
             → is_out (slice_get (phases_of self.now) i) ≡ true → is_out (slice_get (phases_of self.now) k) ≡ true →
-            Conflict t.plan u.plan → ⊥ }
+            ModesClash t.plan u.plan → ⊥ }
         ensures ready { OutAreReady self.now.work.first (log_of self.now.work) (phases_of self.now) }
     {
         rows_are_serial();

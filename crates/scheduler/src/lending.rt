@@ -6,7 +6,7 @@ ghost use Rattle.values.specs.declared.name.RowName.{RowName as Name};
 ghost use Rattle.proclang_types.specs.declared.right.Right.{Right};
 ghost use Rattle.coarsen.specs.Subtrees.{Requests};
 ghost use Rattle.coarsen.specs.Plans.{IsPlanOver};
-ghost use Rattle.coarsen.specs.Clashes.{locks_row, Conflict};
+ghost use Rattle.coarsen.specs.Clashes.{locks_row, ModesClash};
 ghost use Rattle.meaning.specs.Frame.{touches};
 ghost use Rattle.interp.specs.Entries.{entry_shape};
 ghost use Rattle.lock_tree.specs.Locks.{plan_of, with_mark, without};
@@ -34,7 +34,7 @@ pub(crate) fn lend_to(
     requires over { IsPlanOver store.old.tables plan.now }
     requires unlent { map.get store.old.lent number ≡ None }
     requires apart { (other : ℕ) (requests : Requests) → map.get store.old.lent other ≡ Some requests →
-        Conflict requests plan.now → ⊥ }
+        ModesClash requests plan.now → ⊥ }
     requires there { IsSome (plan_of locks.old.waiting number) }
     ensures tables { store.new.tables ≡ store.old.tables }
     ensures rows { store.new.rows ≡ store.old.rows }

@@ -15,26 +15,26 @@ fn plan_for(
     alloc: Global,
     footprint: &Footprint,
     threshold: usize,
-    most: usize,
+    arena: usize,
 ) -> Result<Plan, NoMemory>
-    requires { 0 < most }
-    ensures exact { IfOk result (λ plan. IsPlanFor threshold most footprint.now plan) }
-    ensures serves { IfOk result (λ plan. Serves most footprint.now plan) }
+    requires { 0 < arena }
+    ensures exact { IfOk result (λ plan. IsPlanFor threshold arena footprint.now plan) }
+    ensures serves { IfOk result (λ plan. Serves arena footprint.now plan) }
 {
-    let plan = Plan::new(alloc, footprint, threshold, most)?;
+    let plan = Plan::new(alloc, footprint, threshold, arena)?;
     let _sound = plan.requests();
     Ok(plan)
 }
 
 /// The plan of an entry. An entry whose declaration faults asks for nothing.
-fn plan_of(alloc: Global, entry: &Entry, threshold: usize, most: usize) -> Result<Plan, NoMemory>
-    requires { 0 < most }
-    ensures exact { IfOk result (λ plan. IsPlanOfEntry threshold most entry.now plan) }
-    ensures planned { IfOk result (λ plan. IsPlannedFor most entry.now plan) }
+fn plan_of(alloc: Global, entry: &Entry, threshold: usize, arena: usize) -> Result<Plan, NoMemory>
+    requires { 0 < arena }
+    ensures exact { IfOk result (λ plan. IsPlanOfEntry threshold arena entry.now plan) }
+    ensures planned { IfOk result (λ plan. IsPlannedFor arena entry.now plan) }
 {
     match entry.footprint() {
-        Some(footprint) => plan_for(alloc, footprint, threshold, most),
-        None => plan_for(alloc, &Footprint::new(alloc), threshold, most),
+        Some(footprint) => plan_for(alloc, footprint, threshold, arena),
+        None => plan_for(alloc, &Footprint::new(alloc), threshold, arena),
     }
 }
 
@@ -43,15 +43,15 @@ pub(crate) fn plans_of(
     alloc: Global,
     entries: &[Entry],
     threshold: usize,
-    most: usize,
+    arena: usize,
 ) -> Result<Vec<Plan>, NoMemory>
-    requires { 0 < most }
-    ensures exact { IfOk result (λ plans. ArePlansOf threshold most entries.now plans.items) }
-    ensures planned { IfOk result (λ plans. ArePlannedFor most entries.now plans.items) }
+    requires { 0 < arena }
+    ensures exact { IfOk result (λ plans. ArePlansOf threshold arena entries.now plans.items) }
+    ensures planned { IfOk result (λ plans. ArePlannedFor arena entries.now plans.items) }
 {
     let mut plans = Vec::with_capacity(alloc, entries.len())?;
     for entry in entries {
-        plans.push(plan_of(alloc, entry, threshold, most)?)?;
+        plans.push(plan_of(alloc, entry, threshold, arena)?)?;
     }
     Ok(plans)
 }

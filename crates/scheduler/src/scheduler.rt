@@ -42,7 +42,7 @@ pub struct Scheduler {
     pub(crate) store: RowStore,
     pub(crate) locks: LockTree,
     // Room for so many requests.
-    pub(crate) nodes: usize,
+    pub(crate) arena: usize,
     pub(crate) first: u64,
     pub(crate) entries: Vec<Entry>,
     pub(crate) plans: Vec<Plan>,
@@ -61,14 +61,14 @@ impl Model for Scheduler {
     ghost coded = { schedule_code };
 
     ghost view = { λ s. record {
-      work = work_of s.catalogue s.nodes s.first s.entries.items s.plans.items
+      work = work_of s.catalogue s.arena s.first s.entries.items s.plans.items
           s.start.value.rows;
       slots = s.slots.items;
     } };
 
     ghost invariant = { λ s.
-        IsFitting (work_of s.catalogue s.nodes s.first s.entries.items s.plans.items s.start.value.rows)
-        × IsScheduled (work_of s.catalogue s.nodes s.first s.entries.items s.plans.items s.start.value.rows)
+        IsFitting (work_of s.catalogue s.arena s.first s.entries.items s.plans.items s.start.value.rows)
+        × IsScheduled (work_of s.catalogue s.arena s.first s.entries.items s.plans.items s.start.value.rows)
         s.slots.items s.store s.locks
         × AreSettledBefore s.slots.items s.settled };
 }
@@ -79,7 +79,7 @@ pub type Unmade = (Catalogue, RowStore, Vec<Entry>, NoMemory);
 impl Scheduler {
     /// A scheduler of these entries on these rows, with nothing admitted. The entries are over the catalogue, nothing is lent of
     /// the rows, and the numbers, from the first one on, are below 2^48. More than `threshold` rows of a partition, or
-    /// partitions of a table, are locked as one; the lock tree has room for `most` requests. Where memory is refused, all comes
+    /// partitions of a table, are locked as one; the lock tree has room for `arena` requests. Where memory is refused, all comes
     /// back.
     pub fn new(
         alloc: Global,
@@ -88,29 +88,29 @@ impl Scheduler {
         entries: Vec<Entry>,
         first: u64,
         threshold: usize,
-        most: usize,
+        arena: usize,
     ) -> Result<Scheduler, Unmade>
         requires tables { store.tables ≡ catalogue }
         requires unlent { store.lent ≡ finite.empty }
         requires over { AreEntriesOver catalogue entries.items }
         requires few { first + length entries.items ≤ 2 ^ 48 }
-        requires room { 0 < most }
+        requires room { 0 < arena }
         ensures start { IfOk result (λ scheduler.
             scheduler ≡ record {
-              work = work_of catalogue most first entries.items scheduler.work.plans store.rows;
+              work = work_of catalogue arena first entries.items scheduler.work.plans store.rows;
               slots = [];
             }) }
-        ensures plans { IfOk result (λ scheduler. ArePlansOf threshold most entries.items scheduler.work.plans) }
+        ensures plans { IfOk result (λ scheduler. ArePlansOf threshold arena entries.items scheduler.work.plans) }
         ensures back { IfErr result (λ unmade. (unmade.0 ≡ catalogue) × (unmade.1 ≡ store) ×
             (unmade.2.items ≡ entries.items)) }
     {
         admitted_and_unsettled_wait();
         rows_are_serial();
         let _tables = catalogue.len();
-        let Ok(plans) = plans_of(alloc, &entries, threshold, most) else {
+        let Ok(plans) = plans_of(alloc, &entries, threshold, arena) else {
             return Err((catalogue, store, entries, NoMemory));
         };
-        let Ok(locks) = LockTree::new(alloc, most) else {
+        let Ok(locks) = LockTree::new(alloc, arena) else {
             return Err((catalogue, store, entries, NoMemory));
         };
         let start = Snapshot::of(&store);
@@ -119,7 +119,7 @@ impl Scheduler {
             catalogue,
             store,
             locks,
-            nodes: most,
+            arena: arena,
             first,
             entries,
             plans,

@@ -96,7 +96,7 @@ ran_stage (lent shown) is = absurd (cc)
 ran_stage (ran reply after) is = record { reply = reply; after = after; is = refl }
 ran_stage (settled reply) is = absurd (cc)
 
-module _ (laws : LowerLaws) (tables : List TableShape) (nodes first : ℕ) (log : List Transaction) (start : Database) (planned : ArePlanned tables log) (now : Machine) (kept : IsKept tables log start now) where
+module _ (laws : LowerLaws) (tables : List TableShape) (arena first : ℕ) (log : List Transaction) (start : Database) (planned : ArePlanned tables log) (now : Machine) (kept : IsKept tables log start now) where
   -- the transaction of a phase that is there
   numbered_at : (number place : ℕ) (p : Phase) → number ≡ first + place → slice_get (phases_of now.stages) place ≡ Some p
       → (t : Transaction) × (at_number first log number ≡ Some t) × (slice_get log place ≡ Some t)
@@ -109,15 +109,15 @@ module _ (laws : LowerLaws) (tables : List TableShape) (nodes first : ℕ) (log 
   stage_at : (number place : ℕ) (x y : Stage) → number ≡ first + place → slice_get now.stages place ≡ Some x → x ≡ y → at_number first now.stages number ≡ Some y
   stage_at number place x y numbered is same = ap (at_number first now.stages) numbered ∙ at_place first now.stages place ∙ is ∙ ap (λ (z : Stage). Some z) same
 
-  can_lend : (number : ℕ) → enabled nodes first log (phases_of now.stages) (Lend number) ≡ true → (new : Machine) × Lends tables first log now number new
+  can_lend : (number : ℕ) → enabled arena first log (phases_of now.stages) (Lend number) ≡ true → (new : Machine) × Lends tables first log now number new
   can_lend number can =
-      let (place, numbered, is, is_ready) = lend_from nodes first log (phases_of now.stages) number can in
+      let (place, numbered, is, is_ready) = lend_from arena first log (phases_of now.stages) number can in
       let (t, at, there) = numbered_at number place phase.Idle numbered is in (
         record now { stages = with_number first now.stages number (lent now.rows) },
         record { transaction = t; numbered = at; shown = now.rows; shows = λ name locked. refl; new_is = refl },
       )
 
-  can_run : (number : ℕ) → enabled nodes first log (phases_of now.stages) (Run number) ≡ true → (new : Machine) × Executes tables first log now number new
+  can_run : (number : ℕ) → enabled arena first log (phases_of now.stages) (Run number) ≡ true → (new : Machine) × Executes tables first log now number new
   can_run number can =
       let (place, numbered, is) = placed first (phases_of now.stages) number phase.Out (lent_is (phase_of first (phases_of now.stages) number) can) in
       let (t, at, there) = numbered_at number place phase.Out numbered is in
@@ -138,7 +138,7 @@ module _ (laws : LowerLaws) (tables : List TableShape) (nodes first : ℕ) (log 
         },
       )
 
-  can_settle : (number : ℕ) → enabled nodes first log (phases_of now.stages) (Settle number) ≡ true → (new : Machine) × Settles tables first log now number new
+  can_settle : (number : ℕ) → enabled arena first log (phases_of now.stages) (Settle number) ≡ true → (new : Machine) × Settles tables first log now number new
   can_settle number can =
       let (place, numbered, is) = placed first (phases_of now.stages) number phase.Ran (ran_is (phase_of first (phases_of now.stages) number) can) in
       let (t, at, there) = numbered_at number place phase.Ran numbered is in
@@ -158,12 +158,12 @@ module _ (laws : LowerLaws) (tables : List TableShape) (nodes first : ℕ) (log 
         },
       )
 
-  can : (event : Event) → enabled nodes first log (phases_of now.stages) event ≡ true → (new : Machine) × Does tables first log now event new
+  can : (event : Event) → enabled arena first log (phases_of now.stages) event ≡ true → (new : Machine) × Does tables first log now event new
   can Admit h = (record now { stages = now.stages ++ idle ∷ [] }, refl)
   can (Lend number) h = can_lend number h
   can (Run number) h = can_run number h
   can (Settle number) h = can_settle number h
 
 pub can_be_made : LowerLaws → EnabledCanBeMade
-can_be_made laws tables nodes first log start moves now planned runs event enabled_now =
-    can laws tables nodes first log start planned now (kept_to tables log start laws planned nodes first moves now runs) event enabled_now
+can_be_made laws tables arena first log start moves now planned runs event enabled_now =
+    can laws tables arena first log start planned now (kept_to tables log start laws planned arena first moves now runs) event enabled_now

@@ -37,7 +37,7 @@ module _ (law : ReadyStays) (first : ℕ) (log : List Transaction) where
         (h.place, h.transaction, h.phase, h.numbered, h.at, h.phase_at, h.unsettled, h.plan_is);
     below = λ phases. waits_below first log phases (first + length phases) (omega arith);
     rising = waits_rising first log;
-    next_ready = λ nodes phases found within is. next_ready_lends nodes first log phases found within is;
+    next_ready = λ arena phases found within is. next_ready_lends arena first log phases found within is;
     stays_ready = stays_ready law first log;
   }
 

@@ -9,7 +9,7 @@ use Rattle.proclang_types.specs.declared.right.Right.{Right}
 use Rattle.proclang_types.specs.declared.right.Right.TheVariants.{Read, Write}
 use Rattle.footprint.specs.Tree.{row_resource}
 use Rattle.coarsen.specs.Subtrees.{Requests, own_over}
-use Rattle.coarsen.specs.Clashes.{locks_row, Conflict}
+use Rattle.coarsen.specs.Clashes.{locks_row, ModesClash}
 use Rattle.coarsen.specs.Laws.{LockedRowsConflict, ClashEitherWay}
 use Rattle.meaning.specs.Entries.{EntryShape}
 use Rattle.meaning.specs.Frame.{touches, Agree, StaysInFootprint}
@@ -39,7 +39,7 @@ writes tables log place name = locks_at tables log place name Write
 module _ (tables : List TableShape) (log : List Transaction) where
   -- the transactions at two places are in conflict
   abbrev pub InConflict : ℕ → ℕ → Type 0
-  InConflict i k = (t : Transaction) × (u : Transaction) × (slice_get log i ≡ Some t) × (slice_get log k ≡ Some u) × Conflict t.plan u.plan
+  InConflict i k = (t : Transaction) × (u : Transaction) × (slice_get log i ≡ Some t) × (slice_get log k ≡ Some u) × ModesClash t.plan u.plan
 
   at_least : (n : ℕ) → nat_le 2 n ≡ true → nat_le 1 n ≡ true
   at_least n h = grind (arith, nat_tests)

@@ -25,9 +25,9 @@ use Rattle.scheduler_core.proofs.Readies.{lend_from}
 use Rattle.scheduler_core.proofs.Soundness.{sound_start, sound_admit, sound_lend, lent_serial, sound_run, run_serial, sound_take_back, sound_settle, outs_are_apart, ends_serially}
 
 -- a test of a next transaction that there is
-pub room_for : (nodes : ℕ) (waits : List Waiting) (o : Option Transaction) → has_room nodes waits o ≡ true → (t : Transaction) × (o ≡ Some t)
-room_for nodes waits None h = absurd (cc)
-room_for nodes waits (Some t) h = (t, refl)
+pub room_for : (arena : ℕ) (waits : List Waiting) (o : Option Transaction) → has_room arena waits o ≡ true → (t : Transaction) × (o ≡ Some t)
+room_for arena waits None h = absurd (cc)
+room_for arena waits (Some t) h = (t, refl)
 
 settled_stage : (x : Stage) → is_settled (Some (phase_in x)) ≡ true → (reply : Reply) × (x ≡ settled reply)
 settled_stage idle h = absurd (cc)
@@ -81,23 +81,23 @@ module _ (tables : List TableShape) (log : List Transaction) (start : Database) 
     fits = subst (λ (ss : List Stage). AllFit ss) (sym stages_are) (fits_set old.stages place x y fits is fit);
   }
 
-  module _ (laws : LowerLaws) (planned : ArePlanned tables log) (nodes first : ℕ) where
+  module _ (laws : LowerLaws) (planned : ArePlanned tables log) (arena first : ℕ) where
     kept_at_start : IsKept (at_start start)
     kept_at_start = record { sound = sound_start tables log start laws planned; fits = λ place x is. absurd (none_some x is) }
 
-    admitted : (old : Machine) → IsKept old → enabled nodes first log (phases_of old.stages) Admit ≡ true → IsKept (record old { stages = old.stages ++ idle ∷ [] })
+    admitted : (old : Machine) → IsKept old → enabled arena first log (phases_of old.stages) Admit ≡ true → IsKept (record old { stages = old.stages ++ idle ∷ [] })
     admitted old k can =
-        let (t, is) = room_for nodes (waiting first log (phases_of old.stages)) (slice_get log (length (phases_of old.stages))) can in
+        let (t, is) = room_for arena (waiting first log (phases_of old.stages)) (slice_get log (length (phases_of old.stages))) can in
         record {
           sound = subst (λ (ps : List Phase). IsSound tables log start ps old.rows) (sym (map_push phase_in old.stages idle))
               (sound_admit tables log start (phases_of old.stages) old.rows k.sound (get_within log (length (phases_of old.stages)) t is));
           fits = fits_pushed old.stages k.fits;
         }
 
-    kept_lend : (old : Machine) (number : ℕ) (new : Machine) → IsKept old → enabled nodes first log (phases_of old.stages) (Lend number) ≡ true
+    kept_lend : (old : Machine) (number : ℕ) (new : Machine) → IsKept old → enabled arena first log (phases_of old.stages) (Lend number) ≡ true
         → Lends tables first log old number new → IsKept new
     kept_lend old number new k can h =
-        let (place, numbered, is_idle, is_ready) = lend_from nodes first log (phases_of old.stages) number can in
+        let (place, numbered, is_idle, is_ready) = lend_from arena first log (phases_of old.stages) number can in
         let (x, is, phase_is) = mapped_from phase_in old.stages place phase.Idle is_idle in
         let at : slice_get log place ≡ Some h.transaction = sym (ap (at_number first log) numbered ∙ at_place first log place) ∙ h.numbered in
         let stages_are : with_number first old.stages number (lent h.shown) ≡ slice_set old.stages place (lent h.shown) =
@@ -140,18 +140,18 @@ module _ (tables : List TableShape) (log : List Transaction) (start : Database) 
         (changed old old.rows (with_number first old.stages number idle) place (lent h.shown) idle k.fits is stages_are
         (sound_take_back tables log start (phases_of old.stages) old.rows place k.sound (ap is_out (get_mapped phase_in old.stages place (lent h.shown) is))) tt)
 
-    kept_event : (old : Machine) (event : Event) (new : Machine) → IsKept old → enabled nodes first log (phases_of old.stages) event ≡ true
+    kept_event : (old : Machine) (event : Event) (new : Machine) → IsKept old → enabled arena first log (phases_of old.stages) event ≡ true
         → Does tables first log old event new → IsKept new
     kept_event old Admit new k can does = subst (λ (m : Machine). IsKept m) (sym does) (admitted old k can)
     kept_event old (Lend number) new k can does = kept_lend old number new k can does
     kept_event old (Run number) new k can does = kept_run old number new k does
     kept_event old (Settle number) new k can does = kept_settle old number new k does
 
-    kept_move : (old : Machine) (move : Move) (new : Machine) → IsKept old → Moves tables nodes first log old move new → IsKept new
+    kept_move : (old : Machine) (move : Move) (new : Machine) → IsKept old → Moves tables arena first log old move new → IsKept new
     kept_move old (makes event) new k moves = kept_event old event new k moves.0 moves.1
     kept_move old (takes_back number) new k moves = kept_take_back old number new k moves
 
-    kept_runs : (moves : List Move) (old new : Machine) → IsKept old → Runs tables nodes first log old moves new → IsKept new
+    kept_runs : (moves : List Move) (old new : Machine) → IsKept old → Runs tables arena first log old moves new → IsKept new
     kept_runs [] old new k runs = subst (λ (m : Machine). IsKept m) (sym runs) k
     kept_runs (move ∷ moves) old new k (mid, one, rest) = kept_runs moves mid new (elim one [
       | inl made ↦ kept_move old move mid k made
@@ -179,11 +179,11 @@ module _ (tables : List TableShape) (log : List Transaction) (start : Database) 
       all_replies = all_settled now k;
     }
 
-    pub kept_to : (moves : List Move) (now : Machine) → Runs tables nodes first log (at_start start) moves now → IsKept now
+    pub kept_to : (moves : List Move) (now : Machine) → Runs tables arena first log (at_start start) moves now → IsKept now
     kept_to moves now runs = kept_runs moves (at_start start) now kept_at_start runs
 
-    pub run_is_serial : (moves : List Move) (now : Machine) → Runs tables nodes first log (at_start start) moves now → IsSerial tables log start now
+    pub run_is_serial : (moves : List Move) (now : Machine) → Runs tables arena first log (at_start start) moves now → IsSerial tables log start now
     run_is_serial moves now runs = kept_serial now (kept_to moves now runs)
 
 pub every_run : LowerLaws → EveryRunIsSerial
-every_run laws tables nodes first log start moves now planned runs = run_is_serial tables log start laws planned nodes first moves now runs
+every_run laws tables arena first log start moves now planned runs = run_is_serial tables log start laws planned arena first moves now runs

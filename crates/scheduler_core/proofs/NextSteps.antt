@@ -196,20 +196,20 @@ step_numbered number Out unsettled = refl
 step_numbered number Ran unsettled = refl
 step_numbered number Settled unsettled = absurd (cc)
 
-module _ (first_ready : FirstReady) (nodes first : ℕ) (log : List Transaction) (phases : List Phase) where
+module _ (first_ready : FirstReady) (arena first : ℕ) (log : List Transaction) (phases : List Phase) where
   ready_first : (w : Waiting) (rest : List Waiting) → waiting first log phases ≡ w ∷ rest → ready (waiting first log phases) w.number ≡ true
   ready_first w rest is = ap (λ ws. ready ws w.number) is ∙ first_ready w rest
 
   enabled_at : (place : ℕ) (p : Phase) → slice_get phases place ≡ Some p → is_settled (Some p) ≡ false → ready (waiting first log phases) (first + place) ≡ true
-      → enabled nodes first log phases (step_of (first + place) p) ≡ true
-  enabled_at place Idle is unsettled is_ready = lend_there nodes first log phases place is is_ready
+      → enabled arena first log phases (step_of (first + place) p) ≡ true
+  enabled_at place Idle is unsettled is_ready = lend_there arena first log phases place is is_ready
   enabled_at place Out is unsettled is_ready = ap is_lent (at_place first phases place ∙ is)
   enabled_at place Ran is unsettled is_ready = ap was_run (at_place first phases place ∙ is)
   enabled_at place Settled is unsettled is_ready = absurd (cc)
 
-  first_enabled : (h : HasFirst first log phases) → enabled nodes first log phases (first_step (next_steps first phases)) ≡ true
+  first_enabled : (h : HasFirst first log phases) → enabled arena first log phases (first_step (next_steps first phases)) ≡ true
   first_enabled h =
-      ap (enabled nodes first log phases) h.steps
+      ap (enabled arena first log phases) h.steps
       ∙ enabled_at h.place h.phase h.phase_at h.unsettled (ready_first (wait (first + h.place) h.transaction (is_out (Some h.phase))) h.rest h.waits)
 
   first_least : (h : HasFirst first log phases) → IsLeastOpen first phases (Some (first + h.place))
@@ -222,12 +222,12 @@ module _ (first_ready : FirstReady) (nodes first : ℕ) (log : List Transaction)
         omega (arith, numbered, le),
   )
 
-  rested_admits : length phases ≤ length log → FitIn nodes log → IsRested first log phases → is_done log phases ≡ false → enabled nodes first log phases Admit ≡ true
+  rested_admits : length phases ≤ length log → FitIn arena log → IsRested first log phases → is_done log phases ≡ false → enabled arena first log phases Admit ≡ true
   rested_admits within fit h unfinished = elim (split (length phases) (length log)) [
     | inl less ↦
         let (t, at) = get_at log (length phases) less in
-        let room : nat_le (used [] + length t.plan) nodes ≡ true = (let le = fit (length phases) t at in grind (arith, nat_tests)) in
-        ap (λ ws. has_room nodes ws (slice_get log (length phases))) h.none ∙ ap (has_room nodes []) at ∙ room
+        let room : nat_le (used [] + length t.plan) arena ≡ true = (let le = fit (length phases) t at in grind (arith, nat_tests)) in
+        ap (λ ws. has_room arena ws (slice_get log (length phases))) h.none ∙ ap (has_room arena []) at ∙ room
     | inr rest ↦ absurd (
         let same : length phases ≡ length log = elim rest [ inl e ↦ e | inr more ↦ absurd (omega (arith, more, within)) ] in
         let test : (length phases == length log) ≡ true = ap (λ (n : ℕ). n == length log) same ∙ same_number (length log) in
@@ -243,12 +243,12 @@ module _ (first_ready : FirstReady) (nodes first : ℕ) (log : List Transaction)
         true_false (is_settled (Some p)) (each_passes (λ q. is_settled (Some q)) phases place p h.every at) unsettled)
   ]
 
-  pub unfinished_next : length phases ≤ length log → FitIn nodes log → is_done log phases ≡ false
-      → (enabled nodes first log phases (first_step (next_steps first phases)) ≡ true) × IsLeastOpen first phases (number_of (first_step (next_steps first phases)))
+  pub unfinished_next : length phases ≤ length log → FitIn arena log → is_done log phases ≡ false
+      → (enabled arena first log phases (first_step (next_steps first phases)) ≡ true) × IsLeastOpen first phases (number_of (first_step (next_steps first phases)))
   unfinished_next within fit unfinished = elim (first_of first log phases within) [
     | inl rested ↦
         let admits : first_step (next_steps first phases) ≡ Admit = ap first_step rested.steps in (
-          ap (enabled nodes first log phases) admits ∙ rested_admits within fit rested unfinished,
+          ap (enabled arena first log phases) admits ∙ rested_admits within fit rested unfinished,
           subst (λ o. IsLeastOpen first phases o) (sym (ap number_of admits)) (rested_least rested),
         )
     | inr has ↦ (
@@ -257,14 +257,14 @@ module _ (first_ready : FirstReady) (nodes first : ℕ) (log : List Transaction)
     )
   ]
 
-  next_or_done : length phases ≤ length log → FitIn nodes log → (b : Bool) → is_done log phases ≡ b
-      → IsNextEvent nodes first log phases (cond b None (Some (first_step (next_steps first phases))))
+  next_or_done : length phases ≤ length log → FitIn arena log → (b : Bool) → is_done log phases ≡ b
+      → IsNextEvent arena first log phases (cond b None (Some (first_step (next_steps first phases))))
   next_or_done within fit true done = done
   next_or_done within fit false unfinished = let h = unfinished_next within fit unfinished in (unfinished, h.0, h.1)
 
 pub next_enabled : FirstReady → NextEventIsEnabled
-next_enabled first_ready nodes first log phases within fit = next_or_done first_ready nodes first log phases within fit (is_done log phases) refl
+next_enabled first_ready arena first log phases within fit = next_or_done first_ready arena first log phases within fit (is_done log phases) refl
 
 pub never_stuck : FirstReady → NoStuckState
-never_stuck first_ready nodes first log phases within fit unfinished =
-    (first_step (next_steps first phases), (unfinished_next first_ready nodes first log phases within fit unfinished).0)
+never_stuck first_ready arena first log phases within fit unfinished =
+    (first_step (next_steps first phases), (unfinished_next first_ready arena first log phases within fit unfinished).0)

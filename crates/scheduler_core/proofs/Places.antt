@@ -79,7 +79,7 @@ module _ (first : ℕ) (log : List Transaction) (phases : List Phase) where
       ∙ ap (λ es. cond (length phases == length log) None (Some (first_step es))) (no_steps first phases every)
 
 pub by_places : EventsByPlaces
-by_places nodes first log phases = record {
+by_places arena first log phases = record {
   phase = at_place first phases;
   no_phase = no_number first phases;
   lend = λ place. ap (λ o. is_idle o && ready (waiting first log phases) (first + place)) (at_place first phases place);

@@ -74,26 +74,26 @@ raised_number first phases number p q is up =
     let (place, numbered, at) = placed first phases number p is in
     ap progress (ap (λ (n : ℕ). with_number first phases n q) numbered ∙ with_place first phases place q) ∙ raised phases place p q at up
 
-module _ (nodes first : ℕ) (log : List Transaction) where
-  lent_further : (phases : List Phase) (number : ℕ) → enabled nodes first log phases (Lend number) ≡ true → progress (with_number first phases number Out) ≡ progress phases + 1
+module _ (arena first : ℕ) (log : List Transaction) where
+  lent_further : (phases : List Phase) (number : ℕ) → enabled arena first log phases (Lend number) ≡ true → progress (with_number first phases number Out) ≡ progress phases + 1
   unfolding far
   lent_further phases number can =
-      let (place, numbered, is, is_ready) = lend_from nodes first log phases number can in
+      let (place, numbered, is, is_ready) = lend_from arena first log phases number can in
       ap progress (ap (λ (n : ℕ). with_number first phases n Out) numbered ∙ with_place first phases place Out) ∙ raised phases place Idle Out is refl
 
-  pub one_further : (phases : List Phase) (event : Event) → enabled nodes first log phases event ≡ true → progress (step first phases event) ≡ progress phases + 1
+  pub one_further : (phases : List Phase) (event : Event) → enabled arena first log phases event ≡ true → progress (step first phases event) ≡ progress phases + 1
   unfolding far
   one_further phases Admit can = pushed phases
   one_further phases (Lend number) can = lent_further phases number can
   one_further phases (Run number) can = raised_number first phases number Out Ran (lent_is (phase_of first phases number) can) refl
   one_further phases (Settle number) can = raised_number first phases number Ran Settled (ran_is (phase_of first phases number) can) refl
 
-  made_is : (old new : List Phase) (event : Event) (answer : StepAnswer) → Answers nodes first log old event answer new → progress new ≡ progress old + cond (is_made answer) 1 0
+  made_is : (old new : List Phase) (event : Event) (answer : StepAnswer) → Answers arena first log old event answer new → progress new ≡ progress old + cond (is_made answer) 1 0
   made_is old new event Made a = ap progress a.1 ∙ one_further old event a.0
   made_is old new event Refused a = let e : progress new ≡ progress old = ap progress a.1 in omega (arith, e)
   made_is old new event NoMemory a = let e : progress new ≡ progress old = ap progress a in omega (arith, e)
 
-  made_count : (old new : List Phase) (events : List Event) (answers : List StepAnswer) → Played nodes first log old events answers new → progress new ≡ progress old + count_by is_made answers
+  made_count : (old new : List Phase) (events : List Event) (answers : List StepAnswer) → Played arena first log old events answers new → progress new ≡ progress old + count_by is_made answers
   made_count old new [] [] played = let e : progress new ≡ progress old = ap progress played in omega (arith, e)
   made_count old new [] (a ∷ answers) played = absurd played
   made_count old new (e ∷ events) [] played = absurd played
@@ -111,13 +111,13 @@ four_each (Idle ∷ phases) every = absurd (cc)
 four_each (Out ∷ phases) every = absurd (cc)
 four_each (Ran ∷ phases) every = absurd (cc)
 
-four_steps : (nodes first : ℕ) (log : List Transaction) (new : List Phase) (events : List Event) (answers : List StepAnswer)
-    → Played nodes first log [] events answers new → is_done log new ≡ true → count_by is_made answers ≡ 4 * length log
-four_steps nodes first log new events answers played done =
+four_steps : (arena first : ℕ) (log : List Transaction) (new : List Phase) (events : List Event) (answers : List StepAnswer)
+    → Played arena first log [] events answers new → is_done log new ≡ true → count_by is_made answers ≡ 4 * length log
+four_steps arena first log new events answers played done =
     let parts = both (length new == length log) (list_all (λ p. is_settled (Some p)) new) done in
     let same : length new ≡ length log = numbers_same (length new) (length log) parts.0 in
     let all : progress new ≡ 4 * length new = four_each new parts.1 in
-    let made : progress new ≡ 0 + count_by is_made answers = made_count nodes first log [] new events answers played in
+    let made : progress new ≡ 0 + count_by is_made answers = made_count arena first log [] new events answers played in
     omega (arith, same, all, made)
 
 one_most : (p : Phase) → far p ≤ 4

@@ -80,28 +80,28 @@ waits_there first (u ∷ log) (q ∷ phases) (suc place) t p at phase_at unsettl
       | inr here ↦ rw here (contains_later (wait first u (is_out (Some q))) (waiting (suc first) log phases) (wait (first + suc place) t (is_out (Some p))) rest)
     ]
 
-module _ (nodes first : ℕ) (log : List Transaction) (phases : List Phase) where
+module _ (arena first : ℕ) (log : List Transaction) (phases : List Phase) where
   pub lend_there : (place : ℕ) → slice_get phases place ≡ Some Idle → ready (waiting first log phases) (first + place) ≡ true
-      → enabled nodes first log phases (Lend (first + place)) ≡ true
+      → enabled arena first log phases (Lend (first + place)) ≡ true
   lend_there place idle is_ready =
       ap (λ (o : Option Phase). is_idle o && ready (waiting first log phases) (first + place)) (at_place first phases place ∙ idle) ∙ is_ready
 
-  pub lend_from : (number : ℕ) → enabled nodes first log phases (Lend number) ≡ true
+  pub lend_from : (number : ℕ) → enabled arena first log phases (Lend number) ≡ true
       → (place : ℕ) × (number ≡ first + place) × (slice_get phases place ≡ Some Idle) × (ready (waiting first log phases) (first + place) ≡ true)
   lend_from number can =
       let parts = both (is_idle (phase_of first phases number)) (ready (waiting first log phases) number) can in
       let (place, numbered, idle) = placed first phases number Idle (idle_is (phase_of first phases number) parts.0) in
       (place, numbered, idle, ap (ready (waiting first log phases)) (sym numbered) ∙ parts.1)
 
-  open_lends : (w : Waiting) → IsOpen (waiting first log phases) w → enabled nodes first log phases (Lend w.number) ≡ true
+  open_lends : (w : Waiting) → IsOpen (waiting first log phases) w → enabled arena first log phases (Lend w.number) ≡ true
   open_lends w is_open =
       let h : Waits first log phases w = waits_from first log phases w is_open.there in
       let idle : h.phase ≡ Idle = unmarked_idle h.phase h.unsettled (sym (ap (λ (x : Waiting). x.marked) h.is) ∙ is_open.unmarked) in
       let numbered : w.number ≡ first + h.place = ap (λ (x : Waiting). x.number) h.is in
-      subst (λ (n : ℕ). enabled nodes first log phases (Lend n) ≡ true) (sym numbered)
+      subst (λ (n : ℕ). enabled arena first log phases (Lend n) ≡ true) (sym numbered)
       (lend_there h.place (h.phase_at ∙ ap (λ (x : Phase). Some x) idle) (sym (ap (ready (waiting first log phases)) numbered) ∙ is_open.is_ready))
 
-  lends_open : length phases ≤ length log → (number : ℕ) → enabled nodes first log phases (Lend number) ≡ true
+  lends_open : length phases ≤ length log → (number : ℕ) → enabled arena first log phases (Lend number) ≡ true
       → (w : Waiting) × IsOpen (waiting first log phases) w × (w.number ≡ number)
   lends_open within number can =
       let (place, numbered, idle, is_ready) = lend_from number can in
@@ -109,12 +109,12 @@ module _ (nodes first : ℕ) (log : List Transaction) (phases : List Phase) wher
       let (t, at) = get_at log place (omega (arith, inside, within)) in
       (wait (first + place) t false, record { there = waits_there first log phases place t Idle at idle refl; unmarked = refl; is_ready = is_ready }, sym numbered)
 
-  pub next_ready_lends : (found : Option ℕ) → length phases ≤ length log → IsNextReady (waiting first log phases) found → IsLeastLend nodes first log phases found
-  next_ready_lends None within none = λ number. elim (cases (enabled nodes first log phases (Lend number))) [
+  pub next_ready_lends : (found : Option ℕ) → length phases ≤ length log → IsNextReady (waiting first log phases) found → IsLeastLend arena first log phases found
+  next_ready_lends None within none = λ number. elim (cases (enabled arena first log phases (Lend number))) [
     | inr not ↦ not
     | inl can ↦ absurd (let h = lends_open within number can in none h.0 h.1)
   ]
   next_ready_lends (Some least) within (has, smallest) = (
-    subst (λ (n : ℕ). enabled nodes first log phases (Lend n) ≡ true) has.2 (open_lends has.0 has.1),
+    subst (λ (n : ℕ). enabled arena first log phases (Lend n) ≡ true) has.2 (open_lends has.0 has.1),
     λ number can. let h = lends_open within number can in subst (λ (n : ℕ). least ≤ n) h.2 (smallest h.0 h.1),
   )

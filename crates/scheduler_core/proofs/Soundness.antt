@@ -6,7 +6,7 @@ use Rattle.values.specs.declared.name.RowName.{RowName}
 use Rattle.values.specs.Shapes.{TableShape}
 use Rattle.values.specs.Database.{Database}
 use Rattle.proclang_types.specs.declared.right.Right.TheVariants.{Read, Write}
-use Rattle.coarsen.specs.Clashes.{locks_row, Conflict}
+use Rattle.coarsen.specs.Clashes.{locks_row, ModesClash}
 use Rattle.lock_tree.specs.Ready.{ready}
 use Rattle.meaning.specs.Entries.{Reply}
 use Rattle.meaning.specs.Serial.{serial_end}
@@ -32,7 +32,7 @@ module _ (tables : List TableShape) (log : List Transaction) (start : Database) 
 
   -- all before a place that are in conflict with the transaction there have settled
   abbrev pub IsFree : List Phase → ℕ → Type 0
-  IsFree phases place = (i : ℕ) (t u : Transaction) → i < place → slice_get log i ≡ Some t → slice_get log place ≡ Some u → Conflict t.plan u.plan
+  IsFree phases place = (i : ℕ) (t u : Transaction) → i < place → slice_get log i ≡ Some t → slice_get log place ≡ Some u → ModesClash t.plan u.plan
       → is_settled (slice_get phases i) ≡ true
 
   abbrev pub settled_in : List Phase → ℕ → Bool
@@ -173,12 +173,12 @@ module _ (tables : List TableShape) (log : List Transaction) (start : Database) 
         }
 
     apart_in_order : (phases : List Phase) (rows : Database) (i k : ℕ) (t u : Transaction) → Sound phases rows → i < k → is_out (slice_get phases i) ≡ true
-        → is_out (slice_get phases k) ≡ true → slice_get log i ≡ Some t → slice_get log k ≡ Some u → Conflict t.plan u.plan → ⊥
+        → is_out (slice_get phases k) ≡ true → slice_get log i ≡ Some t → slice_get log k ≡ Some u → ModesClash t.plan u.plan → ⊥
     apart_in_order phases rows i k t u s less out_i out_k at_i at_k conflicts =
         true_false (settled_in phases i) (out_free phases rows k s out_k i t u less at_i at_k conflicts) (out_unsettled (slice_get phases i) out_i)
 
     pub outs_are_apart : (phases : List Phase) (rows : Database) (i k : ℕ) (t u : Transaction) → Sound phases rows → i ≢ k → is_out (slice_get phases i) ≡ true
-        → is_out (slice_get phases k) ≡ true → slice_get log i ≡ Some t → slice_get log k ≡ Some u → Conflict t.plan u.plan → ⊥
+        → is_out (slice_get phases k) ≡ true → slice_get log i ≡ Some t → slice_get log k ≡ Some u → ModesClash t.plan u.plan → ⊥
     outs_are_apart phases rows i k t u s differ out_i out_k at_i at_k conflicts = elim (split i k) [
       | inl less ↦ apart_in_order phases rows i k t u s less out_i out_k at_i at_k conflicts
       | inr rest ↦ elim rest [
@@ -189,7 +189,7 @@ module _ (tables : List TableShape) (log : List Transaction) (start : Database) 
 
     pub lends_are_apart : (first : ℕ) (phases : List Phase) (rows : Database) (place other : ℕ) (t u : Transaction) → Sound phases rows
         → slice_get phases place ≡ Some Idle → ready (waiting first log phases) (first + place) ≡ true → is_out (slice_get phases other) ≡ true
-        → slice_get log place ≡ Some t → slice_get log other ≡ Some u → Conflict t.plan u.plan → ⊥
+        → slice_get log place ≡ Some t → slice_get log other ≡ Some u → ModesClash t.plan u.plan → ⊥
     lends_are_apart first phases rows place other t u s idle is_ready out at_t at_u conflicts = elim (split place other) [
       | inl less ↦ true_false (settled_in phases place) (out_free phases rows other s out place t u less at_t at_u conflicts) (ap is_settled idle)
       | inr rest ↦ elim rest [

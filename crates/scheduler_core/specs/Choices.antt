@@ -24,7 +24,7 @@ next_steps first (p ∷ phases) = next_step first p ++ next_steps (suc first) ph
 
 -- the enabled events: Admit first, then by transaction number
 abbrev pub enabled_events : ℕ → ℕ → List Transaction → List Phase → List Event
-enabled_events nodes first log phases = filter (enabled nodes first log phases) (Admit ∷ next_steps first phases)
+enabled_events arena first log phases = filter (enabled arena first log phases) (Admit ∷ next_steps first phases)
 
 -- the one at place n mod count
 abbrev pub chosen : ℕ → List Event → Option Event
@@ -56,8 +56,8 @@ IsBefore (Some m) None = ⊥
 IsBefore (Some m) (Some n) = m < n
 
 -- each enabled event and no other, Admit before all, and the numbers rise: there is one such list
-pub record ListsEnabled (nodes first : ℕ) (log : List Transaction) (phases : List Phase) (events : List Event) : Type 0 where
-  pub exact : (event : Event) → Contains events event ↔ (enabled nodes first log phases event ≡ true)
+pub record ListsEnabled (arena first : ℕ) (log : List Transaction) (phases : List Phase) (events : List Event) : Type 0 where
+  pub exact : (event : Event) → Contains events event ↔ (enabled arena first log phases event ≡ true)
   pub ordered : AllPairs (λ a b. IsBefore (number_of a) (number_of b)) events
 
 -- the least number of those admitted and unsettled, None where there is none
@@ -68,13 +68,13 @@ IsLeastOpen first phases (Some least) =
 
 -- the event is enabled and is of the least number, or all is done
 abbrev pub IsNextEvent : ℕ → ℕ → List Transaction → List Phase → Option Event → Type 0
-IsNextEvent nodes first log phases None = is_done log phases ≡ true
-IsNextEvent nodes first log phases (Some event) =
-    (is_done log phases ≡ false) × (enabled nodes first log phases event ≡ true) × IsLeastOpen first phases (number_of event)
+IsNextEvent arena first log phases None = is_done log phases ≡ true
+IsNextEvent arena first log phases (Some event) =
+    (is_done log phases ≡ false) × (enabled arena first log phases event ≡ true) × IsLeastOpen first phases (number_of event)
 
 -- the least number to which rows may be lent, None where there is none
 abbrev pub IsLeastLend : ℕ → ℕ → List Transaction → List Phase → Option ℕ → Type 0
-IsLeastLend nodes first log phases None = (number : ℕ) → enabled nodes first log phases (Lend number) ≡ false
-IsLeastLend nodes first log phases (Some least) =
-    (enabled nodes first log phases (Lend least) ≡ true)
-    × ((number : ℕ) → enabled nodes first log phases (Lend number) ≡ true → least ≤ number)
+IsLeastLend arena first log phases None = (number : ℕ) → enabled arena first log phases (Lend number) ≡ false
+IsLeastLend arena first log phases (Some least) =
+    (enabled arena first log phases (Lend least) ≡ true)
+    × ((number : ℕ) → enabled arena first log phases (Lend number) ≡ true → least ≤ number)

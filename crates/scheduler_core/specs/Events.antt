@@ -26,16 +26,16 @@ OutAreReady first log phases = (place : ℕ) → is_out (slice_get phases place)
 
 -- there is a next transaction, and room for its plan beside those that wait
 abbrev pub has_room : ℕ → List Waiting → Option Transaction → Bool
-has_room nodes waits None = false
-has_room nodes waits (Some t) = nat_le (used waits + length t.plan) nodes
+has_room arena waits None = false
+has_room arena waits (Some t) = nat_le (used waits + length t.plan) arena
 
 -- Admit: not all are admitted, and there is room for the next one's plan. Lend: admitted, unsettled, not out, and ready.
 -- Run: out and not run. Settle: run and not settled
 abbrev pub enabled : ℕ → ℕ → List Transaction → List Phase → Event → Bool
-enabled nodes first log phases Admit = has_room nodes (waiting first log phases) (slice_get log (length phases))
-enabled nodes first log phases (Lend number) = is_idle (phase_of first phases number) && ready (waiting first log phases) number
-enabled nodes first log phases (Run number) = is_lent (phase_of first phases number)
-enabled nodes first log phases (Settle number) = was_run (phase_of first phases number)
+enabled arena first log phases Admit = has_room arena (waiting first log phases) (slice_get log (length phases))
+enabled arena first log phases (Lend number) = is_idle (phase_of first phases number) && ready (waiting first log phases) number
+enabled arena first log phases (Run number) = is_lent (phase_of first phases number)
+enabled arena first log phases (Settle number) = was_run (phase_of first phases number)
 
 -- what an event does
 abbrev pub step : ℕ → List Phase → Event → List Phase
@@ -46,14 +46,14 @@ step first phases (Settle number) = with_number first phases number Settled
 
 -- what an answer to one event says
 abbrev pub Answers : ℕ → ℕ → List Transaction → List Phase → Event → StepAnswer → List Phase → Type 0
-Answers nodes first log old event Made new = (enabled nodes first log old event ≡ true) × (new ≡ step first old event)
-Answers nodes first log old event Refused new = (enabled nodes first log old event ≡ false) × (new ≡ old)
-Answers nodes first log old event NoMemory new = new ≡ old
+Answers arena first log old event Made new = (enabled arena first log old event ≡ true) × (new ≡ step first old event)
+Answers arena first log old event Refused new = (enabled arena first log old event ≡ false) × (new ≡ old)
+Answers arena first log old event NoMemory new = new ≡ old
 
 -- one answer an event
 abbrev pub Played : ℕ → ℕ → List Transaction → List Phase → List Event → List StepAnswer → List Phase → Type 0
-Played nodes first log old [] [] new = new ≡ old
-Played nodes first log old (event ∷ events) (answer ∷ answers) new =
-    (mid : List Phase) × Answers nodes first log old event answer mid × Played nodes first log mid events answers new
-Played nodes first log old [] (answer ∷ answers) new = ⊥
-Played nodes first log old (event ∷ events) [] new = ⊥
+Played arena first log old [] [] new = new ≡ old
+Played arena first log old (event ∷ events) (answer ∷ answers) new =
+    (mid : List Phase) × Answers arena first log old event answer mid × Played arena first log mid events answers new
+Played arena first log old [] (answer ∷ answers) new = ⊥
+Played arena first log old (event ∷ events) [] new = ⊥

@@ -8,7 +8,7 @@ use Rattle.values.specs.Shapes.{TableShape}
 use Rattle.values.specs.Database.{Database}
 use Rattle.proclang_types.specs.declared.right.Right.TheVariants.{Write}
 use Rattle.coarsen.specs.Subtrees.{Requests}
-use Rattle.coarsen.specs.Clashes.{Conflict, locks_row}
+use Rattle.coarsen.specs.Clashes.{ModesClash, locks_row}
 use Rattle.meaning.specs.Entries.{Reply, meaning}
 use Rattle.meaning.specs.Serial.{serial_end, serial_replies}
 use Rattle.lock_tree.specs.Locks.{plan_of, used, without, with_mark, IsRising}
@@ -41,22 +41,22 @@ pub record IsSerial (tables : List TableShape) (log : List Transaction) (start :
   pub jobs : (place : ℕ) (shown : Database) → slice_get now.stages place ≡ Some (lent shown) → IsLent tables log start place shown
   -- no two plans that are out are in conflict
   pub apart : (i k : ℕ) (t u : Transaction) → i ≢ k → slice_get log i ≡ Some t → slice_get log k ≡ Some u
-      → is_out (slice_get (phases_of now.stages) i) ≡ true → is_out (slice_get (phases_of now.stages) k) ≡ true → Conflict t.plan u.plan → ⊥
+      → is_out (slice_get (phases_of now.stages) i) ≡ true → is_out (slice_get (phases_of now.stages) k) ≡ true → ModesClash t.plan u.plan → ⊥
   -- once all are settled, the rows and the replies, in log order, are the serial run's
   pub end : is_done log (phases_of now.stages) ≡ true → now.rows ≡ serial_end (entries_of log) start
   pub all_replies : is_done log (phases_of now.stages) ≡ true → now.stages ≡ map settled (serial_replies (entries_of log) start)
 
 abbrev pub EveryRunIsSerial : Type 0
 EveryRunIsSerial =
-    (tables : List TableShape) (nodes first : ℕ) (log : List Transaction) (start : Database) (moves : List Move) (now : Machine)
-    → ArePlanned tables log → Runs tables nodes first log (at_start start) moves now → IsSerial tables log start now
+    (tables : List TableShape) (arena first : ℕ) (log : List Transaction) (start : Database) (moves : List Move) (now : Machine)
+    → ArePlanned tables log → Runs tables arena first log (at_start start) moves now → IsSerial tables log start now
 
 -- in each machine that a run reaches, every enabled event can be made
 abbrev pub EnabledCanBeMade : Type 0
 EnabledCanBeMade =
-    (tables : List TableShape) (nodes first : ℕ) (log : List Transaction) (start : Database) (moves : List Move) (now : Machine)
-    → ArePlanned tables log → Runs tables nodes first log (at_start start) moves now
-    → (event : Event) → enabled nodes first log (phases_of now.stages) event ≡ true → (new : Machine) × Does tables first log now event new
+    (tables : List TableShape) (arena first : ℕ) (log : List Transaction) (start : Database) (moves : List Move) (now : Machine)
+    → ArePlanned tables log → Runs tables arena first log (at_start start) moves now
+    → (event : Event) → enabled arena first log (phases_of now.stages) event ≡ true → (new : Machine) × Does tables first log now event new
 
 -- an event does in the machine to the phases what its step says
 abbrev pub MachineFollowsSteps : Type 0
@@ -86,7 +86,7 @@ pub record StaysSound (tables : List TableShape) (first : ℕ) (log : List Trans
   -- of a ready transaction, and one that is out: their plans are not in conflict
   pub lends_apart : (phases : List Phase) (rows : Database) (place other : ℕ) (t u : Transaction) → IsSound tables log start phases rows
       → slice_get phases place ≡ Some Idle → ready (waiting first log phases) (first + place) ≡ true → is_out (slice_get phases other) ≡ true
-      → slice_get log place ≡ Some t → slice_get log other ≡ Some u → Conflict t.plan u.plan → ⊥
+      → slice_get log place ≡ Some t → slice_get log other ≡ Some u → ModesClash t.plan u.plan → ⊥
   -- while a transaction is out, the rows on what its plan locks stay so
   pub out_rows : (phases : List Phase) (rows : Database) (place : ℕ) (t : Transaction) → IsSound tables log start phases rows
       → is_out (slice_get phases place) ≡ true → slice_get log place ≡ Some t → AgreeOnLocked tables t.plan rows (serial_rows log start place)
@@ -107,7 +107,7 @@ pub record StaysSound (tables : List TableShape) (first : ℕ) (log : List Trans
       → ((name : RowName) → get new name ≡ get rows name) → IsSound tables log start phases new
   pub outs_apart : (phases : List Phase) (rows : Database) (i k : ℕ) (t u : Transaction) → IsSound tables log start phases rows → i ≢ k
       → is_out (slice_get phases i) ≡ true → is_out (slice_get phases k) ≡ true
-      → slice_get log i ≡ Some t → slice_get log k ≡ Some u → Conflict t.plan u.plan → ⊥
+      → slice_get log i ≡ Some t → slice_get log k ≡ Some u → ModesClash t.plan u.plan → ⊥
   pub ends : (phases : List Phase) (rows : Database) → IsSound tables log start phases rows → is_done log phases ≡ true
       → rows ≡ serial_end (entries_of log) start
 
@@ -141,9 +141,9 @@ pub record GivenBackCanBeLent : Type 0 where
   pub can_be : (tables : List TableShape) (first : ℕ) (log : List Transaction) (now : Machine) (number : ℕ) (shown : Database)
       → at_number first now.stages number ≡ Some (lent shown) → (new : Machine) × TakesBack tables first log now number new
   -- and whatever the order of events, its transaction can then be lent its rows again
-  pub lent_again : (tables : List TableShape) (nodes first : ℕ) (log : List Transaction) (start : Database) (moves : List Move) (now : Machine) (number : ℕ) (new : Machine)
-      → Runs tables nodes first log (at_start start) moves now → TakesBack tables first log now number new
-      → enabled nodes first log (phases_of new.stages) (Lend number) ≡ true
+  pub lent_again : (tables : List TableShape) (arena first : ℕ) (log : List Transaction) (start : Database) (moves : List Move) (now : Machine) (number : ℕ) (new : Machine)
+      → Runs tables arena first log (at_start start) moves now → TakesBack tables first log now number new
+      → enabled arena first log (phases_of new.stages) (Lend number) ≡ true
 
 -- ---- the transactions in the lock tree
 
@@ -169,8 +169,8 @@ pub record FollowsPhases (first : ℕ) (log : List Transaction) : Type 0 where
   pub below : (phases : List Phase) → AreBelow (first + length phases) (waiting first log phases)
   pub rising : (phases : List Phase) → IsRising (waiting first log phases)
   -- the least ready number without a mark is the least to which rows may be lent
-  pub next_ready : (nodes : ℕ) (phases : List Phase) (found : Option ℕ) → length phases ≤ length log → IsNextReady (waiting first log phases) found
-      → IsLeastLend nodes first log phases found
+  pub next_ready : (arena : ℕ) (phases : List Phase) (found : Option ℕ) → length phases ≤ length log → IsNextReady (waiting first log phases) found
+      → IsLeastLend arena first log phases found
   -- what is out stays ready
   pub stays_ready : StaysReady first log
 
@@ -182,8 +182,8 @@ AdmittedAndUnsettledWait = (first : ℕ) (log : List Transaction) → FollowsPha
 -- but for want of memory, the events determine what is answered and what comes of them
 abbrev pub OnePlay : Type 0
 OnePlay =
-    (nodes first : ℕ) (log : List Transaction) (old new other : List Phase) (events : List Event) (answers others : List StepAnswer)
-    → Played nodes first log old events answers new → Played nodes first log old events others other
+    (arena first : ℕ) (log : List Transaction) (old new other : List Phase) (events : List Event) (answers others : List StepAnswer)
+    → Played arena first log old events answers new → Played arena first log old events others other
     → (Contains answers NoMemory → ⊥) → (Contains others NoMemory → ⊥) → (answers ≡ others) × (new ≡ other)
 
 -- ---- room
@@ -191,18 +191,18 @@ OnePlay =
 -- the plans of those that wait never take more room than there is
 abbrev pub RoomIsKept : Type 0
 RoomIsKept =
-    (nodes first : ℕ) (log : List Transaction) (old new : List Phase) (events : List Event) (answers : List StepAnswer)
-    → used (waiting first log old) ≤ nodes → Played nodes first log old events answers new → used (waiting first log new) ≤ nodes
+    (arena first : ℕ) (log : List Transaction) (old new : List Phase) (events : List Event) (answers : List StepAnswer)
+    → used (waiting first log old) ≤ arena → Played arena first log old events answers new → used (waiting first log new) ≤ arena
 
 -- ---- places
 
 -- the events of the transaction at a place, whose number is `first` and its place
-pub record AreByPlaces (nodes first : ℕ) (log : List Transaction) (phases : List Phase) : Type 0 where
+pub record AreByPlaces (arena first : ℕ) (log : List Transaction) (phases : List Phase) : Type 0 where
   pub phase : (place : ℕ) → phase_of first phases (first + place) ≡ slice_get phases place
   pub no_phase : (number : ℕ) → number < first → phase_of first phases number ≡ None
-  pub lend : (place : ℕ) → enabled nodes first log phases (Lend (first + place)) ≡ (is_idle (slice_get phases place) && ready (waiting first log phases) (first + place))
-  pub run : (place : ℕ) → enabled nodes first log phases (Run (first + place)) ≡ is_lent (slice_get phases place)
-  pub settle : (place : ℕ) → enabled nodes first log phases (Settle (first + place)) ≡ was_run (slice_get phases place)
+  pub lend : (place : ℕ) → enabled arena first log phases (Lend (first + place)) ≡ (is_idle (slice_get phases place) && ready (waiting first log phases) (first + place))
+  pub run : (place : ℕ) → enabled arena first log phases (Run (first + place)) ≡ is_lent (slice_get phases place)
+  pub settle : (place : ℕ) → enabled arena first log phases (Settle (first + place)) ≡ was_run (slice_get phases place)
   pub after_lend : (place : ℕ) → step first phases (Lend (first + place)) ≡ slice_set phases place Out
   pub after_run : (place : ℕ) → step first phases (Run (first + place)) ≡ slice_set phases place Ran
   pub after_settle : (place : ℕ) → step first phases (Settle (first + place)) ≡ slice_set phases place Settled
@@ -217,42 +217,42 @@ pub record AreByPlaces (nodes first : ℕ) (log : List Transaction) (phases : Li
       → next_event first log phases ≡ (if length phases == length log then None else Some Admit)
 
 abbrev pub EventsByPlaces : Type 0
-EventsByPlaces = (nodes first : ℕ) (log : List Transaction) (phases : List Phase) → AreByPlaces nodes first log phases
+EventsByPlaces = (arena first : ℕ) (log : List Transaction) (phases : List Phase) → AreByPlaces arena first log phases
 
 -- ---- no stuck state
 
 abbrev pub FitIn : ℕ → List Transaction → Type 0
-FitIn nodes log = (place : ℕ) (t : Transaction) → slice_get log place ≡ Some t → length t.plan ≤ nodes
+FitIn arena log = (place : ℕ) (t : Transaction) → slice_get log place ≡ Some t → length t.plan ≤ arena
 
 -- where no plan is larger than the room, some event is enabled in every state that isn't done
 abbrev pub NoStuckState : Type 0
 NoStuckState =
-    (nodes first : ℕ) (log : List Transaction) (phases : List Phase) → length phases ≤ length log → FitIn nodes log
-    → is_done log phases ≡ false → (event : Event) × (enabled nodes first log phases event ≡ true)
+    (arena first : ℕ) (log : List Transaction) (phases : List Phase) → length phases ≤ length log → FitIn arena log
+    → is_done log phases ≡ false → (event : Event) × (enabled arena first log phases event ≡ true)
 
 abbrev pub NextEventIsEnabled : Type 0
 NextEventIsEnabled =
-    (nodes first : ℕ) (log : List Transaction) (phases : List Phase) → length phases ≤ length log → FitIn nodes log
-    → IsNextEvent nodes first log phases (next_event first log phases)
+    (arena first : ℕ) (log : List Transaction) (phases : List Phase) → length phases ≤ length log → FitIn arena log
+    → IsNextEvent arena first log phases (next_event first log phases)
 
 pub record EnabledEventsAreListed : Type 0 where
-  pub exact : (nodes first : ℕ) (log : List Transaction) (phases : List Phase) → ListsEnabled nodes first log phases (enabled_events nodes first log phases)
-  pub one : (nodes first : ℕ) (log : List Transaction) (phases : List Phase) (events : List Event) → ListsEnabled nodes first log phases events
-      → events ≡ enabled_events nodes first log phases
+  pub exact : (arena first : ℕ) (log : List Transaction) (phases : List Phase) → ListsEnabled arena first log phases (enabled_events arena first log phases)
+  pub one : (arena first : ℕ) (log : List Transaction) (phases : List Phase) (events : List Event) → ListsEnabled arena first log phases events
+      → events ≡ enabled_events arena first log phases
   -- none is enabled exactly where all is done
-  pub none : (nodes first : ℕ) (log : List Transaction) (phases : List Phase) → length phases ≤ length log → FitIn nodes log
-      → (enabled_events nodes first log phases ≡ []) ↔ (is_done log phases ≡ true)
+  pub none : (arena first : ℕ) (log : List Transaction) (phases : List Phase) → length phases ≤ length log → FitIn arena log
+      → (enabled_events arena first log phases ≡ []) ↔ (is_done log phases ≡ true)
   -- what is chosen is enabled, and nothing is chosen exactly where all is done
-  pub choice : (nodes first : ℕ) (log : List Transaction) (phases : List Phase) (n : ℕ) (event : Event)
-      → chosen n (enabled_events nodes first log phases) ≡ Some event → enabled nodes first log phases event ≡ true
-  pub no_choice : (nodes first : ℕ) (log : List Transaction) (phases : List Phase) (n : ℕ) → length phases ≤ length log → FitIn nodes log
-      → (chosen n (enabled_events nodes first log phases) ≡ None) ↔ (is_done log phases ≡ true)
+  pub choice : (arena first : ℕ) (log : List Transaction) (phases : List Phase) (n : ℕ) (event : Event)
+      → chosen n (enabled_events arena first log phases) ≡ Some event → enabled arena first log phases event ≡ true
+  pub no_choice : (arena first : ℕ) (log : List Transaction) (phases : List Phase) (n : ℕ) → length phases ≤ length log → FitIn arena log
+      → (chosen n (enabled_events arena first log phases) ≡ None) ↔ (is_done log phases ≡ true)
 
 -- choice 0 is to admit where that is enabled, and else the next event
 abbrev pub FirstChoice : Type 0
 FirstChoice =
-    (nodes first : ℕ) (log : List Transaction) (phases : List Phase) → length phases ≤ length log → FitIn nodes log
-    → chosen 0 (enabled_events nodes first log phases) ≡ (if enabled nodes first log phases Admit then Some Admit else next_event first log phases)
+    (arena first : ℕ) (log : List Transaction) (phases : List Phase) → length phases ≤ length log → FitIn arena log
+    → chosen 0 (enabled_events arena first log phases) ≡ (if enabled arena first log phases Admit then Some Admit else next_event first log phases)
 
 -- ---- four steps a transaction
 
@@ -263,14 +263,14 @@ pub record GoesOn (log : List Transaction) (old new : List Phase) : Type 0 where
   pub settled_stays : (place : ℕ) → is_settled (slice_get old place) ≡ true → is_settled (slice_get new place) ≡ true
 
 pub record EachStepGoesOn : Type 0 where
-  pub goes_on : (nodes first : ℕ) (log : List Transaction) (phases : List Phase) (event : Event)
-      → enabled nodes first log phases event ≡ true → GoesOn log phases (step first phases event)
+  pub goes_on : (arena first : ℕ) (log : List Transaction) (phases : List Phase) (event : Event)
+      → enabled arena first log phases event ≡ true → GoesOn log phases (step first phases event)
   -- four steps a transaction are the most
   pub most : (phases : List Phase) → progress phases ≤ 4 * length phases
 
 pub record FourStepsEach : Type 0 where
   -- as many answers are Made as the state got further
-  pub counted : (nodes first : ℕ) (log : List Transaction) (old new : List Phase) (events : List Event) (answers : List StepAnswer)
-      → Played nodes first log old events answers new → progress new ≡ progress old + count_by is_made answers
-  pub four : (nodes first : ℕ) (log : List Transaction) (new : List Phase) (events : List Event) (answers : List StepAnswer)
-      → Played nodes first log [] events answers new → is_done log new ≡ true → count_by is_made answers ≡ 4 * length log
+  pub counted : (arena first : ℕ) (log : List Transaction) (old new : List Phase) (events : List Event) (answers : List StepAnswer)
+      → Played arena first log old events answers new → progress new ≡ progress old + count_by is_made answers
+  pub four : (arena first : ℕ) (log : List Transaction) (new : List Phase) (events : List Event) (answers : List StepAnswer)
+      → Played arena first log [] events answers new → is_done log new ≡ true → count_by is_made answers ≡ 4 * length log

@@ -89,10 +89,10 @@ pub data Move : Type 0 where
   makes : Event → Move
   takes_back : ℕ → Move
 
-module _ (tables : List TableShape) (nodes first : ℕ) (log : List Transaction) where
+module _ (tables : List TableShape) (arena first : ℕ) (log : List Transaction) where
   -- an event is made only where it is enabled
   abbrev pub Moves : Machine → Move → Machine → Type 0
-  Moves old (makes event) new = (enabled nodes first log (phases_of old.stages) event ≡ true) × Does tables first log old event new
+  Moves old (makes event) new = (enabled arena first log (phases_of old.stages) event ≡ true) × Does tables first log old event new
   Moves old (takes_back number) new = TakesBack tables first log old number new
 
   -- any list of moves, each of which is made or changes nothing

@@ -6,7 +6,7 @@ use Rattle.values.specs.declared.name.RowName.{RowName}
 use Rattle.values.specs.Shapes.{TableShape}
 use Rattle.values.specs.Database.{Database}
 use Rattle.proclang_types.specs.declared.right.Right.TheVariants.{Write}
-use Rattle.coarsen.specs.Clashes.{Conflict, locks_row}
+use Rattle.coarsen.specs.Clashes.{ModesClash, locks_row}
 use Rattle.meaning.specs.Entries.{Reply, meaning}
 use Rattle.scheduler_core.specs.declared.phase.Phase.{Phase}
 use Rattle.scheduler_core.specs.Transactions.{Transaction, AgreeOnLocked, locks_at}
@@ -18,7 +18,7 @@ pub record IsSound (tables : List TableShape) (log : List Transaction) (start : 
   pub within : length phases ≤ length log
   -- what is out or settled began when all before it that are in conflict with it had settled
   pub behind : (i k : ℕ) (t u : Transaction) → i < k → slice_get log i ≡ Some t → slice_get log k ≡ Some u
-      → has_begun (slice_get phases k) ≡ true → Conflict t.plan u.plan → is_settled (slice_get phases i) ≡ true
+      → has_begun (slice_get phases k) ≡ true → ModesClash t.plan u.plan → is_settled (slice_get phases i) ≡ true
   -- a row name whose writers before a place are all settled, and those from the place on not, is as the serial run has it there
   pub current : (name : RowName) (place : ℕ)
       → ((i : ℕ) → i < place → locks_at tables log i name Write ≡ true → is_settled (slice_get phases i) ≡ true)

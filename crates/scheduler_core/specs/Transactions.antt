@@ -8,7 +8,7 @@ use Rattle.values.specs.Database.{Database}
 use Rattle.proclang_types.specs.declared.right.Right.{Right}
 use Rattle.proclang_types.specs.declared.right.Right.TheVariants.{Read}
 use Rattle.coarsen.specs.Subtrees.{Requests}
-use Rattle.coarsen.specs.Plans.{IsSound as IsSoundPlan}
+use Rattle.coarsen.specs.Plans.{IsWellFormed}
 use Rattle.coarsen.specs.Clashes.{locks_row}
 use Rattle.meaning.specs.Entries.{EntryShape}
 use Rattle.meaning.specs.Frame.{touches}
@@ -23,7 +23,7 @@ entries_of log = map (λ t. t.entry) log
 
 -- the plan is one, and it locks each row name that the entry may touch, for the same right
 pub record IsPlanned (tables : List TableShape) (t : Transaction) : Type 0 where
-  pub sound : IsSoundPlan t.plan
+  pub sound : IsWellFormed t.plan
   pub locks : (name : RowName) (right : Right) → touches t.entry name right ≡ true → locks_row tables t.plan name right ≡ true
 
 -- each transaction of a log

@@ -12,7 +12,7 @@ use Rattle.serde_json.specs.Read.{read}
 use Rattle.serde_json.specs.View.{items_of}
 use Rattle.documents.specs.Json.{elements, five, integer, is_one}
 use Rattle.documents.specs.FirstFault.{first}
-use Rattle.documents.specs.Reading.{Gives}
+use Rattle.documents.specs.Reading.{Reads}
 use Rattle.documents.proofs.Said.{string_said, elements_said}
 use Rattle.documents.proofs.Steps.{and_then_ok}
 use Rattle.values.specs.Broken as catalogue_rules
@@ -30,7 +30,7 @@ use Rattle.setup.specs.declared.fault.SetupFault.{SetupFault}
 use Rattle.setup.specs.declared.fault.SetupFault.TheVariants.{Procedure}
 use Rattle.setup.specs.declared.setup.Setup.{Setup}
 use Rattle.setup.specs.Faults.{is_memory}
-use Rattle.setup.specs.FirstFault.{InForm, InDocument, BreaksFirst, broken_rules}
+use Rattle.setup.specs.FirstFault.{InForm, InDocument, BreaksFirst, broken_setup_rules}
 use Rattle.setup.specs.Rows.{RowAt}
 use Rattle.setup.specs.Says.{SaysRows, SpellsSetup, SaysDocument, IsJson, IsNotJson, SaysSetup}
 use Rattle.setup.specs.Setups.{SetupDocument, SetupShape, parts_of, setup_form, setup_view}
@@ -90,7 +90,7 @@ form_is d form s e h = some_is h.form form (sym (form_again d h.form h.is_form) 
 -- ---- answers
 
 -- an answer for want of memory alone says nothing of the document
-pub refused : (r : Result Setup SetupFault) (e : SetupFault) (s : SetupShape) → IsErrAnd r (λ x. x ≡ e) → (is_memory e ≡ false → ⊥) → Gives is_memory setup_view r (Ok s)
+pub refused : (r : Result Setup SetupFault) (e : SetupFault) (s : SetupShape) → IsErrAnd r (λ x. x ≡ e) → (is_memory e ≡ false → ⊥) → Reads is_memory setup_view r (Ok s)
 refused (Ok x) e s h none = absurd h
 refused (Err x) e s h none = λ known. absurd (none (subst (λ (y : SetupFault). is_memory y ≡ false) h known))
 
@@ -163,13 +163,13 @@ module _ (d : Data) (form : SetupDocument) (s : SetupShape) where
 -- ---- the first fault
 
 module _ (d : Data) (form : SetupDocument) (tables : List TableShape) where
-  pub in_procs : (f : ProcFault) → setup_form d ≡ Some form → SaysCatalogue form.catalogue tables → IsCatalogue tables → (f ≡ proc_faults.Memory) ⊎ (first (procedure_rules.broken_rules tables form.procs) ≡ Some f)
+  pub in_procs : (f : ProcFault) → setup_form d ≡ Some form → SaysCatalogue form.catalogue tables → IsCatalogue tables → (f ≡ proc_faults.Memory) ⊎ (first (procedure_rules.broken_proc_rules tables form.procs) ≡ Some f)
       → procedures.is_memory f ≡ false → InDocument d (Procedure f)
   in_procs f e says is (inl m) known = absurd (let g = sym (ap procedures.is_memory m) ∙ known in cc)
   in_procs f e says is (inr h) known = inr (form, e, inr (inl (record { tables = tables; catalogue = says; is_catalogue = is; rule = f; is = refl; is_first = h })))
 
   pub in_rows : (procs : List ProcSyntax) (f : SetupFault) → setup_form d ≡ Some form → SaysCatalogue form.catalogue tables → IsCatalogue tables → SaysProcs tables form.procs procs
-      → (is_memory f ≡ false → first (broken_rules tables form.rows) ≡ Some f) → is_memory f ≡ false → InDocument d f
+      → (is_memory f ≡ false → first (broken_setup_rules tables form.rows) ≡ Some f) → is_memory f ≡ false → InDocument d f
   in_rows procs f e says is are h known = inr (form, e, inr (inr (record { tables = tables; catalogue = says; is_catalogue = is; procs = procs; are_procs = are; is_first = h known })))
 
   pub found_parts : (procs : List ProcSyntax) (rows : List RowAt) → setup_form d ≡ Some form → SaysCatalogue form.catalogue tables → IsCatalogue tables → SaysProcs tables form.procs procs → SaysRows tables form.rows rows
@@ -182,7 +182,7 @@ nothing_first fs f none h = absurd (let g = sym (ap first none) ∙ h in cc)
 -- a document whose parts break no rule breaks none
 pub no_break : (d : Data) (form : SetupDocument) (tables : List TableShape) → setup_form d ≡ Some form
     → ((ts : List TableShape) → IsCatalogue ts → SaysCatalogue form.catalogue ts → ◌≡◌ {A = Result (List TableShape) CatalogueFault} (Ok ts) (Ok tables))
-    → catalogue_rules.broken_rules form.catalogue ≡ [] → procedure_rules.broken_rules tables form.procs ≡ [] → broken_rules tables form.rows ≡ []
+    → catalogue_rules.broken_catalogue_rules form.catalogue ≡ [] → procedure_rules.broken_proc_rules tables form.procs ≡ [] → broken_setup_rules tables form.rows ≡ []
     → (fault : SetupFault) → InDocument d fault → ⊥
 no_break d form tables e only c p r fault (inl shape) = none_is (sym shape.1 ∙ e)
 no_break d form tables e only c p r fault (inr (other, is, h)) = by (subst (λ (x : SetupDocument). InForm x fault) (same other form (sym is ∙ e)) h)
@@ -194,12 +194,12 @@ no_break d form tables e only c p r fault (inr (other, is, h)) = by (subst (λ (
     are ts is says = same_tables ts tables (only ts is says)
 
     by : InForm form fault → ⊥
-    by (inl h) = nothing_first (catalogue_rules.broken_rules form.catalogue) h.rule c h.is_first
+    by (inl h) = nothing_first (catalogue_rules.broken_catalogue_rules form.catalogue) h.rule c h.is_first
     by (inr (inl h)) =
-        nothing_first (procedure_rules.broken_rules h.tables form.procs) h.rule
-        (ap (λ (ts : List TableShape). procedure_rules.broken_rules ts form.procs) (are h.tables h.is_catalogue h.catalogue) ∙ p) h.is_first
+        nothing_first (procedure_rules.broken_proc_rules h.tables form.procs) h.rule
+        (ap (λ (ts : List TableShape). procedure_rules.broken_proc_rules ts form.procs) (are h.tables h.is_catalogue h.catalogue) ∙ p) h.is_first
     by (inr (inr h)) =
-        nothing_first (broken_rules h.tables form.rows) fault (ap (λ (ts : List TableShape). broken_rules ts form.rows) (are h.tables h.is_catalogue h.catalogue) ∙ r) h.is_first
+        nothing_first (broken_setup_rules h.tables form.rows) fault (ap (λ (ts : List TableShape). broken_setup_rules ts form.rows) (are h.tables h.is_catalogue h.catalogue) ∙ r) h.is_first
 
 -- ---- texts
 

@@ -61,8 +61,8 @@ abbrev pub in_rows_form : List TableShape → Option (List Data) → List SetupF
 in_rows_form tables None = Shape ∷ []
 in_rows_form tables (Some ds) = in_each (place_said tables) (in_row tables) [] ds
 
-abbrev pub broken_rules : List TableShape → Data → List SetupFault
-broken_rules tables d = in_rows_form tables (versioned_list (codes "rows") d)
+abbrev pub broken_setup_rules : List TableShape → Data → List SetupFault
+broken_setup_rules tables d = in_rows_form tables (versioned_list (codes "rows") d)
 
 -- ---- setups
 
@@ -70,7 +70,7 @@ broken_rules tables d = in_rows_form tables (versioned_list (codes "rows") d)
 pub record InCatalogue (form : SetupDocument) (fault : SetupFault) : Type 0 where
   pub rule : CatalogueFault
   pub is : fault ≡ Catalogue rule
-  pub is_first : first (catalogues.broken_rules form.catalogue) ≡ Some rule
+  pub is_first : first (catalogues.broken_catalogue_rules form.catalogue) ≡ Some rule
 
 -- the catalogue says tables, and the procedures break a rule over them
 pub record InProcs (form : SetupDocument) (fault : SetupFault) : Type 0 where
@@ -79,7 +79,7 @@ pub record InProcs (form : SetupDocument) (fault : SetupFault) : Type 0 where
   pub is_catalogue : IsCatalogue tables
   pub rule : ProcFault
   pub is : fault ≡ Procedure rule
-  pub is_first : first (procedures.broken_rules tables form.procs) ≡ Some rule
+  pub is_first : first (procedures.broken_proc_rules tables form.procs) ≡ Some rule
 
 -- the catalogue says tables, there are procedures over them, and the rows break a rule
 pub record InRows (form : SetupDocument) (fault : SetupFault) : Type 0 where
@@ -88,7 +88,7 @@ pub record InRows (form : SetupDocument) (fault : SetupFault) : Type 0 where
   pub is_catalogue : IsCatalogue tables
   pub procs : List ProcSyntax
   pub are_procs : SaysProcs tables form.procs procs
-  pub is_first : first (broken_rules tables form.rows) ≡ Some fault
+  pub is_first : first (broken_setup_rules tables form.rows) ≡ Some fault
 
 abbrev pub InForm : SetupDocument → SetupFault → Type 0
 InForm form fault = InCatalogue form fault ⊎ (InProcs form fault ⊎ InRows form fault)

@@ -2,7 +2,7 @@
 
 ghost use Rattle.std.specs.Prelude.{◌≡◌, true, false, option_map, Ok, IfOk, IfErr, OnOk};
 ghost use Rattle.serde_json.specs.View.{view};
-ghost use Rattle.documents.specs.Reading.{Gives};
+ghost use Rattle.documents.specs.Reading.{Reads};
 ghost use Rattle.setup.specs.Faults.{is_memory};
 ghost use Rattle.setup.specs.FirstFault.{BreaksFirst, InDocument};
 ghost use Rattle.setup.specs.Says.{SaysDocument, SaysSetup};
@@ -35,10 +35,10 @@ fn setup_form(document: &Value) -> Option<(&Value, &Value, &Value)>
 #[tactic(auto, unfolding(crate::specs::Setups::setup_at))]
 fn read_document(alloc: Global, document: &Value) -> Result<Setup, SetupFault>
     ensures found { IfOk result (λ s. SaysDocument (view document.now) (setup_view s)) }
-    ensures only { (s : SetupShape) → SaysDocument (view document.now) s → Gives is_memory setup_view result (Ok s) }
+    ensures only { (s : SetupShape) → SaysDocument (view document.now) s → Reads is_memory setup_view result (Ok s) }
     ensures first { IfErr result (λ e. is_memory e ≡ false → InDocument (view document.now) e) }
     ensures unbroken { OnOk result ((e : SetupFault) → InDocument (view document.now) e → ⊥) }
-    ensures exact { Gives is_memory setup_view result (setup_at (view document.now)) }
+    ensures exact { Reads is_memory setup_view result (setup_at (view document.now)) }
 {
     let (catalogue, procs, rows) = setup_form(document).ok_or(SetupFault::Shape)?;
     let catalogue = Catalogue::read(alloc, catalogue)?;
@@ -54,10 +54,10 @@ fn read_document(alloc: Global, document: &Value) -> Result<Setup, SetupFault>
 #[tactic(auto, using(crate::proofs::Texts::said_of_text, crate::proofs::Texts::said_of_bytes))]
 fn read_text(alloc: Global, text: &[u8]) -> Result<Setup, SetupFault>
     ensures found { IfOk result (λ s. SaysSetup text.now (setup_view s)) }
-    ensures only { (s : SetupShape) → SaysSetup text.now s → Gives is_memory setup_view result (Ok s) }
+    ensures only { (s : SetupShape) → SaysSetup text.now s → Reads is_memory setup_view result (Ok s) }
     ensures first { IfErr result (λ e. is_memory e ≡ false → BreaksFirst text.now e) }
     ensures unbroken { OnOk result ((e : SetupFault) → BreaksFirst text.now e → ⊥) }
-    ensures exact { Gives is_memory setup_view result (setup_said text.now) }
+    ensures exact { Reads is_memory setup_view result (setup_said text.now) }
 {
     let Ok(text) = str::from_utf8(text) else {
         return Err(SetupFault::NotJson);
@@ -75,13 +75,13 @@ pub fn read_setup(alloc: Global, text: &[u8]) -> Result<Setup, SetupFault>
     // What is read is what the text says.
     ensures found { IfOk result (λ s. SaysSetup text.now (setup_view s)) }
     // A setup that the text says is what is read, unless memory runs out.
-    ensures only { (s : SetupShape) → SaysSetup text.now s → Gives is_memory setup_view result (Ok s) }
+    ensures only { (s : SetupShape) → SaysSetup text.now s → Reads is_memory setup_view result (Ok s) }
     // The fault is that of the first rule that the text breaks.
     ensures first { IfErr result (λ e. is_memory e ≡ false → BreaksFirst text.now e) }
     // A text that is read breaks no rule, and one that breaks none is read, unless memory runs out.
     ensures unbroken { OnOk result ((e : SetupFault) → BreaksFirst text.now e → ⊥) }
     ensures none { ((e : SetupFault) → BreaksFirst text.now e → ⊥) → IfErr result (λ e. is_memory e ≡ true) }
-    ensures exact { Gives is_memory setup_view result (setup_said text.now) }
+    ensures exact { Reads is_memory setup_view result (setup_said text.now) }
 {
     match read_text(alloc, text) {
         Ok(setup) => Ok(setup),

@@ -3,9 +3,9 @@
 ghost use Rattle.std.specs.Prelude.{◌≡◌, ◌<◌, true, false, List, [], length, map, Some, Ok, IfOk, IfErr, OnOk};
 ghost use Rattle.serde_json.specs.View.{view};
 ghost use Rattle.documents.specs.FirstFault.{first};
-ghost use Rattle.documents.specs.Reading.{Gives};
+ghost use Rattle.documents.specs.Reading.{Reads};
 ghost use Rattle.setup.specs.Faults.{is_memory};
-ghost use Rattle.setup.specs.FirstFault.{broken_rules};
+ghost use Rattle.setup.specs.FirstFault.{broken_setup_rules};
 ghost use Rattle.setup.specs.Names.{HoldsNames};
 ghost use Rattle.setup.specs.Rows.{RowAt, row_at, rows_at, row_values, is_given};
 ghost use Rattle.setup.specs.Says.{SaysRows};
@@ -42,7 +42,7 @@ fn read_one(
     document: &Value,
 ) -> Result<(TableNo, Key, Row), SetupFault>
     ensures { (before : List RowAt) → HoldsNames names.now before →
-        Gives is_memory (λ r. r) result (row_at catalogue.now before (view document.now)) }
+        Reads is_memory (λ r. r) result (row_at catalogue.now before (view document.now)) }
 {
     let (name, key, values) = text_number_list(document).ok_or(SetupFault::Shape)?;
     let table = catalogue.table(name).ok_or(SetupFault::RowTable)?;
@@ -60,7 +60,7 @@ fn read_document(
     catalogue: &Catalogue,
     document: &Value,
 ) -> Result<Vec<(TableNo, Key, Row)>, SetupFault>
-    ensures { Gives is_memory (λ v. v.items) result (rows_at catalogue.now (view document.now)) }
+    ensures { Reads is_memory (λ v. v.items) result (rows_at catalogue.now (view document.now)) }
 {
     let documents = versioned_list("rows", document).ok_or(SetupFault::Shape)?;
     let mut names = BTreeSet::new(alloc);
@@ -83,14 +83,14 @@ pub fn read_rows(
     ensures found { IfOk result (λ v. SaysRows catalogue.now (view document.now) v.items) }
     // Rows that the document says are what is read, unless memory runs out.
     ensures only { (rows : List RowAt) → SaysRows catalogue.now (view document.now) rows →
-        Gives is_memory (λ v. v.items) result (Ok rows) }
+        Reads is_memory (λ v. v.items) result (Ok rows) }
     // The fault is the first rule that the document breaks.
     ensures first { IfErr result (λ e. is_memory e ≡ false →
-        first (broken_rules catalogue.now (view document.now)) ≡ Some e) }
+        first (broken_setup_rules catalogue.now (view document.now)) ≡ Some e) }
     // A document that is read breaks no rule, and one that breaks none is read, unless memory runs out.
-    ensures unbroken { OnOk result (broken_rules catalogue.now (view document.now) ≡ []) }
-    ensures none { broken_rules catalogue.now (view document.now) ≡ [] → IfErr result (λ e. is_memory e ≡ true) }
-    ensures exact { Gives is_memory (λ v. v.items) result (rows_at catalogue.now (view document.now)) }
+    ensures unbroken { OnOk result (broken_setup_rules catalogue.now (view document.now) ≡ []) }
+    ensures none { broken_setup_rules catalogue.now (view document.now) ≡ [] → IfErr result (λ e. is_memory e ≡ true) }
+    ensures exact { Reads is_memory (λ v. v.items) result (rows_at catalogue.now (view document.now)) }
 {
     match read_document(alloc, catalogue, document) {
         Ok(rows) => Ok(rows),

@@ -52,5 +52,5 @@ abbrev pub in_catalogue_form : Option (List Data) → List CatalogueFault
 in_catalogue_form None = Shape ∷ []
 in_catalogue_form (Some tables) = broken (nat_lt 0 (length tables) && nat_le (length tables) 64) Limit ++ in_each name_of_table in_table [] tables
 
-abbrev pub broken_rules : Data → List CatalogueFault
-broken_rules d = in_catalogue_form (catalogue_form d)
+abbrev pub broken_catalogue_rules : Data → List CatalogueFault
+broken_catalogue_rules d = in_catalogue_form (catalogue_form d)

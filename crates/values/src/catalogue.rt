@@ -49,11 +49,11 @@ impl Clone for Catalogue {
 
 impl Catalogue {
     ghost use Rattle.serde_json.specs.View.{view};
-    ghost use Rattle.documents.specs.Reading.{Gives};
+    ghost use Rattle.documents.specs.Reading.{Reads};
     ghost use Rattle.documents.specs.FirstFault.{first};
     ghost use Rattle.values.specs.Reading.{catalogue_at, is_memory};
     ghost use Rattle.values.specs.Rules.{IsCatalogue, SaysCatalogue};
-    ghost use Rattle.values.specs.Broken.{broken_rules};
+    ghost use Rattle.values.specs.Broken.{broken_catalogue_rules};
     ghost use Rattle.values.specs.declared.fault.CatalogueFault.TheVariants.{Memory};
 
     /// The catalogue that a document says, or the first rule that the document breaks.
@@ -62,13 +62,14 @@ impl Catalogue {
         ensures found { IfOk result (λ c. SaysCatalogue (view document.now) c × IsCatalogue c) }
         // A catalogue that the document says is what is read, unless memory runs out.
         ensures only { (c : List TableShape) → IsCatalogue c → SaysCatalogue (view document.now) c →
-            Gives is_memory (λ x. x) result (Ok c) }
+            Reads is_memory (λ x. x) result (Ok c) }
         // The fault is the first rule that the document breaks.
-        ensures first { IfErr result (λ e. (e ≡ Memory) ⊎ (first (broken_rules (view document.now)) ≡ Some e)) }
+        ensures first { IfErr result (λ e.
+            (e ≡ Memory) ⊎ (first (broken_catalogue_rules (view document.now)) ≡ Some e)) }
         // A document that is read breaks no rule, and one that breaks none is read, unless memory runs out.
-        ensures unbroken { OnOk result (broken_rules (view document.now) ≡ []) }
-        ensures none { broken_rules (view document.now) ≡ [] → IsOkUnless result Memory }
-        ensures exact { Gives is_memory (λ x. x) result (catalogue_at (view document.now)) }
+        ensures unbroken { OnOk result (broken_catalogue_rules (view document.now) ≡ []) }
+        ensures none { broken_catalogue_rules (view document.now) ≡ [] → IsOkUnless result Memory }
+        ensures exact { Reads is_memory (λ x. x) result (catalogue_at (view document.now)) }
     {
         let tables = match read_document(alloc, document) {
             Ok(tables) => tables,

@@ -2,7 +2,7 @@
 
 ghost use Rattle.std.specs.Prelude.{◌≡◌, List, [], ◌∷◌, ◌++◌, length, map, string_bytes, false, OnOk, IfOk, IfErr};
 ghost use Rattle.serde_json.specs.View.{view};
-ghost use Rattle.documents.specs.Reading.{Gives};
+ghost use Rattle.documents.specs.Reading.{Reads};
 ghost use Rattle.values.specs.Shapes.{column_shape, columns_shape, table_shape, tables_shape};
 ghost use Rattle.values.specs.Reading.{is_memory, is_column, is_table, column_at, columns_at, partitions_at, body_at, body_shape, table_at, tables_at, catalogue_at};
 ghost use Rattle.values.specs.declared.fault.CatalogueFault.TheVariants.{Memory};
@@ -43,7 +43,7 @@ fn read_column(
     earlier: &IndexMap<String, ColType>,
     value: &Value,
 ) -> Result<(String, ColType), CatalogueFault>
-    ensures exact { Gives is_memory column_shape result
+    ensures exact { Reads is_memory column_shape result
         (column_at (columns_shape earlier.now.entries) (view value.now)) }
     ensures fresh { IfOk result (λ c. is_column (string_bytes c.0) (columns_shape earlier.now.entries) ≡ false) }
 {
@@ -62,7 +62,7 @@ fn read_columns(
     alloc: Global,
     values: &[Value],
 ) -> Result<IndexMap<String, ColType>, CatalogueFault>
-    ensures { Gives is_memory (λ m. columns_shape m.entries) result (columns_at [] (map view values.now)) }
+    ensures { Reads is_memory (λ m. columns_shape m.entries) result (columns_at [] (map view values.now)) }
 {
     let mut columns = IndexMap::new(alloc);
     for value in values {
@@ -73,7 +73,7 @@ fn read_columns(
 }
 
 fn read_partitions(number: i64) -> Result<u32, CatalogueFault>
-    ensures { Gives is_memory (λ n. n) result (partitions_at number) }
+    ensures { Reads is_memory (λ n. n) result (partitions_at number) }
 {
     if number < 1 || number > 1024 {
         return Err(CatalogueFault::Limit);
@@ -104,7 +104,7 @@ fn push_table(
 
 #[tactic(auto, unfolding(crate::specs::Reading::body_at))]
 fn read_body(alloc: Global, partitions: i64, columns: &[Value]) -> Result<Table, CatalogueFault>
-    ensures { Gives is_memory body_shape result (body_at partitions (map view columns.now)) }
+    ensures { Reads is_memory body_shape result (body_at partitions (map view columns.now)) }
 {
     let partitions = read_partitions(partitions)?;
     if columns.is_empty() {
@@ -126,7 +126,7 @@ fn read_table(
     earlier: &IndexMap<String, Table>,
     value: &Value,
 ) -> Result<(String, Table), CatalogueFault>
-    ensures exact { Gives is_memory table_shape result (table_at (tables_shape earlier.now.entries) (view value.now)) }
+    ensures exact { Reads is_memory table_shape result (table_at (tables_shape earlier.now.entries) (view value.now)) }
     ensures fresh { IfOk result (λ t. is_table (string_bytes t.0) (tables_shape earlier.now.entries) ≡ false) }
 {
     let (name, partitions, columns) = table_form(value).ok_or(CatalogueFault::Shape)?;
@@ -142,7 +142,7 @@ fn read_table(
 }
 
 fn read_tables(alloc: Global, values: &[Value]) -> Result<IndexMap<String, Table>, CatalogueFault>
-    ensures { Gives is_memory (λ m. tables_shape m.entries) result (tables_at [] (map view values.now)) }
+    ensures { Reads is_memory (λ m. tables_shape m.entries) result (tables_at [] (map view values.now)) }
 {
     let mut tables = IndexMap::new(alloc);
     for value in values {
@@ -157,7 +157,7 @@ pub(crate) fn read_document(
     alloc: Global,
     document: &Value,
 ) -> Result<IndexMap<String, Table>, CatalogueFault>
-    ensures { Gives is_memory (λ m. tables_shape m.entries) result (catalogue_at (view document.now)) }
+    ensures { Reads is_memory (λ m. tables_shape m.entries) result (catalogue_at (view document.now)) }
 {
     let tables = catalogue_form(document).ok_or(CatalogueFault::Shape)?;
     if tables.is_empty() || tables.len() > 64 {

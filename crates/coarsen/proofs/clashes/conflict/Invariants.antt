@@ -5,13 +5,13 @@ use Rattle.std.specs.List.Sorted.{IsStrictlySortedBy}
 use Rattle.footprint.specs.declared.resource.Resource.{Resource}
 use Rattle.footprint.specs.Tree.{resource_cmp}
 use Rattle.modes.specs.declared.mode.Mode.{Mode}
-use Rattle.coarsen.specs.Clashes.{Conflict}
+use Rattle.coarsen.specs.Clashes.{ModesClash}
 use Rattle.coarsen.proofs.clashes.conflict.Given as goal
 
 -- what is left of each list is in order, and each conflict is one of what is left
 abbrev pub invariant-loop-a : goal.invariant-loop-a
 invariant-loop-a l = record {
-  left : Conflict l.initial.first l.initial.second → Conflict l.first l.second;
+  left : ModesClash l.initial.first l.initial.second → ModesClash l.first l.second;
   of_first : (x : Resource × Mode) → Contains l.first x → Contains l.initial.first x;
   of_second : (x : Resource × Mode) → Contains l.second x → Contains l.initial.second x;
   first_ordered : IsStrictlySortedBy resource_cmp (keys_of l.first);

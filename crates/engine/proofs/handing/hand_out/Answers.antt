@@ -11,7 +11,7 @@ pub returns-clause-lanes : goal.returns-clause-lanes
 returns-clause-lanes c =
     let s = c.args.scheduler.now in
     let lends : LendsJob s c.in-Some.job c.lend.new.self = subst (λ (o : Option JobOf). LendsTo s o c.lend.new.self) c.in-Some.is c.in_ok-job.ensures.lent in
-    let least = subst (λ (o : Option JobOf). IsLeastLend s.work.nodes s.work.first (log_of s.work) (phases_of s) (number_of_job o)) c.in-Some.is c.in_ok-job.ensures.least in
+    let least = subst (λ (o : Option JobOf). IsLeastLend s.work.arena s.work.first (log_of s.work) (phases_of s) (number_of_job o)) c.in-Some.is c.in_ok-job.ensures.least in
     subst (AreInLanes c.lend.new.self) (sym c.in-Ok.ensures.ok.1)
     (lent_lanes s c.args.seat.now c.requires.lanes c.in-Some.job c.lend.new.self lends least.0 c.in-Ok.field-0 c.in-Ok.ensures.ok.0)
 
@@ -19,5 +19,5 @@ pub returns-clause-settled : goal.returns-clause-settled
 returns-clause-settled c =
     let s = c.args.scheduler.now in
     let lends : LendsJob s c.in-Some.job c.lend.new.self = subst (λ (o : Option JobOf). LendsTo s o c.lend.new.self) c.in-Some.is c.in_ok-job.ensures.lent in
-    let least = subst (λ (o : Option JobOf). IsLeastLend s.work.nodes s.work.first (log_of s.work) (phases_of s) (number_of_job o)) c.in-Some.is c.in_ok-job.ensures.least in
+    let least = subst (λ (o : Option JobOf). IsLeastLend s.work.arena s.work.first (log_of s.work) (phases_of s) (number_of_job o)) c.in-Some.is c.in_ok-job.ensures.least in
     lent_settled s c.args.seat.now c.requires.lanes c.in-Some.job c.lend.new.self lends least.0 c.in-Ok.field-0 c.in-Ok.ensures.ok.0

@@ -5,7 +5,7 @@ use Rattle.meaning.specs.Turns.{numbers_between}
 use Rattle.meaning.specs.Meaning.{in_order, turns}
 use Rattle.meaning.specs.Entries.{nothing}
 use Rattle.interp_expr.specs.Coverage.{gate_of, KeepsCovered}
-use Rattle.interp_expr.specs.States.{seen}
+use Rattle.interp_expr.specs.States.{state_at}
 use Rattle.interp.specs.Numbers.{numbers_left}
 use Rattle.interp.proofs.block.+run.Given as goal
 
@@ -14,8 +14,8 @@ abbrev pub invariant-block-loop-statement : goal.invariant-block-loop-statement
 invariant-block-loop-statement g l =
     let rows = g.V.RowView.rows l.view in
     record {
-      gives : in_order nothing (gate_of l.permit) (block_of (stmts_view (drop l.statement-index l.statements.items))) (seen rows l.space)
-          ≡ in_order nothing (gate_of l.permit) (block_of (stmts_view l.statements.items)) (seen rows l.fn.space);
+      gives : in_order nothing (gate_of l.permit) (block_of (stmts_view (drop l.statement-index l.statements.items))) (state_at rows l.space)
+          ≡ in_order nothing (gate_of l.permit) (block_of (stmts_view l.statements.items)) (state_at rows l.fn.space);
       kept : KeepsCovered l.permit l.fn.space l.space;
     }
 
@@ -25,7 +25,7 @@ invariant-for_each_number-loop-next g l =
     let rows = g.V.RowView.rows l.view in
     let body = in_order nothing (gate_of l.permit) (block_of (stmts_view l.statements.items)) in
     record {
-      gives : turns body (numbers_left l.next l.high) (seen rows l.space) ≡ turns body (numbers_between l.low l.high) (seen rows l.fn.space);
+      gives : turns body (numbers_left l.next l.high) (state_at rows l.space) ≡ turns body (numbers_between l.low l.high) (state_at rows l.fn.space);
       kept : KeepsCovered l.permit l.fn.space l.space;
     }
 
@@ -38,6 +38,6 @@ invariant-for_each_key-loop-key g l =
     let rows = g.V.RowView.rows l.view in
     let body = in_order nothing (gate_of l.permit) (block_of (stmts_view l.statements.items)) in
     record {
-      gives : turns body (map pos (drop l.key-index l.keys.items)) (seen rows l.space) ≡ turns body (map pos l.keys.items) (seen rows l.fn.space);
+      gives : turns body (map pos (drop l.key-index l.keys.items)) (state_at rows l.space) ≡ turns body (map pos l.keys.items) (state_at rows l.fn.space);
       kept : KeepsCovered l.permit l.fn.space l.space;
     }

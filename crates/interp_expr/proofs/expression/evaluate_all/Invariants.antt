@@ -3,7 +3,7 @@ use Rattle.proclang_types.specs.Views.{value_view}
 use Rattle.meaning.specs.Meaning.{values_of}
 use Rattle.meaning.specs.Entries.{nothing}
 use Rattle.interp_expr.specs.Coverage.{gate_of, KeepsCovered}
-use Rattle.interp_expr.specs.States.{seen}
+use Rattle.interp_expr.specs.States.{state_at}
 use Rattle.interp_expr.specs.Answers.{behind}
 use Rattle.interp_expr.proofs.expression.evaluate_all.Given as goal
 
@@ -13,7 +13,7 @@ invariant-loop-expression g l =
     let rows = g.V.RowView.rows l.view in
     let gate = gate_of l.permit in
     record {
-      gives : behind l.values.items (values_of nothing gate (map value_view (drop l.expression-index l.expressions.items)) (seen rows l.space))
-          ≡ values_of nothing gate (map value_view l.expressions.items) (seen rows l.fn.space);
+      gives : behind l.values.items (values_of nothing gate (map value_view (drop l.expression-index l.expressions.items)) (state_at rows l.space))
+          ≡ values_of nothing gate (map value_view l.expressions.items) (state_at rows l.fn.space);
       kept : KeepsCovered l.permit l.fn.space l.space;
     }

@@ -1,5 +1,5 @@
 use Rattle.std.proofs.Common.{◌≡◌, ◌<◌, Some, length, sym, ap, ◌∙◌, subst}
-use Rattle.lock_tree.specs.declared.entry.Entry.{Entry}
+use Rattle.lock_tree.specs.declared.enqueued.Enqueued.{Enqueued}
 use Rattle.lock_tree.specs.Placing.{place_of}
 use Rattle.lock_tree.specs.Views.{all_waiting}
 use Rattle.lock_tree.specs.Lines.{line}
@@ -19,7 +19,7 @@ returns-in-Some-clause-noted c = λ mode lately known.
     let d = c.index.result.now in
     let place : place_of c.args.number (all_waiting es) ≡ Some i = sym c.in-Some.ensures.exact in
     let within : i < length es = c.in-Some.ensures.within in
-    let plan = read_plan q c.args.number i es d d c.are_granted-ready.result c.as_slice.result.now within (c.as_slice.ensures.value ∙ ap (λ (e : Entry). e.plan.items) c.index.ensures) c.are_granted-ready.ensures in
+    let plan = read_plan q c.args.number i es d d c.are_granted-ready.result c.as_slice.result.now within (c.as_slice.ensures.value ∙ ap (λ (e : Enqueued). e.plan.items) c.index.ensures) c.are_granted-ready.ensures in
     subst (AreKnown q lately) (sym (c.set_ready.ensures.entries d)) (noted_at q c.args.number mode lately es i d c.are_granted-ready.result c.requires.rising place plan known)
 
 pub returns-in_default-clause-noted : goal.returns-in_default-clause-noted

@@ -1,5 +1,5 @@
 use Rattle.std.proofs.Common.{◌<◌, length, ◌∙◌, sym, ap, arith}
-use Rattle.lock_tree.specs.declared.entry.Entry.{Entry}
+use Rattle.lock_tree.specs.declared.enqueued.Enqueued.{Enqueued}
 use Rattle.lock_tree.specs.Placing.{place_of}
 use Rattle.lock_tree.specs.Views.{all_waiting}
 use Rattle.lock_tree.proofs.Numbers.{not_there}
@@ -12,7 +12,7 @@ pub returns-then-index-number-clause-exact : goal.returns-then-index-number-clau
 returns-then-index-number-clause-exact c =
     let es = c.args.entries.now.items in
     let within : c.place_from-place.result < length es = (let l = c.if-place-len.true in let n = c.len.ensures in let m = c.args.entries.now.ok.0 in omega (arith, l, n, m)) in
-    sym (ap (λ n. place_of n (all_waiting es)) (sym c.if-index-number.true ∙ ap (λ (e : Entry). e.number) c.index.ensures) ∙ place_at es c.place_from-place.result c.index.result.now c.requires within)
+    sym (ap (λ n. place_of n (all_waiting es)) (sym c.if-index-number.true ∙ ap (λ (e : Enqueued). e.number) c.index.ensures) ∙ place_at es c.place_from-place.result c.index.result.now c.requires within)
 
 pub returns-clause-exact : goal.returns-clause-exact
 returns-clause-exact c =
@@ -22,7 +22,7 @@ returns-clause-exact c =
     elim c.else-place-len.branch [
       | else-place-len-via-then-place-len+else-index-number w ↦
           not_there n es i c.requires c.place_from-place.ensures.exact
-          (λ l d same. w.if-index-number.false (ap (λ (e : Entry). e.number) (w.index.ensures ∙ at_any es i w.index.result.now d l) ∙ same))
+          (λ l d same. w.if-index-number.false (ap (λ (e : Enqueued). e.number) (w.index.ensures ∙ at_any es i w.index.result.now d l) ∙ same))
       | else-place-len-via-else-place-len w ↦
           not_there n es i c.requires c.place_from-place.ensures.exact (λ l d same. let m = w.if-place-len.false in let all = c.len.ensures in let few = c.args.entries.now.ok.0 in absurd (omega (arith, l, m, all, few)))
     ]

@@ -1,7 +1,7 @@
 use Rattle.std.proofs.Common.{◌≡◌, Bool, ◌&&◌, ◌||◌, ◌+◌, if◌then◌else◌, take, refl, sym, ap, ◌∙◌, arith}
 use Rattle.std.proofs.lemmas.Grind.{common_steps}
 use Rattle.footprint.specs.declared.resource.Resource.{Resource}
-use Rattle.row_store.specs.Places.{PlaceOf, seen, emptied, is_shelf, is_name}
+use Rattle.row_store.specs.Places.{PlaceOf, seen_at, emptied, is_shelf, is_name}
 use Rattle.row_store.specs.Shelving.{shelf_of}
 use Rattle.row_store.specs.Locked.{is_named}
 use Rattle.row_store.proofs.Steps.{name_step}
@@ -13,9 +13,9 @@ loop-name-preserved c = (
       let b : Bool = is_named (take c.loop-name.name-index c.args.names.now) q in
       let sh : Resource = shelf_of c.args.catalogue.now q in
       let more : is_named (take (c.loop-name.name-index + 1) c.args.names.now) q ≡ (b || is_name c.name-item.result q) = grind (arith, common_steps) in
-      let x : PlaceOf = seen c.args.shelves.now sh q in
+      let x : PlaceOf = seen_at c.args.shelves.now sh q in
       c.empty_place.ensures.seen sh q
-      ∙ ap (λ (d : Resource). if is_shelf d sh && is_name c.name-item.result q then emptied (seen c.loop-name.shelves sh q) else seen c.loop-name.shelves sh q) c.shelf_of.ensures
+      ∙ ap (λ (d : Resource). if is_shelf d sh && is_name c.name-item.result q then emptied (seen_at c.loop-name.shelves sh q) else seen_at c.loop-name.shelves sh q) c.shelf_of.ensures
       ∙ ap (λ (y : PlaceOf). if is_shelf (shelf_of c.args.catalogue.now c.name-item.result) sh && is_name c.name-item.result q then emptied y else y) (c.loop-name.invariant.0 q)
       ∙ name_step c.args.catalogue.now c.name-item.result q b emptied x refl
       ∙ ap (λ (h : Bool). if h then emptied x else x) (sym more),

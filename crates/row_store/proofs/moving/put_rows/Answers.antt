@@ -1,7 +1,7 @@
 use Rattle.std.proofs.Common.{◌≡◌, Bool, None, Option, ◌&&◌, ◌||◌, ◌+◌, if◌then◌else◌, is_some, take, refl, sym, ap, ◌∙◌, arith}
 use Rattle.std.proofs.lemmas.Grind.{common_steps}
 use Rattle.footprint.specs.declared.resource.Resource.{Resource}
-use Rattle.row_store.specs.Places.{PlaceOf, place_at, has_place, seen, placed, made, is_shelf, is_name}
+use Rattle.row_store.specs.Places.{PlaceOf, place_at, has_place, seen_at, placed, made, is_shelf, is_name}
 use Rattle.row_store.specs.Shelving.{shelf_of}
 use Rattle.row_store.specs.Locked.{is_named}
 use Rattle.row_store.proofs.Steps.{name_step, row_step}
@@ -20,7 +20,7 @@ loop-name-preserved c = (
       let x : Bool = is_shelf (shelf_of c.args.catalogue.now c.name-item.result) sh in
       let v : Option PlaceOf = placed (made f).row in
       c.put_one_row.ensures.places sh q
-      ∙ ap (λ (d : Resource). if is_shelf d sh && (n && (has_place c.loop-name.shelves sh q && has_place c.loop-name.from sh q)) then placed (seen c.loop-name.from sh q).row else place_at c.loop-name.shelves sh q) c.shelf_of.ensures
+      ∙ ap (λ (d : Resource). if is_shelf d sh && (n && (has_place c.loop-name.shelves sh q && has_place c.loop-name.from sh q)) then placed (seen_at c.loop-name.from sh q).row else place_at c.loop-name.shelves sh q) c.shelf_of.ensures
       ∙ ap (λ (y : Option PlaceOf). if x && (n && (is_some (place_at c.loop-name.shelves sh q) && is_some y)) then placed (made y).row else place_at c.loop-name.shelves sh q) (c.loop-name.invariant.2 q)
       ∙ ap (λ (y : Option PlaceOf). if x && (n && (is_some y && is_some (if b then None else f))) then placed (made (if b then None else f)).row else y) (c.loop-name.invariant.0 q)
       ∙ row_step b x n o f (own_place c.args.catalogue.now c.name-item.result q)

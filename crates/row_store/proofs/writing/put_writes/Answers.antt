@@ -3,7 +3,7 @@ use Rattle.std.specs.BTreeMap.{get}
 use Rattle.values.specs.declared.name.RowName.{RowName}
 use Rattle.values.specs.Database.{RowOf, name_cmp}
 use Rattle.footprint.specs.declared.resource.Resource.{Resource}
-use Rattle.row_store.specs.Places.{PlaceOf, has_place, seen, full, value_of, write_at, written, is_shelf, is_name}
+use Rattle.row_store.specs.Places.{PlaceOf, has_place, seen_at, full, shared_row, write_at, written, is_shelf, is_name}
 use Rattle.row_store.specs.Shelving.{shelf_of}
 use Rattle.row_store.proofs.Steps.{write_step, map_cond, some_left}
 use Rattle.row_store.proofs.Exact.{own_place, same_name}
@@ -12,17 +12,17 @@ use Rattle.row_store.proofs.writing.put_writes.Goals as goal
 pub loop-name-preserved : goal.loop-name-preserved
 loop-name-preserved c =
     let name : RowName = c.in-Some.name in
-    let r : Option RowOf = value_of c.in-Some.row in
+    let r : Option RowOf = shared_row c.in-Some.row in
     let at : RowName → Resource = shelf_of c.args.catalogue.now in
     let popped : (q : RowName) → write_at c.pop_first.new.self q ≡ (if is_name name q then None else write_at c.loop-name.left q) =
-    λ q. ap (option_map value_of) (c.in-Some.ensures.updates.0 q) ∙ map_cond value_of (is_name name q) (get name_cmp c.loop-name.left q) in
-    let first : write_at c.loop-name.left name ≡ Some r = ap (option_map value_of) c.in-Some.ensures.value in
+    λ q. ap (option_map shared_row) (c.in-Some.ensures.updates.0 q) ∙ map_cond shared_row (is_name name q) (get name_cmp c.loop-name.left q) in
+    let first : write_at c.loop-name.left name ≡ Some r = ap (option_map shared_row) c.in-Some.ensures.value in
     let there : has_place c.loop-name.shelves (at name) name ≡ true = c.loop-name.invariant.0 name (ap is_some first) in
     let there_at : has_place c.loop-name.shelves c.shelf_of.result name ≡ true = ap (λ (d : Resource). has_place c.loop-name.shelves d name) c.shelf_of.ensures ∙ there in (
       λ q h. c.fill_place.ensures.kept (at q) q ∙ c.loop-name.invariant.0 q (some_left (is_name name q) (write_at c.loop-name.left q) (ap is_some (sym (popped q)) ∙ h)),
       λ q.
-          let s : PlaceOf = seen c.loop-name.shelves (at q) q in
-          ap (λ w. written w (seen c.fill_place.new.shelves (at q) q)) (popped q)
+          let s : PlaceOf = seen_at c.loop-name.shelves (at q) q in
+          ap (λ w. written w (seen_at c.fill_place.new.shelves (at q) q)) (popped q)
           ∙ ap (written (if is_name name q then None else write_at c.loop-name.left q)) (c.fill_place.ensures.seen (at q) q there_at)
           ∙ ap (λ (d : Resource). written (if is_name name q then None else write_at c.loop-name.left q) (if is_shelf d (at q) && is_name name q then full r else s)) c.shelf_of.ensures
           ∙ write_step (is_shelf (at name) (at q)) (is_name name q) (write_at c.loop-name.left q) r s (own_place c.args.catalogue.now name q)

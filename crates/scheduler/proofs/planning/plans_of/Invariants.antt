@@ -4,5 +4,5 @@ use Rattle.scheduler.proofs.planning.plans_of.Given as goal
 
 abbrev pub invariant-loop-entry : goal.invariant-loop-entry
 invariant-loop-entry l =
-    ArePlansOf l.threshold l.most (take l.entry-index l.entries) l.plans.items
-    × ArePlannedFor l.most (take l.entry-index l.entries) l.plans.items
+    ArePlansOf l.threshold l.arena (take l.entry-index l.entries) l.plans.items
+    × ArePlannedFor l.arena (take l.entry-index l.entries) l.plans.items

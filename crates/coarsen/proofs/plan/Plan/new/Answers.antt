@@ -14,17 +14,17 @@ full_is k f coarse plan e is = subst (λ (d : FootprintOf). IsPlanOf d plan) e i
 whole_is : (k : ℕ) (f coarse whole : FootprintOf) (plan : Requests) → coarse ≡ coarsened k f → whole ≡ on_database coarse → IsPlanOf whole plan → IsPlanOf (on_database (coarsened k f)) plan
 whole_is k f coarse whole plan e d is = subst (λ (d : FootprintOf). IsPlanOf d plan) (d ∙ ap (λ (d : FootprintOf). on_database d) e) is
 
-pub returns-then-requests-most-clause-covers : goal.returns-then-requests-most-clause-covers
-returns-then-requests-most-clause-covers c = covers_full c.args.threshold c.args.footprint.now c.in_ok-full.full (full_is _ _ c.in_ok-coarse.coarse _ c.in_ok-coarse.ensures c.in_ok-full.ensures)
+pub returns-then-requests-arena-clause-covers : goal.returns-then-requests-arena-clause-covers
+returns-then-requests-arena-clause-covers c = covers_full c.args.threshold c.args.footprint.now c.in_ok-full.full (full_is _ _ c.in_ok-coarse.coarse _ c.in_ok-coarse.ensures c.in_ok-full.ensures)
 
-pub returns-then-requests-most-clause-protocol : goal.returns-then-requests-most-clause-protocol
-returns-then-requests-most-clause-protocol c = (sound_of c.in_ok-coarse.coarse c.in_ok-full.full c.in_ok-full.ensures).protocol
+pub returns-then-requests-arena-clause-protocol : goal.returns-then-requests-arena-clause-protocol
+returns-then-requests-arena-clause-protocol c = (sound_of c.in_ok-coarse.coarse c.in_ok-full.full c.in_ok-full.ensures).protocol
 
-pub returns-then-requests-most-clause-empty : goal.returns-then-requests-most-clause-empty
-returns-then-requests-most-clause-empty c = none_full c.args.threshold c.args.footprint.now c.in_ok-full.full (full_is _ _ c.in_ok-coarse.coarse _ c.in_ok-coarse.ensures c.in_ok-full.ensures)
+pub returns-then-requests-arena-clause-empty : goal.returns-then-requests-arena-clause-empty
+returns-then-requests-arena-clause-empty c = none_full c.args.threshold c.args.footprint.now c.in_ok-full.full (full_is _ _ c.in_ok-coarse.coarse _ c.in_ok-coarse.ensures c.in_ok-full.ensures)
 
-pub returns-then-requests-most-clause-over : goal.returns-then-requests-most-clause-over
-returns-then-requests-most-clause-over c = over_full c.args.threshold c.args.footprint.now c.in_ok-full.full (full_is _ _ c.in_ok-coarse.coarse _ c.in_ok-coarse.ensures c.in_ok-full.ensures)
+pub returns-then-requests-arena-clause-over : goal.returns-then-requests-arena-clause-over
+returns-then-requests-arena-clause-over c = over_full c.args.threshold c.args.footprint.now c.in_ok-full.full (full_is _ _ c.in_ok-coarse.coarse _ c.in_ok-coarse.ensures c.in_ok-full.ensures)
 
 pub returns-clause-covers : goal.returns-clause-covers
 returns-clause-covers c = covers_whole c.args.threshold c.args.footprint.now c.in_ok-plan.plan

@@ -1,5 +1,5 @@
 use Rattle.std.proofs.Common.{◌∷◌, ◌++◌, [], cond, List, ℕ, sym, ap, ◌∙◌, subst, length, arith}
-use Rattle.lock_tree.specs.declared.entry.Entry.{Entry}
+use Rattle.lock_tree.specs.declared.enqueued.Enqueued.{Enqueued}
 use Rattle.lock_tree.specs.Locks.{IsRising}
 use Rattle.lock_tree.specs.Views.{all_waiting}
 use Rattle.lock_tree.specs.Open.{is_open, open_of}
@@ -20,7 +20,7 @@ returns-clause-indexed c =
     let es = c.args.self.now.entries.items in
     let e = c.args.entry in
     record {
-      rising = subst (λ (xs : List Entry). IsRising (all_waiting xs)) (sym c.push_back_reserved.ensures.items) (below_end es e c.requires.below c.requires.indexed.rising);
+      rising = subst (λ (xs : List Enqueued). IsRising (all_waiting xs)) (sym c.push_back_reserved.ensures.items) (below_end es e c.requires.below c.requires.indexed.rising);
       open_ones = c.push_open.ensures.items ∙ ap (λ (xs : List ℕ). xs ++ cond (is_open e) (e.number ∷ []) []) c.requires.indexed.open_ones ∙ sym (open_end es e) ∙ ap open_of (sym c.push_back_reserved.ensures.items);
       room = (let n = end_length es e in let m = ap length c.push_back_reserved.ensures.items in let same = c.push_open.ensures.capacity in let room = c.requires.place.open_ones in omega (arith, n, m, same, room));
     }

@@ -1,5 +1,5 @@
 use Rattle.std.proofs.Common.{sym, ap, ◌∙◌, subst, length, false, arith}
-use Rattle.lock_tree.specs.declared.entry.Entry.{Entry}
+use Rattle.lock_tree.specs.declared.enqueued.Enqueued.{Enqueued}
 use Rattle.lock_tree.specs.Locks.{IsRising}
 use Rattle.lock_tree.specs.Views.{all_waiting}
 use Rattle.lock_tree.specs.Open.{placed, open_of}
@@ -16,7 +16,7 @@ returns-clause-indexed c =
     record {
       rising = subst IsRising (sym (ap all_waiting c.in-Some.ensures.items)) (removed_rising es c.args.place c.requires.indexed.rising);
       open_ones = c.take_out.ensures.items ∙ ap (placed c.in-Some.entry.number false) c.requires.indexed.open_ones
-          ∙ sym (open_removed es c.args.place c.in-Some.entry.number c.in-Some.entry c.requires.indexed.rising c.requires.within (sym (ap (λ (e : Entry). e.number) c.in-Some.ensures.value)))
+          ∙ sym (open_removed es c.args.place c.in-Some.entry.number c.in-Some.entry c.requires.indexed.rising c.requires.within (sym (ap (λ (e : Enqueued). e.number) c.in-Some.ensures.value)))
           ∙ ap open_of (sym c.in-Some.ensures.items);
       room = let few = removed_few es c.args.place in let n = ap length c.in-Some.ensures.items in let room = c.requires.indexed.room in let more = c.take_out.ensures.capacity in omega (arith, few, n, room, more);
     }

@@ -1,6 +1,6 @@
 use Rattle.std.proofs.Common.{◌≡◌, ℕ, ◌+◌, ◌==◌, false, List, [], Some, refl, sym, ap, ◌∙◌, subst, arith, length}
 use Rattle.std.specs.List.{AllByRecursion, remove}
-use Rattle.lock_tree.specs.declared.entry.Entry.{Entry}
+use Rattle.lock_tree.specs.declared.enqueued.Enqueued.{Enqueued}
 use Rattle.lock_tree.specs.Locks.{Locks, Waiting, used, plan_of, without, IsRising}
 use Rattle.lock_tree.specs.Placing.{place_of}
 use Rattle.lock_tree.specs.Views.{all_waiting}
@@ -12,21 +12,21 @@ use Rattle.lock_tree.proofs.Trees.{queue_elsewhere, others_without, known_remove
 use Rattle.lock_tree.proofs.tree.LockTree.release.Goals as goal
 
 -- the entries without the one that is released
-left : (k i : ℕ) (es seen new : List Entry) → seen ≡ es → IsRising (all_waiting es) → place_of k (all_waiting seen) ≡ Some i → new ≡ remove es i
+left : (k i : ℕ) (es seen new : List Enqueued) → seen ≡ es → IsRising (all_waiting es) → place_of k (all_waiting seen) ≡ Some i → new ≡ remove es i
     → all_waiting new ≡ without k (all_waiting es)
 left k i es seen new same r h is =
-    ap all_waiting is ∙ removed_at k es i r (ap (λ (xs : List Entry). place_of k (all_waiting xs)) (sym same) ∙ h)
+    ap all_waiting is ∙ removed_at k es i r (ap (λ (xs : List Enqueued). place_of k (all_waiting xs)) (sym same) ∙ h)
 
-freed : (k i : ℕ) (es seen : List Entry) (d : Entry) → seen ≡ es → IsRising (all_waiting es) → place_of k (all_waiting seen) ≡ Some i → d ≡ at es i d
+freed : (k i : ℕ) (es seen : List Enqueued) (d : Enqueued) → seen ≡ es → IsRising (all_waiting es) → place_of k (all_waiting seen) ≡ Some i → d ≡ at es i d
     → used (all_waiting es) ≡ length d.plan.items + used (without k (all_waiting es))
 freed k i es seen d same r h is =
-    let u = used_at k es i d r (ap (λ (xs : List Entry). place_of k (all_waiting xs)) (sym same) ∙ h) in
-    let p : length d.plan.items ≡ length (at es i d).plan.items = ap (λ (x : Entry). length x.plan.items) is in
+    let u = used_at k es i d r (ap (λ (xs : List Enqueued). place_of k (all_waiting xs)) (sym same) ∙ h) in
+    let p : length d.plan.items ≡ length (at es i d).plan.items = ap (λ (x : Enqueued). length x.plan.items) is in
     omega (arith, u, p)
 
-plan_taken : (k i : ℕ) (es seen : List Entry) (d : Entry) → seen ≡ es → place_of k (all_waiting seen) ≡ Some i → d ≡ at es i d → plan_of (all_waiting es) k ≡ Some d.plan.items
+plan_taken : (k i : ℕ) (es seen : List Enqueued) (d : Enqueued) → seen ≡ es → place_of k (all_waiting seen) ≡ Some i → d ≡ at es i d → plan_of (all_waiting es) k ≡ Some d.plan.items
 plan_taken k i es seen d same h is =
-    plan_at k es i d (ap (λ (xs : List Entry). place_of k (all_waiting xs)) (sym same) ∙ h) ∙ ap (λ (x : Entry). Some x.plan.items) (sym is)
+    plan_at k es i d (ap (λ (xs : List Enqueued). place_of k (all_waiting xs)) (sym same) ∙ h) ∙ ap (λ (x : Enqueued). Some x.plan.items) (sym is)
 
 pub overflow_add-self : goal.overflow_add-self
 overflow_add-self c =
@@ -58,18 +58,18 @@ invariant_of-self c =
     let same = left c.args.number c.in-Some.place c.self.inside.transactions.entries.items c.self.inside.transactions.entries.items c.remove-entry.new.self.entries.items refl c.self.invariant.indexed.rising (sym c.in-Some.ensures.exact) c.remove-entry.ensures.entries in
     let u = freed c.args.number c.in-Some.place c.self.inside.transactions.entries.items c.self.inside.transactions.entries.items c.remove-entry.result refl c.self.invariant.indexed.rising (sym c.in-Some.ensures.exact) c.remove-entry.ensures.value in
     let n : c.len.result ≡ length c.remove-entry.result.plan.items = c.len.ensures ∙ c.remove-entry.result.plan.ok.0 in
-    left_tree c.self.inside.nodes c.self.inside.free c.len.result c.args.number c.self.inside.transactions c.leave_all.new.transactions c.self.inside.queues c.leave_all.new.queues c.self.invariant
+    left_tree c.self.inside.arena c.self.inside.free c.len.result c.args.number c.self.inside.transactions c.leave_all.new.transactions c.self.inside.queues c.leave_all.new.queues c.self.invariant
     (omega (arith, u, n)) (c.leave_all.ensures.same ∙ same) c.leave_all.ensures.indexed c.leave_all.ensures.left c.leave_all.ensures.known
 
 pub returns-in-Some : goal.returns-in-Some
 returns-in-Some c =
-    ap (λ (ws : List Waiting). record { nodes = c.self.inside.nodes; waiting = ws })
+    ap (λ (ws : List Waiting). record { arena = c.self.inside.arena; waiting = ws })
     (c.leave_all.ensures.same ∙ left c.args.number c.in-Some.place c.self.inside.transactions.entries.items c.self.inside.transactions.entries.items c.remove-entry.new.self.entries.items refl c.self.invariant.indexed.rising (sym c.in-Some.ensures.exact) c.remove-entry.ensures.entries)
-    ∙ ap (λ (l : Locks). record { nodes = l.nodes; waiting = without c.args.number l.waiting }) c.self.view_is
+    ∙ ap (λ (l : Locks). record { arena = l.arena; waiting = without c.args.number l.waiting }) c.self.view_is
 
 pub returns-in_default : goal.returns-in_default
 returns-in_default c =
     sym c.self.view_is
-    ∙ ap (λ (ws : List Waiting). record { nodes = c.self.inside.nodes; waiting = ws })
+    ∙ ap (λ (ws : List Waiting). record { arena = c.self.inside.arena; waiting = ws })
     (sym (no_without c.args.number (all_waiting c.self.inside.transactions.entries.items) (sym c.place_of.ensures.exact ∙ c.in_default.is)))
-    ∙ ap (λ (l : Locks). record { nodes = l.nodes; waiting = without c.args.number l.waiting }) c.self.view_is
+    ∙ ap (λ (l : Locks). record { arena = l.arena; waiting = without c.args.number l.waiting }) c.self.view_is

@@ -15,18 +15,18 @@ use Rattle.scheduler.proofs.scheduler.Scheduler.admit.Goals as goal
 
 pub returns-in-Err-clause-full : goal.returns-in-Err-clause-full
 returns-in-Err-clause-full c is =
-    let w = work_of c.self.inside.catalogue c.self.inside.nodes c.self.inside.first c.self.inside.entries.items c.self.inside.plans.items c.self.inside.start.value.rows in
+    let w = work_of c.self.inside.catalogue c.self.inside.arena c.self.inside.first c.self.inside.entries.items c.self.inside.plans.items c.self.inside.start.value.rows in
     let count : c.len-place.result ≡ length c.self.inside.slots.items = omega (arith, c.len-place.ensures) in
     let less : c.len-place.result < length c.self.inside.plans.items = omega (arith, c.len.ensures) in
     let at : slice_get c.self.inside.plans.items c.len-place.result ≡ Some c.index.result.now =
     slice_get_read c.self.inside.plans.items (length c.self.inside.plans.items) c.len-place.result c.index.result.now refl less c.index.ensures in
     let t = transaction_there c.self.inside.entries.items c.self.inside.plans.items c.len-place.result c.index.result.now c.self.invariant.0.plans at in
-    subst (λ (s : Schedule). enabled s.work.nodes s.work.first (log_of s.work) (phases_of s) Admit ≡ false) c.self.view_is
-    (refused_where w c.self.inside.slots.items c.self.inside.store c.self.inside.locks c.self.invariant.1 c.len-place.result t.0 c.index.result.now count t.1 t.2 (full_where c.enqueue.result c.in-Err.fault c.from.result (used c.self.inside.locks.waiting + length c.index.result.now) c.self.inside.locks.nodes c.self.inside.nodes c.in-Err.is c.enqueue.ensures.full (ap (λ (l : Locks). l.nodes) c.self.invariant.1.tree_is) c.from.ensures is))
+    subst (λ (s : Schedule). enabled s.work.arena s.work.first (log_of s.work) (phases_of s) Admit ≡ false) c.self.view_is
+    (refused_where w c.self.inside.slots.items c.self.inside.store c.self.inside.locks c.self.invariant.1 c.len-place.result t.0 c.index.result.now count t.1 t.2 (full_where c.enqueue.result c.in-Err.fault c.from.result (used c.self.inside.locks.waiting + length c.index.result.now) c.self.inside.locks.arena c.self.inside.arena c.in-Err.is c.enqueue.ensures.full (ap (λ (l : Locks). l.arena) c.self.invariant.1.tree_is) c.from.ensures is))
 
 pub invariant_of-self-in_default : goal.invariant_of-self-in_default
 invariant_of-self-in_default c =
-    let w = work_of c.self.inside.catalogue c.self.inside.nodes c.self.inside.first c.self.inside.entries.items c.self.inside.plans.items c.self.inside.start.value.rows in
+    let w = work_of c.self.inside.catalogue c.self.inside.arena c.self.inside.first c.self.inside.entries.items c.self.inside.plans.items c.self.inside.start.value.rows in
     let count : c.len-place.result ≡ length c.self.inside.slots.items = omega (arith, c.len-place.ensures) in
     let less : c.len-place.result < length c.self.inside.plans.items = omega (arith, c.len.ensures) in
     let at : slice_get c.self.inside.plans.items c.len-place.result ≡ Some c.index.result.now =
@@ -43,24 +43,24 @@ invariant_of-self-in_default c =
 
 pub returns-clause-enabled : goal.returns-clause-enabled
 returns-clause-enabled c =
-    let w = work_of c.self.inside.catalogue c.self.inside.nodes c.self.inside.first c.self.inside.entries.items c.self.inside.plans.items c.self.inside.start.value.rows in
+    let w = work_of c.self.inside.catalogue c.self.inside.arena c.self.inside.first c.self.inside.entries.items c.self.inside.plans.items c.self.inside.start.value.rows in
     let count : c.len-place.result ≡ length c.self.inside.slots.items = omega (arith, c.len-place.ensures) in
     let less : c.len-place.result < length c.self.inside.plans.items = omega (arith, c.len.ensures) in
     let at : slice_get c.self.inside.plans.items c.len-place.result ≡ Some c.index.result.now =
     slice_get_read c.self.inside.plans.items (length c.self.inside.plans.items) c.len-place.result c.index.result.now refl less c.index.ensures in
     let t = transaction_there c.self.inside.entries.items c.self.inside.plans.items c.len-place.result c.index.result.now c.self.invariant.0.plans at in
-    subst (λ (s : Schedule). enabled s.work.nodes s.work.first (log_of s.work) (phases_of s) Admit ≡ true) c.self.view_is
-    (enabled_where w c.self.inside.slots.items c.self.inside.store c.self.inside.locks c.self.invariant.1 c.len-place.result t.0 c.index.result.now count t.1 t.2 (fits_where c.enqueue.result c.in_default.field-0 (used c.self.inside.locks.waiting + length c.index.result.now) c.self.inside.locks.nodes c.self.inside.nodes c.in_default.is c.enqueue.ensures.full (ap (λ (l : Locks). l.nodes) c.self.invariant.1.tree_is)))
+    subst (λ (s : Schedule). enabled s.work.arena s.work.first (log_of s.work) (phases_of s) Admit ≡ true) c.self.view_is
+    (enabled_where w c.self.inside.slots.items c.self.inside.store c.self.inside.locks c.self.invariant.1 c.len-place.result t.0 c.index.result.now count t.1 t.2 (fits_where c.enqueue.result c.in_default.field-0 (used c.self.inside.locks.waiting + length c.index.result.now) c.self.inside.locks.arena c.self.inside.arena c.in_default.is c.enqueue.ensures.full (ap (λ (l : Locks). l.arena) c.self.invariant.1.tree_is)))
 
 pub returns-then-place-len-clause-last : goal.returns-then-place-len-clause-last
 returns-then-place-len-clause-last c is =
-    let w = work_of c.self.inside.catalogue c.self.inside.nodes c.self.inside.first c.self.inside.entries.items c.self.inside.plans.items c.self.inside.start.value.rows in
+    let w = work_of c.self.inside.catalogue c.self.inside.arena c.self.inside.first c.self.inside.entries.items c.self.inside.plans.items c.self.inside.start.value.rows in
     let past : length c.self.inside.plans.items ≤ length c.self.inside.slots.items = omega (arith, c.len-place.ensures, c.len.ensures) in
-    subst (λ (s : Schedule). enabled s.work.nodes s.work.first (log_of s.work) (phases_of s) Admit ≡ false) c.self.view_is
+    subst (λ (s : Schedule). enabled s.work.arena s.work.first (log_of s.work) (phases_of s) Admit ≡ false) c.self.view_is
     (none_next w c.self.inside.slots.items c.self.inside.store c.self.inside.locks c.self.invariant.1 c.self.invariant.0 past)
 
 pub enqueue-requires : goal.enqueue-requires
 enqueue-requires c =
-    let w = work_of c.self.inside.catalogue c.self.inside.nodes c.self.inside.first c.self.inside.entries.items c.self.inside.plans.items c.self.inside.start.value.rows in
+    let w = work_of c.self.inside.catalogue c.self.inside.arena c.self.inside.first c.self.inside.entries.items c.self.inside.plans.items c.self.inside.start.value.rows in
     let count : c.len-place.result ≡ length c.self.inside.slots.items = omega (arith, c.len-place.ensures) in
     below_number w c.self.inside.slots.items c.self.inside.store c.self.inside.locks c.self.invariant.1 (c.admitted_and_unsettled_wait.ensures w.first (log_of w)) (c.self.inside.first + c.len-place.result) (ap (λ n. c.self.inside.first + n) count)

@@ -6,10 +6,10 @@ use Rattle.scheduler.proofs.scheduler.Scheduler.choose.Goals as goal
 
 pub returns-clause-enabled : goal.returns-clause-enabled
 returns-clause-enabled c =
-    let w = work_of c.self.inside.catalogue c.self.inside.nodes c.self.inside.first c.self.inside.entries.items c.self.inside.plans.items c.self.inside.start.value.rows in
+    let w = work_of c.self.inside.catalogue c.self.inside.arena c.self.inside.first c.self.inside.entries.items c.self.inside.plans.items c.self.inside.start.value.rows in
     let slots = c.self.inside.slots.items in
     let view : ◌≡◌ {A = Schedule} (record { work = w; slots = slots }) c.args.self.now = c.self.view_is in
     let e = c.chosen.ensures ∙ ap (chosen c.args.n) (c.deref.ensures.value ∙ c.in_ok-events.ensures) in
-    subst (λ (s : Schedule). IsChoice s.work.nodes s.work.first (log_of s.work) (phases_of s) c.chosen.result) view
-    (choice_is c.enabled_events_are_listed.ensures w.nodes w.first (log_of w) (map phase_in slots) c.args.n c.self.invariant.1.sound.within c.self.invariant.0.fit c.chosen.result
-    (subst (λ (s : Schedule). c.chosen.result ≡ chosen c.args.n (enabled_events s.work.nodes s.work.first (log_of s.work) (phases_of s))) (sym view) e))
+    subst (λ (s : Schedule). IsChoice s.work.arena s.work.first (log_of s.work) (phases_of s) c.chosen.result) view
+    (choice_is c.enabled_events_are_listed.ensures w.arena w.first (log_of w) (map phase_in slots) c.args.n c.self.invariant.1.sound.within c.self.invariant.0.fit c.chosen.result
+    (subst (λ (s : Schedule). c.chosen.result ≡ chosen c.args.n (enabled_events s.work.arena s.work.first (log_of s.work) (phases_of s))) (sym view) e))

@@ -10,14 +10,14 @@ use Rattle.scheduler.proofs.scheduler.Scheduler.enabled_events.Goals as goal
 
 pub loop-place-preserved : goal.loop-place-preserved
 loop-place-preserved c =
-    let w = work_of c.self.inside.catalogue c.self.inside.nodes c.self.inside.first c.self.inside.entries.items c.self.inside.plans.items c.self.inside.start.value.rows in
+    let w = work_of c.self.inside.catalogue c.self.inside.arena c.self.inside.first c.self.inside.entries.items c.self.inside.plans.items c.self.inside.start.value.rows in
     let slots = c.self.inside.slots.items in
     let view : ◌≡◌ {A = Schedule} (record { work = w; slots = slots }) c.args.self.now = c.self.view_is in
-    let places = c.events_by_places.ensures w.nodes w.first (log_of w) (map phase_in slots) in
+    let places = c.events_by_places.ensures w.arena w.first (log_of w) (map phase_in slots) in
     let less : c.loop-place.place < length slots = omega (arith, c.loop-place-test.true, c.len-place-end.ensures) in
     let at : slice_get slots c.loop-place.place ≡ Some (get_or slots c.loop-place.place Idle) = slice_get-get_or slots c.loop-place.place Idle less in
-    let so_far = subst (λ (s : Schedule). c.loop-place.events.items ≡ filter (enabled s.work.nodes s.work.first (log_of s.work) (phases_of s)) (Admit ∷ next_steps s.work.first (take c.loop-place.place (phases_of s)))) (sym view) c.loop-place.invariant in
-    let one = subst (λ (s : Schedule). steps_of c.enabled_step.result ≡ filter (enabled s.work.nodes s.work.first (log_of s.work) (phases_of s)) (next_step_at s c.loop-place.place)) (sym view) c.enabled_step.ensures in
+    let so_far = subst (λ (s : Schedule). c.loop-place.events.items ≡ filter (enabled s.work.arena s.work.first (log_of s.work) (phases_of s)) (Admit ∷ next_steps s.work.first (take c.loop-place.place (phases_of s)))) (sym view) c.loop-place.invariant in
+    let one = subst (λ (s : Schedule). steps_of c.enabled_step.result ≡ filter (enabled s.work.arena s.work.first (log_of s.work) (phases_of s)) (next_step_at s c.loop-place.place)) (sym view) c.enabled_step.ensures in
     c.in_ok-push-2.ensures
-    ∙ subst (λ (s : Schedule). c.loop-place.events.items ++ steps_of c.enabled_step.result ≡ filter (enabled s.work.nodes s.work.first (log_of s.work) (phases_of s)) (Admit ∷ next_steps s.work.first (take (c.loop-place.place + 1) (phases_of s)))) view
+    ∙ subst (λ (s : Schedule). c.loop-place.events.items ++ steps_of c.enabled_step.result ≡ filter (enabled s.work.arena s.work.first (log_of s.work) (phases_of s)) (Admit ∷ next_steps s.work.first (take (c.loop-place.place + 1) (phases_of s)))) view
     (one_more w slots places c.loop-place.place (get_or slots c.loop-place.place Idle) c.loop-place.events.items c.enabled_step.result at so_far one)

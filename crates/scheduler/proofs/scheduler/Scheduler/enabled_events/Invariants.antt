@@ -7,4 +7,4 @@ use Rattle.scheduler.proofs.scheduler.Scheduler.enabled_events.Given as goal
 
 abbrev pub invariant-loop-place : goal.invariant-loop-place
 invariant-loop-place l =
-    l.events.items ≡ filter (enabled l.self.work.nodes l.self.work.first (log_of l.self.work) (phases_of l.self)) (Admit ∷ next_steps l.self.work.first (take l.place (phases_of l.self)))
+    l.events.items ≡ filter (enabled l.self.work.arena l.self.work.first (log_of l.self.work) (phases_of l.self)) (Admit ∷ next_steps l.self.work.first (take l.place (phases_of l.self)))

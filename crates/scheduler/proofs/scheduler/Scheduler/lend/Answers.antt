@@ -16,15 +16,15 @@ use Rattle.scheduler.proofs.scheduler.Scheduler.lend.Goals as goal
 
 pub returns-in_default-clause-least : goal.returns-in_default-clause-least
 returns-in_default-clause-least c =
-    let w = work_of c.self.inside.catalogue c.self.inside.nodes c.self.inside.first c.self.inside.entries.items c.self.inside.plans.items c.self.inside.start.value.rows in
+    let w = work_of c.self.inside.catalogue c.self.inside.arena c.self.inside.first c.self.inside.entries.items c.self.inside.plans.items c.self.inside.start.value.rows in
     let sound = c.rows_are_serial.ensures w.tables w.first (log_of w) w.start c.self.invariant.0.planned in
     let follows = c.admitted_and_unsettled_wait.ensures w.first (log_of w) in
-    subst (λ (s : Schedule). IsLeastLend s.work.nodes s.work.first (log_of s.work) (phases_of s) None) c.self.view_is
+    subst (λ (s : Schedule). IsLeastLend s.work.arena s.work.first (log_of s.work) (phases_of s) None) c.self.view_is
     (least w c.self.inside.slots.items c.self.inside.store c.self.inside.locks c.self.invariant.0 c.self.invariant.1 sound follows None c.in_default.ensures)
 
 pub index-requires : goal.index-requires
 index-requires c =
-    let w = work_of c.self.inside.catalogue c.self.inside.nodes c.self.inside.first c.self.inside.entries.items c.self.inside.plans.items c.self.inside.start.value.rows in
+    let w = work_of c.self.inside.catalogue c.self.inside.arena c.self.inside.first c.self.inside.entries.items c.self.inside.plans.items c.self.inside.start.value.rows in
     let sound = c.rows_are_serial.ensures w.tables w.first (log_of w) w.start c.self.invariant.0.planned in
     let follows = c.admitted_and_unsettled_wait.ensures w.first (log_of w) in
     let o = next_opening w c.self.inside.slots.items c.self.inside.store c.self.inside.locks c.self.invariant.0 c.self.invariant.1 sound follows c.in-Some.number c.in-Some.ensures in
@@ -33,7 +33,7 @@ index-requires c =
 
 pub index-requires-2 : goal.index-requires-2
 index-requires-2 c =
-    let w = work_of c.self.inside.catalogue c.self.inside.nodes c.self.inside.first c.self.inside.entries.items c.self.inside.plans.items c.self.inside.start.value.rows in
+    let w = work_of c.self.inside.catalogue c.self.inside.arena c.self.inside.first c.self.inside.entries.items c.self.inside.plans.items c.self.inside.start.value.rows in
     let sound = c.rows_are_serial.ensures w.tables w.first (log_of w) w.start c.self.invariant.0.planned in
     let follows = c.admitted_and_unsettled_wait.ensures w.first (log_of w) in
     let o = next_opening w c.self.inside.slots.items c.self.inside.store c.self.inside.locks c.self.invariant.0 c.self.invariant.1 sound follows c.in-Some.number c.in-Some.ensures in
@@ -42,7 +42,7 @@ index-requires-2 c =
 
 pub lend_to-requires-clause-tables : goal.lend_to-requires-clause-tables
 lend_to-requires-clause-tables c =
-    let w = work_of c.self.inside.catalogue c.self.inside.nodes c.self.inside.first c.self.inside.entries.items c.self.inside.plans.items c.self.inside.start.value.rows in
+    let w = work_of c.self.inside.catalogue c.self.inside.arena c.self.inside.first c.self.inside.entries.items c.self.inside.plans.items c.self.inside.start.value.rows in
     let sound = c.rows_are_serial.ensures w.tables w.first (log_of w) w.start c.self.invariant.0.planned in
     let follows = c.admitted_and_unsettled_wait.ensures w.first (log_of w) in
     let o = next_opening w c.self.inside.slots.items c.self.inside.store c.self.inside.locks c.self.invariant.0 c.self.invariant.1 sound follows c.in-Some.number c.in-Some.ensures in
@@ -54,7 +54,7 @@ lend_to-requires-clause-tables c =
 
 pub lend_to-requires-clause-locks : goal.lend_to-requires-clause-locks
 lend_to-requires-clause-locks c =
-    let w = work_of c.self.inside.catalogue c.self.inside.nodes c.self.inside.first c.self.inside.entries.items c.self.inside.plans.items c.self.inside.start.value.rows in
+    let w = work_of c.self.inside.catalogue c.self.inside.arena c.self.inside.first c.self.inside.entries.items c.self.inside.plans.items c.self.inside.start.value.rows in
     let sound = c.rows_are_serial.ensures w.tables w.first (log_of w) w.start c.self.invariant.0.planned in
     let follows = c.admitted_and_unsettled_wait.ensures w.first (log_of w) in
     let o = next_opening w c.self.inside.slots.items c.self.inside.store c.self.inside.locks c.self.invariant.0 c.self.invariant.1 sound follows c.in-Some.number c.in-Some.ensures in
@@ -66,7 +66,7 @@ lend_to-requires-clause-locks c =
 
 pub lend_to-requires-clause-over : goal.lend_to-requires-clause-over
 lend_to-requires-clause-over c =
-    let w = work_of c.self.inside.catalogue c.self.inside.nodes c.self.inside.first c.self.inside.entries.items c.self.inside.plans.items c.self.inside.start.value.rows in
+    let w = work_of c.self.inside.catalogue c.self.inside.arena c.self.inside.first c.self.inside.entries.items c.self.inside.plans.items c.self.inside.start.value.rows in
     let sound = c.rows_are_serial.ensures w.tables w.first (log_of w) w.start c.self.invariant.0.planned in
     let follows = c.admitted_and_unsettled_wait.ensures w.first (log_of w) in
     let o = next_opening w c.self.inside.slots.items c.self.inside.store c.self.inside.locks c.self.invariant.0 c.self.invariant.1 sound follows c.in-Some.number c.in-Some.ensures in
@@ -78,7 +78,7 @@ lend_to-requires-clause-over c =
 
 pub lend_to-requires-clause-there : goal.lend_to-requires-clause-there
 lend_to-requires-clause-there c =
-    let w = work_of c.self.inside.catalogue c.self.inside.nodes c.self.inside.first c.self.inside.entries.items c.self.inside.plans.items c.self.inside.start.value.rows in
+    let w = work_of c.self.inside.catalogue c.self.inside.arena c.self.inside.first c.self.inside.entries.items c.self.inside.plans.items c.self.inside.start.value.rows in
     let sound = c.rows_are_serial.ensures w.tables w.first (log_of w) w.start c.self.invariant.0.planned in
     let follows = c.admitted_and_unsettled_wait.ensures w.first (log_of w) in
     let o = next_opening w c.self.inside.slots.items c.self.inside.store c.self.inside.locks c.self.invariant.0 c.self.invariant.1 sound follows c.in-Some.number c.in-Some.ensures in
@@ -90,7 +90,7 @@ lend_to-requires-clause-there c =
 
 pub lend_to-requires-clause-unlent : goal.lend_to-requires-clause-unlent
 lend_to-requires-clause-unlent c =
-    let w = work_of c.self.inside.catalogue c.self.inside.nodes c.self.inside.first c.self.inside.entries.items c.self.inside.plans.items c.self.inside.start.value.rows in
+    let w = work_of c.self.inside.catalogue c.self.inside.arena c.self.inside.first c.self.inside.entries.items c.self.inside.plans.items c.self.inside.start.value.rows in
     let sound = c.rows_are_serial.ensures w.tables w.first (log_of w) w.start c.self.invariant.0.planned in
     let follows = c.admitted_and_unsettled_wait.ensures w.first (log_of w) in
     let o = next_opening w c.self.inside.slots.items c.self.inside.store c.self.inside.locks c.self.invariant.0 c.self.invariant.1 sound follows c.in-Some.number c.in-Some.ensures in
@@ -98,7 +98,7 @@ lend_to-requires-clause-unlent c =
 
 pub lend_to-requires-clause-apart : goal.lend_to-requires-clause-apart
 lend_to-requires-clause-apart c =
-    let w = work_of c.self.inside.catalogue c.self.inside.nodes c.self.inside.first c.self.inside.entries.items c.self.inside.plans.items c.self.inside.start.value.rows in
+    let w = work_of c.self.inside.catalogue c.self.inside.arena c.self.inside.first c.self.inside.entries.items c.self.inside.plans.items c.self.inside.start.value.rows in
     let sound = c.rows_are_serial.ensures w.tables w.first (log_of w) w.start c.self.invariant.0.planned in
     let follows = c.admitted_and_unsettled_wait.ensures w.first (log_of w) in
     let o = next_opening w c.self.inside.slots.items c.self.inside.store c.self.inside.locks c.self.invariant.0 c.self.invariant.1 sound follows c.in-Some.number c.in-Some.ensures in
@@ -110,7 +110,7 @@ lend_to-requires-clause-apart c =
 
 pub put-requires : goal.put-requires
 put-requires c =
-    let w = work_of c.self.inside.catalogue c.self.inside.nodes c.self.inside.first c.self.inside.entries.items c.self.inside.plans.items c.self.inside.start.value.rows in
+    let w = work_of c.self.inside.catalogue c.self.inside.arena c.self.inside.first c.self.inside.entries.items c.self.inside.plans.items c.self.inside.start.value.rows in
     let sound = c.rows_are_serial.ensures w.tables w.first (log_of w) w.start c.self.invariant.0.planned in
     let follows = c.admitted_and_unsettled_wait.ensures w.first (log_of w) in
     let o = next_opening w c.self.inside.slots.items c.self.inside.store c.self.inside.locks c.self.invariant.0 c.self.invariant.1 sound follows c.in-Some.number c.in-Some.ensures in
@@ -118,7 +118,7 @@ put-requires c =
 
 pub invariant_of-self-2 : goal.invariant_of-self-2
 invariant_of-self-2 c =
-    let w = work_of c.self.inside.catalogue c.self.inside.nodes c.self.inside.first c.self.inside.entries.items c.self.inside.plans.items c.self.inside.start.value.rows in
+    let w = work_of c.self.inside.catalogue c.self.inside.arena c.self.inside.first c.self.inside.entries.items c.self.inside.plans.items c.self.inside.start.value.rows in
     let sound = c.rows_are_serial.ensures w.tables w.first (log_of w) w.start c.self.invariant.0.planned in
     let follows = c.admitted_and_unsettled_wait.ensures w.first (log_of w) in
     let o = next_opening w c.self.inside.slots.items c.self.inside.store c.self.inside.locks c.self.invariant.0 c.self.invariant.1 sound follows c.in-Some.number c.in-Some.ensures in
@@ -140,17 +140,17 @@ invariant_of-self-2 c =
 
 pub returns-clause-least : goal.returns-clause-least
 returns-clause-least c =
-    let w = work_of c.self.inside.catalogue c.self.inside.nodes c.self.inside.first c.self.inside.entries.items c.self.inside.plans.items c.self.inside.start.value.rows in
+    let w = work_of c.self.inside.catalogue c.self.inside.arena c.self.inside.first c.self.inside.entries.items c.self.inside.plans.items c.self.inside.start.value.rows in
     let sound = c.rows_are_serial.ensures w.tables w.first (log_of w) w.start c.self.invariant.0.planned in
     let follows = c.admitted_and_unsettled_wait.ensures w.first (log_of w) in
     let o = next_opening w c.self.inside.slots.items c.self.inside.store c.self.inside.locks c.self.invariant.0 c.self.invariant.1 sound follows c.in-Some.number c.in-Some.ensures in
-    subst (λ (s : Schedule). IsLeastLend s.work.nodes s.work.first (log_of s.work) (phases_of s) (Some c.in_ok-job.job.number)) c.self.view_is
-    (subst (λ k. IsLeastLend w.nodes w.first (log_of w) (phases_of (record { work = w; slots = c.self.inside.slots.items })) (Some k)) (sym c.in_ok-job.ensures.number)
+    subst (λ (s : Schedule). IsLeastLend s.work.arena s.work.first (log_of s.work) (phases_of s) (Some c.in_ok-job.job.number)) c.self.view_is
+    (subst (λ k. IsLeastLend w.arena w.first (log_of w) (phases_of (record { work = w; slots = c.self.inside.slots.items })) (Some k)) (sym c.in_ok-job.ensures.number)
     (least w c.self.inside.slots.items c.self.inside.store c.self.inside.locks c.self.invariant.0 c.self.invariant.1 sound follows (Some c.in-Some.number) c.in-Some.ensures))
 
 pub returns-clause-lent : goal.returns-clause-lent
 returns-clause-lent c =
-    let w = work_of c.self.inside.catalogue c.self.inside.nodes c.self.inside.first c.self.inside.entries.items c.self.inside.plans.items c.self.inside.start.value.rows in
+    let w = work_of c.self.inside.catalogue c.self.inside.arena c.self.inside.first c.self.inside.entries.items c.self.inside.plans.items c.self.inside.start.value.rows in
     let sound = c.rows_are_serial.ensures w.tables w.first (log_of w) w.start c.self.invariant.0.planned in
     let follows = c.admitted_and_unsettled_wait.ensures w.first (log_of w) in
     let o = next_opening w c.self.inside.slots.items c.self.inside.store c.self.inside.locks c.self.invariant.0 c.self.invariant.1 sound follows c.in-Some.number c.in-Some.ensures in

@@ -11,8 +11,8 @@ use Rattle.scheduler.proofs.scheduler.Scheduler.new.Goals as goal
 
 pub invariant_of-result : goal.invariant_of-result
 invariant_of-result c =
-    let w = work_of c.args.catalogue c.args.most c.args.first c.args.entries.items c.in-Ok.plans.items c.of-start.result.value.rows in
-    let fit = fitting w c.len-tables.ensures.sound c.requires.over (subst (λ (es : List EntryParts). ArePlannedFor c.args.most es c.in-Ok.plans.items) c.deref.ensures.value c.in-Ok.ensures.planned) c.requires.few in
+    let w = work_of c.args.catalogue c.args.arena c.args.first c.args.entries.items c.in-Ok.plans.items c.of-start.result.value.rows in
+    let fit = fitting w c.len-tables.ensures.sound c.requires.over (subst (λ (es : List EntryParts). ArePlannedFor c.args.arena es c.in-Ok.plans.items) c.deref.ensures.value c.in-Ok.ensures.planned) c.requires.few in
     let sound = c.rows_are_serial.ensures w.tables w.first (log_of w) w.start fit.planned in
     let follows = c.admitted_and_unsettled_wait.ensures w.first (log_of w) in (
       fit,

@@ -13,7 +13,7 @@ loop-event-preserved c =
     let pushed : c.push.new.self.items ≡ c.loop-event.answers.items ++ c.step-answer.result ∷ [] = c.push.ensures.items ∙ rw c.if-is_err.ensures.negation refl in
     let one = rw (i.1) at c.step-answer.ensures.answer in (
       rw (take_more c.args.events.now c.loop-event.event-index Admit less, pushed)
-          (played_more w.nodes w.first (log_of w) (phases_of c.args.self.now) (phases_of c.loop-event.self) (phases_of c.step-answer.new.self) (take c.loop-event.event-index c.args.events.now) c.loop-event.answers.items _ c.step-answer.result i.0 one),
+          (played_more w.arena w.first (log_of w) (phases_of c.args.self.now) (phases_of c.loop-event.self) (phases_of c.step-answer.new.self) (take c.loop-event.event-index c.args.events.now) c.loop-event.answers.items _ c.step-answer.result i.0 one),
       c.step-answer.ensures.work ∙ i.1,
       c.step-answer.ensures.keeps,
       count_more c.loop-event.answers.items c.push.new.self.items c.step-answer.result c.loop-event.event-index pushed i.3,

@@ -6,7 +6,7 @@ use Rattle.scheduler.proofs.scheduler.Scheduler.play.Given as goal
 
 abbrev pub invariant-loop-event : goal.invariant-loop-event
 invariant-loop-event l =
-    Played l.fn.self.work.nodes l.fn.self.work.first (log_of l.fn.self.work) (phases_of l.fn.self) (take l.event-index l.events) l.answers.items (phases_of l.self)
+    Played l.fn.self.work.arena l.fn.self.work.first (log_of l.fn.self.work) (phases_of l.fn.self) (take l.event-index l.events) l.answers.items (phases_of l.self)
     × (l.self.work ≡ l.fn.self.work)
     × KeepsItsJobs l.self
     × (length l.answers.items ≡ l.event-index)

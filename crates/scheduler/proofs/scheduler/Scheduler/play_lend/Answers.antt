@@ -17,11 +17,11 @@ use Rattle.scheduler.proofs.scheduler.Scheduler.play_lend.Goals as goal
 
 pub index-requires : goal.index-requires
 index-requires c =
-    let w = work_of c.self.inside.catalogue c.self.inside.nodes c.self.inside.first c.self.inside.entries.items c.self.inside.plans.items c.self.inside.start.value.rows in
+    let w = work_of c.self.inside.catalogue c.self.inside.arena c.self.inside.first c.self.inside.entries.items c.self.inside.plans.items c.self.inside.start.value.rows in
     let slots = c.self.inside.slots.items in
     let sound = c.rows_are_serial.ensures w.tables w.first (log_of w) w.start c.self.invariant.0.planned in
     let follows = c.admitted_and_unsettled_wait.ensures w.first (log_of w) in
-    let places = c.events_by_places.ensures w.nodes w.first (log_of w) (map phase_in slots) in
+    let places = c.events_by_places.ensures w.arena w.first (log_of w) (map phase_in slots) in
     let view : ◌≡◌ {A = Schedule} (record { work = w; slots = slots }) c.args.self.now = c.self.view_is in
     let number : c.args.number ≡ w.first + c.in-Some.place = c.in-Some.ensures.some.0 ∙ ap (λ (s : Schedule). s.work.first + c.in-Some.place) (sym view) in
     let at_idle : slice_get slots c.in-Some.place ≡ Some Idle = subst (λ (xs : List Slot). slice_get xs c.in-Some.place ≡ Some Idle) c.deref.ensures.value (c.is_idle.ensures.slot c.if-not-is_idle.false) in
@@ -31,11 +31,11 @@ index-requires c =
 
 pub index-requires-2 : goal.index-requires-2
 index-requires-2 c =
-    let w = work_of c.self.inside.catalogue c.self.inside.nodes c.self.inside.first c.self.inside.entries.items c.self.inside.plans.items c.self.inside.start.value.rows in
+    let w = work_of c.self.inside.catalogue c.self.inside.arena c.self.inside.first c.self.inside.entries.items c.self.inside.plans.items c.self.inside.start.value.rows in
     let slots = c.self.inside.slots.items in
     let sound = c.rows_are_serial.ensures w.tables w.first (log_of w) w.start c.self.invariant.0.planned in
     let follows = c.admitted_and_unsettled_wait.ensures w.first (log_of w) in
-    let places = c.events_by_places.ensures w.nodes w.first (log_of w) (map phase_in slots) in
+    let places = c.events_by_places.ensures w.arena w.first (log_of w) (map phase_in slots) in
     let view : ◌≡◌ {A = Schedule} (record { work = w; slots = slots }) c.args.self.now = c.self.view_is in
     let number : c.args.number ≡ w.first + c.in-Some.place = c.in-Some.ensures.some.0 ∙ ap (λ (s : Schedule). s.work.first + c.in-Some.place) (sym view) in
     let at_idle : slice_get slots c.in-Some.place ≡ Some Idle = subst (λ (xs : List Slot). slice_get xs c.in-Some.place ≡ Some Idle) c.deref.ensures.value (c.is_idle.ensures.slot c.if-not-is_idle.false) in
@@ -45,11 +45,11 @@ index-requires-2 c =
 
 pub lend_to-requires-clause-tables : goal.lend_to-requires-clause-tables
 lend_to-requires-clause-tables c =
-    let w = work_of c.self.inside.catalogue c.self.inside.nodes c.self.inside.first c.self.inside.entries.items c.self.inside.plans.items c.self.inside.start.value.rows in
+    let w = work_of c.self.inside.catalogue c.self.inside.arena c.self.inside.first c.self.inside.entries.items c.self.inside.plans.items c.self.inside.start.value.rows in
     let slots = c.self.inside.slots.items in
     let sound = c.rows_are_serial.ensures w.tables w.first (log_of w) w.start c.self.invariant.0.planned in
     let follows = c.admitted_and_unsettled_wait.ensures w.first (log_of w) in
-    let places = c.events_by_places.ensures w.nodes w.first (log_of w) (map phase_in slots) in
+    let places = c.events_by_places.ensures w.arena w.first (log_of w) (map phase_in slots) in
     let view : ◌≡◌ {A = Schedule} (record { work = w; slots = slots }) c.args.self.now = c.self.view_is in
     let number : c.args.number ≡ w.first + c.in-Some.place = c.in-Some.ensures.some.0 ∙ ap (λ (s : Schedule). s.work.first + c.in-Some.place) (sym view) in
     let at_idle : slice_get slots c.in-Some.place ≡ Some Idle = subst (λ (xs : List Slot). slice_get xs c.in-Some.place ≡ Some Idle) c.deref.ensures.value (c.is_idle.ensures.slot c.if-not-is_idle.false) in
@@ -62,11 +62,11 @@ lend_to-requires-clause-tables c =
 
 pub lend_to-requires-clause-locks : goal.lend_to-requires-clause-locks
 lend_to-requires-clause-locks c =
-    let w = work_of c.self.inside.catalogue c.self.inside.nodes c.self.inside.first c.self.inside.entries.items c.self.inside.plans.items c.self.inside.start.value.rows in
+    let w = work_of c.self.inside.catalogue c.self.inside.arena c.self.inside.first c.self.inside.entries.items c.self.inside.plans.items c.self.inside.start.value.rows in
     let slots = c.self.inside.slots.items in
     let sound = c.rows_are_serial.ensures w.tables w.first (log_of w) w.start c.self.invariant.0.planned in
     let follows = c.admitted_and_unsettled_wait.ensures w.first (log_of w) in
-    let places = c.events_by_places.ensures w.nodes w.first (log_of w) (map phase_in slots) in
+    let places = c.events_by_places.ensures w.arena w.first (log_of w) (map phase_in slots) in
     let view : ◌≡◌ {A = Schedule} (record { work = w; slots = slots }) c.args.self.now = c.self.view_is in
     let number : c.args.number ≡ w.first + c.in-Some.place = c.in-Some.ensures.some.0 ∙ ap (λ (s : Schedule). s.work.first + c.in-Some.place) (sym view) in
     let at_idle : slice_get slots c.in-Some.place ≡ Some Idle = subst (λ (xs : List Slot). slice_get xs c.in-Some.place ≡ Some Idle) c.deref.ensures.value (c.is_idle.ensures.slot c.if-not-is_idle.false) in
@@ -79,11 +79,11 @@ lend_to-requires-clause-locks c =
 
 pub lend_to-requires-clause-over : goal.lend_to-requires-clause-over
 lend_to-requires-clause-over c =
-    let w = work_of c.self.inside.catalogue c.self.inside.nodes c.self.inside.first c.self.inside.entries.items c.self.inside.plans.items c.self.inside.start.value.rows in
+    let w = work_of c.self.inside.catalogue c.self.inside.arena c.self.inside.first c.self.inside.entries.items c.self.inside.plans.items c.self.inside.start.value.rows in
     let slots = c.self.inside.slots.items in
     let sound = c.rows_are_serial.ensures w.tables w.first (log_of w) w.start c.self.invariant.0.planned in
     let follows = c.admitted_and_unsettled_wait.ensures w.first (log_of w) in
-    let places = c.events_by_places.ensures w.nodes w.first (log_of w) (map phase_in slots) in
+    let places = c.events_by_places.ensures w.arena w.first (log_of w) (map phase_in slots) in
     let view : ◌≡◌ {A = Schedule} (record { work = w; slots = slots }) c.args.self.now = c.self.view_is in
     let number : c.args.number ≡ w.first + c.in-Some.place = c.in-Some.ensures.some.0 ∙ ap (λ (s : Schedule). s.work.first + c.in-Some.place) (sym view) in
     let at_idle : slice_get slots c.in-Some.place ≡ Some Idle = subst (λ (xs : List Slot). slice_get xs c.in-Some.place ≡ Some Idle) c.deref.ensures.value (c.is_idle.ensures.slot c.if-not-is_idle.false) in
@@ -96,11 +96,11 @@ lend_to-requires-clause-over c =
 
 pub lend_to-requires-clause-there : goal.lend_to-requires-clause-there
 lend_to-requires-clause-there c =
-    let w = work_of c.self.inside.catalogue c.self.inside.nodes c.self.inside.first c.self.inside.entries.items c.self.inside.plans.items c.self.inside.start.value.rows in
+    let w = work_of c.self.inside.catalogue c.self.inside.arena c.self.inside.first c.self.inside.entries.items c.self.inside.plans.items c.self.inside.start.value.rows in
     let slots = c.self.inside.slots.items in
     let sound = c.rows_are_serial.ensures w.tables w.first (log_of w) w.start c.self.invariant.0.planned in
     let follows = c.admitted_and_unsettled_wait.ensures w.first (log_of w) in
-    let places = c.events_by_places.ensures w.nodes w.first (log_of w) (map phase_in slots) in
+    let places = c.events_by_places.ensures w.arena w.first (log_of w) (map phase_in slots) in
     let view : ◌≡◌ {A = Schedule} (record { work = w; slots = slots }) c.args.self.now = c.self.view_is in
     let number : c.args.number ≡ w.first + c.in-Some.place = c.in-Some.ensures.some.0 ∙ ap (λ (s : Schedule). s.work.first + c.in-Some.place) (sym view) in
     let at_idle : slice_get slots c.in-Some.place ≡ Some Idle = subst (λ (xs : List Slot). slice_get xs c.in-Some.place ≡ Some Idle) c.deref.ensures.value (c.is_idle.ensures.slot c.if-not-is_idle.false) in
@@ -113,11 +113,11 @@ lend_to-requires-clause-there c =
 
 pub lend_to-requires-clause-unlent : goal.lend_to-requires-clause-unlent
 lend_to-requires-clause-unlent c =
-    let w = work_of c.self.inside.catalogue c.self.inside.nodes c.self.inside.first c.self.inside.entries.items c.self.inside.plans.items c.self.inside.start.value.rows in
+    let w = work_of c.self.inside.catalogue c.self.inside.arena c.self.inside.first c.self.inside.entries.items c.self.inside.plans.items c.self.inside.start.value.rows in
     let slots = c.self.inside.slots.items in
     let sound = c.rows_are_serial.ensures w.tables w.first (log_of w) w.start c.self.invariant.0.planned in
     let follows = c.admitted_and_unsettled_wait.ensures w.first (log_of w) in
-    let places = c.events_by_places.ensures w.nodes w.first (log_of w) (map phase_in slots) in
+    let places = c.events_by_places.ensures w.arena w.first (log_of w) (map phase_in slots) in
     let view : ◌≡◌ {A = Schedule} (record { work = w; slots = slots }) c.args.self.now = c.self.view_is in
     let number : c.args.number ≡ w.first + c.in-Some.place = c.in-Some.ensures.some.0 ∙ ap (λ (s : Schedule). s.work.first + c.in-Some.place) (sym view) in
     let at_idle : slice_get slots c.in-Some.place ≡ Some Idle = subst (λ (xs : List Slot). slice_get xs c.in-Some.place ≡ Some Idle) c.deref.ensures.value (c.is_idle.ensures.slot c.if-not-is_idle.false) in
@@ -126,11 +126,11 @@ lend_to-requires-clause-unlent c =
 
 pub lend_to-requires-clause-apart : goal.lend_to-requires-clause-apart
 lend_to-requires-clause-apart c =
-    let w = work_of c.self.inside.catalogue c.self.inside.nodes c.self.inside.first c.self.inside.entries.items c.self.inside.plans.items c.self.inside.start.value.rows in
+    let w = work_of c.self.inside.catalogue c.self.inside.arena c.self.inside.first c.self.inside.entries.items c.self.inside.plans.items c.self.inside.start.value.rows in
     let slots = c.self.inside.slots.items in
     let sound = c.rows_are_serial.ensures w.tables w.first (log_of w) w.start c.self.invariant.0.planned in
     let follows = c.admitted_and_unsettled_wait.ensures w.first (log_of w) in
-    let places = c.events_by_places.ensures w.nodes w.first (log_of w) (map phase_in slots) in
+    let places = c.events_by_places.ensures w.arena w.first (log_of w) (map phase_in slots) in
     let view : ◌≡◌ {A = Schedule} (record { work = w; slots = slots }) c.args.self.now = c.self.view_is in
     let number : c.args.number ≡ w.first + c.in-Some.place = c.in-Some.ensures.some.0 ∙ ap (λ (s : Schedule). s.work.first + c.in-Some.place) (sym view) in
     let at_idle : slice_get slots c.in-Some.place ≡ Some Idle = subst (λ (xs : List Slot). slice_get xs c.in-Some.place ≡ Some Idle) c.deref.ensures.value (c.is_idle.ensures.slot c.if-not-is_idle.false) in
@@ -143,11 +143,11 @@ lend_to-requires-clause-apart c =
 
 pub invariant_of-self : goal.invariant_of-self
 invariant_of-self c =
-    let w = work_of c.self.inside.catalogue c.self.inside.nodes c.self.inside.first c.self.inside.entries.items c.self.inside.plans.items c.self.inside.start.value.rows in
+    let w = work_of c.self.inside.catalogue c.self.inside.arena c.self.inside.first c.self.inside.entries.items c.self.inside.plans.items c.self.inside.start.value.rows in
     let slots = c.self.inside.slots.items in
     let sound = c.rows_are_serial.ensures w.tables w.first (log_of w) w.start c.self.invariant.0.planned in
     let follows = c.admitted_and_unsettled_wait.ensures w.first (log_of w) in
-    let places = c.events_by_places.ensures w.nodes w.first (log_of w) (map phase_in slots) in
+    let places = c.events_by_places.ensures w.arena w.first (log_of w) (map phase_in slots) in
     let view : ◌≡◌ {A = Schedule} (record { work = w; slots = slots }) c.args.self.now = c.self.view_is in
     let number : c.args.number ≡ w.first + c.in-Some.place = c.in-Some.ensures.some.0 ∙ ap (λ (s : Schedule). s.work.first + c.in-Some.place) (sym view) in
     let at_idle : slice_get slots c.in-Some.place ≡ Some Idle = subst (λ (xs : List Slot). slice_get xs c.in-Some.place ≡ Some Idle) c.deref.ensures.value (c.is_idle.ensures.slot c.if-not-is_idle.false) in
@@ -169,25 +169,25 @@ invariant_of-self c =
 
 pub returns-in-Ok-clause-answer : goal.returns-in-Ok-clause-answer
 returns-in-Ok-clause-answer c =
-    let w = work_of c.self.inside.catalogue c.self.inside.nodes c.self.inside.first c.self.inside.entries.items c.self.inside.plans.items c.self.inside.start.value.rows in
+    let w = work_of c.self.inside.catalogue c.self.inside.arena c.self.inside.first c.self.inside.entries.items c.self.inside.plans.items c.self.inside.start.value.rows in
     let slots = c.self.inside.slots.items in
     let sound = c.rows_are_serial.ensures w.tables w.first (log_of w) w.start c.self.invariant.0.planned in
     let follows = c.admitted_and_unsettled_wait.ensures w.first (log_of w) in
-    let places = c.events_by_places.ensures w.nodes w.first (log_of w) (map phase_in slots) in
+    let places = c.events_by_places.ensures w.arena w.first (log_of w) (map phase_in slots) in
     let view : ◌≡◌ {A = Schedule} (record { work = w; slots = slots }) c.args.self.now = c.self.view_is in
     let number : c.args.number ≡ w.first + c.in-Some.place = c.in-Some.ensures.some.0 ∙ ap (λ (s : Schedule). s.work.first + c.in-Some.place) (sym view) in
     let at_idle : slice_get slots c.in-Some.place ≡ Some Idle = subst (λ (xs : List Slot). slice_get xs c.in-Some.place ≡ Some Idle) c.deref.ensures.value (c.is_idle.ensures.slot c.if-not-is_idle.false) in
     let o = opening_at w slots c.self.inside.locks c.args.number c.in-Some.place number at_idle (sym c.is_ready.ensures ∙ c.if-not-is_ready.false) in
-    subst (λ (s : Schedule). Answers s.work.nodes s.work.first (log_of s.work) (phases_of s) (event.Lend c.args.number) answer.Made (map phase_in c.put.new.slots.items)) view
+    subst (λ (s : Schedule). Answers s.work.arena s.work.first (log_of s.work) (phases_of s) (event.Lend c.args.number) answer.Made (map phase_in c.put.new.slots.items)) view
     (lend_made w slots places c.args.number c.in-Some.place number c.self.inside.locks c.put.new.slots.items (Held c.in-Ok.job) c.self.invariant.1.tree_is at_idle (sym c.is_ready.ensures ∙ c.if-not-is_ready.false) refl c.put.ensures)
 
 pub returns-in-Ok-clause-keeps : goal.returns-in-Ok-clause-keeps
 returns-in-Ok-clause-keeps c =
-    let w = work_of c.self.inside.catalogue c.self.inside.nodes c.self.inside.first c.self.inside.entries.items c.self.inside.plans.items c.self.inside.start.value.rows in
+    let w = work_of c.self.inside.catalogue c.self.inside.arena c.self.inside.first c.self.inside.entries.items c.self.inside.plans.items c.self.inside.start.value.rows in
     let slots = c.self.inside.slots.items in
     let sound = c.rows_are_serial.ensures w.tables w.first (log_of w) w.start c.self.invariant.0.planned in
     let follows = c.admitted_and_unsettled_wait.ensures w.first (log_of w) in
-    let places = c.events_by_places.ensures w.nodes w.first (log_of w) (map phase_in slots) in
+    let places = c.events_by_places.ensures w.arena w.first (log_of w) (map phase_in slots) in
     let view : ◌≡◌ {A = Schedule} (record { work = w; slots = slots }) c.args.self.now = c.self.view_is in
     let number : c.args.number ≡ w.first + c.in-Some.place = c.in-Some.ensures.some.0 ∙ ap (λ (s : Schedule). s.work.first + c.in-Some.place) (sym view) in
     let at_idle : slice_get slots c.in-Some.place ≡ Some Idle = subst (λ (xs : List Slot). slice_get xs c.in-Some.place ≡ Some Idle) c.deref.ensures.value (c.is_idle.ensures.slot c.if-not-is_idle.false) in

@@ -16,25 +16,25 @@ use Rattle.scheduler.proofs.scheduler.Scheduler.play_run.Goals as goal
 
 pub returns-in_default-take_held-clause-answer : goal.returns-in_default-take_held-clause-answer
 returns-in_default-take_held-clause-answer c =
-    let w = work_of c.self.inside.catalogue c.self.inside.nodes c.self.inside.first c.self.inside.entries.items c.self.inside.plans.items c.self.inside.start.value.rows in
+    let w = work_of c.self.inside.catalogue c.self.inside.arena c.self.inside.first c.self.inside.entries.items c.self.inside.plans.items c.self.inside.start.value.rows in
     let slots = c.self.inside.slots.items in
     let sound = c.rows_are_serial.ensures w.tables w.first (log_of w) w.start c.self.invariant.0.planned in
     let follows = c.admitted_and_unsettled_wait.ensures w.first (log_of w) in
-    let places = c.events_by_places.ensures w.nodes w.first (log_of w) (map phase_in slots) in
+    let places = c.events_by_places.ensures w.arena w.first (log_of w) (map phase_in slots) in
     let view : ◌≡◌ {A = Schedule} (record { work = w; slots = slots }) c.args.self.now = c.self.view_is in
     let number : c.args.number ≡ w.first + c.in-Some.place = c.in-Some.ensures.some.0 ∙ ap (λ (s : Schedule). s.work.first + c.in-Some.place) (sym view) in
-    subst (λ (s : Schedule). Answers s.work.nodes s.work.first (log_of s.work) (phases_of s) (event.Run c.args.number) answer.Refused (map phase_in c.take_held.new.slots.items)) view (
+    subst (λ (s : Schedule). Answers s.work.arena s.work.first (log_of s.work) (phases_of s) (event.Run c.args.number) answer.Refused (map phase_in c.take_held.new.slots.items)) view (
       run_refused w slots places c.args.number c.in-Some.place number (subst KeepsItsJobs (sym view) c.requires) (c.in_default-take_held.ensures.none refl),
       ap (map phase_in) (c.in_default-take_held.ensures.same refl),
     )
 
 pub invariant_of-self-in-Some-outcome : goal.invariant_of-self-in-Some-outcome
 invariant_of-self-in-Some-outcome c =
-    let w = work_of c.self.inside.catalogue c.self.inside.nodes c.self.inside.first c.self.inside.entries.items c.self.inside.plans.items c.self.inside.start.value.rows in
+    let w = work_of c.self.inside.catalogue c.self.inside.arena c.self.inside.first c.self.inside.entries.items c.self.inside.plans.items c.self.inside.start.value.rows in
     let slots = c.self.inside.slots.items in
     let sound = c.rows_are_serial.ensures w.tables w.first (log_of w) w.start c.self.invariant.0.planned in
     let follows = c.admitted_and_unsettled_wait.ensures w.first (log_of w) in
-    let places = c.events_by_places.ensures w.nodes w.first (log_of w) (map phase_in slots) in
+    let places = c.events_by_places.ensures w.arena w.first (log_of w) (map phase_in slots) in
     let view : ◌≡◌ {A = Schedule} (record { work = w; slots = slots }) c.args.self.now = c.self.view_is in
     let number : c.args.number ≡ w.first + c.in-Some.place = c.in-Some.ensures.some.0 ∙ ap (λ (s : Schedule). s.work.first + c.in-Some.place) (sym view) in
     let was : slice_get slots c.in-Some.place ≡ Some (Held c.in-Some-take_held.job) = c.in-Some-take_held.ensures.was in
@@ -53,11 +53,11 @@ invariant_of-self-in-Some-outcome c =
 
 pub invariant_of-self-in-None : goal.invariant_of-self-in-None
 invariant_of-self-in-None c =
-    let w = work_of c.self.inside.catalogue c.self.inside.nodes c.self.inside.first c.self.inside.entries.items c.self.inside.plans.items c.self.inside.start.value.rows in
+    let w = work_of c.self.inside.catalogue c.self.inside.arena c.self.inside.first c.self.inside.entries.items c.self.inside.plans.items c.self.inside.start.value.rows in
     let slots = c.self.inside.slots.items in
     let sound = c.rows_are_serial.ensures w.tables w.first (log_of w) w.start c.self.invariant.0.planned in
     let follows = c.admitted_and_unsettled_wait.ensures w.first (log_of w) in
-    let places = c.events_by_places.ensures w.nodes w.first (log_of w) (map phase_in slots) in
+    let places = c.events_by_places.ensures w.arena w.first (log_of w) (map phase_in slots) in
     let view : ◌≡◌ {A = Schedule} (record { work = w; slots = slots }) c.args.self.now = c.self.view_is in
     let number : c.args.number ≡ w.first + c.in-Some.place = c.in-Some.ensures.some.0 ∙ ap (λ (s : Schedule). s.work.first + c.in-Some.place) (sym view) in
     let was : slice_get slots c.in-Some.place ≡ Some (Held c.in-Some-take_held.job) = c.in-Some-take_held.ensures.was in
@@ -75,11 +75,11 @@ invariant_of-self-in-None c =
 
 pub returns-in-Some-outcome-clause-answer : goal.returns-in-Some-outcome-clause-answer
 returns-in-Some-outcome-clause-answer c =
-    let w = work_of c.self.inside.catalogue c.self.inside.nodes c.self.inside.first c.self.inside.entries.items c.self.inside.plans.items c.self.inside.start.value.rows in
+    let w = work_of c.self.inside.catalogue c.self.inside.arena c.self.inside.first c.self.inside.entries.items c.self.inside.plans.items c.self.inside.start.value.rows in
     let slots = c.self.inside.slots.items in
     let sound = c.rows_are_serial.ensures w.tables w.first (log_of w) w.start c.self.invariant.0.planned in
     let follows = c.admitted_and_unsettled_wait.ensures w.first (log_of w) in
-    let places = c.events_by_places.ensures w.nodes w.first (log_of w) (map phase_in slots) in
+    let places = c.events_by_places.ensures w.arena w.first (log_of w) (map phase_in slots) in
     let view : ◌≡◌ {A = Schedule} (record { work = w; slots = slots }) c.args.self.now = c.self.view_is in
     let number : c.args.number ≡ w.first + c.in-Some.place = c.in-Some.ensures.some.0 ∙ ap (λ (s : Schedule). s.work.first + c.in-Some.place) (sym view) in
     let was : slice_get slots c.in-Some.place ≡ Some (Held c.in-Some-take_held.job) = c.in-Some-take_held.ensures.was in
@@ -89,16 +89,16 @@ returns-in-Some-outcome-clause-answer c =
     let run = run_at w c.in-Some.place sound c.in-Some-take_held.job job c.in-Some-outcome.outcome fits comes in
     let items : c.put.new.slots.items ≡ slice_set slots c.in-Some.place (Ran job c.in-Some-outcome.outcome) =
     c.put.ensures ∙ ap (λ (xs : List Slot). slice_set xs c.in-Some.place (Ran job c.in-Some-outcome.outcome)) c.in-Some-take_held.ensures.taken ∙ set_twice slots c.in-Some.place Lent (Ran job c.in-Some-outcome.outcome) in
-    subst (λ (s : Schedule). Answers s.work.nodes s.work.first (log_of s.work) (phases_of s) (event.Run c.args.number) answer.Made (map phase_in c.put.new.slots.items)) view
+    subst (λ (s : Schedule). Answers s.work.arena s.work.first (log_of s.work) (phases_of s) (event.Run c.args.number) answer.Made (map phase_in c.put.new.slots.items)) view
     (run_made w slots places c.args.number c.in-Some.place number c.put.new.slots.items c.in-Some-take_held.job job c.in-Some-outcome.outcome was items)
 
 pub returns-in-Some-outcome-clause-keeps : goal.returns-in-Some-outcome-clause-keeps
 returns-in-Some-outcome-clause-keeps c =
-    let w = work_of c.self.inside.catalogue c.self.inside.nodes c.self.inside.first c.self.inside.entries.items c.self.inside.plans.items c.self.inside.start.value.rows in
+    let w = work_of c.self.inside.catalogue c.self.inside.arena c.self.inside.first c.self.inside.entries.items c.self.inside.plans.items c.self.inside.start.value.rows in
     let slots = c.self.inside.slots.items in
     let sound = c.rows_are_serial.ensures w.tables w.first (log_of w) w.start c.self.invariant.0.planned in
     let follows = c.admitted_and_unsettled_wait.ensures w.first (log_of w) in
-    let places = c.events_by_places.ensures w.nodes w.first (log_of w) (map phase_in slots) in
+    let places = c.events_by_places.ensures w.arena w.first (log_of w) (map phase_in slots) in
     let view : ◌≡◌ {A = Schedule} (record { work = w; slots = slots }) c.args.self.now = c.self.view_is in
     let number : c.args.number ≡ w.first + c.in-Some.place = c.in-Some.ensures.some.0 ∙ ap (λ (s : Schedule). s.work.first + c.in-Some.place) (sym view) in
     let was : slice_get slots c.in-Some.place ≡ Some (Held c.in-Some-take_held.job) = c.in-Some-take_held.ensures.was in
@@ -113,11 +113,11 @@ returns-in-Some-outcome-clause-keeps c =
 
 pub returns-in-None-clause-answer : goal.returns-in-None-clause-answer
 returns-in-None-clause-answer c =
-    let w = work_of c.self.inside.catalogue c.self.inside.nodes c.self.inside.first c.self.inside.entries.items c.self.inside.plans.items c.self.inside.start.value.rows in
+    let w = work_of c.self.inside.catalogue c.self.inside.arena c.self.inside.first c.self.inside.entries.items c.self.inside.plans.items c.self.inside.start.value.rows in
     let slots = c.self.inside.slots.items in
     let sound = c.rows_are_serial.ensures w.tables w.first (log_of w) w.start c.self.invariant.0.planned in
     let follows = c.admitted_and_unsettled_wait.ensures w.first (log_of w) in
-    let places = c.events_by_places.ensures w.nodes w.first (log_of w) (map phase_in slots) in
+    let places = c.events_by_places.ensures w.arena w.first (log_of w) (map phase_in slots) in
     let view : ◌≡◌ {A = Schedule} (record { work = w; slots = slots }) c.args.self.now = c.self.view_is in
     let number : c.args.number ≡ w.first + c.in-Some.place = c.in-Some.ensures.some.0 ∙ ap (λ (s : Schedule). s.work.first + c.in-Some.place) (sym view) in
     let was : slice_get slots c.in-Some.place ≡ Some (Held c.in-Some-take_held.job) = c.in-Some-take_held.ensures.was in
@@ -130,11 +130,11 @@ returns-in-None-clause-answer c =
 
 pub returns-in-None-clause-keeps : goal.returns-in-None-clause-keeps
 returns-in-None-clause-keeps c =
-    let w = work_of c.self.inside.catalogue c.self.inside.nodes c.self.inside.first c.self.inside.entries.items c.self.inside.plans.items c.self.inside.start.value.rows in
+    let w = work_of c.self.inside.catalogue c.self.inside.arena c.self.inside.first c.self.inside.entries.items c.self.inside.plans.items c.self.inside.start.value.rows in
     let slots = c.self.inside.slots.items in
     let sound = c.rows_are_serial.ensures w.tables w.first (log_of w) w.start c.self.invariant.0.planned in
     let follows = c.admitted_and_unsettled_wait.ensures w.first (log_of w) in
-    let places = c.events_by_places.ensures w.nodes w.first (log_of w) (map phase_in slots) in
+    let places = c.events_by_places.ensures w.arena w.first (log_of w) (map phase_in slots) in
     let view : ◌≡◌ {A = Schedule} (record { work = w; slots = slots }) c.args.self.now = c.self.view_is in
     let number : c.args.number ≡ w.first + c.in-Some.place = c.in-Some.ensures.some.0 ∙ ap (λ (s : Schedule). s.work.first + c.in-Some.place) (sym view) in
     let was : slice_get slots c.in-Some.place ≡ Some (Held c.in-Some-take_held.job) = c.in-Some-take_held.ensures.was in
@@ -148,7 +148,7 @@ returns-in-None-clause-keeps c =
 
 pub returns-in-None-clause-same : goal.returns-in-None-clause-same
 returns-in-None-clause-same c = λ _.
-    let w = work_of c.self.inside.catalogue c.self.inside.nodes c.self.inside.first c.self.inside.entries.items c.self.inside.plans.items c.self.inside.start.value.rows in
+    let w = work_of c.self.inside.catalogue c.self.inside.arena c.self.inside.first c.self.inside.entries.items c.self.inside.plans.items c.self.inside.start.value.rows in
     let slots = c.self.inside.slots.items in
     let view : ◌≡◌ {A = Schedule} (record { work = w; slots = slots }) c.args.self.now = c.self.view_is in
     let was : slice_get slots c.in-Some.place ≡ Some (Held c.in-Some-take_held.job) = c.in-Some-take_held.ensures.was in

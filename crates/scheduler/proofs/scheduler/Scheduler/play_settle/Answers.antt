@@ -18,11 +18,11 @@ use Rattle.scheduler.proofs.scheduler.Scheduler.play_settle.Goals as goal
 
 pub give_back-requires-clause-lent : goal.give_back-requires-clause-lent
 give_back-requires-clause-lent c =
-    let w = work_of c.self.inside.catalogue c.self.inside.nodes c.self.inside.first c.self.inside.entries.items c.self.inside.plans.items c.self.inside.start.value.rows in
+    let w = work_of c.self.inside.catalogue c.self.inside.arena c.self.inside.first c.self.inside.entries.items c.self.inside.plans.items c.self.inside.start.value.rows in
     let slots = c.self.inside.slots.items in
     let sound = c.rows_are_serial.ensures w.tables w.first (log_of w) w.start c.self.invariant.0.planned in
     let follows = c.admitted_and_unsettled_wait.ensures w.first (log_of w) in
-    let places = c.events_by_places.ensures w.nodes w.first (log_of w) (map phase_in slots) in
+    let places = c.events_by_places.ensures w.arena w.first (log_of w) (map phase_in slots) in
     let view : ◌≡◌ {A = Schedule} (record { work = w; slots = slots }) c.args.self.now = c.self.view_is in
     let number : c.args.number ≡ w.first + c.in-Some.place = c.in-Some.ensures.some.0 ∙ ap (λ (s : Schedule). s.work.first + c.in-Some.place) (sym view) in
     let old = Ran c.in-Some-take_run.job c.in-Some-take_run.outcome in
@@ -32,11 +32,11 @@ give_back-requires-clause-lent c =
 
 pub give_back-requires-clause-there : goal.give_back-requires-clause-there
 give_back-requires-clause-there c =
-    let w = work_of c.self.inside.catalogue c.self.inside.nodes c.self.inside.first c.self.inside.entries.items c.self.inside.plans.items c.self.inside.start.value.rows in
+    let w = work_of c.self.inside.catalogue c.self.inside.arena c.self.inside.first c.self.inside.entries.items c.self.inside.plans.items c.self.inside.start.value.rows in
     let slots = c.self.inside.slots.items in
     let sound = c.rows_are_serial.ensures w.tables w.first (log_of w) w.start c.self.invariant.0.planned in
     let follows = c.admitted_and_unsettled_wait.ensures w.first (log_of w) in
-    let places = c.events_by_places.ensures w.nodes w.first (log_of w) (map phase_in slots) in
+    let places = c.events_by_places.ensures w.arena w.first (log_of w) (map phase_in slots) in
     let view : ◌≡◌ {A = Schedule} (record { work = w; slots = slots }) c.args.self.now = c.self.view_is in
     let number : c.args.number ≡ w.first + c.in-Some.place = c.in-Some.ensures.some.0 ∙ ap (λ (s : Schedule). s.work.first + c.in-Some.place) (sym view) in
     let old = Ran c.in-Some-take_run.job c.in-Some-take_run.outcome in
@@ -46,11 +46,11 @@ give_back-requires-clause-there c =
 
 pub give_back-requires-clause-tables : goal.give_back-requires-clause-tables
 give_back-requires-clause-tables c =
-    let w = work_of c.self.inside.catalogue c.self.inside.nodes c.self.inside.first c.self.inside.entries.items c.self.inside.plans.items c.self.inside.start.value.rows in
+    let w = work_of c.self.inside.catalogue c.self.inside.arena c.self.inside.first c.self.inside.entries.items c.self.inside.plans.items c.self.inside.start.value.rows in
     let slots = c.self.inside.slots.items in
     let sound = c.rows_are_serial.ensures w.tables w.first (log_of w) w.start c.self.invariant.0.planned in
     let follows = c.admitted_and_unsettled_wait.ensures w.first (log_of w) in
-    let places = c.events_by_places.ensures w.nodes w.first (log_of w) (map phase_in slots) in
+    let places = c.events_by_places.ensures w.arena w.first (log_of w) (map phase_in slots) in
     let view : ◌≡◌ {A = Schedule} (record { work = w; slots = slots }) c.args.self.now = c.self.view_is in
     let number : c.args.number ≡ w.first + c.in-Some.place = c.in-Some.ensures.some.0 ∙ ap (λ (s : Schedule). s.work.first + c.in-Some.place) (sym view) in
     let old = Ran c.in-Some-take_run.job c.in-Some-take_run.outcome in
@@ -60,11 +60,11 @@ give_back-requires-clause-tables c =
 
 pub count_settled-self-inside-requires-clause-before : goal.count_settled-self-inside-requires-clause-before
 count_settled-self-inside-requires-clause-before c =
-    let w = work_of c.self.inside.catalogue c.self.inside.nodes c.self.inside.first c.self.inside.entries.items c.self.inside.plans.items c.self.inside.start.value.rows in
+    let w = work_of c.self.inside.catalogue c.self.inside.arena c.self.inside.first c.self.inside.entries.items c.self.inside.plans.items c.self.inside.start.value.rows in
     let slots = c.self.inside.slots.items in
     let sound = c.rows_are_serial.ensures w.tables w.first (log_of w) w.start c.self.invariant.0.planned in
     let follows = c.admitted_and_unsettled_wait.ensures w.first (log_of w) in
-    let places = c.events_by_places.ensures w.nodes w.first (log_of w) (map phase_in slots) in
+    let places = c.events_by_places.ensures w.arena w.first (log_of w) (map phase_in slots) in
     let view : ◌≡◌ {A = Schedule} (record { work = w; slots = slots }) c.args.self.now = c.self.view_is in
     let number : c.args.number ≡ w.first + c.in-Some.place = c.in-Some.ensures.some.0 ∙ ap (λ (s : Schedule). s.work.first + c.in-Some.place) (sym view) in
     let old = Ran c.in-Some-take_run.job c.in-Some-take_run.outcome in
@@ -78,11 +78,11 @@ count_settled-self-inside-requires-clause-before c =
 
 pub invariant_of-self-2 : goal.invariant_of-self-2
 invariant_of-self-2 c =
-    let w = work_of c.self.inside.catalogue c.self.inside.nodes c.self.inside.first c.self.inside.entries.items c.self.inside.plans.items c.self.inside.start.value.rows in
+    let w = work_of c.self.inside.catalogue c.self.inside.arena c.self.inside.first c.self.inside.entries.items c.self.inside.plans.items c.self.inside.start.value.rows in
     let slots = c.self.inside.slots.items in
     let sound = c.rows_are_serial.ensures w.tables w.first (log_of w) w.start c.self.invariant.0.planned in
     let follows = c.admitted_and_unsettled_wait.ensures w.first (log_of w) in
-    let places = c.events_by_places.ensures w.nodes w.first (log_of w) (map phase_in slots) in
+    let places = c.events_by_places.ensures w.arena w.first (log_of w) (map phase_in slots) in
     let view : ◌≡◌ {A = Schedule} (record { work = w; slots = slots }) c.args.self.now = c.self.view_is in
     let number : c.args.number ≡ w.first + c.in-Some.place = c.in-Some.ensures.some.0 ∙ ap (λ (s : Schedule). s.work.first + c.in-Some.place) (sym view) in
     let old = Ran c.in-Some-take_run.job c.in-Some-take_run.outcome in
@@ -103,11 +103,11 @@ invariant_of-self-2 c =
 
 pub returns-clause-answer : goal.returns-clause-answer
 returns-clause-answer c =
-    let w = work_of c.self.inside.catalogue c.self.inside.nodes c.self.inside.first c.self.inside.entries.items c.self.inside.plans.items c.self.inside.start.value.rows in
+    let w = work_of c.self.inside.catalogue c.self.inside.arena c.self.inside.first c.self.inside.entries.items c.self.inside.plans.items c.self.inside.start.value.rows in
     let slots = c.self.inside.slots.items in
     let sound = c.rows_are_serial.ensures w.tables w.first (log_of w) w.start c.self.invariant.0.planned in
     let follows = c.admitted_and_unsettled_wait.ensures w.first (log_of w) in
-    let places = c.events_by_places.ensures w.nodes w.first (log_of w) (map phase_in slots) in
+    let places = c.events_by_places.ensures w.arena w.first (log_of w) (map phase_in slots) in
     let view : ◌≡◌ {A = Schedule} (record { work = w; slots = slots }) c.args.self.now = c.self.view_is in
     let number : c.args.number ≡ w.first + c.in-Some.place = c.in-Some.ensures.some.0 ∙ ap (λ (s : Schedule). s.work.first + c.in-Some.place) (sym view) in
     let old = Ran c.in-Some-take_run.job c.in-Some-take_run.outcome in
@@ -116,16 +116,16 @@ returns-clause-answer c =
     let taken : c.take_run.new.slots.items ≡ slice_set slots c.in-Some.place Lent = c.in-Some-take_run.ensures.taken in
     let items : c.put.new.slots.items ≡ slice_set slots c.in-Some.place (Settled c.in-Some-take_run.outcome) =
     c.put.ensures ∙ ap (λ (xs : List Slot). slice_set xs c.in-Some.place (Settled c.in-Some-take_run.outcome)) taken ∙ set_twice slots c.in-Some.place Lent (Settled c.in-Some-take_run.outcome) in
-    subst (λ (s : Schedule). Answers s.work.nodes s.work.first (log_of s.work) (phases_of s) (event.Settle c.args.number) answer.Made (map phase_in c.put.new.slots.items)) view
+    subst (λ (s : Schedule). Answers s.work.arena s.work.first (log_of s.work) (phases_of s) (event.Settle c.args.number) answer.Made (map phase_in c.put.new.slots.items)) view
     (settle_made w slots places c.args.number c.in-Some.place number c.put.new.slots.items c.in-Some-take_run.job c.in-Some-take_run.outcome c.in-Some-take_run.outcome was items)
 
 pub returns-clause-keeps : goal.returns-clause-keeps
 returns-clause-keeps c =
-    let w = work_of c.self.inside.catalogue c.self.inside.nodes c.self.inside.first c.self.inside.entries.items c.self.inside.plans.items c.self.inside.start.value.rows in
+    let w = work_of c.self.inside.catalogue c.self.inside.arena c.self.inside.first c.self.inside.entries.items c.self.inside.plans.items c.self.inside.start.value.rows in
     let slots = c.self.inside.slots.items in
     let sound = c.rows_are_serial.ensures w.tables w.first (log_of w) w.start c.self.invariant.0.planned in
     let follows = c.admitted_and_unsettled_wait.ensures w.first (log_of w) in
-    let places = c.events_by_places.ensures w.nodes w.first (log_of w) (map phase_in slots) in
+    let places = c.events_by_places.ensures w.arena w.first (log_of w) (map phase_in slots) in
     let view : ◌≡◌ {A = Schedule} (record { work = w; slots = slots }) c.args.self.now = c.self.view_is in
     let number : c.args.number ≡ w.first + c.in-Some.place = c.in-Some.ensures.some.0 ∙ ap (λ (s : Schedule). s.work.first + c.in-Some.place) (sym view) in
     let old = Ran c.in-Some-take_run.job c.in-Some-take_run.outcome in

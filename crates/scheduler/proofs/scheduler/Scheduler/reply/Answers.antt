@@ -9,7 +9,7 @@ use Rattle.scheduler.proofs.scheduler.Scheduler.reply.Goals as goal
 
 pub returns-clause-serial : goal.returns-clause-serial
 returns-clause-serial c =
-    let w = work_of c.self.inside.catalogue c.self.inside.nodes c.self.inside.first c.self.inside.entries.items c.self.inside.plans.items c.self.inside.start.value.rows in
+    let w = work_of c.self.inside.catalogue c.self.inside.arena c.self.inside.first c.self.inside.entries.items c.self.inside.plans.items c.self.inside.start.value.rows in
     subst (λ (s : Schedule). IfSome c.outcome_at.result (λ outcome. serial_reply (log_of s.work) s.work.start (c.args.no - s.work.first) ≡ Some (as_reply outcome.now))) c.self.view_is
     (if_some c.outcome_at.result c.outcome_at.ensures.kept
     (λ outcome at. c.self.invariant.1.kept (c.args.no - c.self.inside.first) (Settled outcome.now) (subst (λ (xs : List Slot). slice_get xs (c.args.no - c.self.inside.first) ≡ Some (Settled outcome.now)) c.deref.ensures.value at)))

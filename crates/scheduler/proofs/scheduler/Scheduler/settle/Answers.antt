@@ -16,7 +16,7 @@ use Rattle.scheduler.proofs.scheduler.Scheduler.settle.Goals as goal
 
 pub give_back-requires-clause-lent : goal.give_back-requires-clause-lent
 give_back-requires-clause-lent c =
-    let w = work_of c.self.inside.catalogue c.self.inside.nodes c.self.inside.first c.self.inside.entries.items c.self.inside.plans.items c.self.inside.start.value.rows in
+    let w = work_of c.self.inside.catalogue c.self.inside.arena c.self.inside.first c.self.inside.entries.items c.self.inside.plans.items c.self.inside.start.value.rows in
     let sound = c.rows_are_serial.ensures w.tables w.first (log_of w) w.start c.self.invariant.0.planned in
     let follows = c.admitted_and_unsettled_wait.ensures w.first (log_of w) in
     let place = c.no-number.result - c.self.inside.first in
@@ -30,7 +30,7 @@ give_back-requires-clause-lent c =
 
 pub give_back-requires-clause-there : goal.give_back-requires-clause-there
 give_back-requires-clause-there c =
-    let w = work_of c.self.inside.catalogue c.self.inside.nodes c.self.inside.first c.self.inside.entries.items c.self.inside.plans.items c.self.inside.start.value.rows in
+    let w = work_of c.self.inside.catalogue c.self.inside.arena c.self.inside.first c.self.inside.entries.items c.self.inside.plans.items c.self.inside.start.value.rows in
     let sound = c.rows_are_serial.ensures w.tables w.first (log_of w) w.start c.self.invariant.0.planned in
     let follows = c.admitted_and_unsettled_wait.ensures w.first (log_of w) in
     let place = c.no-number.result - c.self.inside.first in
@@ -44,7 +44,7 @@ give_back-requires-clause-there c =
 
 pub put-requires : goal.put-requires
 put-requires c =
-    let w = work_of c.self.inside.catalogue c.self.inside.nodes c.self.inside.first c.self.inside.entries.items c.self.inside.plans.items c.self.inside.start.value.rows in
+    let w = work_of c.self.inside.catalogue c.self.inside.arena c.self.inside.first c.self.inside.entries.items c.self.inside.plans.items c.self.inside.start.value.rows in
     let sound = c.rows_are_serial.ensures w.tables w.first (log_of w) w.start c.self.invariant.0.planned in
     let follows = c.admitted_and_unsettled_wait.ensures w.first (log_of w) in
     let place = c.no-number.result - c.self.inside.first in
@@ -58,7 +58,7 @@ put-requires c =
 
 pub count_settled-self-inside-requires-clause-before : goal.count_settled-self-inside-requires-clause-before
 count_settled-self-inside-requires-clause-before c =
-    let w = work_of c.self.inside.catalogue c.self.inside.nodes c.self.inside.first c.self.inside.entries.items c.self.inside.plans.items c.self.inside.start.value.rows in
+    let w = work_of c.self.inside.catalogue c.self.inside.arena c.self.inside.first c.self.inside.entries.items c.self.inside.plans.items c.self.inside.start.value.rows in
     let sound = c.rows_are_serial.ensures w.tables w.first (log_of w) w.start c.self.invariant.0.planned in
     let follows = c.admitted_and_unsettled_wait.ensures w.first (log_of w) in
     let place = c.no-number.result - c.self.inside.first in
@@ -73,7 +73,7 @@ count_settled-self-inside-requires-clause-before c =
 
 pub invariant_of-self : goal.invariant_of-self
 invariant_of-self c =
-    let w = work_of c.self.inside.catalogue c.self.inside.nodes c.self.inside.first c.self.inside.entries.items c.self.inside.plans.items c.self.inside.start.value.rows in
+    let w = work_of c.self.inside.catalogue c.self.inside.arena c.self.inside.first c.self.inside.entries.items c.self.inside.plans.items c.self.inside.start.value.rows in
     let sound = c.rows_are_serial.ensures w.tables w.first (log_of w) w.start c.self.invariant.0.planned in
     let follows = c.admitted_and_unsettled_wait.ensures w.first (log_of w) in
     let place = c.no-number.result - c.self.inside.first in
@@ -95,7 +95,7 @@ invariant_of-self c =
 
 pub take_back-requires-clause-lent : goal.take_back-requires-clause-lent
 take_back-requires-clause-lent c =
-    let w = work_of c.self.inside.catalogue c.self.inside.nodes c.self.inside.first c.self.inside.entries.items c.self.inside.plans.items c.self.inside.start.value.rows in
+    let w = work_of c.self.inside.catalogue c.self.inside.arena c.self.inside.first c.self.inside.entries.items c.self.inside.plans.items c.self.inside.start.value.rows in
     let sound = c.rows_are_serial.ensures w.tables w.first (log_of w) w.start c.self.invariant.0.planned in
     let follows = c.admitted_and_unsettled_wait.ensures w.first (log_of w) in
     let place = c.no-number.result - c.self.inside.first in
@@ -109,7 +109,7 @@ take_back-requires-clause-lent c =
 
 pub take_back-requires-clause-there : goal.take_back-requires-clause-there
 take_back-requires-clause-there c =
-    let w = work_of c.self.inside.catalogue c.self.inside.nodes c.self.inside.first c.self.inside.entries.items c.self.inside.plans.items c.self.inside.start.value.rows in
+    let w = work_of c.self.inside.catalogue c.self.inside.arena c.self.inside.first c.self.inside.entries.items c.self.inside.plans.items c.self.inside.start.value.rows in
     let sound = c.rows_are_serial.ensures w.tables w.first (log_of w) w.start c.self.invariant.0.planned in
     let follows = c.admitted_and_unsettled_wait.ensures w.first (log_of w) in
     let place = c.no-number.result - c.self.inside.first in
@@ -123,7 +123,7 @@ take_back-requires-clause-there c =
 
 pub put-requires-in-None : goal.put-requires-in-None
 put-requires-in-None c =
-    let w = work_of c.self.inside.catalogue c.self.inside.nodes c.self.inside.first c.self.inside.entries.items c.self.inside.plans.items c.self.inside.start.value.rows in
+    let w = work_of c.self.inside.catalogue c.self.inside.arena c.self.inside.first c.self.inside.entries.items c.self.inside.plans.items c.self.inside.start.value.rows in
     let sound = c.rows_are_serial.ensures w.tables w.first (log_of w) w.start c.self.invariant.0.planned in
     let follows = c.admitted_and_unsettled_wait.ensures w.first (log_of w) in
     let place = c.no-number.result - c.self.inside.first in
@@ -137,7 +137,7 @@ put-requires-in-None c =
 
 pub invariant_of-self-in-None : goal.invariant_of-self-in-None
 invariant_of-self-in-None c =
-    let w = work_of c.self.inside.catalogue c.self.inside.nodes c.self.inside.first c.self.inside.entries.items c.self.inside.plans.items c.self.inside.start.value.rows in
+    let w = work_of c.self.inside.catalogue c.self.inside.arena c.self.inside.first c.self.inside.entries.items c.self.inside.plans.items c.self.inside.start.value.rows in
     let sound = c.rows_are_serial.ensures w.tables w.first (log_of w) w.start c.self.invariant.0.planned in
     let follows = c.admitted_and_unsettled_wait.ensures w.first (log_of w) in
     let place = c.no-number.result - c.self.inside.first in
@@ -159,7 +159,7 @@ invariant_of-self-in-None c =
 
 pub returns-in-None-clause-ready : goal.returns-in-None-clause-ready
 returns-in-None-clause-ready c = λ _.
-    let w = work_of c.self.inside.catalogue c.self.inside.nodes c.self.inside.first c.self.inside.entries.items c.self.inside.plans.items c.self.inside.start.value.rows in
+    let w = work_of c.self.inside.catalogue c.self.inside.arena c.self.inside.first c.self.inside.entries.items c.self.inside.plans.items c.self.inside.start.value.rows in
     let sound = c.rows_are_serial.ensures w.tables w.first (log_of w) w.start c.self.invariant.0.planned in
     let follows = c.admitted_and_unsettled_wait.ensures w.first (log_of w) in
     let place = c.no-number.result - c.self.inside.first in
@@ -168,6 +168,6 @@ returns-in-None-clause-ready c = λ _.
     let b = back_parts (record { work = w; slots = c.self.inside.slots.items }) c.args.done c.no-number.result job c.into_parts-job.result.1 None back c.no-number.ensures c.into_parts-job.ensures.job c.into_parts-job.ensures.outcome c.in-None.is in
     let at = (given_back w place b.1 job b.2 b.3).job_at in
     let number = number_there w place job c.no-number.result c.args.done at c.no-number.ensures c.into_parts-job.ensures.job in
-    let by_places = c.events_by_places.ensures w.nodes w.first (log_of w) (map phase_in (slice_set c.self.inside.slots.items place Idle)) in
-    subst (λ (slots : List Slot). enabled w.nodes w.first (log_of w) (map phase_in slots) (Lend c.args.done.job.number) ≡ true) (sym c.put-in-None.ensures)
+    let by_places = c.events_by_places.ensures w.arena w.first (log_of w) (map phase_in (slice_set c.self.inside.slots.items place Idle)) in
+    subst (λ (slots : List Slot). enabled w.arena w.first (log_of w) (map phase_in slots) (Lend c.args.done.job.number) ≡ true) (sym c.put-in-None.ensures)
     (can_be_lent w place sound c.self.inside.slots.items c.self.inside.store c.self.inside.locks follows c.self.invariant.1 Lent b.0 refl refl job at by_places c.args.done.job.number (sym c.no-number.ensures ∙ number))

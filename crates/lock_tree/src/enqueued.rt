@@ -10,25 +10,25 @@ use values::NoMemory;
 
 /// A transaction with its plan, and whether each of its requests is granted.
 #[derive(Drop)]
-pub(crate) struct Entry {
+pub(crate) struct Enqueued {
     pub(crate) number: u64,
     pub(crate) plan: Vec<(Resource, Mode)>,
     pub(crate) marked: bool,
     pub(crate) ready: bool,
 }
 
-impl Entry {
+impl Enqueued {
     /// A transaction without a mark.
     pub(crate) fn new(
         alloc: Global,
         number: u64,
         plan: &[(Resource, Mode)],
-    ) -> Result<Entry, NoMemory>
+    ) -> Result<Enqueued, NoMemory>
         ensures { IfOk result (λ entry.
             waiting_of entry ≡ record { number = number; plan = plan.now; marked = false }) }
     {
         let plan = Vec::from_slice(alloc, plan)?;
-        Ok(Entry {
+        Ok(Enqueued {
             number,
             plan,
             marked: false,
