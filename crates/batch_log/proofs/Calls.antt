@@ -12,7 +12,7 @@ use Rattle.values.specs.declared.value.ColType.TheVariants as types
 use Rattle.values.specs.declared.value.Value.{Value}
 use Rattle.values.specs.declared.value.Value.TheVariants as values
 use Rattle.values.specs.Rows.{type_of}
-use Rattle.values.specs.Said.{values_said}
+use Rattle.catalogue.specs.Said.{values_said}
 use Rattle.proclang_types.specs.Procedures.{ProcParts}
 use Rattle.proclang_types.specs.Syntax.{ParamShape}
 use Rattle.requests.specs.ProcLists.{proc_named}

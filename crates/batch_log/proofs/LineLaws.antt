@@ -14,7 +14,7 @@ use Rattle.documents.proofs.FirstFault.{ok_first}
 use Rattle.documents.proofs.Said.{string_said, elements_said, elements_again}
 use Rattle.documents.proofs.Steps.{bind_ok, rule_ok, formed_ok, and_then_ok, map_ok}
 use Rattle.values.specs.declared.value.Value.{Value}
-use Rattle.values.specs.Said.{values_said}
+use Rattle.catalogue.specs.Said.{values_said}
 use Rattle.proclang_types.specs.Procedures.{ProcParts}
 use Rattle.requests.specs.ProcLists.{proc_named}
 use Rattle.requests.specs.Requests as requests

@@ -7,7 +7,7 @@ use Rattle.serde_json.specs.Read.{read}
 use Rattle.serde_json.specs.View.{items_of}
 use Rattle.documents.specs.FirstFault.{broken, IsFirst}
 use Rattle.values.specs.declared.value.Value.{Value}
-use Rattle.values.specs.Said.{values_said}
+use Rattle.catalogue.specs.Said.{values_said}
 use Rattle.proclang_types.specs.Procedures.{ProcParts}
 use Rattle.requests.specs.ProcLists.{proc_named}
 use Rattle.requests.specs.Requests as requests

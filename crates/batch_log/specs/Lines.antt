@@ -8,8 +8,8 @@ use Rattle.serde_json.specs.Read.{read}
 use Rattle.documents.specs.Reading.{◌>>=◌, formed, rule}
 use Rattle.devices.specs.Lines.{numbered_lines}
 use Rattle.values.specs.declared.value.Value.{Value}
-use Rattle.values.specs.Said.{values_said}
-use Rattle.values.specs.Shapes.{TableShape}
+use Rattle.catalogue.specs.Said.{values_said}
+use Rattle.catalogue.specs.Shapes.{TableShape}
 use Rattle.proclang_types.specs.Syntax.{ParamShape}
 use Rattle.proclang_types.specs.Procedures.{ProcParts}
 use Rattle.requests.specs.ProcLists.{proc_named}

@@ -12,7 +12,7 @@ use requests::{Procs, Request, RequestFault};
 use serde_json::Value;
 use std::alloc::Global;
 use std::str;
-use values::read_values;
+use catalogue::read_values;
 
 /// What a line of a log says.
 #[derive(Drop)]

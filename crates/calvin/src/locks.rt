@@ -15,7 +15,8 @@ use running::RunFault;
 use sequencer::{Batch, BatchFault, prepare};
 use setup::Setup;
 use std::alloc::Global;
-use values::{Catalogue, NoMemory};
+use catalogue::Catalogue;
+use values::NoMemory;
 
 /// Appends the lines of an entry's plan. An entry whose declaration faults has an empty plan.
 fn push_entry(

@@ -7,7 +7,7 @@ use batch_log::LogFaultKind;
 use proclang::ProcFault;
 use running::RunFault;
 use setup::SetupFault;
-use values::CatalogueFault;
+use catalogue::CatalogueFault;
 
 /// The command was done.
 pub(crate) const DONE: u8 = 0;

@@ -5,9 +5,9 @@ use Rattle.std.proofs.Math.Nat.{mod-eq_of_lt}
 use Rattle.std.proofs.lemmas.Bool.Decides.{nat_tests}
 use Rattle.std.proofs.lemmas.Option.{slice_get_within}
 use Rattle.values.specs.declared.name.RowName.{RowName}
-use Rattle.values.specs.Shapes.{TableShape}
-use Rattle.values.specs.Keys.{partition_of}
-use Rattle.values.specs.Rules.{IsCatalogue, IsTable}
+use Rattle.catalogue.specs.Shapes.{TableShape}
+use Rattle.catalogue.specs.Places.{partition_of}
+use Rattle.catalogue.specs.Rules.{IsCatalogue, IsTable}
 use Rattle.footprint.specs.declared.resource.InPart.TheVariants.{WholePart, Row}
 use Rattle.footprint.specs.declared.resource.InTable.TheVariants.{WholeTable, Part}
 use Rattle.footprint.specs.declared.resource.Resource.{Resource}

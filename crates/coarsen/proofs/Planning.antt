@@ -4,8 +4,8 @@ use Rattle.std.proofs.lemmas.Bool.Decides.{nat_tests}
 use Rattle.std.specs.List.{Contains}
 use Rattle.std.specs.List.Sorted.{IsStrictlySortedBy}
 use Rattle.std.specs.FinMap.{entries, get, empty}
-use Rattle.values.specs.Shapes.{TableShape}
-use Rattle.values.specs.Rules.{IsCatalogue}
+use Rattle.catalogue.specs.Shapes.{TableShape}
+use Rattle.catalogue.specs.Rules.{IsCatalogue}
 use Rattle.proclang_types.specs.declared.right.Right.{Right}
 use Rattle.footprint.specs.declared.resource.Resource.{Resource}
 use Rattle.footprint.specs.declared.resource.Resource.TheVariants.{Db}

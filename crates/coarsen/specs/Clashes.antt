@@ -3,7 +3,7 @@
 use Rattle.std.specs.Prelude.{◌≡◌, Bool, true, false, List}
 use Rattle.std.specs.List.{Contains}
 use Rattle.values.specs.declared.name.RowName.{RowName}
-use Rattle.values.specs.Shapes.{TableShape}
+use Rattle.catalogue.specs.Shapes.{TableShape}
 use Rattle.proclang_types.specs.declared.right.Right.{Right}
 use Rattle.footprint.specs.declared.resource.Resource.{Resource}
 use Rattle.footprint.specs.Tree.{row_resource}

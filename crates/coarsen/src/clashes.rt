@@ -4,8 +4,8 @@ ghost use Rattle.std.specs.Prelude.{◌≡◌, ◌↔◌, true, List};
 ghost use Rattle.std.specs.Map.{keys_of};
 ghost use Rattle.std.specs.List.Sorted.{IsStrictlySortedBy};
 ghost use Rattle.footprint.specs.Tree.{resource_cmp};
-ghost use Rattle.values.specs.Shapes.{TableShape};
-ghost use Rattle.values.specs.Rules.{IsCatalogue};
+ghost use Rattle.catalogue.specs.Shapes.{TableShape};
+ghost use Rattle.catalogue.specs.Rules.{IsCatalogue};
 ghost use Rattle.coarsen.specs.Plans.{IsPlanOver};
 ghost use Rattle.coarsen.specs.Clashes.{Clash, ModesClash};
 

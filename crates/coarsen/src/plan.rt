@@ -2,8 +2,8 @@
 
 ghost use Rattle.std.specs.Prelude.{◌≡◌, ◌≤◌, ◌<◌, true, List, [], IfOk, length};
 ghost use Rattle.std.specs.FinMap as map;
-ghost use Rattle.values.specs.Shapes.{TableShape};
-ghost use Rattle.values.specs.Rules.{IsCatalogue};
+ghost use Rattle.catalogue.specs.Shapes.{TableShape};
+ghost use Rattle.catalogue.specs.Rules.{IsCatalogue};
 ghost use Rattle.footprint.specs.declared.resource.Resource.{Resource as AnyResource};
 ghost use Rattle.proclang_types.specs.declared.right.Right.{Right as AnyRight};
 ghost use Rattle.footprint.specs.Rights.{covers};

@@ -3,7 +3,7 @@ use denote.Param.Send.{IsSend, IsSync, sendable}
 use denote.Ref.{NamedLft}
 use Rattle.std.proofs.Crossing.{crosses}
 use Rattle.std.proofs.MapsCrossing as maps
-use Rattle.values.proofs.catalogue.Catalogue.TheSendSync as catalogue
+use Rattle.catalogue.proofs.catalogue.Catalogue.TheSendSync as catalogue
 use Rattle.values.proofs.name.TableNo.TheSendSync as table_no
 use Rattle.values.proofs.value.Value.TheSendSync as value
 use Rattle.proclang_types.proofs.expression.TextExpr.TheSendSync as text_expr

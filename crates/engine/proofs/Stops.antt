@@ -1,6 +1,6 @@
 -- Where a batch stops.
 use Rattle.std.proofs.Common.{◌≡◌, ℕ, List, map, Option, Some, refl, sym, ap, ◌∙◌, subst}
-use Rattle.values.specs.Shapes.{TableShape}
+use Rattle.catalogue.specs.Shapes.{TableShape}
 use Rattle.interp.specs.Entries.{entry_shape}
 use Rattle.scheduler.specs.Schedules.{Schedule, Work, phases_of}
 use Rattle.engine.specs.declared.pool.Refusal.{Refusal}

@@ -2,7 +2,7 @@
 -- An engine as contracts see it.
 use Rattle.std.specs.Prelude.{◌≡◌, ℕ, List, Bool, Option, is_some, true, false, refl, slice_get}
 use Rattle.std.specs.Coded.{Coded, code_by, coded×, coded_ℕ, coded_list, coded_option}
-use Rattle.values.specs.Shapes.{TableShape}
+use Rattle.catalogue.specs.Shapes.{TableShape}
 use Rattle.values.specs.Database.{Database}
 use Rattle.requests.specs.ProcLists.{ProcsParts}
 use Rattle.requests.specs.contracts.procs.Procs as procs

@@ -2,7 +2,7 @@
 -- The stages of an engine.
 use Rattle.std.specs.Prelude.{◌≡◌, ◌+◌, ◌≤◌, ◌^◌, ℕ, List, length, map, Option, Some, None}
 use Rattle.std.specs.FinMap.{empty}
-use Rattle.values.specs.Shapes.{TableShape}
+use Rattle.catalogue.specs.Shapes.{TableShape}
 use Rattle.values.specs.Database.{Database}
 use Rattle.row_store.specs.Stock.{Stock}
 use Rattle.sequencer.specs.declared.batch.Batch.{Batch}

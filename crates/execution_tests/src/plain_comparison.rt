@@ -16,7 +16,8 @@ use sequencer::prepare;
 use setup::Setup;
 use std::alloc::Global;
 use std::test::Fail;
-use values::{Catalogue, Key, TableNo};
+use catalogue::Catalogue;
+use values::{Key, TableNo};
 
 /// How many batches the log has.
 const BATCHES: u32 = 5;

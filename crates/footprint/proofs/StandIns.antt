@@ -9,9 +9,10 @@ use Rattle.values.specs.declared.value.ColType.{ColType}
 use Rattle.values.specs.declared.value.ColType.TheVariants as types
 use Rattle.values.specs.declared.value.Value.{Value}
 use Rattle.values.specs.declared.value.Value.TheVariants as values
-use Rattle.values.specs.Shapes.{TableShape}
+use Rattle.catalogue.specs.Shapes.{TableShape}
 use Rattle.values.specs.Rows.{type_of}
-use Rattle.values.specs.Keys.{key_of, partition_numbered}
+use Rattle.values.specs.Keys.{key_of}
+use Rattle.catalogue.specs.Places.{partition_numbered}
 use Rattle.proclang_types.specs.declared.right.Right.{Right}
 use Rattle.proclang_types.specs.Syntax.{IntSyntax, number, variable, binary, count_rows, sum_column, EntrySyntax, row_entry, part_entry, table_entry, db_entry, ProcSyntax}
 use Rattle.proclang_types.specs.Typing.{IntFits, AsksNoRows, EntryFits, kinds_of, ProcFits}

@@ -4,8 +4,9 @@ use Rattle.std.specs.Prelude.{ℕ, ℤ, pos, ◌+◌, nat_lt, List, [], ◌∷�
 use Rattle.std.specs.FinMap.{empty}
 use Rattle.values.specs.declared.value.Value.{Value}
 use Rattle.values.specs.declared.value.Value.TheVariants as values
-use Rattle.values.specs.Shapes.{TableShape}
-use Rattle.values.specs.Keys.{key_of, partition_numbered}
+use Rattle.catalogue.specs.Shapes.{TableShape}
+use Rattle.values.specs.Keys.{key_of}
+use Rattle.catalogue.specs.Places.{partition_numbered}
 use Rattle.documents.specs.Reading.{◌>>=◌, rule, formed}
 use Rattle.proclang_types.specs.declared.right.Right.{Right}
 use Rattle.proclang_types.specs.Syntax.{IntSyntax, number, variable, binary, count_rows, sum_column, EntrySyntax, row_entry, part_entry, table_entry, db_entry}

@@ -3,8 +3,8 @@
 use Rattle.std.specs.Prelude.{◌≡◌, ◌<◌, ◌^◌, nat_lt, ⊤, true, List, length, Some, option_map, IsSome, slice_get}
 use Rattle.std.specs.FinMap.{get}
 use Rattle.values.specs.declared.name.RowName.{RowName}
-use Rattle.values.specs.Shapes.{TableShape}
-use Rattle.values.specs.Keys.{partition_of}
+use Rattle.catalogue.specs.Shapes.{TableShape}
+use Rattle.catalogue.specs.Places.{partition_of}
 use Rattle.footprint.specs.declared.resource.Resource.{Resource}
 use Rattle.footprint.specs.declared.resource.Resource.TheVariants.{Db, Table}
 use Rattle.footprint.specs.declared.resource.InTable.TheVariants.{WholeTable, Part}

@@ -1,7 +1,7 @@
 -- Of the code: invariants and steps; no promise rests on these words.
 -- Entries of declared footprints whose tables are a catalogue's.
 use Rattle.std.specs.Prelude.{◌<◌, List, length, ⊤}
-use Rattle.values.specs.Shapes.{TableShape}
+use Rattle.catalogue.specs.Shapes.{TableShape}
 use Rattle.proclang_types.specs.Syntax.{EntrySyntax, row_entry, part_entry, table_entry, db_entry}
 
 abbrev pub HasTable : List TableShape → EntrySyntax → Type 0

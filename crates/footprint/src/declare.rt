@@ -15,7 +15,8 @@ use crate::footprint::Footprint;
 use crate::resource::{InPart, InTable, Resource};
 use proclang_types::{FootprintEntry, IntExpr, Proc, Right};
 use std::alloc::Global;
-use values::{Catalogue, Key, NoMemory, RowName, Value};
+use catalogue::Catalogue;
+use values::{Key, NoMemory, RowName, Value};
 
 /// Why a declaration ended early.
 enum DeclarationFault {

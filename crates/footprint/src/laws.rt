@@ -2,7 +2,7 @@
 
 ghost use Rattle.std.specs.Prelude.{◌≡◌, ℤ, pos, int_div, int_rem, List, map};
 ghost use Rattle.values.specs.declared.value.Value.{Value};
-ghost use Rattle.values.specs.Shapes.{TableShape};
+ghost use Rattle.catalogue.specs.Shapes.{TableShape};
 ghost use Rattle.values.specs.Rows.{type_of};
 ghost use Rattle.proclang_types.specs.Syntax.{ProcSyntax};
 ghost use Rattle.proclang_types.specs.Typing.{kinds_of, ProcFits};

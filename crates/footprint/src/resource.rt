@@ -1,6 +1,8 @@
 //! The tree of resources: the database, its tables, their partitions, their rows.
 
-use values::{Catalogue, RowName, TableNo};
+use catalogue::Catalogue;
+
+use values::{RowName, TableNo};
 
 /// What stands in a partition: the whole of it, or the row with a key, whether or not such a row is there.
 #[derive(Clone, Copy, Debug, PartialEq, Eq, PartialOrd, Ord)]

@@ -4,7 +4,7 @@ use Rattle.std.specs.Map.{lookup}
 use Rattle.std.specs.BTreeMap.{is_at}
 use Rattle.std.specs.FinMap.{get, same_map}
 use Rattle.values.specs.declared.name.RowName.{RowName}
-use Rattle.values.specs.Shapes.{TableShape}
+use Rattle.catalogue.specs.Shapes.{TableShape}
 use Rattle.values.specs.Database.{Database, RowOf, name_cmp}
 use Rattle.proclang_types.specs.declared.right.Right.TheVariants.{Read, Write}
 use Rattle.footprint.specs.Rights.{FootprintOf}

@@ -3,7 +3,7 @@
 use Rattle.std.specs.Prelude.{◌≡◌, List, Option, Some, None}
 use Rattle.std.specs.List.{AllByRecursion}
 use Rattle.std.specs.FinMap.{empty}
-use Rattle.values.specs.Shapes.{TableShape}
+use Rattle.catalogue.specs.Shapes.{TableShape}
 use Rattle.footprint.specs.Rights.{FootprintOf}
 use Rattle.footprint.specs.OfCatalogue.{IsFootprintOf}
 use Rattle.meaning.specs.Entries.{footprint_of}

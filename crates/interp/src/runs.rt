@@ -18,7 +18,8 @@ use interp_expr::{Permit, RowView};
 use meaning::{Ending, Outcome, stand_in_never_shows, stays_in_footprint};
 use std::alloc::Global;
 use std::collections::BTreeMap;
-use values::{Catalogue, NoMemory};
+use catalogue::Catalogue;
+use values::NoMemory;
 
 /// Runs an entry on the rows of the view.
 fn run_here<V: RowView>(

@@ -5,7 +5,7 @@ use Rattle.std.specs.FinMap.{get, len, entries, len-entries}
 use Rattle.std.proofs.lemmas.List.{append_assoc, append-nil}
 use Rattle.std.proofs.lemmas.Int.{ints}
 use Rattle.values.specs.declared.name.RowName.{RowName}
-use Rattle.values.specs.Shapes.{TableShape}
+use Rattle.catalogue.specs.Shapes.{TableShape}
 use Rattle.values.specs.Database.{Database, RowOf}
 use Rattle.footprint.specs.Declaration.{number_or}
 use Rattle.meaning.specs.Partitions.{part_rows, keys_of, total}

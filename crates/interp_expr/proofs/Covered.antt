@@ -3,14 +3,14 @@ use Rattle.std.proofs.Common.{◌≡◌, Bool, true, false, ◌||◌, ◌==◌, 
 use Rattle.std.specs.Prelude.{unwrap_or}
 use Rattle.std.specs.List.{list_any}
 use Rattle.std.proofs.lemmas.Bool.Decides.{nat_tests}
-use Rattle.values.specs.Keys.{partition_of}
+use Rattle.catalogue.specs.Places.{partition_of}
 use Rattle.footprint.specs.declared.resource.Resource.TheVariants.{Table}
 use Rattle.footprint.specs.declared.resource.InTable.TheVariants.{Part}
 use Rattle.footprint.specs.declared.resource.InPart.TheVariants.{WholePart, Row}
 use Rattle.meaning.specs.Partitions.{is_in_part}
 use Rattle.std.specs.FinMap.{get}
 use Rattle.values.specs.declared.name.RowName.{RowName}
-use Rattle.values.specs.Shapes.{TableShape}
+use Rattle.catalogue.specs.Shapes.{TableShape}
 use Rattle.proclang_types.specs.declared.right.Right.{Right}
 use Rattle.proclang_types.specs.declared.right.Right.TheVariants.{Read}
 use Rattle.footprint.specs.declared.resource.Resource.{Resource}

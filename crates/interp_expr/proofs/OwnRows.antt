@@ -8,8 +8,8 @@ use Rattle.std.specs.BTreeMap.Range.{IsRangeOf, IsFromStart, IsLeBy}
 use Rattle.std.specs.FinMap.{get, empty, get-empty}
 use Rattle.std.proofs.lemmas.Bool.Decides.{nat_tests}
 use Rattle.values.specs.declared.name.RowName.{RowName}
-use Rattle.values.specs.Shapes.{TableShape}
-use Rattle.values.specs.Keys.{partition_of}
+use Rattle.catalogue.specs.Shapes.{TableShape}
+use Rattle.catalogue.specs.Places.{partition_of}
 use Rattle.values.specs.Database.{RowOf, name_cmp}
 use Rattle.meaning.specs.Partitions.{is_in_part}
 use Rattle.interp_expr.specs.Scan.{is_after, is_ahead}

@@ -8,7 +8,7 @@ use Rattle.std.specs.FinMap.{entries, retain_keys, empty}
 use Rattle.std.specs.declared.ops.Bound.{Bound}
 use Rattle.std.specs.declared.ops.Bound.TheVariants.{Included, Excluded}
 use Rattle.values.specs.declared.name.RowName.{RowName}
-use Rattle.values.specs.Shapes.{TableShape}
+use Rattle.catalogue.specs.Shapes.{TableShape}
 use Rattle.values.specs.Database.{Database, RowOf, name_cmp}
 use Rattle.footprint.specs.Declaration.{number_or}
 use Rattle.interp_expr.specs.declared.walk.Walk.{Walk}

@@ -6,7 +6,8 @@ ghost use Rattle.interp_expr.specs.Walks.{IsNextKey, IsNextWrite, bound_of, own_
 use crate::permit::part_of;
 use crate::workspace::Workspace;
 use std::ops::Bound;
-use values::{Catalogue, Key, RowName, TableNo};
+use catalogue::Catalogue;
+use values::{Key, RowName, TableNo};
 
 /// Where the names of a table behind a key begin.
 fn bound_of(table: TableNo, after: Option<Key>) -> Bound<RowName>

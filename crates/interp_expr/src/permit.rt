@@ -1,13 +1,14 @@
 //! What a run may touch.
 
 ghost use Rattle.std.specs.Prelude.{◌≡◌, unwrap_or};
-ghost use Rattle.values.specs.Keys.{partition_of};
+ghost use Rattle.catalogue.specs.Places.{partition_of};
 ghost use Rattle.footprint.specs.Tree.{row_resource};
 ghost use Rattle.interp_expr.specs.Coverage.{permits, permits_part};
 
 use footprint::{Footprint, InPart, InTable, Resource, Right};
 use meaning::Ending;
-use values::{Catalogue, Key, RowName, TableNo};
+use catalogue::Catalogue;
+use values::{Key, RowName, TableNo};
 
 /// A footprint over the tables of a catalogue, and how a run ends at an access that it does not cover.
 #[derive(Clone, Copy)]

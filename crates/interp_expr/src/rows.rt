@@ -3,7 +3,7 @@
 
 ghost use Rattle.std.specs.Prelude.{◌≡◌, true, IfOk, is_some, option_copied};
 ghost use Rattle.std.specs.FinMap as map;
-ghost use Rattle.values.specs.Keys.{partition_numbered};
+ghost use Rattle.catalogue.specs.Places.{partition_numbered};
 ghost use Rattle.proclang_types.specs.declared.right.Right.TheVariants.{Read};
 ghost use Rattle.meaning.specs.Runs.{State, tested_key, accessed, part_accessed, present};
 ghost use Rattle.interp_expr.specs.Overlay.{applied};
@@ -17,7 +17,8 @@ use crate::view::RowView;
 use crate::workspace::Workspace;
 use footprint::{AbortCode, Right};
 use meaning::Ending;
-use values::{Catalogue, Key, Row, RowName, TableNo};
+use catalogue::Catalogue;
+use values::{Key, Row, RowName, TableNo};
 
 /// The key of a number, or the end of the run.
 fn tested_key(number: i64) -> Result<Key, Stop>

@@ -9,7 +9,7 @@ use values::{Key, Row, TableNo};
 pub trait RowView {
     ghost use Rattle.std.specs.Prelude.{Bool, List};
     ghost use Rattle.std.specs.FinMap as map;
-    ghost use Rattle.values.specs.Shapes.{TableShape};
+    ghost use Rattle.catalogue.specs.Shapes.{TableShape};
     ghost use Rattle.values.specs.Database.{Database};
     ghost use Rattle.values.specs.declared.name.RowName.{RowName};
     ghost use Rattle.interp_expr.specs.Scan.{IsNext, ShowsPart};

@@ -6,7 +6,8 @@ use serde_json::Value as Json;
 use std::alloc::Global;
 use std::collections::BTreeMap;
 use std::test::Fail;
-use values::{Catalogue, Key, Row, RowName, TableNo, Value};
+use catalogue::Catalogue;
+use values::{Key, Row, RowName, TableNo, Value};
 
 /// Tables of one, three and four partitions.
 const WIDE: &str =

@@ -8,7 +8,8 @@ use sequencer::{Batch, prepare};
 use serde_json::Value as Json;
 use std::alloc::Global;
 use std::test::Fail;
-use values::{Catalogue, Value};
+use catalogue::Catalogue;
+use values::Value;
 
 const BANK: &str = r#"["catalogue",1,[["acct",2,[["bal","int"]]],["ref",1,[["to","int"]]]]]"#;
 

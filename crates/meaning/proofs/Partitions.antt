@@ -4,8 +4,8 @@ use Rattle.std.specs.Prelude.{unwrap_or}
 use Rattle.std.specs.FinMap.{get, get-retain_keys, same_map}
 use Rattle.std.proofs.lemmas.Bool.Decides.{nat_tests}
 use Rattle.values.specs.declared.name.RowName.{RowName}
-use Rattle.values.specs.Shapes.{TableShape}
-use Rattle.values.specs.Keys.{partition_of}
+use Rattle.catalogue.specs.Shapes.{TableShape}
+use Rattle.catalogue.specs.Places.{partition_of}
 use Rattle.values.specs.Database.{Database, RowOf}
 use Rattle.proclang_types.specs.declared.right.Right.{Right}
 use Rattle.proclang_types.specs.declared.right.Right.TheVariants.{Read}

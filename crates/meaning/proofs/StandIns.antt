@@ -11,9 +11,9 @@ use Rattle.values.specs.declared.value.ColType.{ColType}
 use Rattle.values.specs.declared.value.ColType.TheVariants as types
 use Rattle.values.specs.declared.value.Value.{Value}
 use Rattle.values.specs.declared.value.Value.TheVariants as values
-use Rattle.values.specs.Shapes.{TableShape}
+use Rattle.catalogue.specs.Shapes.{TableShape}
 use Rattle.values.specs.Rows.{type_of}
-use Rattle.values.specs.Keys.{partition_numbered}
+use Rattle.catalogue.specs.Places.{partition_numbered}
 use Rattle.values.specs.Database.{Database, RowOf, name_cmp}
 use Rattle.proclang_types.specs.declared.right.Right.{Right}
 use Rattle.proclang_types.specs.declared.right.Right.TheVariants.{Read, Write}

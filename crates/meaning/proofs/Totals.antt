@@ -7,7 +7,7 @@ use Rattle.std.specs.Ordering.{eq_by_cmp, is_eq, is_lt}
 use Rattle.std.specs.Cmp.{tied_itself}
 use Rattle.values.specs.declared.name.RowName.{RowName}
 use Rattle.values.specs.declared.value.ColType.TheVariants as types
-use Rattle.values.specs.Shapes.{TableShape}
+use Rattle.catalogue.specs.Shapes.{TableShape}
 use Rattle.values.specs.Database.{Database, RowOf, name_cmp}
 use Rattle.proclang_types.specs.Typing.{column_kind}
 use Rattle.footprint.specs.Declaration.{number_or}

@@ -2,7 +2,7 @@
 -- The meaning of an entry: its outcome on a database, and the database that it leaves.
 use Rattle.std.specs.Prelude.{pos, List, [], Option, Some, None, Result, Ok, Err}
 use Rattle.values.specs.declared.value.Value.{Value}
-use Rattle.values.specs.Shapes.{TableShape}
+use Rattle.catalogue.specs.Shapes.{TableShape}
 use Rattle.values.specs.Database.{Database}
 use Rattle.proclang_types.specs.Syntax.{StmtSyntax, block_of}
 use Rattle.footprint.specs.declared.abort_code.AbortCode.{AbortCode}

@@ -3,8 +3,8 @@
 use Rattle.std.specs.Prelude.{ℕ, ℤ, pos, ◌+ℤ◌, Bool, ◌&&◌, ◌==◌, List, [], ◌∷◌, map, unwrap_or, slice_get}
 use Rattle.std.specs.FinMap.{retain_keys}
 use Rattle.values.specs.declared.name.RowName.{RowName}
-use Rattle.values.specs.Shapes.{TableShape}
-use Rattle.values.specs.Keys.{partition_of}
+use Rattle.catalogue.specs.Shapes.{TableShape}
+use Rattle.catalogue.specs.Places.{partition_of}
 use Rattle.values.specs.Database.{Database, RowOf}
 use Rattle.footprint.specs.Declaration.{number_or}
 

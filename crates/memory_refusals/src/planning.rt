@@ -14,7 +14,7 @@ use footprint::{Footprint, declared};
 use proclang::Request;
 use report_text::push_plan;
 use std::alloc::Global;
-use values::Catalogue;
+use catalogue::Catalogue;
 
 /// Appends the footprint that each request declares. Where memory is refused, it is declared again.
 fn declare_all(

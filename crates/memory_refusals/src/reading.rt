@@ -7,7 +7,8 @@ use crate::refusal::Refusal;
 use calvin::{LogFaultKind, LogReader, ReadSource, SetupFault, read_setup};
 use proclang::{ProcFault, Request};
 use std::alloc::{AllocError, Global};
-use values::{CatalogueFault, Value};
+use catalogue::CatalogueFault;
+use values::Value;
 
 /// The setup is read; the log is run on it as it was reckoned.
 pub(crate) fn try_setup(alloc: Global, refusal: &mut Refusal) -> Option<Answer> {

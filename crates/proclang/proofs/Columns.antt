@@ -4,7 +4,7 @@ use Rattle.std.specs.List.{zip}
 use Rattle.std.proofs.lemmas.List.{length-map}
 use Rattle.std.proofs.lemmas.Option.{slice_get-map}
 use Rattle.values.specs.declared.value.ColType.{ColType}
-use Rattle.values.specs.Shapes.{TableShape, ColumnShape}
+use Rattle.catalogue.specs.Shapes.{TableShape, ColumnShape}
 use Rattle.proclang_types.specs.Syntax.{ExprSyntax, ValueSyntax}
 use Rattle.proclang.specs.declared.fault.ProcFault.{ProcFault}
 use Rattle.proclang.specs.Walk.{each_from, behind}

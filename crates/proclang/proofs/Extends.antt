@@ -5,7 +5,7 @@ use Rattle.serde_json.specs.Data.{Data}
 use Rattle.documents.specs.Reading.{formed}
 use Rattle.documents.proofs.Steps.{bind_ok}
 use Rattle.values.specs.declared.value.ColType.{ColType}
-use Rattle.values.specs.Shapes.{TableShape}
+use Rattle.catalogue.specs.Shapes.{TableShape}
 use Rattle.proclang_types.specs.Syntax.{StmtSyntax, assign, get}
 use Rattle.proclang_types.specs.Typing.{kind_of}
 use Rattle.proclang.specs.declared.fault.FaultKind.TheVariants.{Shape}

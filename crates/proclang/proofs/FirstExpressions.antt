@@ -6,8 +6,8 @@ use Rattle.documents.specs.Reading.{◌>>=◌, rule}
 use Rattle.documents.proofs.FirstFault.{bind_first, formed_first, ok_first, rule_last}
 use Rattle.values.specs.declared.value.ColType.{ColType}
 use Rattle.values.specs.declared.value.ColType.TheVariants as types
-use Rattle.values.specs.Keys.{table_named}
-use Rattle.values.specs.Shapes.{TableShape}
+use Rattle.catalogue.specs.Places.{table_named}
+use Rattle.catalogue.specs.Shapes.{TableShape}
 use Rattle.proclang_types.specs.declared.operator.Equality.{Equality}
 use Rattle.proclang_types.specs.declared.operator.Comparison.TheVariants as comparisons
 use Rattle.proclang_types.specs.Syntax.{IntSyntax, binary, count_rows, sum_column, literal, BoolSyntax, compare_ints, both, either, negated, row_exists, ExprSyntax, int, text, bool}

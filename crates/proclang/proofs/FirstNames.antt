@@ -4,8 +4,8 @@ use Rattle.documents.specs.FirstFault.{broken, IsFirst}
 use Rattle.documents.specs.Reading.{formed, rule}
 use Rattle.documents.proofs.Steps.{formed_ok}
 use Rattle.values.specs.declared.value.ColType.{ColType}
-use Rattle.values.specs.Keys.{table_named}
-use Rattle.values.specs.Shapes.{TableShape}
+use Rattle.catalogue.specs.Places.{table_named}
+use Rattle.catalogue.specs.Shapes.{TableShape}
 use Rattle.proclang.specs.declared.fault.FaultKind.TheVariants.{UnknownTable, UnknownColumn}
 use Rattle.proclang.specs.declared.fault.ProcFault.{ProcFault}
 use Rattle.proclang.specs.declared.fault.ProcFault.TheVariants.{At}

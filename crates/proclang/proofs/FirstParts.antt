@@ -8,7 +8,7 @@ use Rattle.documents.proofs.FirstFault.{bind_first, ok_first, rule_last, if_firs
 use Rattle.documents.proofs.Steps.{bind_ok, rule_ok}
 use Rattle.values.specs.declared.value.ColType.{ColType}
 use Rattle.values.specs.Names.{is_name}
-use Rattle.values.specs.Shapes.{TableShape}
+use Rattle.catalogue.specs.Shapes.{TableShape}
 use Rattle.proclang_types.specs.Syntax.{ExprSyntax, StmtSyntax}
 use Rattle.proclang.specs.declared.fault.FaultKind.TheVariants.{Shape, TypeMismatch, DuplicateName}
 use Rattle.proclang.specs.declared.fault.ProcFault.{ProcFault}

@@ -10,12 +10,12 @@ use Rattle.documents.specs.Json.{versioned_list}
 use Rattle.documents.specs.Reading.{◌>>=◌, formed, rule}
 use Rattle.documents.proofs.FirstFault.{bind_first, formed_first, ok_first, rule_first}
 use Rattle.documents.proofs.Steps.{bind_ok, formed_ok}
-use Rattle.values.specs.Broken.{is_among}
+use Rattle.catalogue.specs.Broken.{is_among}
 use Rattle.values.specs.declared.value.ColType.{ColType}
 use Rattle.values.specs.Names.{is_name}
-use Rattle.values.specs.Reading.{column_form, is_used}
-use Rattle.values.specs.Shapes.{TableShape}
-use Rattle.values.specs.Keys.{table_named}
+use Rattle.catalogue.specs.Reading.{column_form, is_used}
+use Rattle.catalogue.specs.Shapes.{TableShape}
+use Rattle.catalogue.specs.Places.{table_named}
 use Rattle.proclang_types.specs.Syntax.{row_entry, part_entry, table_entry, ParamShape, ProcSyntax}
 use Rattle.proclang.specs.declared.fault.FaultKind.TheVariants.{Shape, UnknownTable, DuplicateName, Limit}
 use Rattle.proclang.specs.declared.fault.ProcFault.{ProcFault}

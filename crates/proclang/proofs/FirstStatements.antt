@@ -7,8 +7,8 @@ use Rattle.documents.specs.Reading.{◌>>=◌, rule}
 use Rattle.documents.proofs.FirstFault.{bind_first, ok_first, rule_first, if_first}
 use Rattle.documents.proofs.Steps.{bind_ok}
 use Rattle.values.specs.declared.value.ColType.{ColType}
-use Rattle.values.specs.Keys.{table_named}
-use Rattle.values.specs.Shapes.{TableShape}
+use Rattle.catalogue.specs.Places.{table_named}
+use Rattle.catalogue.specs.Shapes.{TableShape}
 use Rattle.proclang_types.specs.Syntax.{ExprSyntax, ValueSyntax, StmtSyntax, assign, get, put, insert_row, delete_row, abort, reply}
 use Rattle.proclang_types.specs.Typing.{kind_of, column_kinds}
 use Rattle.proclang.specs.declared.fault.FaultKind.TheVariants.{Shape, UnknownTable, TypeMismatch, AbortCode, Limit}

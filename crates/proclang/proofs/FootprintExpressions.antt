@@ -6,7 +6,7 @@ use Rattle.documents.specs.Reading.{formed}
 use Rattle.documents.proofs.Steps.{bind_ok, formed_ok, and_then_ok}
 use Rattle.values.specs.declared.value.ColType.{ColType}
 use Rattle.values.specs.declared.value.ColType.TheVariants as types
-use Rattle.values.specs.Shapes.{TableShape}
+use Rattle.catalogue.specs.Shapes.{TableShape}
 use Rattle.proclang_types.specs.declared.operator.Equality.{Equality}
 use Rattle.proclang_types.specs.declared.operator.Comparison.TheVariants as comparisons
 use Rattle.proclang_types.specs.Syntax.{IntSyntax, number, binary, literal, BoolSyntax, compare_ints, compare_texts, both, either, negated, ExprSyntax, int, text, bool}

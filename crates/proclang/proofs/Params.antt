@@ -2,7 +2,7 @@
 use Rattle.std.proofs.Common.{◌≡◌, ℕ, Bool, ◌||◌, List, [], ◌∷◌, map, string_bytes, refl, ap}
 use Rattle.std.specs.Str.{bytes_eq}
 use Rattle.std.specs.List.{list_any}
-use Rattle.values.specs.Reading.{is_used}
+use Rattle.catalogue.specs.Reading.{is_used}
 use Rattle.proclang_types.specs.declared.procedure.Param.{Param}
 use Rattle.proclang_types.specs.Procedures.{param_shape}
 

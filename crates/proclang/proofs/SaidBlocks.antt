@@ -6,8 +6,8 @@ use Rattle.documents.specs.Json.{elements}
 use Rattle.documents.specs.Reading.{formed}
 use Rattle.documents.proofs.Said.{elements_said, elements_again}
 use Rattle.documents.proofs.Steps.{bind_ok, formed_ok}
-use Rattle.values.specs.Keys.{table_named}
-use Rattle.values.specs.Shapes.{TableShape}
+use Rattle.catalogue.specs.Places.{table_named}
+use Rattle.catalogue.specs.Shapes.{TableShape}
 use Rattle.proclang_types.specs.Syntax.{StmtSyntax, choose, for_numbers, for_keys, block_of}
 use Rattle.proclang.specs.declared.fault.FaultKind.TheVariants.{Shape, UnknownTable}
 use Rattle.proclang.specs.declared.fault.ProcFault.{ProcFault}

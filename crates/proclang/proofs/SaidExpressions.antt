@@ -6,8 +6,8 @@ use Rattle.documents.specs.Reading.{formed}
 use Rattle.documents.proofs.Steps.{bind_ok, rule_ok, formed_ok}
 use Rattle.values.specs.declared.value.ColType.{ColType}
 use Rattle.values.specs.declared.value.ColType.TheVariants as types
-use Rattle.values.specs.Keys.{table_named}
-use Rattle.values.specs.Shapes.{TableShape}
+use Rattle.catalogue.specs.Places.{table_named}
+use Rattle.catalogue.specs.Shapes.{TableShape}
 use Rattle.proclang_types.specs.declared.operator.Equality.{Equality}
 use Rattle.proclang_types.specs.declared.operator.Comparison.TheVariants as comparisons
 use Rattle.proclang_types.specs.Syntax.{IntSyntax, number, binary, count_rows, sum_column, TextSyntax, literal, BoolSyntax, compare_ints, both, either, negated, row_exists, ExprSyntax, int, text, bool, ValueSyntax, int_value, text_value}

@@ -8,8 +8,8 @@ use Rattle.documents.proofs.Steps.{bind_ok, rule_ok}
 use Rattle.values.specs.declared.value.ColType.{ColType}
 use Rattle.values.specs.declared.value.ColType.TheVariants as types
 use Rattle.values.specs.Names.{is_name}
-use Rattle.values.specs.Rules.{Says}
-use Rattle.values.specs.Shapes.{TableShape}
+use Rattle.catalogue.specs.Rules.{Says}
+use Rattle.catalogue.specs.Shapes.{TableShape}
 use Rattle.proclang_types.specs.Syntax.{IntSyntax, BoolSyntax, ExprSyntax, int, bool, ValueSyntax}
 use Rattle.proclang.specs.declared.fault.FaultKind.TheVariants.{DuplicateName}
 use Rattle.proclang.specs.declared.fault.ProcFault.{ProcFault}

@@ -9,13 +9,13 @@ use Rattle.documents.specs.Json.{versioned_list}
 use Rattle.documents.specs.Reading.{formed, rule}
 use Rattle.documents.proofs.Said.{versioned_said, versioned_again}
 use Rattle.documents.proofs.Steps.{bind_ok, rule_ok, formed_ok}
-use Rattle.values.specs.Keys.{table_named}
+use Rattle.catalogue.specs.Places.{table_named}
 use Rattle.values.specs.Names.{is_name}
-use Rattle.values.specs.Reading.{column_form, is_used}
-use Rattle.values.specs.Rules.{Says}
-use Rattle.values.specs.Shapes.{TableShape}
-use Rattle.values.proofs.Forms.{column_said, column_again}
-use Rattle.values.proofs.Named.{distinct_push, unused}
+use Rattle.catalogue.specs.Reading.{column_form, is_used}
+use Rattle.catalogue.specs.Rules.{Says}
+use Rattle.catalogue.specs.Shapes.{TableShape}
+use Rattle.catalogue.proofs.Forms.{column_said, column_again}
+use Rattle.catalogue.proofs.Named.{distinct_push, unused}
 use Rattle.proclang_types.specs.Syntax.{IntSyntax, int, EntrySyntax, row_entry, part_entry, table_entry, db_entry, ParamShape, StmtSyntax, ProcSyntax}
 use Rattle.proclang.specs.declared.fault.FaultKind.TheVariants.{Shape, UnknownTable, DuplicateName}
 use Rattle.proclang.specs.declared.fault.ProcFault.{ProcFault}

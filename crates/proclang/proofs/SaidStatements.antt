@@ -5,9 +5,9 @@ use Rattle.std.proofs.lemmas.List.{append-nil}
 use Rattle.serde_json.specs.Data.{Data}
 use Rattle.documents.proofs.Steps.{bind_ok, formed_ok}
 use Rattle.values.specs.declared.value.ColType.{ColType}
-use Rattle.values.specs.Keys.{table_named}
-use Rattle.values.specs.Rules.{Says}
-use Rattle.values.specs.Shapes.{TableShape}
+use Rattle.catalogue.specs.Places.{table_named}
+use Rattle.catalogue.specs.Rules.{Says}
+use Rattle.catalogue.specs.Shapes.{TableShape}
 use Rattle.proclang_types.specs.Syntax.{ExprSyntax, ValueSyntax, StmtSyntax, assign, get, put, delete_row, abort, reply}
 use Rattle.proclang_types.specs.Typing.{kind_of}
 use Rattle.proclang.specs.declared.fault.FaultKind.TheVariants.{UnknownTable, UnknownColumn}

@@ -6,7 +6,7 @@ use Rattle.documents.specs.Json.{elements}
 use Rattle.documents.specs.Reading.{formed}
 use Rattle.documents.proofs.Steps.{bind_ok}
 use Rattle.values.specs.declared.value.ColType.{ColType}
-use Rattle.values.specs.Shapes.{TableShape}
+use Rattle.catalogue.specs.Shapes.{TableShape}
 use Rattle.proclang_types.specs.Syntax.{StmtSyntax, choose, for_numbers, for_keys, block_of}
 use Rattle.proclang_types.specs.Typing.{in_loop, BlockFits}
 use Rattle.proclang.specs.declared.fault.FaultKind.TheVariants.{Shape}

@@ -7,7 +7,7 @@ use Rattle.serde_json.specs.Data.{Data}
 use Rattle.documents.proofs.Steps.{bind_ok, rule_ok}
 use Rattle.values.specs.declared.value.ColType.{ColType}
 use Rattle.values.specs.declared.value.ColType.TheVariants as types
-use Rattle.values.specs.Shapes.{TableShape}
+use Rattle.catalogue.specs.Shapes.{TableShape}
 use Rattle.proclang_types.specs.Syntax.{IntSyntax, ExprSyntax, ValueSyntax}
 use Rattle.proclang_types.specs.Typing.{IntFits, ExprFits, kind_of, Takes, declared, in_loop}
 use Rattle.proclang.specs.declared.fault.FaultKind.TheVariants.{DuplicateName}

@@ -6,10 +6,10 @@ use Rattle.serde_json.specs.Data.{Data}
 use Rattle.documents.specs.Reading.{formed, rule}
 use Rattle.documents.proofs.Steps.{bind_ok}
 use Rattle.values.specs.declared.value.ColType.{ColType}
-use Rattle.values.specs.Shapes.{TableShape}
+use Rattle.catalogue.specs.Shapes.{TableShape}
 use Rattle.values.specs.Names.{is_name}
-use Rattle.values.specs.Reading.{is_used}
-use Rattle.values.proofs.Named.{distinct_push}
+use Rattle.catalogue.specs.Reading.{is_used}
+use Rattle.catalogue.proofs.Named.{distinct_push}
 use Rattle.proclang_types.specs.Syntax.{IntSyntax, EntrySyntax, row_entry, part_entry, table_entry, db_entry, ParamShape, ProcSyntax, block_of}
 use Rattle.proclang_types.specs.Procedures.{ProcParts, proc_syntax}
 use Rattle.proclang_types.specs.Typing.{IntFits, AsksNoRows, EntryFits, BlockFits, kinds_of, ProcFits}

@@ -7,7 +7,7 @@ use Rattle.serde_json.specs.Data.{Data}
 use Rattle.documents.proofs.Steps.{bind_ok, rule_ok, formed_ok}
 use Rattle.values.specs.declared.value.ColType.{ColType}
 use Rattle.values.specs.declared.value.ColType.TheVariants as types
-use Rattle.values.specs.Shapes.{TableShape}
+use Rattle.catalogue.specs.Shapes.{TableShape}
 use Rattle.proclang_types.specs.Syntax.{IntSyntax, ExprSyntax, ValueSyntax, StmtSyntax, assign, get, put, insert_row, delete_row, abort, reply}
 use Rattle.proclang_types.specs.Typing.{column_kind, column_kinds, IntFits, ExprFits, ValueFits, kind_of, declared, scope_after, StmtFits}
 use Rattle.proclang.specs.declared.fault.FaultKind.TheVariants.{Shape, UnknownColumn}

@@ -5,7 +5,7 @@ use Rattle.serde_json.specs.Data.{Data}
 use Rattle.documents.specs.FirstFault.{broken}
 use Rattle.values.specs.declared.value.ColType.{ColType}
 use Rattle.values.specs.declared.value.ColType.TheVariants as types
-use Rattle.values.specs.Shapes.{TableShape}
+use Rattle.catalogue.specs.Shapes.{TableShape}
 use Rattle.proclang.specs.declared.fault.FaultKind.TheVariants.{Shape, UnknownName, TypeMismatch, Limit}
 use Rattle.proclang.specs.declared.fault.ProcFault.{ProcFault}
 use Rattle.proclang.specs.declared.fault.ProcFault.TheVariants.{At}

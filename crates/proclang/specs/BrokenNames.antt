@@ -3,8 +3,8 @@
 use Rattle.std.specs.Prelude.{ℕ, List, Option, is_some, option_and_then, option_map}
 use Rattle.documents.specs.FirstFault.{broken}
 use Rattle.values.specs.declared.value.ColType.{ColType}
-use Rattle.values.specs.Keys.{table_named}
-use Rattle.values.specs.Shapes.{TableShape}
+use Rattle.catalogue.specs.Places.{table_named}
+use Rattle.catalogue.specs.Shapes.{TableShape}
 use Rattle.proclang.specs.declared.fault.FaultKind.TheVariants.{UnknownTable, UnknownColumn}
 use Rattle.proclang.specs.declared.fault.ProcFault.{ProcFault}
 use Rattle.proclang.specs.declared.fault.ProcFault.TheVariants.{At}

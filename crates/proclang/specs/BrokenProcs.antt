@@ -5,11 +5,11 @@ use Rattle.std.specs.Option.{option_to_list}
 use Rattle.serde_json.specs.Data.{Data}
 use Rattle.documents.specs.FirstFault.{broken}
 use Rattle.documents.specs.Json.{versioned_list}
-use Rattle.values.specs.Broken.{is_among}
+use Rattle.catalogue.specs.Broken.{is_among}
 use Rattle.values.specs.declared.value.ColType.{ColType}
 use Rattle.values.specs.Names.{is_name}
-use Rattle.values.specs.Reading.{column_form}
-use Rattle.values.specs.Shapes.{TableShape}
+use Rattle.catalogue.specs.Reading.{column_form}
+use Rattle.catalogue.specs.Shapes.{TableShape}
 use Rattle.proclang_types.specs.Syntax.{ParamShape}
 use Rattle.proclang.specs.declared.fault.FaultKind.TheVariants.{Shape, DuplicateName}
 use Rattle.proclang.specs.declared.fault.ProcFault.{ProcFault}

@@ -6,9 +6,9 @@ use Rattle.serde_json.specs.Data.{Data}
 use Rattle.documents.specs.FirstFault.{broken}
 use Rattle.documents.specs.Json.{elements}
 use Rattle.values.specs.declared.value.ColType.{ColType}
-use Rattle.values.specs.Keys.{table_named}
+use Rattle.catalogue.specs.Places.{table_named}
 use Rattle.values.specs.Names.{is_name}
-use Rattle.values.specs.Shapes.{TableShape}
+use Rattle.catalogue.specs.Shapes.{TableShape}
 use Rattle.proclang_types.specs.Typing.{column_kinds}
 use Rattle.proclang.specs.declared.fault.FaultKind.TheVariants.{Shape, TypeMismatch, DuplicateName, AbortCode, Limit}
 use Rattle.proclang.specs.declared.fault.ProcFault.{ProcFault}

@@ -5,7 +5,7 @@ use Rattle.serde_json.specs.Data.{Data}
 use Rattle.documents.specs.Reading.{◌>>=◌, formed, rule}
 use Rattle.values.specs.declared.value.ColType.{ColType}
 use Rattle.values.specs.declared.value.ColType.TheVariants as types
-use Rattle.values.specs.Shapes.{TableShape}
+use Rattle.catalogue.specs.Shapes.{TableShape}
 use Rattle.proclang_types.specs.declared.operator.Comparison.{Comparison}
 use Rattle.proclang_types.specs.declared.operator.Comparison.TheVariants as comparisons
 use Rattle.proclang_types.specs.declared.operator.IntOperator.{IntOperator}

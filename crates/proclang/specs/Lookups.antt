@@ -4,9 +4,9 @@ use Rattle.std.specs.Prelude.{ℕ, Bool, true, false, List, Option, option_map, 
 use Rattle.documents.specs.Reading.{formed, rule}
 use Rattle.values.specs.declared.value.ColType.{ColType}
 use Rattle.values.specs.declared.value.ColType.TheVariants as types
-use Rattle.values.specs.Shapes.{TableShape}
+use Rattle.catalogue.specs.Shapes.{TableShape}
 use Rattle.values.specs.Names.{is_name}
-use Rattle.values.specs.Keys.{table_named, column_named}
+use Rattle.catalogue.specs.Places.{table_named, column_named}
 use Rattle.proclang_types.specs.Typing.{column_kind}
 use Rattle.proclang.specs.declared.fault.FaultKind.TheVariants.{Shape, UnknownTable, UnknownColumn}
 use Rattle.proclang.specs.declared.fault.ProcFault.{ProcFault}

@@ -4,8 +4,8 @@ use Rattle.std.specs.Prelude.{ℕ, List, [], ◌∷◌, ◌++◌, map, not, Resu
 use Rattle.serde_json.specs.Data.{Data}
 use Rattle.documents.specs.Json.{versioned_list}
 use Rattle.documents.specs.Reading.{◌>>=◌, formed, rule}
-use Rattle.values.specs.Shapes.{TableShape}
-use Rattle.values.specs.Reading.{column_form, is_used}
+use Rattle.catalogue.specs.Shapes.{TableShape}
+use Rattle.catalogue.specs.Reading.{column_form, is_used}
 use Rattle.proclang_types.specs.Syntax.{IntSyntax, EntrySyntax, row_entry, part_entry, table_entry, db_entry, ParamShape, StmtSyntax, ProcSyntax}
 use Rattle.proclang_types.specs.Procedures.{param_shape}
 use Rattle.proclang_types.specs.Views.{entry_view, stmts_view}

@@ -7,8 +7,8 @@ use Rattle.serde_json.specs.Data.{Data, array, string}
 use Rattle.serde_json.specs.View.{items_of}
 use Rattle.documents.specs.Json.{integer}
 use Rattle.values.specs.Names.{is_name}
-use Rattle.values.specs.Rules.{Says, SaysColumn}
-use Rattle.values.specs.Shapes.{TableShape}
+use Rattle.catalogue.specs.Rules.{Says, SaysColumn}
+use Rattle.catalogue.specs.Shapes.{TableShape}
 use Rattle.proclang_types.specs.Syntax.{IntSyntax, EntrySyntax, row_entry, part_entry, table_entry, db_entry, ParamShape, ProcSyntax}
 use Rattle.proclang.specs.Expressions.{deepest}
 use Rattle.proclang.specs.ProcForms.{ProcDocument, EntryDocument, row_parts, part_parts, table_parts, db_parts}

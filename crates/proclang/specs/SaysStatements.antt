@@ -4,8 +4,8 @@ use Rattle.std.specs.Prelude.{◌≡◌, ◌⊎◌, ◌≤◌, ℕ, zero, suc, p
 use Rattle.serde_json.specs.Data.{Data}
 use Rattle.values.specs.declared.value.ColType.{ColType}
 use Rattle.values.specs.Names.{is_name}
-use Rattle.values.specs.Rules.{Says}
-use Rattle.values.specs.Shapes.{TableShape}
+use Rattle.catalogue.specs.Rules.{Says}
+use Rattle.catalogue.specs.Shapes.{TableShape}
 use Rattle.proclang_types.specs.Syntax.{IntSyntax, BoolSyntax, ValueSyntax, StmtSyntax, assign, get, put, insert_row, delete_row, choose, for_numbers, for_keys, abort, reply, block_of}
 use Rattle.proclang_types.specs.Typing.{kind_of, column_kinds}
 use Rattle.proclang.specs.declared.scope.Declaration.TheVariants.{Statement}

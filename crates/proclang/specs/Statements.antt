@@ -6,7 +6,7 @@ use Rattle.serde_json.specs.Data.{Data}
 use Rattle.documents.specs.Json.{elements}
 use Rattle.documents.specs.Reading.{◌>>=◌, formed, rule}
 use Rattle.values.specs.declared.value.ColType.{ColType}
-use Rattle.values.specs.Shapes.{TableShape}
+use Rattle.catalogue.specs.Shapes.{TableShape}
 use Rattle.proclang_types.specs.Syntax.{ExprSyntax, ValueSyntax, StmtSyntax, assign, get, put, insert_row, delete_row, choose, for_numbers, for_keys, abort, reply, block_of}
 use Rattle.proclang_types.specs.Typing.{kind_of, column_kinds}
 use Rattle.proclang.specs.declared.fault.FaultKind.TheVariants.{Shape, TypeMismatch, AbortCode, Limit}

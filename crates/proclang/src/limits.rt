@@ -14,7 +14,8 @@ use crate::fault::{FaultKind, ProcFault, fault};
 use crate::path::Path;
 use serde_json::Value;
 use std::alloc::Global;
-use values::{Catalogue, TableNo};
+use catalogue::Catalogue;
+use values::TableNo;
 
 /// No more than so many parts.
 pub(crate) fn at_most(

@@ -22,7 +22,7 @@ use documents::versioned_list;
 use requests::Procs;
 use serde_json::Value;
 use std::alloc::Global;
-use values::Catalogue;
+use catalogue::Catalogue;
 
 fn read_each(
     alloc: Global,

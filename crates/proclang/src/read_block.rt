@@ -26,7 +26,8 @@ use documents::elements;
 use proclang_types::Stmt;
 use serde_json::Value;
 use std::alloc::Global;
-use values::{Catalogue, ColType};
+use catalogue::Catalogue;
+use values::ColType;
 
 #[cycle(block)]
 #[tactic(auto, unfolding(crate::specs::Statements::if_at))]

@@ -19,7 +19,8 @@ use crate::typed::{as_bool, as_int};
 use proclang_types::{BoolExpr, Expr, IntExpr, TextExpr};
 use serde_json::Value;
 use std::alloc::Global;
-use values::{Catalogue, ColType, Text};
+use catalogue::Catalogue;
+use values::{ColType, Text};
 
 /// The last depth that blocks and expressions may nest to; the outermost have depth 1.
 pub(crate) const DEEPEST: u32 = 24;

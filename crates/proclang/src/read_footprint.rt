@@ -21,7 +21,7 @@ use crate::typed::as_int;
 use proclang_types::{FootprintEntry, IntExpr};
 use serde_json::Value;
 use std::alloc::Global;
-use values::Catalogue;
+use catalogue::Catalogue;
 
 /// An expression of type Int over the parameters, which reads no rows.
 #[tactic(auto, unfolding(crate::specs::Procs::int_at))]

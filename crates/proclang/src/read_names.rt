@@ -9,7 +9,8 @@ ghost use Rattle.proclang.specs.Lookups.{declared_at, table_at, column_in, colum
 use crate::fault::{FaultKind, ProcFault, fault};
 use crate::path::Path;
 use std::alloc::Global;
-use values::{Catalogue, ColType, TableNo, is_name};
+use catalogue::Catalogue;
+use values::{ColType, TableNo, is_name};
 
 /// A name that is declared obeys the rule of names.
 pub(crate) fn declare(alloc: Global, path: &Path<'_>, name: &str) -> Result<(), ProcFault>

@@ -17,7 +17,7 @@ use crate::read_names::declare;
 use proclang_types::Param;
 use serde_json::Value;
 use std::alloc::Global;
-use values::column_form;
+use catalogue::column_form;
 
 fn has_name(params: &[Param], name: &str) -> bool
     ensures { result ≡ list_any (λ p. bytes_eq name.now (string_bytes p.name)) params.now }

@@ -3,7 +3,7 @@
 ghost use Rattle.std.specs.Prelude.{◌≡◌, IfOk, map};
 ghost use Rattle.serde_json.specs.View.{view};
 ghost use Rattle.documents.specs.Reading.{Reads};
-ghost use Rattle.values.specs.Reading.{is_used};
+ghost use Rattle.catalogue.specs.Reading.{is_used};
 ghost use Rattle.proclang_types.specs.Procedures.{proc_syntax};
 ghost use Rattle.proclang.specs.Paths.{places};
 ghost use Rattle.proclang.specs.Faults.{is_memory};
@@ -23,7 +23,7 @@ use proclang_types::{FootprintEntry, Param, Proc, Stmt};
 use requests::Procs;
 use serde_json::Value;
 use std::alloc::Global;
-use values::Catalogue;
+use catalogue::Catalogue;
 
 /// What follows a procedure's name.
 #[derive(Drop)]

@@ -22,7 +22,7 @@ use crate::typed::{as_int, as_value};
 use proclang_types::Stmt;
 use serde_json::Value;
 use std::alloc::Global;
-use values::Catalogue;
+use catalogue::Catalogue;
 
 #[tactic(auto, unfolding(crate::specs::Statements::let_at))]
 pub(crate) fn read_let(

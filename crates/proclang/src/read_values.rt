@@ -17,7 +17,8 @@ use crate::typed::as_value;
 use proclang_types::{Expr, ValueExpr};
 use serde_json::Value;
 use std::alloc::Global;
-use values::{Catalogue, ColType, TableNo};
+use catalogue::Catalogue;
+use values::{ColType, TableNo};
 
 /// Expressions, the first at the place that is given, which is 0 or 1.
 pub(crate) fn read_exprs(

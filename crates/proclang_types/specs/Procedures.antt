@@ -1,7 +1,7 @@
 -- Claimed: what contracts promise to a reader rests on these words.
 -- A procedure as contracts see it: its parts, and the tables that it speaks of.
 use Rattle.std.specs.Prelude.{ℕ, List, map, string_bytes}
-use Rattle.values.specs.Shapes.{TableShape}
+use Rattle.catalogue.specs.Shapes.{TableShape}
 use Rattle.proclang_types.specs.declared.procedure.Param.{Param}
 use Rattle.proclang_types.specs.declared.statement.Stmt.{Stmt}
 use Rattle.proclang_types.specs.declared.statement.FootprintEntry.{FootprintEntry}

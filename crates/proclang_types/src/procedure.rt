@@ -7,7 +7,8 @@ ghost use Rattle.proclang_types.specs.Typing.{ProcFits};
 use crate::statement::{FootprintEntry, Stmt};
 use std::marker::Model;
 use std::snapshot::Snapshot;
-use values::{Catalogue, ColType};
+use catalogue::Catalogue;
+use values::ColType;
 
 /// A parameter of a procedure.
 #[derive(Debug, Drop)]

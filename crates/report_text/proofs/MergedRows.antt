@@ -8,7 +8,7 @@ use Rattle.std.proofs.lemmas.Bool.Decides.{nat_tests}
 use Rattle.std.proofs.lemmas.Map.Lookups.{CmpEqualImpliesEq, exact_pairs, exact_unsigned}
 use Rattle.values.specs.declared.name.RowName.{RowName}
 use Rattle.values.specs.contracts.name.RowNameOrd.TheImpl.Laws as laws
-use Rattle.values.specs.Shapes.{TableShape}
+use Rattle.catalogue.specs.Shapes.{TableShape}
 use Rattle.values.specs.Database.{Database, RowOf, name_cmp}
 use Rattle.interp_expr.specs.Scan.{is_after}
 use Rattle.report_text.specs.Texts.{row_line, row_lines}

@@ -14,7 +14,7 @@ use Rattle.std.specs.FinMap.{entries, get, get-entries, find}
 use Rattle.std.proofs.lemmas.Bool.Decides.{nat_tests}
 use Rattle.values.specs.declared.name.RowName.{RowName}
 use Rattle.values.specs.contracts.name.RowNameOrd.TheImpl.Laws as laws
-use Rattle.values.specs.Shapes.{TableShape}
+use Rattle.catalogue.specs.Shapes.{TableShape}
 use Rattle.values.specs.Database.{Database, RowOf, name_cmp}
 use Rattle.report_text.specs.Texts.{row_lines, row_text}
 

@@ -2,7 +2,7 @@
 -- Entries that are calls of procedures over the tables of one catalogue.
 use Rattle.std.specs.Prelude.{◌≡◌, List}
 use Rattle.std.specs.List.{AllByRecursion}
-use Rattle.values.specs.Shapes.{TableShape}
+use Rattle.catalogue.specs.Shapes.{TableShape}
 use Rattle.proclang_types.specs.Syntax.{ProcSyntax}
 use Rattle.meaning.specs.Entries.{EntryShape}
 use Rattle.meaning.specs.Fitting.{IsCallOf}

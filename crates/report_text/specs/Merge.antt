@@ -7,8 +7,8 @@ use Rattle.std.specs.FinMap.{entries, get}
 use Rattle.std.specs.Map.{lookup}
 use Rattle.std.specs.Ordering.{nat_cmp}
 use Rattle.values.specs.declared.name.RowName.{RowName}
-use Rattle.values.specs.Shapes.{TableShape}
-use Rattle.values.specs.Keys.{partition_of}
+use Rattle.catalogue.specs.Shapes.{TableShape}
+use Rattle.catalogue.specs.Places.{partition_of}
 use Rattle.values.specs.Database.{Database, RowOf}
 use Rattle.interp_expr.specs.Scan.{is_after, IsNext}
 

@@ -2,7 +2,7 @@
 -- The lines of plans. Words are separated by one space, and each line ends with a newline byte.
 use Rattle.std.specs.Prelude.{ℕ, List, [], ◌∷◌, ◌++◌, codes}
 use Rattle.std.specs.Fmt.{decimal}
-use Rattle.values.specs.Shapes.{TableShape}
+use Rattle.catalogue.specs.Shapes.{TableShape}
 use Rattle.footprint.specs.declared.resource.InPart.{InPart}
 use Rattle.footprint.specs.declared.resource.InPart.TheVariants.{WholePart, Row}
 use Rattle.footprint.specs.declared.resource.InTable.{InTable}

@@ -1,7 +1,7 @@
 -- Claimed: what contracts promise to a reader rests on these words.
 -- The report of a run: for each batch its reply lines in log order and its batch line, and then the end line.
 use Rattle.std.specs.Prelude.{ℕ, ◌+◌, ◌-◌, ◌^◌, min, List, [], ◌∷◌, ◌++◌, length, Bool, true, false}
-use Rattle.values.specs.Shapes.{TableShape}
+use Rattle.catalogue.specs.Shapes.{TableShape}
 use Rattle.values.specs.Database.{Database}
 use Rattle.meaning.specs.Entries.{EntryShape, Reply}
 use Rattle.meaning.specs.Serial.{serial_end, serial_replies}

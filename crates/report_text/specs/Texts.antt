@@ -8,7 +8,7 @@ use Rattle.hex.specs.Hex.{encode_lower}
 use Rattle.values.specs.declared.name.RowName.{RowName}
 use Rattle.values.specs.declared.value.Value.{Value}
 use Rattle.values.specs.declared.value.Value.TheVariants.{Int, Text}
-use Rattle.values.specs.Shapes.{TableShape}
+use Rattle.catalogue.specs.Shapes.{TableShape}
 use Rattle.values.specs.Database.{Database, RowOf}
 use Rattle.footprint.specs.AbortCodes.{number_of}
 use Rattle.meaning.specs.Entries.{Reply, commit, aborted, stale}

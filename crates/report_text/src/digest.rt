@@ -9,7 +9,8 @@ ghost use Rattle.report_text.specs.Texts.{digest, row_line, table_name, values_t
 use crate::values_text::push_values;
 use sha2::{Digest, Sha256};
 use std::alloc::{AllocError, Global};
-use values::{Catalogue, Row, RowName, TableNo};
+use catalogue::Catalogue;
+use values::{Row, RowName, TableNo};
 
 /// The SHA-256 digest of a text, in 64 lower-case hexadecimal digits. (FIPS 180-4.)
 #[tactic(auto, unfolding(crate::specs::Texts::digest))]

@@ -7,7 +7,8 @@ ghost use Rattle.report_text.specs.Merge.{AreHeads, heads_in, IsPopped, IsPushed
 use interp_expr::RowView;
 use std::alloc::{AllocError, Global};
 use std::collections::BTreeMap;
-use values::{Catalogue, Key, Row, TableNo};
+use catalogue::Catalogue;
+use values::{Key, Row, TableNo};
 
 /// What comes next of a table: of each partition that has rows left the first of them.
 #[derive(Drop)]

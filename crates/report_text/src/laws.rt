@@ -3,7 +3,7 @@
 ghost use Rattle.std.specs.Prelude.{◌≡◌, ◌<◌, List, Some, length};
 ghost use Rattle.std.specs.FinMap.{entries, get};
 ghost use Rattle.values.specs.declared.name.RowName.{RowName};
-ghost use Rattle.values.specs.Shapes.{TableShape};
+ghost use Rattle.catalogue.specs.Shapes.{TableShape};
 ghost use Rattle.values.specs.Database.{Database, RowOf};
 ghost use Rattle.meaning.specs.Entries.{EntryShape};
 ghost use Rattle.meaning.specs.Fitting.{HasTypes};

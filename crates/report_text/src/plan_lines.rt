@@ -8,7 +8,7 @@ use coarsen::Plan;
 use footprint::{InPart, InTable, Resource};
 use modes::Mode;
 use std::alloc::AllocError;
-use values::Catalogue;
+use catalogue::Catalogue;
 
 #[tactic(auto, unfolding(crate::specs::PlanTexts::mode_word))]
 fn mode_word(mode: Mode) -> &'static str

@@ -10,7 +10,8 @@ use crate::heads::heads_of;
 use interp_expr::RowView;
 use sha2::{Digest, Sha256};
 use std::alloc::{AllocError, Global};
-use values::{Catalogue, RowName, TableNo};
+use catalogue::Catalogue;
+use values::{RowName, TableNo};
 
 /// Feeds a hasher the row lines of a table.
 fn feed_table<V: RowView>(

@@ -11,9 +11,9 @@ use Rattle.std.specs.Map.{lookup}
 use Rattle.std.specs.declared.sync.Arc.{Arc}
 use Rattle.indexmap.specs.IndexMap.{insert_entry}
 use Rattle.values.specs.Names.{is_name}
-use Rattle.values.specs.Reading.{is_used}
-use Rattle.values.proofs.Named.{distinct_push}
-use Rattle.values.specs.Shapes.{TableShape}
+use Rattle.catalogue.specs.Reading.{is_used}
+use Rattle.catalogue.proofs.Named.{distinct_push}
+use Rattle.catalogue.specs.Shapes.{TableShape}
 use Rattle.proclang_types.specs.Procedures.{ProcParts, proc_syntax}
 use Rattle.requests.specs.ProcLists.{NamedProc, procs_of, AreKeyed, AreOver, AreProcs, IsProcMap, proc_named}
 

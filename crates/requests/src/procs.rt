@@ -11,7 +11,8 @@ use std::alloc::Global;
 use std::marker::Model;
 use std::snapshot::Snapshot;
 use std::sync::Arc;
-use values::{Catalogue, NoMemory};
+use catalogue::Catalogue;
+use values::NoMemory;
 
 /// Procedures over the tables of a catalogue, by their names and in declared order. Each is well typed, its name obeys
 /// the rule of names, and no two have the same.

@@ -16,7 +16,7 @@ use Rattle.footprint.specs.contracts.resource.ResourceOrd.TheImpl.Laws as laws
 use Rattle.footprint.specs.contracts.resource.InPartOrd.TheImpl as in_part
 use Rattle.footprint.specs.contracts.resource.InTableOrd.TheImpl as in_table
 use Rattle.footprint.specs.Tree.{resource_cmp}
-use Rattle.values.specs.Shapes.{TableShape}
+use Rattle.catalogue.specs.Shapes.{TableShape}
 use Rattle.row_store.specs.Shelving.{shelf_of}
 use Rattle.row_store.specs.Places.{Shelf, Shelves, is_name, is_shelf, place_in, place_at}
 

@@ -7,7 +7,7 @@ use Rattle.std.specs.BTreeMap as tree
 use Rattle.std.specs.Map.{lookup}
 use Rattle.std.specs.FinMap.{get, insert, get-empty, get-insert, get-remove, same_map}
 use Rattle.values.specs.declared.name.RowName.{RowName}
-use Rattle.values.specs.Shapes.{TableShape}
+use Rattle.catalogue.specs.Shapes.{TableShape}
 use Rattle.values.specs.Database.{Database, RowOf, name_cmp}
 use Rattle.footprint.specs.declared.resource.Resource.{Resource}
 use Rattle.footprint.specs.Tree.{resource_cmp}

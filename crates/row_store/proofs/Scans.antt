@@ -12,12 +12,12 @@ use Rattle.std.specs.FinMap.{get}
 use Rattle.std.proofs.lemmas.Bool.Decides.{nat_tests}
 use Rattle.std.proofs.lemmas.Map.Entries.{lookup-filter-keys}
 use Rattle.values.specs.declared.name.RowName.{RowName}
-use Rattle.values.specs.Shapes.{TableShape}
+use Rattle.catalogue.specs.Shapes.{TableShape}
 use Rattle.values.specs.Database.{Database, RowOf, name_cmp}
 use Rattle.interp_expr.specs.Scan.{is_ahead, is_in_part, is_after, IsNext, IsNextRow}
 use Rattle.row_store.specs.declared.place.Place.{Place}
 use Rattle.std.specs.BTreeMap as tree
-use Rattle.values.specs.Keys.{partition_of}
+use Rattle.catalogue.specs.Places.{partition_of}
 use Rattle.footprint.specs.Tree.{resource_cmp}
 use Rattle.row_store.specs.Places.{Shelf, Shelves, place_of, place_in, place_on, made, seen_at, standing}
 use Rattle.row_store.specs.Shelving.{shelf_of, shelf_at}

@@ -1,7 +1,7 @@
 -- Steps of loops that move shelves and rows.
 use Rattle.std.proofs.Common.{◌≡◌, Bool, true, false, ◌&&◌, ◌||◌, if◌then◌else◌, List, Option, Some, None, option_map, is_some, refl, sym, ap, ◌∙◌, ◌⊎◌, inl, inr}
 use Rattle.values.specs.declared.name.RowName.{RowName}
-use Rattle.values.specs.Shapes.{TableShape}
+use Rattle.catalogue.specs.Shapes.{TableShape}
 use Rattle.footprint.specs.declared.resource.Resource.{Resource}
 use Rattle.values.specs.Database.{RowOf}
 use Rattle.row_store.specs.Places.{Shelves, PlaceOf, full, written, settled, emptied, placed, made, standing, place_at, is_shelf, is_name}

@@ -2,8 +2,8 @@
 -- Where the place of a row name stands.
 use Rattle.std.specs.Prelude.{ℕ, pos, List, Option, Some, None, unwrap_or, slice_get}
 use Rattle.values.specs.declared.name.RowName.{RowName}
-use Rattle.values.specs.Shapes.{TableShape}
-use Rattle.values.specs.Keys.{partition_of, partition_numbered}
+use Rattle.catalogue.specs.Shapes.{TableShape}
+use Rattle.catalogue.specs.Places.{partition_of, partition_numbered}
 use Rattle.footprint.specs.declared.resource.Resource.{Resource}
 use Rattle.footprint.specs.declared.resource.Resource.TheVariants.{Db, Table}
 use Rattle.footprint.specs.declared.resource.InTable.TheVariants.{WholeTable, Part}

@@ -10,8 +10,8 @@ use Rattle.values.specs.declared.name.RowName.{RowName}
 use Rattle.values.specs.declared.value.Value.{Value}
 use Rattle.values.specs.contracts.value.Value as value
 use Rattle.values.specs.contracts.name.RowName as row_name
-use Rattle.values.specs.contracts.catalogue.Catalogue as catalogue
-use Rattle.values.specs.Shapes.{TableShape}
+use Rattle.catalogue.specs.contracts.catalogue.Catalogue as catalogue
+use Rattle.catalogue.specs.Shapes.{TableShape}
 use Rattle.values.specs.Database.{Database}
 use Rattle.proclang_types.specs.declared.right.Right.TheVariants.{Write}
 use Rattle.footprint.specs.contracts.resource.Resource as resource

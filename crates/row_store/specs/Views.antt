@@ -6,7 +6,7 @@ use Rattle.std.specs.BTreeMap.{BTreeMap, get, keys}
 use Rattle.std.specs.FinMap.{FinMap, empty, from_entries}
 use Rattle.std.specs.declared.snapshot.Snapshot.{Snapshot}
 use Rattle.values.specs.declared.name.RowName.{RowName}
-use Rattle.values.specs.Shapes.{TableShape}
+use Rattle.catalogue.specs.Shapes.{TableShape}
 use Rattle.values.specs.Database.{Database, RowOf}
 use Rattle.proclang_types.specs.declared.right.Right.TheVariants.{Write}
 use Rattle.footprint.specs.declared.resource.Resource.{Resource}

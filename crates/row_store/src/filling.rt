@@ -14,7 +14,8 @@ use crate::shelving::shelf_of;
 use std::alloc::Global;
 use std::collections::BTreeMap;
 use std::sync::Arc;
-use values::{Catalogue, Key, NoMemory, Row, RowName, TableNo};
+use catalogue::Catalogue;
+use values::{Key, NoMemory, Row, RowName, TableNo};
 
 /// Puts a row in place of what has its name.
 fn put_row(

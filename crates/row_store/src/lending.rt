@@ -18,7 +18,8 @@ use coarsen::Plan;
 use footprint::{Resource, Right};
 use modes::Mode;
 use std::alloc::Global;
-use values::{Catalogue, NoMemory, RowName};
+use catalogue::Catalogue;
+use values::{NoMemory, RowName};
 
 /// What a loan holds.
 #[derive(Drop)]

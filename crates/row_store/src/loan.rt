@@ -15,7 +15,8 @@ use std::alloc::Global;
 use std::collections::BTreeMap;
 use std::marker::Model;
 use std::snapshot::Snapshot;
-use values::{Catalogue, NoMemory, Row, RowName};
+use catalogue::Catalogue;
+use values::{NoMemory, Row, RowName};
 
 /// What is lent for a plan: the rows at the names that the plan locks. Rows under Read are shared with the store, those
 /// under Write are the loan's alone until it is given back.

@@ -13,7 +13,8 @@ ghost use Rattle.row_store.specs.Locked.{gives, name_of, among, is_named, locks_
 use footprint::{InPart, InTable, Resource, Right};
 use modes::Mode;
 use std::alloc::Global;
-use values::{Catalogue, Key, NoMemory, RowName, TableNo};
+use catalogue::Catalogue;
+use values::{Key, NoMemory, RowName, TableNo};
 
 /// Whether a mode gives a right on the resource itself.
 fn gives(right: Right, mode: Mode) -> bool

@@ -15,7 +15,8 @@ use crate::shelving::shelf_of;
 use footprint::Resource;
 use std::alloc::Global;
 use std::collections::BTreeMap;
-use values::{Catalogue, NoMemory, RowName};
+use catalogue::Catalogue;
+use values::{NoMemory, RowName};
 
 /// Sees to it that shelves are there.
 pub(crate) fn make_shelves(

@@ -14,7 +14,8 @@ use crate::shelf::Shelf;
 use crate::shelves::Shelves;
 use crate::shelving::{part_of, shelf_at};
 use std::ops::Bound;
-use values::{Catalogue, Key, Row, RowName, TableNo};
+use catalogue::Catalogue;
+use values::{Key, Row, RowName, TableNo};
 
 fn is_after(after: &Option<Key>, key: Key) -> bool
     ensures { result ≡ is_after after.now key }

@@ -1,11 +1,12 @@
 //! Where the place of a row name stands.
 
 ghost use Rattle.std.specs.Prelude.{◌≡◌, unwrap_or};
-ghost use Rattle.values.specs.Keys.{partition_of};
+ghost use Rattle.catalogue.specs.Places.{partition_of};
 ghost use Rattle.row_store.specs.Shelving.{shelf_of, shelf_at};
 
 use footprint::{InPart, InTable, Resource};
-use values::{Catalogue, RowName, TableNo};
+use catalogue::Catalogue;
+use values::{RowName, TableNo};
 
 /// The partition of a row name, 0 of a name whose table is not the catalogue's.
 pub(crate) fn part_of(catalogue: &Catalogue, name: &RowName) -> u32

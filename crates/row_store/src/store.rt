@@ -21,7 +21,8 @@ use std::alloc::Global;
 use std::collections::BTreeMap;
 use std::marker::Model;
 use std::snapshot::Snapshot;
-use values::{Catalogue, Key, NoMemory, Row, RowName, TableNo};
+use catalogue::Catalogue;
+use values::{Key, NoMemory, Row, RowName, TableNo};
 
 /// The rows of a database over the tables of a catalogue, and the plans for which rows are lent, by numbers. Rows that are
 /// lent count as they were lent.

@@ -13,7 +13,8 @@ use crate::shelving::shelf_of;
 use std::alloc::Global;
 use std::collections::BTreeMap;
 use std::sync::Arc;
-use values::{Catalogue, NoMemory, Row, RowName};
+use catalogue::Catalogue;
+use values::{NoMemory, Row, RowName};
 
 /// Writes whose rows can be put in place without memory.
 type Writes = BTreeMap<RowName, Option<Arc<Row>>>;

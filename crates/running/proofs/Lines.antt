@@ -1,6 +1,6 @@
 -- The text of a batch that was run.
 use Rattle.std.proofs.Common.{◌≡◌, ℕ, ◌+◌, List, [], ◌∷◌, length, map, refl, ap, ◌∙◌}
-use Rattle.values.specs.Shapes.{TableShape}
+use Rattle.catalogue.specs.Shapes.{TableShape}
 use Rattle.values.specs.Database.{Database}
 use Rattle.requests.specs.Requests.{Call}
 use Rattle.meaning.specs.Entries.{EntryShape}

@@ -6,7 +6,7 @@ use Rattle.std.proofs.KnownBytes.{Appends-nil}
 use Rattle.sha2.specs.declared.Sha256.{Sha256}
 use Rattle.devices.specs.Devices.{AppendsFront, Passes}
 use Rattle.devices.specs.LineReader.{Position}
-use Rattle.values.specs.Shapes.{TableShape}
+use Rattle.catalogue.specs.Shapes.{TableShape}
 use Rattle.values.specs.Database.{Database}
 use Rattle.requests.specs.ProcLists.{ProcsParts}
 use Rattle.meaning.specs.Serial.{serial_replies}

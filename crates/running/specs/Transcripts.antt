@@ -1,7 +1,7 @@
 -- Claimed: what contracts promise to a reader rests on these words.
 -- What is written of a batch, and how a write ends.
 use Rattle.std.specs.Prelude.{ℕ, List, [], ◌∷◌, ◌++◌, Bool, false, Result, Ok, Err, ⊤}
-use Rattle.values.specs.Shapes.{TableShape}
+use Rattle.catalogue.specs.Shapes.{TableShape}
 use Rattle.values.specs.Database.{Database}
 use Rattle.batch_log.specs.declared.fault.LogFaultKind.{LogFaultKind}
 use Rattle.batch_log.specs.declared.fault.LogFaultKind.TheVariants.{Io, Memory}

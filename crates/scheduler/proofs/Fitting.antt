@@ -1,7 +1,7 @@
 -- A log whose plans serve its entries.
 use Rattle.std.proofs.Common.{◌≡◌, ◌≤◌, ◌+◌, ◌^◌, ℕ, zero, suc, true, List, [], ◌∷◌, length, Option, Some, None, slice_get, refl, sym, ap, ◌∙◌, subst}
-use Rattle.values.specs.Shapes.{TableShape}
-use Rattle.values.specs.Rules.{IsCatalogue}
+use Rattle.catalogue.specs.Shapes.{TableShape}
+use Rattle.catalogue.specs.Rules.{IsCatalogue}
 use Rattle.values.specs.declared.name.RowName.{RowName}
 use Rattle.proclang_types.specs.declared.right.Right.{Right}
 use Rattle.footprint.specs.Tree.{row_resource}

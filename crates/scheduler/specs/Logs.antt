@@ -1,10 +1,10 @@
 -- Claimed: what contracts promise to a reader rests on these words.
 -- The log that a scheduler is given: entries, and the plans that are made for them.
 use Rattle.std.specs.Prelude.{◌≡◌, ◌≤◌, ℕ, true, length, List, [], ◌∷◌, ⊤}
-use Rattle.values.specs.Shapes.{TableShape}
+use Rattle.catalogue.specs.Shapes.{TableShape}
 use Rattle.footprint.specs.Rights.{FootprintOf, covers}
 use Rattle.footprint.specs.OfCatalogue.{IsFootprintOf}
-use Rattle.values.specs.Rules.{IsCatalogue}
+use Rattle.catalogue.specs.Rules.{IsCatalogue}
 use Rattle.proclang_types.specs.declared.right.Right.{Right}
 use Rattle.footprint.specs.declared.resource.Resource.{Resource}
 use Rattle.coarsen.specs.Subtrees.{Requests, covers_by_requests}

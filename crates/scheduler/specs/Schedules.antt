@@ -2,9 +2,9 @@
 -- A scheduler as contracts see it.
 use Rattle.std.specs.Prelude.{◌≡◌, ◌+◌, ℕ, true, List, [], ◌∷◌, map, slice_get, Option, Some, None, refl}
 use Rattle.std.specs.Coded.{Coded, code_by, coded×, coded_ℕ, coded_list}
-use Rattle.values.specs.Shapes.{TableShape}
+use Rattle.catalogue.specs.Shapes.{TableShape}
 use Rattle.values.specs.Database.{Database}
-use Rattle.values.specs.contracts.catalogue.Catalogue as catalogue
+use Rattle.catalogue.specs.contracts.catalogue.Catalogue as catalogue
 use Rattle.coarsen.specs.Subtrees.{Requests}
 use Rattle.interp.specs.Entries.{EntryParts}
 use Rattle.row_store.specs.Stock.{rows_code, plan_code}

@@ -21,7 +21,7 @@ use row_store::RowStore;
 use scheduler_core::{rows_are_serial, serial_run_by_places};
 use std::marker::Model;
 use std::vec::IntoIter;
-use values::Catalogue;
+use catalogue::Catalogue;
 
 /// The outcomes of a whole log, in log order.
 #[derive(Drop)]

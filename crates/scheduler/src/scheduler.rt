@@ -21,7 +21,8 @@ use scheduler_core::{admitted_and_unsettled_wait, events_by_places, rows_are_ser
 use std::alloc::Global;
 use std::marker::Model;
 use std::snapshot::Snapshot;
-use values::{Catalogue, NoMemory};
+use catalogue::Catalogue;
+use values::NoMemory;
 
 /// Why a transaction was not admitted.
 #[derive(Clone, Copy, Debug, PartialEq, Eq)]

@@ -1,6 +1,6 @@
 -- A transaction whose job is given back can be lent its rows again.
 use Rattle.std.proofs.Common.{◌≡◌, ℕ, ◌+◌, inl, inr, true, List, [], ◌∷◌, length, Some, refl, sym, ◌∙◌, ap, subst, slice_get, slice_set}
-use Rattle.values.specs.Shapes.{TableShape}
+use Rattle.catalogue.specs.Shapes.{TableShape}
 use Rattle.scheduler_core.specs.declared.event.Event.{Event}
 use Rattle.scheduler_core.specs.declared.event.Event.TheVariants.{Admit, Lend, Run, Settle}
 use Rattle.scheduler_core.specs.declared.phase.Phase.{Phase}

@@ -1,7 +1,7 @@
 -- Every run of the machine is serial.
 use Rattle.std.proofs.Common.{◌≡◌, ℕ, inl, inr, ◌==◌, true, List, [], ◌∷◌, ◌++◌, length, map, Option, None, Some, refl, sym, ◌∙◌, ap, subst, arith, slice_get, slice_set}
 use Rattle.std.specs.List.{list_all}
-use Rattle.values.specs.Shapes.{TableShape}
+use Rattle.catalogue.specs.Shapes.{TableShape}
 use Rattle.values.specs.Database.{Database}
 use Rattle.lock_tree.specs.Locks.{Waiting}
 use Rattle.meaning.specs.Entries.{Reply}

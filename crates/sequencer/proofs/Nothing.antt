@@ -1,7 +1,7 @@
 -- A footprint without resources.
 use Rattle.std.proofs.Common.{◌≡◌, true, false, List, is_some, sym, ap, ◌∙◌}
 use Rattle.std.specs.FinMap.{empty, get-empty}
-use Rattle.values.specs.Shapes.{TableShape}
+use Rattle.catalogue.specs.Shapes.{TableShape}
 use Rattle.proclang_types.specs.declared.right.Right.{Right}
 use Rattle.footprint.specs.Tree.{resource_cmp}
 use Rattle.footprint.specs.OfCatalogue.{IsFootprintOf}

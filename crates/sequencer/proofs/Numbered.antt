@@ -1,7 +1,7 @@
 -- Requests with numbers.
 use Rattle.std.proofs.Common.{◌≡◌, ℕ, ◌+◌, List, [], ◌∷◌}
 use Rattle.std.specs.List.{AllByRecursion}
-use Rattle.values.specs.Shapes.{TableShape}
+use Rattle.catalogue.specs.Shapes.{TableShape}
 use Rattle.requests.specs.Requests.{Call}
 use Rattle.sequencer.specs.Batches.{items_from, AreOver}
 

@@ -2,7 +2,7 @@
 -- What a batch holds.
 use Rattle.std.specs.Prelude.{◌≡◌, ℕ, ◌+◌, List, [], ◌∷◌}
 use Rattle.std.specs.List.{AllByRecursion}
-use Rattle.values.specs.Shapes.{TableShape}
+use Rattle.catalogue.specs.Shapes.{TableShape}
 use Rattle.requests.specs.Requests.{Call}
 use Rattle.sequencer.specs.declared.batch.Item.{Item}
 use Rattle.sequencer.specs.declared.batch.Batch.{Batch}

@@ -2,7 +2,7 @@
 
 ghost use Rattle.std.specs.Prelude.{◌≡◌, ◌<◌, ◌≤◌, ◌↔◌, List, IfOk, Err, length};
 ghost use Rattle.std.specs.List.{AllByRecursion};
-ghost use Rattle.values.specs.Shapes.{TableShape};
+ghost use Rattle.catalogue.specs.Shapes.{TableShape};
 ghost use Rattle.sequencer.specs.Batches.{items_from, AreOver};
 
 use requests::Request;

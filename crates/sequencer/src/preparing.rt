@@ -15,7 +15,8 @@ use interp::{Entry, Footing};
 use interp_expr::RowView;
 use requests::{Procs, Request};
 use std::alloc::Global;
-use values::{Catalogue, NoMemory};
+use catalogue::Catalogue;
+use values::NoMemory;
 
 /// The footing of a request: the footprint that its procedure declares for its values, or the abort of the first fault.
 #[tactic(auto, using(crate::proofs::Nothing::nothing_of_catalogue))]

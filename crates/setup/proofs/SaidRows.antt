@@ -11,9 +11,10 @@ use Rattle.documents.proofs.FirstFault.{formed_first, rule_last, each_first}
 use Rattle.documents.proofs.Said.{text_number_list_said, text_number_list_again, versioned_said, versioned_again}
 use Rattle.documents.proofs.Steps.{bind_ok, rule_ok, formed_ok}
 use Rattle.values.specs.declared.value.Value.{Value}
-use Rattle.values.specs.Keys.{key_of, table_named}
-use Rattle.values.specs.Rules.{Says}
-use Rattle.values.specs.Shapes.{TableShape}
+use Rattle.values.specs.Keys.{key_of}
+use Rattle.catalogue.specs.Places.{table_named}
+use Rattle.catalogue.specs.Rules.{Says}
+use Rattle.catalogue.specs.Shapes.{TableShape}
 use Rattle.setup.specs.declared.fault.SetupFault.{SetupFault}
 use Rattle.setup.specs.declared.fault.SetupFault.TheVariants.{Shape, RowTable, RowKey, RowValue, RowTwice}
 use Rattle.setup.specs.FirstFault.{Place, Form, place_of_form, place_said, values_for, is_taken, in_row_form, in_row, in_rows_form, broken_setup_rules}

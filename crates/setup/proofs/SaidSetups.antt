@@ -15,11 +15,11 @@ use Rattle.documents.specs.FirstFault.{first}
 use Rattle.documents.specs.Reading.{Reads}
 use Rattle.documents.proofs.Said.{string_said, elements_said}
 use Rattle.documents.proofs.Steps.{and_then_ok}
-use Rattle.values.specs.Broken as catalogue_rules
-use Rattle.values.specs.Reading as catalogues
-use Rattle.values.specs.Rules.{SaysCatalogue, IsCatalogue}
-use Rattle.values.specs.Shapes.{TableShape}
-use Rattle.values.specs.declared.fault.CatalogueFault.{CatalogueFault}
+use Rattle.catalogue.specs.Broken as catalogue_rules
+use Rattle.catalogue.specs.Reading as catalogues
+use Rattle.catalogue.specs.Rules.{SaysCatalogue, IsCatalogue}
+use Rattle.catalogue.specs.Shapes.{TableShape}
+use Rattle.catalogue.specs.declared.fault.CatalogueFault.{CatalogueFault}
 use Rattle.proclang_types.specs.Syntax.{ProcSyntax}
 use Rattle.proclang.specs.BrokenProcs as procedure_rules
 use Rattle.proclang.specs.Faults as procedures

@@ -5,12 +5,13 @@ use Rattle.std.specs.List.{list_any}
 use Rattle.serde_json.specs.Data.{Data}
 use Rattle.documents.specs.FirstFault.{broken, in_each, first}
 use Rattle.documents.specs.Json.{text_number_list, versioned_list}
-use Rattle.values.specs.Broken as catalogues
-use Rattle.values.specs.declared.fault.CatalogueFault.{CatalogueFault}
+use Rattle.catalogue.specs.Broken as catalogues
+use Rattle.catalogue.specs.declared.fault.CatalogueFault.{CatalogueFault}
 use Rattle.values.specs.declared.value.Value.{Value}
-use Rattle.values.specs.Keys.{key_of, table_named}
-use Rattle.values.specs.Rules.{SaysCatalogue, IsCatalogue}
-use Rattle.values.specs.Shapes.{TableShape}
+use Rattle.values.specs.Keys.{key_of}
+use Rattle.catalogue.specs.Places.{table_named}
+use Rattle.catalogue.specs.Rules.{SaysCatalogue, IsCatalogue}
+use Rattle.catalogue.specs.Shapes.{TableShape}
 use Rattle.proclang_types.specs.Syntax.{ProcSyntax}
 use Rattle.proclang.specs.BrokenProcs as procedures
 use Rattle.proclang.specs.declared.fault.ProcFault.{ProcFault}

@@ -6,10 +6,11 @@ use Rattle.serde_json.specs.Data.{Data}
 use Rattle.documents.specs.Json.{text_number_list, versioned_list}
 use Rattle.documents.specs.Reading.{◌>>=◌, formed, rule, each_at}
 use Rattle.values.specs.declared.value.Value.{Value}
-use Rattle.values.specs.Shapes.{TableShape}
-use Rattle.values.specs.Keys.{key_of, table_named}
+use Rattle.catalogue.specs.Shapes.{TableShape}
+use Rattle.values.specs.Keys.{key_of}
+use Rattle.catalogue.specs.Places.{table_named}
 use Rattle.values.specs.Rows.{kinds_match}
-use Rattle.values.specs.Said.{values_said}
+use Rattle.catalogue.specs.Said.{values_said}
 use Rattle.setup.specs.declared.fault.SetupFault.{SetupFault}
 use Rattle.setup.specs.declared.fault.SetupFault.TheVariants.{Shape, RowTable, RowKey, RowValue, RowTwice}
 

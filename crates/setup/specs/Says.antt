@@ -7,9 +7,9 @@ use Rattle.serde_json.specs.Data.{Data, string, array}
 use Rattle.serde_json.specs.Read.{read}
 use Rattle.serde_json.specs.View.{items_of}
 use Rattle.documents.specs.Json.{integer}
-use Rattle.values.specs.Keys.{table_named}
-use Rattle.values.specs.Rules.{Says, SaysCatalogue, IsCatalogue}
-use Rattle.values.specs.Shapes.{TableShape}
+use Rattle.catalogue.specs.Places.{table_named}
+use Rattle.catalogue.specs.Rules.{Says, SaysCatalogue, IsCatalogue}
+use Rattle.catalogue.specs.Shapes.{TableShape}
 use Rattle.proclang.specs.Says.{SaysProcs}
 use Rattle.setup.specs.Rows.{RowAt, row_values}
 use Rattle.setup.specs.Setups.{SetupDocument, SetupShape}

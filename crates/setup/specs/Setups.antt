@@ -7,8 +7,8 @@ use Rattle.serde_json.specs.Find.{as_str}
 use Rattle.serde_json.specs.Read.{read}
 use Rattle.documents.specs.Json.{elements, five, integer, is_one}
 use Rattle.documents.specs.Reading.{◌>>=◌, formed}
-use Rattle.values.specs.Shapes.{TableShape}
-use Rattle.values.specs.Reading.{catalogue_at}
+use Rattle.catalogue.specs.Shapes.{TableShape}
+use Rattle.catalogue.specs.Reading.{catalogue_at}
 use Rattle.proclang_types.specs.Syntax.{ProcSyntax}
 use Rattle.proclang_types.specs.Procedures.{proc_syntax}
 use Rattle.proclang.specs.Procs.{procs_at}

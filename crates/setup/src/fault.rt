@@ -6,7 +6,8 @@ ghost use Rattle.setup.specs.declared.fault.SetupFault.TheVariants.{Memory, Cata
 use proclang::ProcFault;
 use std::alloc::{AllocError, AllocFailed};
 use thiserror::Error;
-use values::{CatalogueFault, NoMemory};
+use catalogue::CatalogueFault;
+use values::NoMemory;
 
 /// The first rule that a setup breaks, or want of memory.
 #[derive(Debug, Drop, Error)]

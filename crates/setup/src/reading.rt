@@ -16,7 +16,7 @@ use proclang::read_procs;
 use serde_json::Value;
 use std::alloc::Global;
 use std::str;
-use values::Catalogue;
+use catalogue::Catalogue;
 
 /// The catalogue, the procedures and the rows of a document `["setup", 1, CATALOGUE, PROCEDURES, ROWS]`.
 #[tactic(auto, unfolding(crate::specs::Setups::setup_form))]

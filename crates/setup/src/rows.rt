@@ -15,7 +15,8 @@ use documents::{text_number_list, versioned_list};
 use serde_json::Value;
 use std::alloc::Global;
 use std::collections::BTreeSet;
-use values::{Catalogue, Key, NoMemory, Row, RowName, TableNo, read_values};
+use catalogue::{Catalogue, read_values};
+use values::{Key, NoMemory, Row, RowName, TableNo};
 
 /// The row of a table that documents say, `None` where they are not one value a column, of its type.
 fn read_row(

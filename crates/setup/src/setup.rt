@@ -3,7 +3,8 @@
 ghost use Rattle.std.specs.Prelude.{◌≡◌};
 
 use requests::Procs;
-use values::{Catalogue, Key, Row, TableNo};
+use catalogue::Catalogue;
+use values::{Key, Row, TableNo};
 
 /// What a run starts from.
 #[derive(Drop)]

@@ -1,11 +1,5 @@
 pub mod Names
-pub mod Shapes
 pub mod Keys
-pub mod Reading
-pub mod Rules
-pub mod Broken
 pub mod Rows
 pub mod Database
-pub mod Tables
-pub mod Said
 pub mod NameOrder

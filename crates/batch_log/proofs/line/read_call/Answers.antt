@@ -1,6 +1,6 @@
 use Rattle.std.proofs.Common.{◌≡◌, map, Some, rules, sym}
 use Rattle.serde_json.specs.View.{view}
-use Rattle.values.specs.Said.{values_said}
+use Rattle.catalogue.specs.Said.{values_said}
 use Rattle.requests.specs.declared.request.RequestFault.TheVariants.{Args}
 use Rattle.batch_log.proofs.Calls.{call_made, call_refused, call_unknown, call_unsaid}
 use Rattle.batch_log.proofs.line.read_call.Goals as goal

@@ -1,0 +1,56 @@
+-- Claimed: what contracts promise to a reader rests on these words.
+-- Every rule that a catalogue's document breaks, in the order of the document. No rule here hangs on what reading does.
+use Rattle.std.specs.Prelude.{ℕ, ℤ, pos, negsuc, List, [], ◌∷◌, ◌++◌, length, Option, Some, None, option_map, Bool, false, ◌&&◌, not, nat_lt, nat_le, ◌==◌}
+use Rattle.std.specs.Str.{bytes_eq}
+use Rattle.std.specs.List.{list_any}
+use Rattle.serde_json.specs.Data.{Data}
+use Rattle.documents.specs.FirstFault.{broken, in_each}
+use Rattle.catalogue.specs.declared.fault.CatalogueFault.{CatalogueFault}
+use Rattle.catalogue.specs.declared.fault.CatalogueFault.TheVariants.{Shape, DuplicateName, BadName, NoColumn, Limit}
+use Rattle.values.specs.declared.value.ColType.{ColType}
+use Rattle.values.specs.Names.{is_name}
+use Rattle.catalogue.specs.Reading.{column_form, table_form, catalogue_form}
+
+abbrev pub is_among : List ℕ → List (List ℕ) → Bool
+is_among name names = list_any (λ other. bytes_eq name other) names
+
+-- the name that a column's document gives
+abbrev pub name_of_column : Data → Option (List ℕ)
+name_of_column d = option_map (λ (f : List ℕ × ColType). f.0) (column_form d)
+
+-- behind columns of these names
+abbrev pub in_column_form : List (List ℕ) → Option (List ℕ × ColType) → List CatalogueFault
+in_column_form names None = Shape ∷ []
+in_column_form names (Some f) = broken (is_name f.0) BadName ++ broken (not (is_among f.0 names)) DuplicateName
+
+abbrev pub in_column : List (List ℕ) → Data → List CatalogueFault
+in_column names d = in_column_form names (column_form d)
+
+abbrev pub is_partitions : ℤ → Bool
+is_partitions (pos n) = nat_le 1 n && nat_le n 1024
+is_partitions (negsuc n) = false
+
+-- the name that a table's document gives
+abbrev pub name_of_table : Data → Option (List ℕ)
+name_of_table d = option_map (λ (f : List ℕ × ℤ × List Data). f.0) (table_form d)
+
+-- behind tables of these names
+abbrev pub in_table_form : List (List ℕ) → Option (List ℕ × ℤ × List Data) → List CatalogueFault
+in_table_form names None = Shape ∷ []
+in_table_form names (Some f) =
+    broken (is_name f.0) BadName
+    ++ (broken (not (is_among f.0 names)) DuplicateName
+    ++ (broken (is_partitions f.1) Limit
+    ++ (broken (not (length f.2 == 0)) NoColumn
+    ++ (broken (nat_le (length f.2) 16) Limit
+    ++ in_each name_of_column in_column [] f.2))))
+
+abbrev pub in_table : List (List ℕ) → Data → List CatalogueFault
+in_table names d = in_table_form names (table_form d)
+
+abbrev pub in_catalogue_form : Option (List Data) → List CatalogueFault
+in_catalogue_form None = Shape ∷ []
+in_catalogue_form (Some tables) = broken (nat_lt 0 (length tables) && nat_le (length tables) 64) Limit ++ in_each name_of_table in_table [] tables
+
+abbrev pub broken_catalogue_rules : Data → List CatalogueFault
+broken_catalogue_rules d = in_catalogue_form (catalogue_form d)

@@ -1,0 +1,14 @@
+//! The catalogue of tables, and the reading of it and of values from documents.
+#![tactic(auto)]
+
+mod catalogue;
+mod document;
+mod fault;
+mod reading;
+mod said;
+mod table;
+
+pub use catalogue::Catalogue;
+pub use document::column_form;
+pub use fault::CatalogueFault;
+pub use said::{read_value, read_values};

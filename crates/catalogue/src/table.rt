@@ -1,0 +1,11 @@
+//! A table of a catalogue.
+
+use values::ColType;
+use indexmap::IndexMap;
+
+/// How many partitions a table has, and its columns in order.
+#[derive(Drop)]
+pub struct Table {
+    pub(crate) partitions: u32,
+    pub(crate) columns: IndexMap<String, ColType>,
+}

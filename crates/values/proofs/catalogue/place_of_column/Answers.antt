@@ -1,6 +1,0 @@
-use Rattle.std.proofs.Common.{◌∙◌}
-use Rattle.values.proofs.Tables.{place_of_column}
-use Rattle.values.proofs.catalogue.place_of_column.Goals as goal
-
-pub returns : goal.returns
-returns c = c.get_index_of.ensures.index ∙ place_of_column c.args.name.now c.args.table.now.columns.entries

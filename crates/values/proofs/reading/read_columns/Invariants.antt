@@ -1,9 +1,0 @@
-use Rattle.std.proofs.Common.{◌≡◌, [], drop, map}
-use Rattle.serde_json.specs.View.{view}
-use Rattle.values.specs.Shapes.{columns_shape}
-use Rattle.values.specs.Reading.{columns_at}
-use Rattle.values.proofs.reading.read_columns.Given as goal
-
--- what is read so far, and what the rest then gives
-abbrev pub invariant-loop-value : goal.invariant-loop-value
-invariant-loop-value l = columns_at (columns_shape l.columns.entries) (map view (drop l.value-index l.values)) ≡ columns_at [] (map view l.values)
