@@ -8,11 +8,11 @@ ghost use Rattle.batch_log.specs.Lines.{call_said, document_said, line_said, IsO
 
 use crate::fault::LogFaultKind;
 use crate::form::{LineForm, line_form};
+use catalogue::read_values;
 use requests::{Procs, Request, RequestFault};
 use serde_json::Value;
-use std::alloc::Global;
 use std::str;
-use catalogue::read_values;
+use std::alloc::Global;
 
 /// What a line of a log says.
 #[derive(Drop)]

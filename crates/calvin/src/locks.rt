@@ -4,6 +4,7 @@ ghost use Rattle.std.specs.Prelude.{◌≡◌, ◌≤◌, length};
 ghost use Rattle.std.specs.List.{AllByRecursion};
 
 use batch_log::{LogFaultKind, LogReader, Source};
+use catalogue::Catalogue;
 use coarsen::Plan;
 use engine::Settings;
 use footprint::Footprint;
@@ -15,7 +16,6 @@ use running::RunFault;
 use sequencer::{Batch, BatchFault, prepare};
 use setup::Setup;
 use std::alloc::Global;
-use catalogue::Catalogue;
 use values::NoMemory;
 
 /// Appends the lines of an entry's plan. An entry whose declaration faults has an empty plan.

@@ -4,10 +4,10 @@ ghost use Rattle.std.specs.Prelude.{◌≡◌};
 ghost use Rattle.calvin.specs.CommandEnds.{fault_status, setup_status};
 
 use batch_log::LogFaultKind;
+use catalogue::CatalogueFault;
 use proclang::ProcFault;
 use running::RunFault;
 use setup::SetupFault;
-use catalogue::CatalogueFault;
 
 /// The command was done.
 pub(crate) const DONE: u8 = 0;

@@ -4,9 +4,9 @@ ghost use Rattle.std.specs.Prelude.{◌≡◌, codes, option_map, map};
 ghost use Rattle.serde_json.specs.View.{view};
 ghost use Rattle.catalogue.specs.Reading.{type_of_word, column_form, table_form, catalogue_form};
 
-use values::ColType;
 use documents::{pair, text_number_list, versioned_list};
 use serde_json::Value;
+use values::ColType;
 
 fn type_of_word(word: &str) -> Option<ColType>
     ensures { result ≡ type_of_word word.now }

@@ -9,12 +9,11 @@ ghost use Rattle.catalogue.specs.declared.fault.CatalogueFault.TheVariants.{Memo
 
 use crate::document::{catalogue_form, column_form, table_form};
 use crate::fault::CatalogueFault;
-use values::is_name;
 use crate::table::Table;
-use values::ColType;
 use indexmap::IndexMap;
 use serde_json::Value;
 use std::alloc::Global;
+use values::{ColType, is_name};
 
 fn has_column(columns: &IndexMap<String, ColType>, name: &str) -> bool
     ensures { result ≡ is_column name.now (columns_shape columns.now.entries) }

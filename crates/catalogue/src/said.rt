@@ -4,11 +4,9 @@ ghost use Rattle.std.specs.Prelude.{◌≡◌, IfOk, map, option_map};
 ghost use Rattle.serde_json.specs.View.{view};
 ghost use Rattle.catalogue.specs.Said.{text_said, value_said, values_said};
 
-use values::NoMemory;
-use values::Text;
-use values::Value;
 use serde_json::Value as Json;
 use std::alloc::Global;
+use values::{NoMemory, Text, Value};
 
 fn read_text(alloc: Global, text: &str) -> Result<Option<Value>, NoMemory>
     ensures { IfOk result (λ value. value ≡ text_said text.now) }

@@ -1,7 +1,7 @@
 //! A table of a catalogue.
 
-use values::ColType;
 use indexmap::IndexMap;
+use values::ColType;
 
 /// How many partitions a table has, and its columns in order.
 #[derive(Drop)]

@@ -7,8 +7,8 @@ ghost use Rattle.sequencer.specs.Batches.{items_of, AreOver};
 use crate::choices::{after, choices};
 use crate::plain::run_serially;
 use crate::test_world::{bank, batch_over, engine, executed, request};
+use catalogue::Catalogue;
 use engine::{Batch, Engine, Settings};
-use interp_expr::RowView;
 use meaning::Outcome;
 use proclang::{Procs, Request};
 use row_store::{RowStore, all_is_free_with_nothing_lent};
@@ -16,8 +16,8 @@ use sequencer::prepare;
 use setup::Setup;
 use std::alloc::Global;
 use std::test::Fail;
-use catalogue::Catalogue;
 use values::{Key, TableNo};
+use workspace::RowView;
 
 /// How many batches the log has.
 const BATCHES: u32 = 5;

@@ -13,9 +13,9 @@ use crate::abort_code::AbortCode;
 use crate::arithmetic::compute;
 use crate::footprint::Footprint;
 use crate::resource::{InPart, InTable, Resource};
+use catalogue::Catalogue;
 use proclang_types::{FootprintEntry, IntExpr, Proc, Right};
 use std::alloc::Global;
-use catalogue::Catalogue;
 use values::{Key, NoMemory, RowName, Value};
 
 /// Why a declaration ended early.

@@ -10,10 +10,10 @@ use Rattle.proclang_types.specs.declared.right.Right.TheVariants.{Read, Write}
 use Rattle.footprint.specs.Rights.{FootprintOf}
 use Rattle.meaning.specs.Entries.{EntryShape, Reply, meaning, footprint_of}
 use Rattle.meaning.specs.Frame.{touches, may_touch, Agree, StaysInFootprint}
-use Rattle.interp_expr.specs.Overlay.{applied}
+use Rattle.workspace.specs.Overlay.{applied}
 use Rattle.meaning.proofs.Names.{names_total, exact_names}
-use Rattle.interp_expr.proofs.Covered.{covers_read}
-use Rattle.interp_expr.proofs.Writes.{after_write, get_applied}
+use Rattle.workspace.proofs.Covered.{covers_read}
+use Rattle.workspace.proofs.Writes.{after_write, get_applied}
 use Rattle.interp.specs.declared.effect.Effect.{Effect}
 use Rattle.meaning.specs.Outcomes.{as_reply}
 use Rattle.interp.specs.Touched.{OnlyTouched}

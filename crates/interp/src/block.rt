@@ -8,21 +8,20 @@ ghost use Rattle.meaning.specs.Runs.{scoped};
 ghost use Rattle.meaning.specs.Meaning.{effect, in_order, turn_of, turns};
 ghost use Rattle.meaning.specs.Turns.{numbers_between};
 ghost use Rattle.meaning.specs.Entries.{nothing};
-ghost use Rattle.interp_expr.specs.Coverage.{gate_of, ShowsCovered, KeepsCovered};
-ghost use Rattle.interp_expr.specs.States.{state_at};
-ghost use Rattle.interp_expr.specs.Answers.{Gives};
+ghost use Rattle.workspace.specs.Coverage.{gate_of, ShowsCovered, KeepsCovered};
+ghost use Rattle.workspace.specs.States.{state_at};
+ghost use Rattle.workspace.specs.Answers.{Gives};
 
 use crate::loop_numbers::{first_number, number_after, number_of};
 use crate::row_statement::{delete_key, insert_values};
 use crate::statement::{assign_value, get_column, put_column, reply_with};
 use footprint::AbortCode;
-use interp_expr::{
-    Permit, RowView, Stop, Workspace, access_part, evaluate_bool, evaluate_int, keys_in,
-};
+use interp_expr::{evaluate_bool, evaluate_int};
 use meaning::Ending;
 use proclang_types::Stmt;
 use std::alloc::Global;
 use values::{Key, Value};
+use workspace::{Permit, RowView, Stop, Workspace, access_part, keys_in};
 
 /// What a statement does after its step.
 #[cycle(run)]

@@ -4,18 +4,18 @@ ghost use Rattle.std.specs.Prelude.{◌≡◌, false, [], IfOk};
 ghost use Rattle.proclang_types.specs.Views.{stmts_view};
 ghost use Rattle.meaning.specs.Entries.{nothing, run_of};
 ghost use Rattle.meaning.specs.Outcomes.{as_reply, is_commit};
-ghost use Rattle.interp_expr.specs.Overlay.{applied};
-ghost use Rattle.interp_expr.specs.Coverage.{gate_of, ShowsCovered, OnlyCovered};
+ghost use Rattle.workspace.specs.Overlay.{applied};
+ghost use Rattle.workspace.specs.Coverage.{gate_of, ShowsCovered, OnlyCovered};
 ghost use Rattle.interp.specs.Endings.{outcome_of};
 
 use crate::block::block;
 use crate::effect::Effect;
-use interp_expr::{Permit, RowView, Stop, Workspace};
 use meaning::{Ending, Outcome};
 use proclang_types::Stmt;
 use std::alloc::Global;
 use std::collections::BTreeMap;
 use values::{NoMemory, Value};
+use workspace::{Permit, RowView, Stop, Workspace};
 
 /// The outcome of a run that ended before the body's end.
 fn outcome_of(ending: Ending) -> Outcome

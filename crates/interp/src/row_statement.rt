@@ -5,16 +5,17 @@ ghost use Rattle.std.specs.Prelude.{map, OnOk};
 ghost use Rattle.proclang_types.specs.Views.{int_view, value_view};
 ghost use Rattle.meaning.specs.Meaning.{insert_values, delete_key};
 ghost use Rattle.meaning.specs.Entries.{nothing};
-ghost use Rattle.interp_expr.specs.Coverage.{gate_of, ShowsCovered, KeepsCovered};
-ghost use Rattle.interp_expr.specs.States.{state_at};
-ghost use Rattle.interp_expr.specs.Answers.{Gives};
+ghost use Rattle.workspace.specs.Coverage.{gate_of, ShowsCovered, KeepsCovered};
+ghost use Rattle.workspace.specs.States.{state_at};
+ghost use Rattle.workspace.specs.Answers.{Gives};
 
 use footprint::{AbortCode, Right};
-use interp_expr::{Permit, RowView, Stop, Workspace, access, evaluate_all, evaluate_int, is_there};
+use interp_expr::{evaluate_all, evaluate_int};
 use meaning::Ending;
 use proclang_types::{IntExpr, ValueExpr};
 use std::alloc::Global;
 use values::{Row, TableNo};
+use workspace::{Permit, RowView, Stop, Workspace, access, is_there};
 
 /// A new row with a key: one value a column.
 pub(crate) fn insert_values<V: RowView>(

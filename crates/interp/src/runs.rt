@@ -6,20 +6,20 @@ ghost use Rattle.meaning.specs.Entries.{meaning};
 ghost use Rattle.meaning.specs.Fitting.{HasTypes, StandInNeverShows};
 ghost use Rattle.meaning.specs.Frame.{Agree};
 ghost use Rattle.meaning.specs.Outcomes.{as_reply, is_commit};
-ghost use Rattle.interp_expr.specs.Overlay.{applied};
+ghost use Rattle.workspace.specs.Overlay.{applied};
 ghost use Rattle.interp.specs.Entries.{entry_shape};
 ghost use Rattle.interp.specs.Touched.{ShowsTouched, OnlyTouched};
 
 use crate::body::run_body;
 use crate::effect::Effect;
 use crate::entry::{Entry, Footing};
+use catalogue::Catalogue;
 use footprint::AbortCode;
-use interp_expr::{Permit, RowView};
 use meaning::{Ending, Outcome, stand_in_never_shows, stays_in_footprint};
 use std::alloc::Global;
 use std::collections::BTreeMap;
-use catalogue::Catalogue;
 use values::NoMemory;
+use workspace::{Permit, RowView};
 
 /// Runs an entry on the rows of the view.
 fn run_here<V: RowView>(

@@ -6,17 +6,16 @@ ghost use Rattle.values.specs.declared.value.Value.TheVariants.{Int};
 ghost use Rattle.proclang_types.specs.Views.{int_view, value_view};
 ghost use Rattle.meaning.specs.Meaning.{assign_value, get_column, put_column, reply_with};
 ghost use Rattle.meaning.specs.Entries.{nothing};
-ghost use Rattle.interp_expr.specs.Coverage.{gate_of, ShowsCovered, KeepsCovered};
-ghost use Rattle.interp_expr.specs.States.{state_at};
-ghost use Rattle.interp_expr.specs.Answers.{Gives};
+ghost use Rattle.workspace.specs.Coverage.{gate_of, ShowsCovered, KeepsCovered};
+ghost use Rattle.workspace.specs.States.{state_at};
+ghost use Rattle.workspace.specs.Answers.{Gives};
 
 use footprint::Right;
-use interp_expr::{
-    Permit, RowView, Stop, Workspace, access, evaluate, evaluate_all, evaluate_int, present_row,
-};
+use interp_expr::{evaluate, evaluate_all, evaluate_int};
 use proclang_types::{IntExpr, ValueExpr};
 use std::alloc::Global;
 use values::{NoMemory, Row, TableNo, Value};
+use workspace::{Permit, RowView, Stop, Workspace, access, present_row};
 
 /// The value in a column; 0 stands for a column that is not there.
 fn column_value(row: &Row, column: usize) -> Result<Value, NoMemory>

@@ -7,20 +7,15 @@ ghost use Rattle.proclang_types.specs.Views.{int_view, text_view, value_view};
 ghost use Rattle.meaning.specs.Runs.{Gate};
 ghost use Rattle.meaning.specs.Meaning.{int_of, text_of, value_of, values_of};
 ghost use Rattle.meaning.specs.Entries.{nothing};
-ghost use Rattle.interp_expr.specs.Coverage.{gate_of, ShowsCovered, KeepsCovered};
-ghost use Rattle.interp_expr.specs.States.{state_at};
-ghost use Rattle.interp_expr.specs.Answers.{Gives};
+ghost use Rattle.workspace.specs.Coverage.{gate_of, ShowsCovered, KeepsCovered};
+ghost use Rattle.workspace.specs.States.{state_at};
+ghost use Rattle.workspace.specs.Answers.{Gives};
 
-use crate::permit::Permit;
-use crate::rows::access_part;
-use crate::scanning::{count_in, total_in};
-use crate::stop::Stop;
-use crate::view::RowView;
-use crate::workspace::Workspace;
 use footprint::compute;
 use proclang_types::{IntExpr, TextExpr, ValueExpr};
 use std::alloc::Global;
 use values::{Text, Value};
+use workspace::{Permit, RowView, Stop, Workspace, access_part, count_in, total_in};
 
 /// The value of a number expression.
 pub fn evaluate_int<V: RowView>(

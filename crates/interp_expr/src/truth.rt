@@ -6,18 +6,14 @@ ghost use Rattle.proclang_types.specs.Views.{bool_view};
 ghost use Rattle.meaning.specs.Comparing.{compare, compare_bytes};
 ghost use Rattle.meaning.specs.Meaning.{bool_of};
 ghost use Rattle.meaning.specs.Entries.{nothing};
-ghost use Rattle.interp_expr.specs.Coverage.{gate_of, ShowsCovered, KeepsCovered};
-ghost use Rattle.interp_expr.specs.States.{state_at};
-ghost use Rattle.interp_expr.specs.Answers.{Gives};
+ghost use Rattle.workspace.specs.Coverage.{gate_of, ShowsCovered, KeepsCovered};
+ghost use Rattle.workspace.specs.States.{state_at};
+ghost use Rattle.workspace.specs.Answers.{Gives};
 
 use crate::expression::{evaluate_int, text_of};
-use crate::permit::Permit;
-use crate::rows::{access, is_there};
-use crate::stop::Stop;
-use crate::view::RowView;
-use crate::workspace::Workspace;
 use footprint::Right;
 use proclang_types::{BoolExpr, Comparison, Equality};
+use workspace::{Permit, RowView, Stop, Workspace, access, is_there};
 
 fn compare(test: Comparison, left: i64, right: i64) -> bool
     ensures { result ≡ compare test left right }

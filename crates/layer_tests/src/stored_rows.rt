@@ -1,12 +1,12 @@
 //! Rows put and taken away, and the digest of those that are left.
 
+use catalogue::Catalogue;
 use report_text::{digest_text, rows_digest};
 use row_store::{RowStore, all_is_free_with_nothing_lent};
 use serde_json::Value as Json;
 use std::alloc::Global;
 use std::collections::BTreeMap;
 use std::test::Fail;
-use catalogue::Catalogue;
 use values::{Key, Row, RowName, TableNo, Value};
 
 /// Tables of one, three and four partitions.

@@ -1,5 +1,6 @@
 //! The bank's tables, and procedures that declare what the tests ask for.
 
+use catalogue::Catalogue;
 use coarsen::Plan;
 use interp::Entry;
 use proclang::{Request, read_procs};
@@ -8,7 +9,6 @@ use sequencer::{Batch, prepare};
 use serde_json::Value as Json;
 use std::alloc::Global;
 use std::test::Fail;
-use catalogue::Catalogue;
 use values::Value;
 
 const BANK: &str = r#"["catalogue",1,[["acct",2,[["bal","int"]]],["ref",1,[["to","int"]]]]]"#;

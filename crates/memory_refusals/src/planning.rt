@@ -9,12 +9,12 @@ use crate::refusal::Refusal;
 use crate::right::has_digest;
 use crate::texts::PLANS;
 use calvin::Setup;
+use catalogue::Catalogue;
 use coarsen::Plan;
 use footprint::{Footprint, declared};
 use proclang::Request;
 use report_text::push_plan;
 use std::alloc::Global;
-use catalogue::Catalogue;
 
 /// Appends the footprint that each request declares. Where memory is refused, it is declared again.
 fn declare_all(

@@ -5,9 +5,9 @@ use crate::bank::{BANK, bank, log_text};
 use crate::executing::runs_on;
 use crate::refusal::Refusal;
 use calvin::{LogFaultKind, LogReader, ReadSource, SetupFault, read_setup};
+use catalogue::CatalogueFault;
 use proclang::{ProcFault, Request};
 use std::alloc::{AllocError, Global};
-use catalogue::CatalogueFault;
 use values::Value;
 
 /// The setup is read; the log is run on it as it was reckoned.

@@ -12,9 +12,9 @@ ghost use Rattle.proclang.specs.Walk.{at_most};
 
 use crate::fault::{FaultKind, ProcFault, fault};
 use crate::path::Path;
+use catalogue::Catalogue;
 use serde_json::Value;
 use std::alloc::Global;
-use catalogue::Catalogue;
 use values::TableNo;
 
 /// No more than so many parts.

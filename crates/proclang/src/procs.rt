@@ -18,11 +18,11 @@ use crate::fault::{FaultKind, ProcFault, fault};
 use crate::limits::at_most;
 use crate::path::Path;
 use crate::read_proc::read_proc;
+use catalogue::Catalogue;
 use documents::versioned_list;
 use requests::Procs;
 use serde_json::Value;
 use std::alloc::Global;
-use catalogue::Catalogue;
 
 fn read_each(
     alloc: Global,

@@ -22,11 +22,11 @@ use crate::read_target::read_loop_name;
 use crate::scope::{Declaration, Scope};
 use crate::stmt_form::{EachForm, ForForm, IfForm, StmtForm, statement_form};
 use crate::typed::{as_bool, as_int};
+use catalogue::Catalogue;
 use documents::elements;
 use proclang_types::Stmt;
 use serde_json::Value;
 use std::alloc::Global;
-use catalogue::Catalogue;
 use values::ColType;
 
 #[cycle(block)]

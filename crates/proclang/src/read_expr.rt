@@ -16,10 +16,10 @@ use crate::path::Path;
 use crate::read_names::{read_column, read_table};
 use crate::scope::Scope;
 use crate::typed::{as_bool, as_int};
+use catalogue::Catalogue;
 use proclang_types::{BoolExpr, Expr, IntExpr, TextExpr};
 use serde_json::Value;
 use std::alloc::Global;
-use catalogue::Catalogue;
 use values::{ColType, Text};
 
 /// The last depth that blocks and expressions may nest to; the outermost have depth 1.

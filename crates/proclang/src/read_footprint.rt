@@ -18,10 +18,10 @@ use crate::read_expr::{DEEPEST, read_expr};
 use crate::read_names::read_table;
 use crate::scope::Scope;
 use crate::typed::as_int;
+use catalogue::Catalogue;
 use proclang_types::{FootprintEntry, IntExpr};
 use serde_json::Value;
 use std::alloc::Global;
-use catalogue::Catalogue;
 
 /// An expression of type Int over the parameters, which reads no rows.
 #[tactic(auto, unfolding(crate::specs::Procs::int_at))]

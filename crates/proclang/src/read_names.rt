@@ -8,8 +8,8 @@ ghost use Rattle.proclang.specs.Lookups.{declared_at, table_at, column_in, colum
 
 use crate::fault::{FaultKind, ProcFault, fault};
 use crate::path::Path;
-use std::alloc::Global;
 use catalogue::Catalogue;
+use std::alloc::Global;
 use values::{ColType, TableNo, is_name};
 
 /// A name that is declared obeys the rule of names.

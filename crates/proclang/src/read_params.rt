@@ -14,10 +14,10 @@ use crate::fault::{FaultKind, ProcFault, fault};
 use crate::limits::at_most;
 use crate::path::Path;
 use crate::read_names::declare;
+use catalogue::column_form;
 use proclang_types::Param;
 use serde_json::Value;
 use std::alloc::Global;
-use catalogue::column_form;
 
 fn has_name(params: &[Param], name: &str) -> bool
     ensures { result ≡ list_any (λ p. bytes_eq name.now (string_bytes p.name)) params.now }

@@ -19,11 +19,11 @@ use crate::read_footprint::read_footprint;
 use crate::read_names::declare;
 use crate::read_params::read_params;
 use crate::scope::Scope;
+use catalogue::Catalogue;
 use proclang_types::{FootprintEntry, Param, Proc, Stmt};
 use requests::Procs;
 use serde_json::Value;
 use std::alloc::Global;
-use catalogue::Catalogue;
 
 /// What follows a procedure's name.
 #[derive(Drop)]

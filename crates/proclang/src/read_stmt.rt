@@ -19,10 +19,10 @@ use crate::read_values::{into_row, into_values, of_type, read_exprs, value_kind}
 use crate::scope::Scope;
 use crate::stmt_form::{DeleteForm, GetForm, InsertForm, LetForm, PutForm};
 use crate::typed::{as_int, as_value};
+use catalogue::Catalogue;
 use proclang_types::Stmt;
 use serde_json::Value;
 use std::alloc::Global;
-use catalogue::Catalogue;
 
 #[tactic(auto, unfolding(crate::specs::Statements::let_at))]
 pub(crate) fn read_let(

@@ -14,10 +14,10 @@ use crate::path::Path;
 use crate::read_expr::read_statement_expr;
 use crate::scope::Scope;
 use crate::typed::as_value;
+use catalogue::Catalogue;
 use proclang_types::{Expr, ValueExpr};
 use serde_json::Value;
 use std::alloc::Global;
-use catalogue::Catalogue;
 use values::{ColType, TableNo};
 
 /// Expressions, the first at the place that is given, which is 0 or 1.

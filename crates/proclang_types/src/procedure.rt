@@ -5,9 +5,9 @@ ghost use Rattle.proclang_types.specs.Procedures.{proc_syntax, param_shape, Proc
 ghost use Rattle.proclang_types.specs.Typing.{ProcFits};
 
 use crate::statement::{FootprintEntry, Stmt};
+use catalogue::Catalogue;
 use std::marker::Model;
 use std::snapshot::Snapshot;
-use catalogue::Catalogue;
 use values::ColType;
 
 /// A parameter of a procedure.

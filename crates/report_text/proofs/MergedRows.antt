@@ -10,7 +10,7 @@ use Rattle.values.specs.declared.name.RowName.{RowName}
 use Rattle.values.specs.contracts.name.RowNameOrd.TheImpl.Laws as laws
 use Rattle.catalogue.specs.Shapes.{TableShape}
 use Rattle.values.specs.Database.{Database, RowOf, name_cmp}
-use Rattle.interp_expr.specs.Scan.{is_after}
+use Rattle.workspace.specs.Scan.{is_after}
 use Rattle.report_text.specs.Texts.{row_line, row_lines}
 use Rattle.report_text.specs.Merge.{is_behind, rows_behind}
 

@@ -7,7 +7,7 @@ use Rattle.values.specs.declared.name.RowName.{RowName}
 use Rattle.catalogue.specs.Shapes.{TableShape}
 use Rattle.catalogue.specs.Places.{partition_of}
 use Rattle.values.specs.Database.{Database, RowOf}
-use Rattle.interp_expr.specs.Scan.{is_ahead, IsNext, IsNextRow}
+use Rattle.workspace.specs.Scan.{is_ahead, IsNext, IsNextRow}
 use Rattle.report_text.specs.Texts.{row_line, row_lines}
 use Rattle.report_text.specs.Merge.{AreHeads, Head, Heads, IsHead, IsPopped, IsPushed, IsReached, heads_in, is_behind, part_of, rows_behind, with_next}
 use Rattle.report_text.proofs.MergedRows.{after_more, name_of, next_behind, none_behind}

@@ -10,7 +10,7 @@ use Rattle.values.specs.declared.name.RowName.{RowName}
 use Rattle.catalogue.specs.Shapes.{TableShape}
 use Rattle.catalogue.specs.Places.{partition_of}
 use Rattle.values.specs.Database.{Database, RowOf}
-use Rattle.interp_expr.specs.Scan.{is_after, IsNext}
+use Rattle.workspace.specs.Scan.{is_after, IsNext}
 
 -- the view shows every name
 pub record ShowsAll (shows : RowName → Bool) : Type 0 where

@@ -8,8 +8,8 @@ ghost use Rattle.report_text.specs.Texts.{digest, row_line, table_name, values_t
 
 use crate::values_text::push_values;
 use sha2::{Digest, Sha256};
-use std::alloc::{AllocError, Global};
 use catalogue::Catalogue;
+use std::alloc::{AllocError, Global};
 use values::{Row, RowName, TableNo};
 
 /// The SHA-256 digest of a text, in 64 lower-case hexadecimal digits. (FIPS 180-4.)

@@ -1,14 +1,14 @@
 //! The rows of a table by ascending key, although a view gives them partition by partition.
 
 ghost use Rattle.std.specs.Prelude.{◌≡◌, ◌<◌, [], true, None, Some, OnOk, IfOk, IfSome, IfNone, length};
-ghost use Rattle.interp_expr.specs.Scan.{ShowsPart};
+ghost use Rattle.workspace.specs.Scan.{ShowsPart};
 ghost use Rattle.report_text.specs.Merge.{AreHeads, heads_in, IsPopped, IsPushed, ShowsAll};
 
-use interp_expr::RowView;
+use catalogue::Catalogue;
 use std::alloc::{AllocError, Global};
 use std::collections::BTreeMap;
-use catalogue::Catalogue;
 use values::{Key, Row, TableNo};
+use workspace::RowView;
 
 /// What comes next of a table: of each partition that has rows left the first of them.
 #[derive(Drop)]

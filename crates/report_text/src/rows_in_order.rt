@@ -7,10 +7,10 @@ ghost use Rattle.report_text.specs.Merge.{rows_behind, ShowsAll};
 
 use crate::digest::{digest_of, row_line};
 use crate::heads::heads_of;
-use interp_expr::RowView;
+use workspace::RowView;
 use sha2::{Digest, Sha256};
-use std::alloc::{AllocError, Global};
 use catalogue::Catalogue;
+use std::alloc::{AllocError, Global};
 use values::{RowName, TableNo};
 
 /// Feeds a hasher the row lines of a table.

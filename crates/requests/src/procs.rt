@@ -5,13 +5,13 @@ ghost use Rattle.std.specs.Arc.{arc_value};
 ghost use Rattle.values.specs.Names.{is_name};
 ghost use Rattle.requests.specs.ProcLists.{AreKeyed, proc_named, procs_of};
 
+use catalogue::Catalogue;
 use indexmap::IndexMap;
 use proclang_types::Proc;
 use std::alloc::Global;
 use std::marker::Model;
 use std::snapshot::Snapshot;
 use std::sync::Arc;
-use catalogue::Catalogue;
 use values::NoMemory;
 
 /// Procedures over the tables of a catalogue, by their names and in declared order. Each is well typed, its name obeys

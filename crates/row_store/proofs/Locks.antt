@@ -18,7 +18,7 @@ use Rattle.footprint.specs.OfCatalogue.{IsResourceOf}
 use Rattle.modes.specs.Rights.{rank_of}
 use Rattle.modes.specs.Modes.{own}
 use Rattle.coarsen.specs.Subtrees.{Requests, holds, own_over, covers_by_requests}
-use Rattle.interp_expr.specs.Scan.{is_in_part}
+use Rattle.workspace.specs.Scan.{is_in_part}
 use Rattle.coarsen.specs.Plans.{IsPlanOver}
 use Rattle.coarsen.specs.Clashes.{locks_row}
 use Rattle.std.proofs.lemmas.Option.{slice_get_cases}

@@ -11,7 +11,7 @@ use Rattle.catalogue.specs.Shapes.{TableShape}
 use Rattle.values.specs.Database.{Database, RowOf, name_cmp}
 use Rattle.footprint.specs.declared.resource.Resource.{Resource}
 use Rattle.footprint.specs.Tree.{resource_cmp}
-use Rattle.interp_expr.specs.Overlay.{applied, with_write}
+use Rattle.workspace.specs.Overlay.{applied, with_write}
 use Rattle.row_store.specs.declared.place.Place.{Place}
 use Rattle.row_store.specs.Places.{Shelf, Shelves, PlaceOf, place_of, place_on, place_at, made, full, seen_at, written, is_name, is_shelf}
 use Rattle.row_store.specs.Shelving.{shelf_of}

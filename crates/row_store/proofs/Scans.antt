@@ -14,7 +14,7 @@ use Rattle.std.proofs.lemmas.Map.Entries.{lookup-filter-keys}
 use Rattle.values.specs.declared.name.RowName.{RowName}
 use Rattle.catalogue.specs.Shapes.{TableShape}
 use Rattle.values.specs.Database.{Database, RowOf, name_cmp}
-use Rattle.interp_expr.specs.Scan.{is_ahead, is_in_part, is_after, IsNext, IsNextRow}
+use Rattle.workspace.specs.Scan.{is_ahead, is_in_part, is_after, IsNext, IsNextRow}
 use Rattle.row_store.specs.declared.place.Place.{Place}
 use Rattle.std.specs.BTreeMap as tree
 use Rattle.catalogue.specs.Places.{partition_of}

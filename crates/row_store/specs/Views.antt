@@ -13,7 +13,7 @@ use Rattle.footprint.specs.declared.resource.Resource.{Resource}
 use Rattle.coarsen.specs.Subtrees.{Requests}
 use Rattle.coarsen.specs.Plans.{IsWellFormed, IsPlanOver}
 use Rattle.coarsen.specs.Clashes.{locks_row, ModesClash}
-use Rattle.interp_expr.specs.Overlay.{with_write}
+use Rattle.workspace.specs.Overlay.{with_write}
 use Rattle.row_store.specs.Places.{Shelf, Shelves, PlaceOf, seen_at, has_shelf, has_place}
 use Rattle.row_store.specs.Shelving.{shelf_of}
 use Rattle.row_store.specs.Locked.{among, is_named, locks_shelf, locks_itself}

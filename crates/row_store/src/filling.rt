@@ -11,10 +11,10 @@ ghost use Rattle.row_store.specs.Views.{rows_of, found};
 
 use crate::shelves::{Shelves, add_row};
 use crate::shelving::shelf_of;
+use catalogue::Catalogue;
 use std::alloc::Global;
 use std::collections::BTreeMap;
 use std::sync::Arc;
-use catalogue::Catalogue;
 use values::{Key, NoMemory, Row, RowName, TableNo};
 
 /// Puts a row in place of what has its name.

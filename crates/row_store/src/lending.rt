@@ -14,11 +14,11 @@ ghost use Rattle.row_store.specs.Views.{found};
 use crate::locked::{locked_names, locked_shelves};
 use crate::moving::{copy_shelves, make_places, make_shelves, put_rows, put_shelves, share_rows};
 use crate::shelves::Shelves;
+use catalogue::Catalogue;
 use coarsen::Plan;
 use footprint::{Resource, Right};
 use modes::Mode;
 use std::alloc::Global;
-use catalogue::Catalogue;
 use values::{NoMemory, RowName};
 
 /// What a loan holds.

@@ -6,16 +6,16 @@ ghost use Rattle.values.specs.declared.name.RowName.{RowName as AnyName};
 ghost use Rattle.values.specs.Database.{name_cmp};
 ghost use Rattle.proclang_types.specs.declared.right.Right.TheVariants.{Write};
 ghost use Rattle.coarsen.specs.Clashes.{locks_row};
-ghost use Rattle.interp_expr.specs.Overlay.{applied};
+ghost use Rattle.workspace.specs.Overlay.{applied};
 
 use crate::lending::Holdings;
 use crate::writing::write;
+use catalogue::Catalogue;
 use coarsen::Plan;
 use std::alloc::Global;
 use std::collections::BTreeMap;
 use std::marker::Model;
 use std::snapshot::Snapshot;
-use catalogue::Catalogue;
 use values::{NoMemory, Row, RowName};
 
 /// What is lent for a plan: the rows at the names that the plan locks. Rows under Read are shared with the store, those

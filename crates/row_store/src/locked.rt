@@ -10,10 +10,10 @@ ghost use Rattle.coarsen.specs.Plans.{IsPlanOver};
 ghost use Rattle.row_store.specs.Shelving.{shelf_of};
 ghost use Rattle.row_store.specs.Locked.{gives, name_of, among, is_named, locks_shelf, locks_itself};
 
+use catalogue::Catalogue;
 use footprint::{InPart, InTable, Resource, Right};
 use modes::Mode;
 use std::alloc::Global;
-use catalogue::Catalogue;
 use values::{Key, NoMemory, RowName, TableNo};
 
 /// Whether a mode gives a right on the resource itself.

@@ -12,10 +12,10 @@ use crate::shelves::{
     put_shelf, share_row, take_place,
 };
 use crate::shelving::shelf_of;
+use catalogue::Catalogue;
 use footprint::Resource;
 use std::alloc::Global;
 use std::collections::BTreeMap;
-use catalogue::Catalogue;
 use values::{NoMemory, RowName};
 
 /// Sees to it that shelves are there.

@@ -4,7 +4,7 @@ ghost use Rattle.std.specs.Prelude.{◌≡◌, true, None, if◌then◌else◌, 
 ghost use Rattle.std.specs.FinMap as map;
 ghost use Rattle.values.specs.declared.name.RowName.{RowName as AnyName};
 ghost use Rattle.values.specs.Database.{Database};
-ghost use Rattle.interp_expr.specs.Scan.{IsNext, is_after, is_ahead, is_in_part};
+ghost use Rattle.workspace.specs.Scan.{IsNext, is_after, is_ahead, is_in_part};
 ghost use Rattle.row_store.specs.Places.{place_of, place_in, standing};
 ghost use Rattle.row_store.specs.Scans.{start_of};
 ghost use Rattle.row_store.specs.Views.{found};
@@ -13,8 +13,8 @@ use crate::place::Place;
 use crate::shelf::Shelf;
 use crate::shelves::Shelves;
 use crate::shelving::{part_of, shelf_at};
-use std::ops::Bound;
 use catalogue::Catalogue;
+use std::ops::Bound;
 use values::{Key, Row, RowName, TableNo};
 
 fn is_after(after: &Option<Key>, key: Key) -> bool

@@ -4,8 +4,8 @@ ghost use Rattle.std.specs.Prelude.{◌≡◌, unwrap_or};
 ghost use Rattle.catalogue.specs.Places.{partition_of};
 ghost use Rattle.row_store.specs.Shelving.{shelf_of, shelf_at};
 
-use footprint::{InPart, InTable, Resource};
 use catalogue::Catalogue;
+use footprint::{InPart, InTable, Resource};
 use values::{RowName, TableNo};
 
 /// The partition of a row name, 0 of a name whose table is not the catalogue's.

@@ -7,7 +7,7 @@ ghost use Rattle.proclang_types.specs.declared.right.Right.TheVariants.{Read, Wr
 ghost use Rattle.coarsen.specs.Subtrees.{Requests};
 ghost use Rattle.coarsen.specs.Plans.{IsPlanOver};
 ghost use Rattle.coarsen.specs.Clashes.{locks_row, ModesClash};
-ghost use Rattle.interp_expr.specs.Overlay.{applied};
+ghost use Rattle.workspace.specs.Overlay.{applied};
 ghost use Rattle.row_store.specs.Stock.{with_rows};
 
 use crate::filling::filled;
@@ -16,12 +16,12 @@ use crate::loan::Loan;
 use crate::moving::empty_places;
 use crate::shelves::Shelves;
 use crate::writing::write;
+use catalogue::Catalogue;
 use coarsen::{Plan, clashes_are_either_way, locked_rows_conflict};
 use std::alloc::Global;
 use std::collections::BTreeMap;
 use std::marker::Model;
 use std::snapshot::Snapshot;
-use catalogue::Catalogue;
 use values::{Key, NoMemory, Row, RowName, TableNo};
 
 /// The rows of a database over the tables of a catalogue, and the plans for which rows are lent, by numbers. Rows that are

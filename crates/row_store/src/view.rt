@@ -5,8 +5,8 @@ use crate::scan::next_row;
 use crate::shelves::row_at;
 use crate::shelving::shelf_of;
 use crate::store::RowStore;
-use interp_expr::RowView;
 use values::{Key, Row, RowName, TableNo};
+use workspace::RowView;
 
 impl RowView for RowStore {
     ghost use Rattle.row_store.specs.Stock.{is_free};

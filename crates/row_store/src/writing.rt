@@ -10,10 +10,10 @@ ghost use Rattle.row_store.specs.Shelving.{shelf_of};
 
 use crate::shelves::{Shelves, fill_place, make_place};
 use crate::shelving::shelf_of;
+use catalogue::Catalogue;
 use std::alloc::Global;
 use std::collections::BTreeMap;
 use std::sync::Arc;
-use catalogue::Catalogue;
 use values::{NoMemory, Row, RowName};
 
 /// Writes whose rows can be put in place without memory.

@@ -15,7 +15,7 @@ use Rattle.meaning.specs.declared.outcome.Outcome.{Outcome}
 use Rattle.meaning.specs.Entries.{Reply, meaning}
 use Rattle.meaning.specs.Frame.{touches, Agree}
 use Rattle.meaning.specs.Outcomes.{as_reply}
-use Rattle.interp_expr.specs.Overlay.{with_write, applied}
+use Rattle.workspace.specs.Overlay.{with_write, applied}
 use Rattle.interp.specs.Entries.{EntryParts, entry_shape}
 use Rattle.interp.specs.Touched.{ShowsTouched, OnlyTouched}
 use Rattle.scheduler_core.specs.Transactions.{AgreeOnLocked}

@@ -16,12 +16,12 @@ ghost use Rattle.scheduler.specs.Jobs.{IsLentAt};
 
 use crate::scheduler::Scheduler;
 use crate::slot::{Slot, outcome_at};
+use catalogue::Catalogue;
 use meaning::Outcome;
 use row_store::RowStore;
 use scheduler_core::{rows_are_serial, serial_run_by_places};
 use std::marker::Model;
 use std::vec::IntoIter;
-use catalogue::Catalogue;
 
 /// The outcomes of a whole log, in log order.
 #[derive(Drop)]

@@ -13,6 +13,7 @@ use crate::job::{Done, Job};
 use crate::lending::{give_back, lend_to, take_back};
 use crate::planning::plans_of;
 use crate::slot::{Slot, count_settled, put};
+use catalogue::Catalogue;
 use coarsen::{Plan, clashes_are_either_way};
 use interp::Entry;
 use lock_tree::{EnqueueFault, LockTree};
@@ -21,7 +22,6 @@ use scheduler_core::{admitted_and_unsettled_wait, events_by_places, rows_are_ser
 use std::alloc::Global;
 use std::marker::Model;
 use std::snapshot::Snapshot;
-use catalogue::Catalogue;
 use values::NoMemory;
 
 /// Why a transaction was not admitted.

@@ -10,13 +10,13 @@ ghost use Rattle.sequencer.specs.Batches.{items_of, AreOver};
 ghost use Rattle.sequencer.specs.Entries.{prepared};
 
 use crate::batch::Batch;
+use catalogue::Catalogue;
 use footprint::declared;
 use interp::{Entry, Footing};
-use interp_expr::RowView;
 use requests::{Procs, Request};
 use std::alloc::Global;
-use catalogue::Catalogue;
 use values::NoMemory;
+use workspace::RowView;
 
 /// The footing of a request: the footprint that its procedure declares for its values, or the abort of the first fault.
 #[tactic(auto, using(crate::proofs::Nothing::nothing_of_catalogue))]

@@ -3,10 +3,10 @@
 ghost use Rattle.std.specs.Prelude.{◌≡◌};
 ghost use Rattle.setup.specs.declared.fault.SetupFault.TheVariants.{Memory, Catalogue, Procedure};
 
+use catalogue::CatalogueFault;
 use proclang::ProcFault;
 use std::alloc::{AllocError, AllocFailed};
 use thiserror::Error;
-use catalogue::CatalogueFault;
 use values::NoMemory;
 
 /// The first rule that a setup breaks, or want of memory.

@@ -11,12 +11,12 @@ ghost use Rattle.setup.specs.Setups.{SetupShape, setup_form, setup_at, setup_sai
 use crate::fault::SetupFault;
 use crate::rows::read_rows;
 use crate::setup::Setup;
+use catalogue::Catalogue;
 use documents::five;
 use proclang::read_procs;
 use serde_json::Value;
-use std::alloc::Global;
 use std::str;
-use catalogue::Catalogue;
+use std::alloc::Global;
 
 /// The catalogue, the procedures and the rows of a document `["setup", 1, CATALOGUE, PROCEDURES, ROWS]`.
 #[tactic(auto, unfolding(crate::specs::Setups::setup_form))]

@@ -11,11 +11,11 @@ ghost use Rattle.setup.specs.Rows.{RowAt, row_at, rows_at, row_values, is_given}
 ghost use Rattle.setup.specs.Says.{SaysRows};
 
 use crate::fault::SetupFault;
+use catalogue::{Catalogue, read_values};
 use documents::{text_number_list, versioned_list};
 use serde_json::Value;
 use std::alloc::Global;
 use std::collections::BTreeSet;
-use catalogue::{Catalogue, read_values};
 use values::{Key, NoMemory, Row, RowName, TableNo};
 
 /// The row of a table that documents say, `None` where they are not one value a column, of its type.

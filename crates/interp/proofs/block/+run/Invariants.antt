@@ -4,8 +4,8 @@ use Rattle.proclang_types.specs.Views.{stmts_view}
 use Rattle.meaning.specs.Turns.{numbers_between}
 use Rattle.meaning.specs.Meaning.{in_order, turns}
 use Rattle.meaning.specs.Entries.{nothing}
-use Rattle.interp_expr.specs.Coverage.{gate_of, KeepsCovered}
-use Rattle.interp_expr.specs.States.{state_at}
+use Rattle.workspace.specs.Coverage.{gate_of, KeepsCovered}
+use Rattle.workspace.specs.States.{state_at}
 use Rattle.interp.specs.Numbers.{numbers_left}
 use Rattle.interp.proofs.block.+run.Given as goal
 

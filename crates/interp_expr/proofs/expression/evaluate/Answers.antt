@@ -1,6 +1,6 @@
 use Rattle.std.proofs.Common.{arith}
 use Rattle.meaning.specs.Runs.{and_then}
-use Rattle.interp_expr.specs.Coverage.{gate_of}
+use Rattle.workspace.specs.Coverage.{gate_of}
 use Rattle.interp_expr.proofs.expression.evaluate.Goals as goal
 
 pub returns-in_ok-text-in-Text-clause-gives : goal.returns-in_ok-text-in-Text-clause-gives

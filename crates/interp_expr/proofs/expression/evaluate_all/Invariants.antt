@@ -2,9 +2,9 @@ use Rattle.std.proofs.Common.{◌≡◌, drop, map}
 use Rattle.proclang_types.specs.Views.{value_view}
 use Rattle.meaning.specs.Meaning.{values_of}
 use Rattle.meaning.specs.Entries.{nothing}
-use Rattle.interp_expr.specs.Coverage.{gate_of, KeepsCovered}
-use Rattle.interp_expr.specs.States.{state_at}
-use Rattle.interp_expr.specs.Answers.{behind}
+use Rattle.workspace.specs.Coverage.{gate_of, KeepsCovered}
+use Rattle.workspace.specs.States.{state_at}
+use Rattle.workspace.specs.Answers.{behind}
 use Rattle.interp_expr.proofs.expression.evaluate_all.Given as goal
 
 -- the values so far, and behind them those of what is left, are those of all

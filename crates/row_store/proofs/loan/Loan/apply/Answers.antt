@@ -1,6 +1,6 @@
 use Rattle.std.proofs.Common.{ap, ◌∙◌}
 use Rattle.values.specs.Database.{Database}
-use Rattle.interp_expr.specs.Overlay.{applied}
+use Rattle.workspace.specs.Overlay.{applied}
 use Rattle.row_store.specs.Stock.{Lent}
 use Rattle.row_store.specs.Shelving.{shelf_of}
 use Rattle.row_store.proofs.Rows.{same_rows, rows_written}

@@ -1,7 +1,7 @@
 use Rattle.std.proofs.Common.{List, sym, ap, subst, ◌∙◌, option_map}
 use Rattle.std.specs.FinMap as finite
 use Rattle.catalogue.specs.Shapes.{TableShape}
-use Rattle.interp_expr.specs.Scan.{IsNext}
+use Rattle.workspace.specs.Scan.{IsNext}
 use Rattle.row_store.specs.Stock.{Lent}
 use Rattle.row_store.proofs.Rows.{get-rows_of}
 use Rattle.row_store.proofs.view.LoanRowView.next_row.Goals as goal

@@ -1,7 +1,7 @@
 use Rattle.std.proofs.Common.{◌≡◌, List, sym, ap, subst, ◌∙◌, option_map}
 use Rattle.std.specs.FinMap as finite
 use Rattle.catalogue.specs.Shapes.{TableShape}
-use Rattle.interp_expr.specs.Scan.{IsNext, is_in_part}
+use Rattle.workspace.specs.Scan.{IsNext, is_in_part}
 use Rattle.row_store.specs.Stock.{Stock}
 use Rattle.row_store.proofs.Rows.{get-rows_of}
 use Rattle.row_store.proofs.Shown.{store_here}

@@ -1,0 +1,18 @@
+//! What a run reads and what it has of its own: the rows that it is shown, under a permit, and its own writes over them.
+#![tactic(auto)]
+
+mod own;
+mod permit;
+mod rows;
+mod scanning;
+mod stop;
+mod view;
+mod walk;
+mod workspace;
+
+pub use permit::{Permit, part_of};
+pub use rows::{access, access_part, is_there, present_row};
+pub use scanning::{count_in, keys_in, total_in};
+pub use stop::Stop;
+pub use view::RowView;
+pub use workspace::Workspace;

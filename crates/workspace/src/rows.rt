@@ -1,0 +1,121 @@
+//! Accesses of rows.
+#![tactic(auto, unfolding(meaning::specs::Runs::and_then))]
+
+ghost use Rattle.std.specs.Prelude.{◌≡◌, true, IfOk, is_some, option_copied};
+ghost use Rattle.std.specs.FinMap as map;
+ghost use Rattle.catalogue.specs.Places.{partition_numbered};
+ghost use Rattle.proclang_types.specs.declared.right.Right.TheVariants.{Read};
+ghost use Rattle.meaning.specs.Runs.{State, tested_key, accessed, part_accessed, present};
+ghost use Rattle.workspace.specs.Overlay.{applied};
+ghost use Rattle.workspace.specs.Coverage.{gate_of, ShowsCovered, permits, permits_part};
+ghost use Rattle.workspace.specs.States.{state_at};
+ghost use Rattle.workspace.specs.Answers.{Gives};
+
+use crate::permit::Permit;
+use crate::stop::Stop;
+use crate::view::RowView;
+use crate::workspace::Workspace;
+use catalogue::Catalogue;
+use footprint::{AbortCode, Right};
+use meaning::Ending;
+use values::{Key, Row, RowName, TableNo};
+
+/// The key of a number, or the end of the run.
+fn tested_key(number: i64) -> Result<Key, Stop>
+    ensures { (state : State) → Gives (λ key. key) state result (tested_key number state) }
+{
+    match Key::new(number) {
+        Some(key) => Ok(key),
+        None => Err(Stop::End(Ending::Abort(AbortCode::BadKey))),
+    }
+}
+
+/// The name of the row with the key of that number: the key is tested, and then the right to the row.
+#[tactic(auto, unfolding(meaning::specs::Runs::and_then), using(crate::proofs::Covered::covers_read))]
+pub fn access(permit: &Permit, right: Right, table: TableNo, number: i64) -> Result<RowName, Stop>
+    ensures name { (state : State) →
+        Gives (λ name. name) state result (accessed (gate_of permit.now) right table number state) }
+    ensures right { IfOk result (λ name. permits permit.now name right ≡ true) }
+    ensures read { IfOk result (λ name. permits permit.now name Read ≡ true) }
+{
+    let key = tested_key(number)?;
+    let name = RowName::new(table, key);
+    if permit.covers(&name, right) {
+        Ok(name)
+    } else {
+        Err(Stop::End(permit.uncovered))
+    }
+}
+
+/// The partition with a number, `None` exactly where the table has none with that number.
+fn part_numbered(catalogue: &Catalogue, table: TableNo, number: i64) -> Option<u32>
+    ensures { result ≡ partition_numbered catalogue.now table number }
+{
+    if table.place() < catalogue.len() {
+        catalogue.part(table, number)
+    } else {
+        None
+    }
+}
+
+/// The partition with a number: the number is tested, and then the right to read the partition.
+pub fn access_part(permit: &Permit, table: TableNo, number: i64) -> Result<u32, Stop>
+    ensures part { (state : State) →
+        Gives (λ part. part) state result (part_accessed (gate_of permit.now) table number state) }
+    ensures read { IfOk result (λ part. permits_part permit.now table part ≡ true) }
+{
+    let Some(part) = part_numbered(permit.catalogue, table, number) else {
+        return Err(Stop::End(Ending::Abort(AbortCode::BadPart)));
+    };
+    if !permit.covers_part(table, part) {
+        return Err(Stop::End(permit.uncovered));
+    }
+    Ok(part)
+}
+
+/// The row with a name, after the own writes; `None` exactly where there is none.
+#[tactic(auto, using(crate::proofs::Writes::get_applied))]
+pub(crate) fn row_seen<'a, V: RowView>(
+    view: &'a V,
+    permit: &Permit,
+    space: &'a Workspace,
+    name: &RowName,
+) -> Option<&'a Row>
+    requires shows { ShowsCovered permit.now (V.tables view.now) (V.shows view.now) }
+    requires covered { permits permit.now name.now Read ≡ true }
+    ensures { option_copied result ≡ map.get (applied space.now.writes.entries (V.rows view.now)) name.now }
+{
+    match space.writes.get(name) {
+        Some(write) => write.as_ref(),
+        None => view.row(name.table, name.key),
+    }
+}
+
+/// The row with a name, after the own writes, or the end of the run where there is none.
+pub fn present_row<'a, V: RowView>(
+    view: &'a V,
+    permit: &Permit,
+    space: &'a Workspace,
+    name: &RowName,
+) -> Result<&'a Row, Stop>
+    requires shows { ShowsCovered permit.now (V.tables view.now) (V.shows view.now) }
+    requires covered { permits permit.now name.now Read ≡ true }
+    ensures { Gives (λ row.
+        row.now) (state_at (V.rows view.now) space.now) result
+        (present (map.get (applied space.now.writes.entries (V.rows view.now)) name.now)
+        (state_at (V.rows view.now) space.now)) }
+{
+    match row_seen(view, permit, space, name) {
+        Some(row) => Ok(row),
+        None => Err(Stop::End(Ending::Abort(AbortCode::NoRow))),
+    }
+}
+
+/// Whether the row with a name is there, after the own writes.
+pub fn is_there<V: RowView>(view: &V, permit: &Permit, space: &Workspace, name: &RowName) -> bool
+    requires shows { ShowsCovered permit.now (V.tables view.now) (V.shows view.now) }
+    requires covered { permits permit.now name.now Read ≡ true }
+    ensures { result ≡ is_some (map.get (applied space.now.writes.entries (V.rows view.now)) name.now) }
+{
+    row_seen(view, permit, space, name).is_some()
+}
