@@ -2,6 +2,7 @@
 
 ghost use Rattle.std.specs.Prelude.{◌≡◌, IfOk, string_bytes};
 ghost use Rattle.calvin.specs.CommandEnds.{check_text, counts_text, IsCheckCommand, IsWritten};
+ghost use Rattle.running.specs.Runs.{device_with};
 
 use crate::files::Files;
 use crate::inputs::{print, refused, setup_at};
@@ -41,8 +42,8 @@ fn check_text(alloc: Global, setup: &Setup) -> Result<String, AllocError>
 /// Prints how much a setup has, and gives the exit status.
 fn count<K: Sink, E: Sink>(alloc: Global, setup: &Setup, out: &mut K, err: &mut E) -> u8
     ensures { IsWritten (check_text setup.now)
-        (record { bytes = K.taken out.old; failed = K.broken out.old })
-        (record { bytes = K.taken out.new; failed = K.broken out.new }) 0 result }
+        (device_with (K.taken out.old) (K.broken out.old))
+        (device_with (K.taken out.new) (K.broken out.new)) 0 result }
 {
     let Ok(text) = check_text(alloc, setup) else {
         return refused(alloc, err, RunFault::at(LogFaultKind::Memory, 0));
@@ -62,8 +63,8 @@ pub(crate) fn check<F: Files, K: Sink, E: Sink>(
     err: &mut E,
 ) -> u8
     ensures { IsCheckCommand (F.holds files.now path.now)
-        (record { bytes = K.taken out.old; failed = K.broken out.old })
-        (record { bytes = K.taken out.new; failed = K.broken out.new }) result }
+        (device_with (K.taken out.old) (K.broken out.old))
+        (device_with (K.taken out.new) (K.broken out.new)) result }
 {
     match setup_at(alloc, files, path, err) {
         Ok(setup) => count(alloc, &setup, out, err),

@@ -2,7 +2,7 @@
 
 ghost use Rattle.std.specs.FinMap as map_of;
 ghost use Rattle.row_store.specs.Stock.{with_rows};
-ghost use Rattle.running.specs.Runs.{IsRunOfLog};
+ghost use Rattle.running.specs.Runs.{IsRunOfLog, device_with};
 ghost use Rattle.calvin.specs.CommandEnds.{Does, IsRunCommand};
 
 use crate::checking::check;
@@ -32,10 +32,10 @@ fn run_setup<R: Threads + Wait + Sync, S: Source, K: Sink>(
     out: &mut K,
 ) -> Result<u64, RunFault>
     ensures { IsRunOfLog setup.procs (with_rows map_of.empty setup.rows.items)
-        (record { bytes = S.left source.old; failed = S.failed source.old })
-        (record { bytes = S.left source.new; failed = S.failed source.new })
-        (record { bytes = K.taken out.old; failed = K.broken out.old })
-        (record { bytes = K.taken out.new; failed = K.broken out.new }) result }
+        (device_with (S.left source.old) (S.failed source.old))
+        (device_with (S.left source.new) (S.failed source.new))
+        (device_with (K.taken out.old) (K.broken out.old))
+        (device_with (K.taken out.new) (K.broken out.new)) result }
 {
     if alone {
         run_log_alone(alloc, setup, settings, source, out)
@@ -57,10 +57,10 @@ fn run<R: Threads + Wait + Sync, F: Files, S: Source, K: Sink, E: Sink>(
     err: &mut E,
 ) -> u8
     ensures { IsRunCommand (F.holds files.now path.now)
-        (record { bytes = S.left source.old; failed = S.failed source.old })
-        (record { bytes = S.left source.new; failed = S.failed source.new })
-        (record { bytes = K.taken out.old; failed = K.broken out.old })
-        (record { bytes = K.taken out.new; failed = K.broken out.new }) result }
+        (device_with (S.left source.old) (S.failed source.old))
+        (device_with (S.left source.new) (S.failed source.new))
+        (device_with (K.taken out.old) (K.broken out.old))
+        (device_with (K.taken out.new) (K.broken out.new)) result }
 {
     let setup = match setup_at(alloc, files, path, err) {
         Ok(setup) => setup,
@@ -108,10 +108,10 @@ pub fn command<R: Threads + Wait + Sync, F: Files, S: Source, K: Sink, E: Sink>(
     err: &mut E,
 ) -> u8
     ensures { Does (F.holds files.now) line.now
-        (record { bytes = S.left source.old; failed = S.failed source.old })
-        (record { bytes = S.left source.new; failed = S.failed source.new })
-        (record { bytes = K.taken out.old; failed = K.broken out.old })
-        (record { bytes = K.taken out.new; failed = K.broken out.new }) result }
+        (device_with (S.left source.old) (S.failed source.old))
+        (device_with (S.left source.new) (S.failed source.new))
+        (device_with (K.taken out.old) (K.broken out.old))
+        (device_with (K.taken out.new) (K.broken out.new)) result }
 {
     let settings = line.settings;
     match &line.command {

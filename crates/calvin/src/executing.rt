@@ -10,7 +10,7 @@ ghost use Rattle.report_text.specs.Report.{all_entries};
 ghost use Rattle.engine.specs.Engines.{tables_of};
 ghost use Rattle.running.specs.Executors.{IsExecution};
 ghost use Rattle.running.specs.Reports.{batches_in, fault_in, report_of};
-ghost use Rattle.running.specs.Runs.{IsRunOfLog};
+ghost use Rattle.running.specs.Runs.{IsRunOfLog, device_with};
 ghost use Rattle.running.specs.Stops.{ends_in_io, IfOfLine, IfOfMachine, IsLineOf};
 
 use batch_log::{Sink, Source};
@@ -30,10 +30,10 @@ pub(crate) fn run_log_alone<S: Source, K: Sink>(
     sink: &mut K,
 ) -> Result<u64, RunFault>
     ensures { IsRunOfLog setup.procs (with_rows map_of.empty setup.rows.items)
-        (record { bytes = S.left source.old; failed = S.failed source.old })
-        (record { bytes = S.left source.new; failed = S.failed source.new })
-        (record { bytes = K.taken sink.old; failed = K.broken sink.old })
-        (record { bytes = K.taken sink.new; failed = K.broken sink.new }) result }
+        (device_with (S.left source.old) (S.failed source.old))
+        (device_with (S.left source.new) (S.failed source.new))
+        (device_with (K.taken sink.old) (K.broken sink.old))
+        (device_with (K.taken sink.new) (K.broken sink.new)) result }
 {
     let executor = move |engine: &mut Engine, batch: Batch| -> Result<BatchDone, ExecFault>
         requires { AreOver (tables_of engine.old) (items_of batch) }
@@ -53,10 +53,10 @@ pub(crate) fn run_log_on_workers<R: Threads + Wait + Sync, G: Gate, S: Source, K
     sink: &mut K,
 ) -> Result<u64, RunFault>
     ensures { IsRunOfLog setup.procs (with_rows map_of.empty setup.rows.items)
-        (record { bytes = S.left source.old; failed = S.failed source.old })
-        (record { bytes = S.left source.new; failed = S.failed source.new })
-        (record { bytes = K.taken sink.old; failed = K.broken sink.old })
-        (record { bytes = K.taken sink.new; failed = K.broken sink.new }) result }
+        (device_with (S.left source.old) (S.failed source.old))
+        (device_with (S.left source.new) (S.failed source.new))
+        (device_with (K.taken sink.old) (K.broken sink.old))
+        (device_with (K.taken sink.new) (K.broken sink.new)) result }
 {
     let executor = move |engine: &mut Engine, batch: Batch| -> Result<BatchDone, ExecFault>
         requires { AreOver (tables_of engine.old) (items_of batch) }

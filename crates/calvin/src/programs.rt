@@ -2,6 +2,7 @@
 
 ghost use Rattle.std.specs.Prelude.{map, string_bytes};
 ghost use Rattle.calvin.specs.CommandEnds.{IsProgram};
+ghost use Rattle.running.specs.Runs.{device_with};
 
 use crate::commands::command;
 use crate::files::Files;
@@ -26,10 +27,10 @@ pub fn program<R: Threads + Wait + Sync, F: Files, S: Source, K: Sink, E: Sink>(
     err: &mut E,
 ) -> u8
     ensures { IsProgram (F.holds files.now) (map string_bytes words.now)
-        (record { bytes = S.left source.old; failed = S.failed source.old })
-        (record { bytes = S.left source.new; failed = S.failed source.new })
-        (record { bytes = K.taken out.old; failed = K.broken out.old })
-        (record { bytes = K.taken out.new; failed = K.broken out.new }) result }
+        (device_with (S.left source.old) (S.failed source.old))
+        (device_with (S.left source.new) (S.failed source.new))
+        (device_with (K.taken out.old) (K.broken out.old))
+        (device_with (K.taken out.new) (K.broken out.new)) result }
 {
     match read_line(alloc, words) {
         Ok(line) => command(rt, alloc, &line, files, source, out, err),

@@ -2,6 +2,7 @@
 
 ghost use Rattle.std.specs.Prelude.{◌≡◌, IfOk, string_bytes};
 ghost use Rattle.calvin.specs.CommandEnds.{answer_status, answer_text, IsAnswered, IsReplicasCommand};
+ghost use Rattle.running.specs.Runs.{device_with};
 
 use crate::comparison::{KeptReport, first_difference};
 use crate::executing::run_log_on_workers;
@@ -45,8 +46,8 @@ fn answer<K: Sink, E: Sink>(
     err: &mut E,
 ) -> u8
     ensures { IsAnswered report.now other.now
-        (record { bytes = K.taken out.old; failed = K.broken out.old })
-        (record { bytes = K.taken out.new; failed = K.broken out.new }) result }
+        (device_with (K.taken out.old) (K.broken out.old))
+        (device_with (K.taken out.new) (K.broken out.new)) result }
 {
     let difference = first_difference(report, other);
     let Ok(text) = answer_text(alloc, difference) else {
@@ -71,10 +72,10 @@ pub(crate) fn replicas<R: Threads + Wait + Sync, F: Files, S: Source, K: Sink, E
     err: &mut E,
 ) -> u8
     ensures { IsReplicasCommand (F.holds files.now path.now) (F.holds files.now report.now)
-        (record { bytes = S.left source.old; failed = S.failed source.old })
-        (record { bytes = S.left source.new; failed = S.failed source.new })
-        (record { bytes = K.taken out.old; failed = K.broken out.old })
-        (record { bytes = K.taken out.new; failed = K.broken out.new }) result }
+        (device_with (S.left source.old) (S.failed source.old))
+        (device_with (S.left source.new) (S.failed source.new))
+        (device_with (K.taken out.old) (K.broken out.old))
+        (device_with (K.taken out.new) (K.broken out.new)) result }
 {
     let other = match file_at(alloc, files, report, err) {
         Ok(other) => other,

@@ -1,11 +1,13 @@
 //! Moves the rows of whole plans between the shelves of a store and those of a loan.
 
-ghost use Rattle.std.specs.Prelude.{◌≡◌, Some, None, true, false, ◌&&◌, ◌||◌, if◌then◌else◌, option_map, IfOk, OnOk};
+ghost use Rattle.std.specs.Prelude.{◌≡◌, true, false, if◌then◌else◌, IfOk, OnOk};
 ghost use Rattle.values.specs.declared.name.RowName.{RowName as AnyName};
 ghost use Rattle.footprint.specs.declared.resource.Resource.{Resource as AnyResource};
-ghost use Rattle.row_store.specs.Places.{place_at, has_shelf, has_place, seen_at, emptied, placed, settled, full, is_shelf, is_name};
+ghost use Rattle.row_store.specs.Places.{place_at, has_shelf, has_place, seen_at, is_shelf};
 ghost use Rattle.row_store.specs.Shelving.{shelf_of};
 ghost use Rattle.row_store.specs.Locked.{among, is_named};
+ghost use Rattle.row_store.specs.Moving.{AreEmptied, IsCopied, AreCopied, IsShared, AreShared, IsShelfPut, AreShelvesPut};
+ghost use Rattle.row_store.specs.Moving.{IsShelfTaken, AreShelvesTaken, IsRowPut, IsRowTaken, AreRowsPut};
 
 use crate::shelves::{
     Shelves, add_row, add_shelf, copy_shelf, empty_place, make_place, make_shelf, put_row,
@@ -56,9 +58,7 @@ pub(crate) fn make_places(
 
 /// Empties the places of names. Their rows count as before.
 pub(crate) fn empty_places(catalogue: &Catalogue, shelves: &mut Shelves, names: &[RowName])
-    ensures seen { (q : AnyName) → seen_at shelves.new (shelf_of catalogue.now q) q ≡ (if is_named names.now q
-        then emptied (seen_at shelves.old (shelf_of catalogue.now q) q)
-        else seen_at shelves.old (shelf_of catalogue.now q) q) }
+    ensures seen { AreEmptied catalogue.now names.now shelves.old shelves.new }
     ensures places { (d : AnyResource) (q : AnyName) → has_place shelves.new d q ≡ has_place shelves.old d q }
     ensures shelves { (d : AnyResource) → has_shelf shelves.new d ≡ has_shelf shelves.old d }
 {
@@ -74,9 +74,7 @@ fn copy_one(
     copies: &mut Shelves,
     at: &Resource,
 ) -> Result<(), NoMemory>
-    ensures places { OnOk result ((d : AnyResource) (q : AnyName) →
-        place_at copies.new d q ≡ (if is_shelf at.now d then option_map settled (place_at shelves.now d q)
-        else place_at copies.old d q)) }
+    ensures places { OnOk result (IsCopied at.now shelves.now copies.old copies.new) }
     ensures shelves { OnOk result ((d : AnyResource) →
         has_shelf copies.new d ≡ (if is_shelf at.now d then true else has_shelf copies.old d)) }
 {
@@ -90,8 +88,7 @@ pub(crate) fn copy_shelves(
     shelves: &Shelves,
     at: &[Resource],
 ) -> Result<Shelves, NoMemory>
-    ensures places { IfOk result (λ copies. (d : AnyResource) (q : AnyName) →
-        place_at copies d q ≡ (if among at.now d then option_map settled (place_at shelves.now d q) else None)) }
+    ensures places { IfOk result (λ copies. AreCopied at.now shelves.now copies) }
     ensures shelves { IfOk result (λ copies. (d : AnyResource) → has_shelf copies d ≡ among at.now d) }
 {
     let mut copies = BTreeMap::new(alloc);
@@ -109,9 +106,7 @@ fn share_one(
     at: &Resource,
     name: &RowName,
 ) -> Result<(), NoMemory>
-    ensures places { OnOk result ((d : AnyResource) (q : AnyName) →
-        place_at copies.new d q ≡ (if is_shelf at.now d && is_name name.now q
-        then Some (settled (seen_at shelves.now d q)) else place_at copies.old d q)) }
+    ensures places { OnOk result (IsShared at.now name.now shelves.now copies.old copies.new) }
     ensures shelves { OnOk result ((d : AnyResource) → has_shelf copies.old d ≡ true → has_shelf copies.new d ≡ true) }
 {
     let row = share_row(shelves, at, name)?;
@@ -127,10 +122,7 @@ pub(crate) fn share_rows(
     copies: &mut Shelves,
     names: &[RowName],
 ) -> Result<(), NoMemory>
-    ensures places { OnOk result ((q : AnyName) →
-        place_at copies.new (shelf_of catalogue.now q) q ≡ (if is_named names.now q
-        then Some (settled (seen_at shelves.now (shelf_of catalogue.now q) q))
-        else place_at copies.old (shelf_of catalogue.now q) q)) }
+    ensures places { OnOk result (AreShared catalogue.now names.now shelves.now copies.old copies.new) }
     ensures shelves { OnOk result ((d : AnyResource) → has_shelf copies.old d ≡ true → has_shelf copies.new d ≡ true) }
 {
     for name in names {
@@ -141,12 +133,9 @@ pub(crate) fn share_rows(
 
 /// Moves a shelf from a loan into the place of the store's, if both are there.
 fn put_one_shelf(shelves: &mut Shelves, from: &mut Shelves, at: &Resource)
-    ensures places { (d : AnyResource) (q : AnyName) →
-        place_at shelves.new d q ≡ (if is_shelf at.now d && (has_shelf shelves.old d && has_shelf from.old d)
-        then place_at from.old d q else place_at shelves.old d q) }
+    ensures places { IsShelfPut at.now from.old shelves.old shelves.new }
     ensures shelves { (d : AnyResource) → has_shelf shelves.new d ≡ has_shelf shelves.old d }
-    ensures left { (d : AnyResource) (q : AnyName) →
-        place_at from.new d q ≡ (if is_shelf at.now d then None else place_at from.old d q) }
+    ensures left { IsShelfTaken at.now from.old from.new }
     ensures left_shelves { (d : AnyResource) →
         has_shelf from.new d ≡ (if is_shelf at.now d then false else has_shelf from.old d) }
 {
@@ -157,12 +146,9 @@ fn put_one_shelf(shelves: &mut Shelves, from: &mut Shelves, at: &Resource)
 
 /// Moves whole shelves from a loan into the places of the store's. It takes no memory and copies no row.
 pub(crate) fn put_shelves(shelves: &mut Shelves, from: &mut Shelves, at: &[Resource])
-    ensures places { (d : AnyResource) (q : AnyName) →
-        place_at shelves.new d q ≡ (if among at.now d && (has_shelf shelves.old d && has_shelf from.old d)
-        then place_at from.old d q else place_at shelves.old d q) }
+    ensures places { AreShelvesPut at.now from.old shelves.old shelves.new }
     ensures shelves { (d : AnyResource) → has_shelf shelves.new d ≡ has_shelf shelves.old d }
-    ensures left { (d : AnyResource) (q : AnyName) →
-        place_at from.new d q ≡ (if among at.now d then None else place_at from.old d q) }
+    ensures left { AreShelvesTaken at.now from.old from.new }
 {
     for shelf in at {
         put_one_shelf(shelves, from, shelf);
@@ -172,13 +158,9 @@ pub(crate) fn put_shelves(shelves: &mut Shelves, from: &mut Shelves, at: &[Resou
 /// Moves the row of a name from a loan into the place in the store, if both have a place of that name. Without a row the
 /// place goes.
 fn put_one_row(shelves: &mut Shelves, from: &mut Shelves, at: &Resource, name: &RowName)
-    ensures places { (d : AnyResource) (q : AnyName) →
-        place_at shelves.new d q
-        ≡ (if is_shelf at.now d && (is_name name.now q && (has_place shelves.old d q && has_place from.old d q))
-        then placed (seen_at from.old d q).row else place_at shelves.old d q) }
+    ensures places { IsRowPut at.now name.now from.old shelves.old shelves.new }
     ensures shelves { (d : AnyResource) → has_shelf shelves.new d ≡ has_shelf shelves.old d }
-    ensures left { (d : AnyResource) (q : AnyName) →
-        place_at from.new d q ≡ (if is_shelf at.now d && is_name name.now q then None else place_at from.old d q) }
+    ensures left { IsRowTaken at.now name.now from.old from.new }
 {
     if let Some(place) = take_place(from, at, name) {
         put_row(shelves, at, name, place.row);
@@ -192,12 +174,7 @@ pub(crate) fn put_rows(
     from: &mut Shelves,
     names: &[RowName],
 )
-    ensures places { (q : AnyName) →
-        place_at shelves.new (shelf_of catalogue.now q) q
-        ≡ (if is_named names.now q && (has_place shelves.old (shelf_of catalogue.now q) q
-        && has_place from.old (shelf_of catalogue.now q) q)
-        then placed (seen_at from.old (shelf_of catalogue.now q) q).row
-        else place_at shelves.old (shelf_of catalogue.now q) q) }
+    ensures places { AreRowsPut catalogue.now names.now from.old shelves.old shelves.new }
     ensures shelves { (d : AnyResource) → has_shelf shelves.new d ≡ has_shelf shelves.old d }
 {
     for name in names {

@@ -15,6 +15,9 @@ pub record Device : Type 0 where
   pub bytes : Option (List ℕ)
   pub failed : Bool
 
+abbrev pub device_with : Option (List ℕ) → Bool → Device
+device_with bytes failed = record { bytes = bytes; failed = failed }
+
 -- A run of the log that a source has left, into a sink, on procedures and starting rows: devices before and after it, and how
 -- it ended.
 pub record IsRunOfLog (procs : ProcsParts) (db : Database) (source spent sink filled : Device) (result : Result ℕ RunFault) : Type 0 where

@@ -18,7 +18,7 @@ ghost use Rattle.engine.specs.Executions.{IsRefusal, IsExecutionOf, KeepsSetting
 ghost use Rattle.running.specs.Executors.{Executes};
 ghost use Rattle.running.specs.Hashers.{batch_of, said_of};
 ghost use Rattle.running.specs.Reports.{batches_in, fault_in, report_of};
-ghost use Rattle.running.specs.Runs.{IsRunOfLog};
+ghost use Rattle.running.specs.Runs.{IsRunOfLog, device_with};
 ghost use Rattle.running.specs.Stops.{ends_in_io, is_of_device, IfOfLine, IfOfMachine, IsHeld, IsLineOf, IsMachineFault};
 
 use crate::run_fault::RunFault;
@@ -146,10 +146,10 @@ fn run_batches<X: Fn(&mut Engine, Batch) -> Result<BatchDone, ExecFault>, S: Sou
         (fault_of reader.old ≡ None) }
     ensures same { source_name reader.new ≡ source_name reader.old }
     ensures run { IsRunOfLog engine.old.procs engine.old.rows
-        (record { bytes = unread S.left reader.old; failed = S.failed (source_of reader.old) })
-        (record { bytes = S.left (source_of reader.new); failed = S.failed (source_of reader.new) })
-        (record { bytes = K.taken sink.old; failed = K.broken sink.old })
-        (record { bytes = K.taken sink.new; failed = K.broken sink.new }) result }
+        (device_with (unread S.left reader.old) (S.failed (source_of reader.old)))
+        (device_with (S.left (source_of reader.new)) (S.failed (source_of reader.new)))
+        (device_with (K.taken sink.old) (K.broken sink.old))
+        (device_with (K.taken sink.new) (K.broken sink.new)) result }
 {
     let mut transcript = Transcript::new();
     'batches: for _ in 0..u64::MAX {
@@ -187,10 +187,10 @@ fn run_source<X: Fn(&mut Engine, Batch) -> Result<BatchDone, ExecFault>, S: Sour
     requires idle { is_busy engine.old ≡ false }
     requires unused { engine.old.next ≡ 0 }
     ensures { IsRunOfLog engine.old.procs engine.old.rows
-        (record { bytes = S.left source.old; failed = S.failed source.old })
-        (record { bytes = S.left source.new; failed = S.failed source.new })
-        (record { bytes = K.taken sink.old; failed = K.broken sink.old })
-        (record { bytes = K.taken sink.new; failed = K.broken sink.new }) result }
+        (device_with (S.left source.old) (S.failed source.old))
+        (device_with (S.left source.new) (S.failed source.new))
+        (device_with (K.taken sink.old) (K.broken sink.old))
+        (device_with (K.taken sink.new) (K.broken sink.new)) result }
 {
     let mut reader = LogReader::new(source);
     let ended = run_batches(alloc, executor, engine, &mut reader, sink);
@@ -215,10 +215,10 @@ pub fn run_log<X: Fn(&mut Engine, Batch) -> Result<BatchDone, ExecFault>, S: Sou
 ) -> Result<u64, RunFault>
     requires executes { Executes X.Fn executor.now }
     ensures { IsRunOfLog setup.procs (with_rows map_of.empty setup.rows.items)
-        (record { bytes = S.left source.old; failed = S.failed source.old })
-        (record { bytes = S.left source.new; failed = S.failed source.new })
-        (record { bytes = K.taken sink.old; failed = K.broken sink.old })
-        (record { bytes = K.taken sink.new; failed = K.broken sink.new }) result }
+        (device_with (S.left source.old) (S.failed source.old))
+        (device_with (S.left source.new) (S.failed source.new))
+        (device_with (K.taken sink.old) (K.broken sink.old))
+        (device_with (K.taken sink.new) (K.broken sink.new)) result }
 {
     match Engine::new(alloc, setup, settings) {
         Ok(mut engine) => run_source(alloc, executor, &mut engine, source, sink),
