@@ -14,7 +14,7 @@ use Rattle.modes.specs.Rights.{rank_of, rank}
 use Rattle.coarsen.specs.Subtrees.{greatest, is_same, right_on}
 use Rattle.coarsen.specs.Requests.{number_or_none}
 use Rattle.coarsen.specs.Coarsening.{with_rights, gathered}
-use Rattle.coarsen.proofs.Tree.{resources_total}
+use Rattle.footprint.proofs.Resources.{resources_total}
 use Rattle.coarsen.proofs.Greatest.{found, greatest-put, first_test, second_test, less, first_or_later}
 
 none_of_len : {A : Type 0} (xs : List A) → length xs ≡ 0 → xs ≡ []

@@ -10,7 +10,8 @@ use Rattle.std.specs.Ordering.{is_eq, is_lt, match_ordering}
 use Rattle.std.specs.FinMap.Entries.{find, put, is_sorted, below_all, by_order}
 use Rattle.std.specs.BTreeMap.{is_at, insert_entry}
 use Rattle.footprint.specs.Tree.{resource_cmp}
-use Rattle.coarsen.proofs.Tree.{same_resource, is_same_itself, ties_same, exact_resources}
+use Rattle.footprint.proofs.Resources.{exact_resources}
+use Rattle.coarsen.proofs.Tree.{same_resource, is_same_itself, ties_same}
 use Rattle.coarsen.specs.Subtrees.{greatest, is_same}
 use Rattle.coarsen.specs.Requests.{number_or_none}
 

@@ -12,7 +12,7 @@ use Rattle.modes.specs.declared.mode.Mode.TheVariants.{IntentionShared, Intentio
 use Rattle.modes.specs.Modes.{are_compatible}
 use Rattle.coarsen.specs.Subtrees.{Requests}
 use Rattle.coarsen.specs.Clashes.{ModesClash}
-use Rattle.coarsen.proofs.Tree.{resources_total, exact_resources}
+use Rattle.footprint.proofs.Resources.{resources_total, exact_resources}
 
 either_way : (a b : Mode) → are_compatible a b ≡ are_compatible b a
 either_way IntentionShared IntentionShared = refl

@@ -12,7 +12,8 @@ use Rattle.modes.specs.Modes.{own, subtree}
 use Rattle.coarsen.specs.Subtrees.{Requests, is_same, greatest, right_on, right_under}
 use Rattle.coarsen.specs.Plans.{IsPlanOf}
 use Rattle.coarsen.specs.Laws.{PlansAreExact, ClashEitherWay}
-use Rattle.coarsen.proofs.Tree.{same_resource, is_same_itself, resources_total}
+use Rattle.footprint.proofs.Resources.{resources_total}
+use Rattle.coarsen.proofs.Tree.{same_resource, is_same_itself}
 use Rattle.coarsen.proofs.Greatest.{has_greatest, some_greatest, greatest_least, first_or_later, later}
 use Rattle.coarsen.proofs.Planning.{subtree_some}
 use Rattle.coarsen.proofs.Merging.{behind, ordered_tail, not_itself, conflict_turned}

@@ -12,7 +12,8 @@ use Rattle.footprint.specs.Rights.{FootprintOf, greater, with_right}
 use Rattle.footprint.specs.OfCatalogue.{IsResourceOf, IsFootprintOf}
 use Rattle.coarsen.specs.Subtrees.{holds, is_same}
 use Rattle.coarsen.specs.Laws.{HoldsDescendants, FootprintsAreOf}
-use Rattle.coarsen.proofs.Tree.{holds_itself, same_resource, is_same_itself, ties_same, resources_total, and}
+use Rattle.footprint.proofs.Resources.{resources_total}
+use Rattle.coarsen.proofs.Tree.{holds_itself, same_resource, is_same_itself, ties_same, and}
 use Rattle.coarsen.proofs.Parents.{depth, parent_depth, same_or_up, over_up, some_ancestor, ancestors_by_parent}
 
 or_right : (a b : Bool) → b ≡ true → a || b ≡ true

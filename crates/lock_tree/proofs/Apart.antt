@@ -5,12 +5,11 @@ use Rattle.std.specs.Map.{keys_of}
 use Rattle.std.specs.List.Sorted.{IsStrictlySortedBy}
 use Rattle.std.specs.FinMap.Entries.{find}
 use Rattle.std.specs.Ordering.{is_eq, ordering_reverse}
-use Rattle.std.specs.Cmp.{IsTotalOrder}
 use Rattle.std.proofs.lemmas.Cmp.{tied_itself}
 use Rattle.std.proofs.lemmas.Bool.Decides.{nat_tests}
 use Rattle.footprint.specs.declared.resource.Resource.{Resource}
 use Rattle.footprint.specs.Tree.{resource_cmp}
-use Rattle.footprint.specs.contracts.resource.ResourceOrd.TheImpl.Laws as laws
+use Rattle.footprint.proofs.Resources.{resources_total}
 use Rattle.modes.specs.declared.mode.Mode.{Mode}
 use Rattle.modes.specs.Modes.{are_compatible}
 use Rattle.coarsen.specs.Subtrees.{Requests}
@@ -18,9 +17,6 @@ use Rattle.lock_tree.specs.Locks.{Waiting, plan_of, AreAbove, IsRising}
 use Rattle.lock_tree.specs.Queues.{Queue, mode_on, asks, queue, granted_beside, granted, has_number}
 use Rattle.lock_tree.specs.Ready.{all_granted as all_of}
 use Rattle.lock_tree.specs.Laws.{ReadyApart, FirstReady}
-
-resources_total : IsTotalOrder resource_cmp
-resources_total = laws.lawful.total
 
 same_itself : (k : ℕ) → (k == k) ≡ true
 same_itself k = grind (arith, nat_tests)

@@ -17,7 +17,8 @@ use Rattle.lock_tree.specs.Enqueues.{AreBelow}
 use Rattle.lock_tree.specs.Lines.{Lines, HasRoom, is_same, numbers_of, AllUnder}
 use Rattle.lock_tree.specs.Known.{granted_in, Knows, AreKnown}
 use Rattle.lock_tree.specs.Views.{all_waiting}
-use Rattle.lock_tree.proofs.Lines.{same_resource, resources_total}
+use Rattle.footprint.proofs.Resources.{resources_total}
+use Rattle.lock_tree.proofs.Lines.{same_resource}
 
 -- ---- the resources of a plan stand once each
 
