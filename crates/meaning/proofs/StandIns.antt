@@ -18,7 +18,7 @@ use Rattle.values.specs.Database.{Database, RowOf, name_cmp}
 use Rattle.proclang_types.specs.declared.right.Right.{Right}
 use Rattle.proclang_types.specs.declared.right.Right.TheVariants.{Read, Write}
 use Rattle.proclang_types.specs.Syntax.{IntSyntax, number, variable, binary, count_rows, sum_column, TextSyntax, literal, text_variable, BoolSyntax, compare_ints, compare_texts, both, either, negated, row_exists, ValueSyntax, int_value, text_value, StmtSyntax, assign, get as get_syntax, put, insert_row, delete_row, choose, for_numbers, for_keys, abort as abort_syntax, reply, BlockSyntax, no_statements, followed, block_of, ProcSyntax}
-use Rattle.proclang_types.specs.Typing.{column_kind, IntFits, TextFits, BoolFits, ValueFits, kind_of, in_loop, Takes, declared, continued as kinds_after, StmtFits, BlockFits, kinds_of}
+use Rattle.proclang_types.specs.Typing.{column_kind, IntFits, TextFits, BoolFits, ValueFits, kind_of, in_loop, Takes, declared, scope_after as kinds_after, StmtFits, BlockFits, kinds_of}
 use Rattle.footprint.specs.declared.abort_code.AbortCode.{AbortCode}
 use Rattle.footprint.specs.declared.abort_code.AbortCode.TheVariants.{BadKey, BadPart, NoRow, DuplicateRow, Budget, TooLong, Own, Overflow, Uncovered}
 use Rattle.footprint.specs.declared.resource.Resource.TheVariants.{Table}
