@@ -1,9 +1,10 @@
 #!/usr/bin/env bash
-# Runs the gate, `rt ci`, and says before its last line how much of a processor's time it took, and what each crate took of it.
+# Runs the gate: `rt ci`, and then `scripts/edits.py together`, which tries more edits, many in one check. It says before its last
+# line how much of a processor's time it took, and what each crate took of it. The last line counts both.
 #
 # One check runs on each processor; each takes less than 5 GB of memory. The time of the whole is exact. The shares of the crates,
 # for their own proof, for their tests and for their edits, are read off the checks every two seconds, so that each lacks the
-# end of its checks. Checks of other process sessions count for nothing. It ends as `rt ci` does.
+# end of its checks. Checks of other process sessions count for nothing. It ends with 0 only where both do.
 set -uo pipefail
 cd -- "$(dirname -- "$0")/.."
 
@@ -27,9 +28,12 @@ done > "$notes" &
 sampler=$!
 
 TIMEFORMAT='%U %S'
-{ time RT_JOBS="$(nproc)" rt ci > "$output" 2>&1; } 2> "$taken" &
+gate() {
+    RT_JOBS="$(nproc)" rt ci && scripts/edits.py together
+}
+{ time gate > "$output" 2>&1; } 2> "$taken" &
 gate=$!
-tail -f --pid="$gate" -n +1 -- "$output" | sed -u '/^[0-9]* passed, [0-9]* failed$/d'
+tail -f --pid="$gate" -n +1 -- "$output" | sed -u -E '/^[0-9]+ (passed|edits refused), [0-9]+ (failed|not)$/d'
 wait "$gate"
 status=$?
 kill "$sampler"
@@ -50,5 +54,6 @@ awk -v minutes="$((SECONDS / 60))" -v taken="$(awk '{ print ($1 + $2) / 60 }' "$
             printf "%-22s %8.1f %8.1f %8.1f %.1f\n", crate, share[crate, "proof"], share[crate, "tests"], share[crate, "edits"], of_crate[crate] | sorted
         close(sorted)
     }' "$notes"
-tail -n 1 -- "$output"
+awk '/^[0-9]+ (passed, [0-9]+ failed|edits refused, [0-9]+ not)$/ { passed += $1; failed += $(NF - 1) }
+    END { printf "%d passed, %d failed\n", passed, failed }' "$output"
 exit "$status"

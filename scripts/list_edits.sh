@@ -8,9 +8,10 @@ cd -- "$(dirname -- "$0")/.."
 # A line for each edit: its crate, its function, whether the gate tries it, its name.
 edits() {
     local file name
-    for file in crates/*/must-fail/*.edit crates/*/must-fail/more/*.md; do
+    for file in crates/*/must-fail/{*.edit,together/*.md,more/*.md}; do
+        [[ -f $file ]] || continue
         name=$(basename -- "${file%.*}")
-        echo "$(cut -d/ -f2 <<< "$file") ${name%%__*} ${file##*.} ${name#*__}"
+        echo "$(cut -d/ -f2 <<< "$file") ${name%%__*} $([[ $file == */more/* ]] && echo beside || echo gate) ${name#*__}"
     done | LC_ALL=C sort
 }
 
@@ -19,10 +20,11 @@ edits() {
 # Edits that must be refused
 
 In each crate's folder `must-fail/` stand edits. Each makes one wrong body of a function, or turns a definition, and
-the prover must refuse it by the crate's own contracts. Those right in `must-fail/` are tried by the gate: one of each
-public function, and beside it the wrong bodies that such an executor is most easily written with, as a lock that is
-overtaken, a reply out of order or a job that is claimed twice. Those in `must-fail/more/` are tried by
-`scripts/more_edits.py`. A file is named after the function whose meaning it turns, and after what it does.
+the prover must refuse it by the crate's own contracts. Those right in `must-fail/` and in `must-fail/together/` are
+tried by the gate: one of each public function, and beside it the wrong bodies that such an executor is most easily
+written with, as a lock that is overtaken, a reply out of order or a job that is claimed twice. Those in `together/`,
+of the crates whose checks take longest, are tried many in one check, where each is told apart by the open goals of its
+own function. Those in `must-fail/more/` the gate leaves out, and `scripts/edits.py more` tries them. A file is named after the function whose meaning it turns, and after what it does.
 `scripts/list_edits.sh` writes this list from those names.
 
 Without an edit in the gate are laws, which have no body; `Entry::request`, `RowStore::catalogue`, `Loan::catalogue`,
@@ -36,7 +38,7 @@ END
     edits | awk '
         function row() { if (key != "") printf "| `%s` | `%s` | %s | %s |\n", crate, name, gate, other }
         $1 " " $2 != key { row(); key = $1 " " $2; crate = $1; name = $2; gate = other = "" }
-        $3 == "edit" { gate = gate (gate == "" ? "" : ", ") $4; tried++ }
-        $3 == "md" { other = other (other == "" ? "" : ", ") $4; left++ }
+        $3 == "gate" { gate = gate (gate == "" ? "" : ", ") $4; tried++ }
+        $3 == "beside" { other = other (other == "" ? "" : ", ") $4; left++ }
         END { row(); printf "| all | | %d | %d |\n", tried, left }'
 } > docs/edits.md
