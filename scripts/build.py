@@ -3,11 +3,12 @@
 
     scripts/build.py PROGRAM [WORD ..]
 
-and runs the program with these words, whose exit status is then its own. A library is begun once those that it stands on are built; of those that can be begun, the one with the longest chain of code
-above it goes first, and processors that no other library waits for give it further jobs. What is begun, how long it took and
-how many are left goes to standard error; what the toolchain says of a crate, to the file `build.log` in its folder `out/`. A
-crate whose source is as it was is not built again. However the script ends, its checks end with it, and the next run
-goes on from the work that they kept.
+and runs the program with these words, whose exit status is then its own. A library is begun once those that it stands on are
+built. The one with the longest chain of code above it has as many jobs as there are processors, and goes before the others,
+which have one job each and take the processors where it leaves them. What is begun, how long it took and how many are left
+goes to standard error; what the toolchain says of a crate, to the file `build.log` in its folder `out/`. A crate whose source
+is as it was is not built again. However the script ends, its checks end with it, and the next run goes on from the work that
+they kept.
 
 Several runs of the toolchain's command `rt` wait for each other at the libraries that they share, so this script calls the
 module that `rt` itself is made of.
@@ -17,11 +18,13 @@ import functools
 import os
 import subprocess
 import sys
+import threading
 import time
 from concurrent.futures import FIRST_COMPLETED, ThreadPoolExecutor, wait
 
 MEMORY_OF_A_CHECK = 4 << 30  # bytes
 MOST_JOBS = 4
+LATER = 10  # how much less a processor is given to a check that none waits for most
 
 
 def toolchain():
@@ -54,8 +57,10 @@ def processors():
 
 
 def build(library, jobs):
-    """Builds one library with so many jobs, and tells whether it is built and how long it took."""
+    """Builds one library with so many jobs, behind other checks where it has one, and tells whether it is built and how long it took."""
     begun = time.monotonic()
+    if jobs == 1:
+        os.setpriority(os.PRIO_PROCESS, threading.get_native_id(), LATER)
     os.makedirs(os.path.join(library.folder, "out"), exist_ok=True)
     library = copy.copy(library)
     with open(os.path.join(library.folder, "out", "build.log"), "w+") as library.out:
@@ -74,17 +79,17 @@ def chains(libraries):
 
 def build_all(libraries):
     """Builds the libraries, each after those below it, and gives the first that can't be built, if there is one."""
-    length, idle = chains(libraries), processors()
+    length, most = chains(libraries), processors()
     left, running, built = sorted(libraries, key=lambda it: -length[it]), {}, set()
-    pool = ThreadPoolExecutor(idle)
     while left or running:
         ready = [it for it in left if built.issuperset(set(it.below()) & set(libraries))]
-        for place, library in enumerate(ready[:idle]):
-            jobs = min(MOST_JOBS, max(1, idle // (len(ready) - place)))
+        for library in ready[: most - len(running)]:
+            is_first = all(jobs == 1 for _, jobs in running.values())
+            jobs = min(MOST_JOBS, most) if is_first else 1
             say(f"proving {library.name}; {len(left)} of {len(libraries)} crates are left")
             left.remove(library)
-            running[pool.submit(build, library, jobs)] = library, jobs
-            idle -= jobs
+            # (a thread of its own, since a thread's priority can't be raised again)
+            running[ThreadPoolExecutor(1).submit(build, library, jobs)] = library, jobs
         for ended in wait(running, return_when=FIRST_COMPLETED).done:
             library, jobs = running.pop(ended)
             well, seconds = ended.result()
@@ -92,7 +97,6 @@ def build_all(libraries):
                 return library
             say(f"{library.name} is proved, which took {span(seconds)}")
             built.add(library)
-            idle += jobs
     return None
 
 
