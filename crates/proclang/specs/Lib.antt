@@ -8,6 +8,7 @@ pub mod Lookups
 pub mod StmtForms
 pub mod Walk
 pub mod Targets
+pub mod StatementTypes
 pub mod Statements
 pub mod ProcForms
 pub mod Procs

@@ -9,9 +9,10 @@ ghost use Rattle.proclang.specs.Faults.{is_memory};
 ghost use Rattle.proclang.specs.Expressions.{of_ints, calculate, compare, two_bools, two_alike, combine};
 
 use crate::fault::{FaultKind, ProcFault, fault};
+use crate::node::{calculation, conjunction, disjunction};
 use crate::operator::Operator;
 use crate::path::Path;
-use crate::typed::{as_bool, as_int, as_text};
+use crate::typed::{as_bool, as_int, as_text, paired};
 use proclang_types::{BoolExpr, Comparison, Equality, Expr, IntExpr, IntOperator};
 use std::alloc::Global;
 
@@ -27,11 +28,9 @@ fn calculate(
     ensures { Reads is_memory expr_view result
         (calculate operator (places left_path.now) (expr_view left) (places right_path.now) (expr_view right)) }
 {
-    let left = as_int(alloc, left_path, left)?;
-    let right = as_int(alloc, right_path, right)?;
-    let left = Box::new(alloc, left)?;
-    let right = Box::new(alloc, right)?;
-    Ok(Expr::Int(IntExpr::Binary(operator, left, right)))
+    let (right, left) = paired(right, as_int(alloc, left_path, left))?;
+    let (left, right) = paired(left, as_int(alloc, right_path, right))?;
+    calculation(alloc, operator, left, right)
 }
 
 #[tactic(auto, unfolding(crate::specs::Expressions::compare, crate::specs::Expressions::two_ints))]
@@ -46,8 +45,8 @@ fn compare(
     ensures { Reads is_memory expr_view result
         (compare test (places left_path.now) (expr_view left) (places right_path.now) (expr_view right)) }
 {
-    let left = as_int(alloc, left_path, left)?;
-    let right = as_int(alloc, right_path, right)?;
+    let (right, left) = paired(right, as_int(alloc, left_path, left))?;
+    let (left, right) = paired(left, as_int(alloc, right_path, right))?;
     Ok(Expr::Bool(BoolExpr::CompareInts(test, left, right)))
 }
 
@@ -75,11 +74,11 @@ fn equate(
 {
     match left {
         Expr::Int(left) => {
-            let right = as_int(alloc, right_path, right)?;
+            let (left, right) = paired(left, as_int(alloc, right_path, right))?;
             Ok(Expr::Bool(BoolExpr::CompareInts(of_ints(test), left, right)))
         }
         Expr::Text(left) => {
-            let right = as_text(alloc, right_path, right)?;
+            let (left, right) = paired(left, as_text(alloc, right_path, right))?;
             Ok(Expr::Bool(BoolExpr::CompareTexts(test, left, right)))
         }
         Expr::Bool(_) => Err(fault(alloc, FaultKind::TypeMismatch, left_path)),
@@ -98,11 +97,9 @@ fn conjoin(
         (two_bools (λ x y. bool (both x y)) (places left_path.now) (expr_view left) (places right_path.now)
         (expr_view right)) }
 {
-    let left = as_bool(alloc, left_path, left)?;
-    let right = as_bool(alloc, right_path, right)?;
-    let left = Box::new(alloc, left)?;
-    let right = Box::new(alloc, right)?;
-    Ok(Expr::Bool(BoolExpr::And(left, right)))
+    let (right, left) = paired(right, as_bool(alloc, left_path, left))?;
+    let (left, right) = paired(left, as_bool(alloc, right_path, right))?;
+    conjunction(alloc, left, right)
 }
 
 #[tactic(auto, unfolding(crate::specs::Expressions::two_bools))]
@@ -117,11 +114,9 @@ fn disjoin(
         (two_bools (λ x y. bool (either x y)) (places left_path.now) (expr_view left) (places right_path.now)
         (expr_view right)) }
 {
-    let left = as_bool(alloc, left_path, left)?;
-    let right = as_bool(alloc, right_path, right)?;
-    let left = Box::new(alloc, left)?;
-    let right = Box::new(alloc, right)?;
-    Ok(Expr::Bool(BoolExpr::Or(left, right)))
+    let (right, left) = paired(right, as_bool(alloc, left_path, left))?;
+    let (left, right) = paired(left, as_bool(alloc, right_path, right))?;
+    disjunction(alloc, left, right)
 }
 
 /// An operator with its operands, which are of the types that it asks for.

@@ -5,6 +5,7 @@ mod combine;
 mod expr_form;
 mod fault;
 mod limits;
+mod node;
 mod operator;
 mod path;
 mod proc_form;
@@ -21,6 +22,7 @@ mod read_values;
 mod scope;
 mod stmt_form;
 mod typed;
+mod typed_stmt;
 
 pub use fault::{FaultKind, Places, ProcFault};
 pub use proclang_types::{

@@ -21,7 +21,8 @@ use crate::read_stmt::{
 use crate::read_target::read_loop_name;
 use crate::scope::{Declaration, Scope};
 use crate::stmt_form::{EachForm, ForForm, IfForm, StmtForm, statement_form};
-use crate::typed::{as_bool, as_int};
+use crate::typed::paired;
+use crate::typed_stmt::{each_statement, for_statement, if_statement};
 use catalogue::Catalogue;
 use documents::elements;
 use proclang_types::Stmt;
@@ -47,14 +48,15 @@ fn read_if(
     let first_path = Path::Element(&*path, 2);
     let second_path = Path::Element(&*path, 3);
     let test = read_statement_expr(alloc, catalogue, scope, &test_path, form.test)?;
-    let first = read_block(alloc, catalogue, scope, room, &first_path, form.first)?;
-    let second = read_block(alloc, catalogue, scope, room, &second_path, form.second)?;
-    let test = as_bool(alloc, &test_path, test)?;
-    Ok(Stmt::If {
+    let (test, first) = paired(
         test,
-        first,
-        second,
-    })
+        read_block(alloc, catalogue, scope, room, &first_path, form.first),
+    )?;
+    let (test, second) = paired(
+        test,
+        read_block(alloc, catalogue, scope, room, &second_path, form.second),
+    )?;
+    if_statement(alloc, &test_path, test, first, second)
 }
 
 /// The block of a loop, in which the loop's variable is seen too.
@@ -99,19 +101,23 @@ fn read_for(
     let body_path = Path::Element(&*path, 4);
     read_loop_name(alloc, &Path::Element(&*path, 1), scope, form.variable)?;
     let low = read_statement_expr(alloc, catalogue, scope, &low_path, form.low)?;
-    let high = read_statement_expr(alloc, catalogue, scope, &high_path, form.high)?;
-    let body = read_loop_block(
-        alloc,
-        catalogue,
-        scope,
-        room,
-        &body_path,
-        form.variable,
-        form.body,
+    let (low, high) = paired(
+        low,
+        read_statement_expr(alloc, catalogue, scope, &high_path, form.high),
     )?;
-    let low = as_int(alloc, &low_path, low)?;
-    let high = as_int(alloc, &high_path, high)?;
-    Ok(Stmt::For { low, high, body })
+    let ((low, high), body) = paired(
+        (low, high),
+        read_loop_block(
+            alloc,
+            catalogue,
+            scope,
+            room,
+            &body_path,
+            form.variable,
+            form.body,
+        ),
+    )?;
+    for_statement(alloc, &low_path, low, &high_path, high, body)
 }
 
 #[cycle(block)]
@@ -133,17 +139,19 @@ fn read_each(
     read_loop_name(alloc, &Path::Element(&*path, 1), scope, form.variable)?;
     let table = read_table(alloc, &Path::Element(&*path, 2), catalogue, form.table)?;
     let part = read_statement_expr(alloc, catalogue, scope, &part_path, form.number)?;
-    let body = read_loop_block(
-        alloc,
-        catalogue,
-        scope,
-        room,
-        &body_path,
-        form.variable,
-        form.body,
+    let (part, body) = paired(
+        part,
+        read_loop_block(
+            alloc,
+            catalogue,
+            scope,
+            room,
+            &body_path,
+            form.variable,
+            form.body,
+        ),
     )?;
-    let part = as_int(alloc, &part_path, part)?;
-    Ok(Stmt::Each { table, part, body })
+    each_statement(alloc, table, &part_path, part, body)
 }
 
 #[cycle(block)]

@@ -12,10 +12,11 @@ ghost use Rattle.proclang.specs.Expressions.{named, literal_at, not_at, binary_a
 use crate::combine::combine;
 use crate::expr_form::{BinaryForm, CountForm, ExistsForm, ExprForm, Section, SumForm, form_in};
 use crate::fault::{FaultKind, ProcFault, fault};
+use crate::node::{count, negation, sum};
 use crate::path::Path;
 use crate::read_names::{read_column, read_table};
 use crate::scope::Scope;
-use crate::typed::{as_bool, as_int};
+use crate::typed::{as_bool, as_int, paired};
 use catalogue::Catalogue;
 use proclang_types::{BoolExpr, Expr, IntExpr, TextExpr};
 use serde_json::Value;
@@ -68,7 +69,7 @@ fn read_not(
     let part_path = Path::Element(&*path, 1);
     let part = read_expr(alloc, section, catalogue, scope, room, &part_path, part)?;
     let part = as_bool(alloc, &part_path, part)?;
-    Ok(Expr::Bool(BoolExpr::Not(Box::new(alloc, part)?)))
+    negation(alloc, part)
 }
 
 #[cycle(expression)]
@@ -91,14 +92,17 @@ fn read_binary(
     let left = read_expr(
         alloc, section, catalogue, scope, room, &left_path, form.left,
     )?;
-    let right = read_expr(
-        alloc,
-        section,
-        catalogue,
-        scope,
-        room,
-        &right_path,
-        form.right,
+    let (left, right) = paired(
+        left,
+        read_expr(
+            alloc,
+            section,
+            catalogue,
+            scope,
+            room,
+            &right_path,
+            form.right,
+        ),
     )?;
     combine(alloc, form.operator, &left_path, left, &right_path, right)
 }
@@ -152,8 +156,7 @@ fn read_count(
         form.number,
     )?;
     let part = as_int(alloc, &part_path, part)?;
-    let part = Box::new(alloc, part)?;
-    Ok(Expr::Int(IntExpr::Count { table, part }))
+    count(alloc, table, part)
 }
 
 #[cycle(expression)]
@@ -183,17 +186,15 @@ fn read_sum(
         &part_path,
         form.number,
     )?;
-    let (column, kind) = read_column(alloc, &column_path, catalogue, table, form.column)?;
+    let (part, (column, kind)) = paired(
+        part,
+        read_column(alloc, &column_path, catalogue, table, form.column),
+    )?;
     let part = as_int(alloc, &part_path, part)?;
     if kind != ColType::Int {
         return Err(fault(alloc, FaultKind::TypeMismatch, &column_path));
     }
-    let part = Box::new(alloc, part)?;
-    Ok(Expr::Int(IntExpr::Sum {
-        table,
-        part,
-        column,
-    }))
+    sum(alloc, table, part, column)
 }
 
 /// The expression that the document says in that section of a procedure, where these variables are seen, and so many

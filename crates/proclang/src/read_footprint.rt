@@ -6,7 +6,7 @@ ghost use Rattle.documents.specs.Reading.{Reads};
 ghost use Rattle.proclang_types.specs.Views.{int_view, entry_view};
 ghost use Rattle.proclang.specs.Paths.{places};
 ghost use Rattle.proclang.specs.Faults.{is_memory};
-ghost use Rattle.proclang.specs.ProcForms.{entry_form_view};
+ghost use Rattle.proclang.specs.ProcForms.{row_parts, part_parts, entry_form_view};
 ghost use Rattle.proclang.specs.Procs.{int_at, entry_of, entry_at, each_entry, footprint_at};
 
 use crate::expr_form::Section;
@@ -19,7 +19,7 @@ use crate::read_names::read_table;
 use crate::scope::Scope;
 use crate::typed::as_int;
 use catalogue::Catalogue;
-use proclang_types::{FootprintEntry, IntExpr};
+use proclang_types::{FootprintEntry, IntExpr, Right};
 use serde_json::Value;
 use std::alloc::Global;
 
@@ -39,6 +39,44 @@ fn read_int(
     as_int(alloc, path, expr)
 }
 
+/// An entry for the row of a key.
+#[tactic(auto, unfolding(crate::specs::Procs::entry_of))]
+fn read_row(
+    alloc: Global,
+    catalogue: &Catalogue,
+    scope: &Scope,
+    path: &Path<'_>,
+    right: Right,
+    table: &str,
+    key: &Value,
+) -> Result<FootprintEntry, ProcFault>
+    ensures { Reads is_memory entry_view result (entry_of catalogue.now (places path.now) scope.now
+        (row_parts right table.now (view key.now))) }
+{
+    let table = read_table(alloc, &Path::Element(&*path, 2), catalogue, table)?;
+    let key = read_int(alloc, catalogue, scope, &Path::Element(&*path, 3), key)?;
+    Ok(FootprintEntry::Row { right, table, key })
+}
+
+/// An entry for the rows of a partition.
+#[tactic(auto, unfolding(crate::specs::Procs::entry_of))]
+fn read_part(
+    alloc: Global,
+    catalogue: &Catalogue,
+    scope: &Scope,
+    path: &Path<'_>,
+    right: Right,
+    table: &str,
+    part: &Value,
+) -> Result<FootprintEntry, ProcFault>
+    ensures { Reads is_memory entry_view result (entry_of catalogue.now (places path.now) scope.now
+        (part_parts right table.now (view part.now))) }
+{
+    let table = read_table(alloc, &Path::Element(&*path, 2), catalogue, table)?;
+    let part = read_int(alloc, catalogue, scope, &Path::Element(&*path, 3), part)?;
+    Ok(FootprintEntry::Part { right, table, part })
+}
+
 #[tactic(auto, unfolding(crate::specs::Procs::entry_of))]
 fn read_parts(
     alloc: Global,
@@ -50,21 +88,15 @@ fn read_parts(
     ensures { Reads is_memory entry_view result (entry_of catalogue.now (places path.now) scope.now
         (entry_form_view form.entry)) }
 {
-    let table_path = Path::Element(&*path, 2);
-    let number_path = Path::Element(&*path, 3);
     match form {
         EntryForm::Row(right, table, key) => {
-            let table = read_table(alloc, &table_path, catalogue, table)?;
-            let key = read_int(alloc, catalogue, scope, &number_path, key)?;
-            Ok(FootprintEntry::Row { right, table, key })
+            read_row(alloc, catalogue, scope, path, right, table, key)
         }
         EntryForm::Part(right, table, part) => {
-            let table = read_table(alloc, &table_path, catalogue, table)?;
-            let part = read_int(alloc, catalogue, scope, &number_path, part)?;
-            Ok(FootprintEntry::Part { right, table, part })
+            read_part(alloc, catalogue, scope, path, right, table, part)
         }
         EntryForm::Table(right, table) => {
-            let table = read_table(alloc, &table_path, catalogue, table)?;
+            let table = read_table(alloc, &Path::Element(&*path, 2), catalogue, table)?;
             Ok(FootprintEntry::Table { right, table })
         }
         EntryForm::Db(right) => Ok(FootprintEntry::Db { right }),

@@ -15,10 +15,11 @@ use crate::path::Path;
 use crate::read_expr::read_statement_expr;
 use crate::read_names::{read_column, read_table};
 use crate::read_target::{bind, read_target};
-use crate::read_values::{into_row, into_values, of_type, read_exprs, value_kind};
+use crate::read_values::{into_values, read_exprs, value_kind};
 use crate::scope::Scope;
 use crate::stmt_form::{DeleteForm, GetForm, InsertForm, LetForm, PutForm};
-use crate::typed::{as_int, as_value};
+use crate::typed::{as_int, as_value, paired};
+use crate::typed_stmt::{insert_statement, put_statement};
 use catalogue::Catalogue;
 use proclang_types::Stmt;
 use serde_json::Value;
@@ -40,7 +41,10 @@ pub(crate) fn read_let(
     let value = read_statement_expr(alloc, catalogue, scope, &value_path, form.value)?;
     let value = as_value(alloc, &value_path, value)?;
     let kind = value_kind(&value);
-    let variable = bind(alloc, &value_path, scope, form.variable, kind, target)?;
+    let (value, variable) = paired(
+        value,
+        bind(alloc, &value_path, scope, form.variable, kind, target),
+    )?;
     Ok(Stmt::Let { variable, value })
 }
 
@@ -60,9 +64,15 @@ pub(crate) fn read_get(
     let target = read_target(alloc, &Path::Element(&*path, 1), scope, form.variable)?;
     let table = read_table(alloc, &Path::Element(&*path, 2), catalogue, form.table)?;
     let key = read_statement_expr(alloc, catalogue, scope, &key_path, form.key)?;
-    let (column, kind) = read_column(alloc, &column_path, catalogue, table, form.column)?;
+    let (key, (column, kind)) = paired(
+        key,
+        read_column(alloc, &column_path, catalogue, table, form.column),
+    )?;
     let key = as_int(alloc, &key_path, key)?;
-    let variable = bind(alloc, &column_path, scope, form.variable, kind, target)?;
+    let (key, variable) = paired(
+        key,
+        bind(alloc, &column_path, scope, form.variable, kind, target),
+    )?;
     Ok(Stmt::Get {
         variable,
         table,
@@ -87,17 +97,24 @@ pub(crate) fn read_put(
     let table = read_table(alloc, &Path::Element(&*path, 1), catalogue, form.table)?;
     let key = read_statement_expr(alloc, catalogue, scope, &key_path, form.key)?;
     let column_path = Path::Element(&*path, 3);
-    let (column, kind) = read_column(alloc, &column_path, catalogue, table, form.column)?;
-    let value = read_statement_expr(alloc, catalogue, scope, &value_path, form.value)?;
-    let key = as_int(alloc, &key_path, key)?;
-    let value = as_value(alloc, &value_path, value)?;
-    let value = of_type(alloc, &value_path, kind, value)?;
-    Ok(Stmt::Put {
+    let (key, (column, kind)) = paired(
+        key,
+        read_column(alloc, &column_path, catalogue, table, form.column),
+    )?;
+    let (key, value) = paired(
+        key,
+        read_statement_expr(alloc, catalogue, scope, &value_path, form.value),
+    )?;
+    put_statement(
+        alloc,
         table,
+        &key_path,
         key,
         column,
+        kind,
+        &value_path,
         value,
-    })
+    )
 }
 
 #[tactic(auto, unfolding(crate::specs::Statements::insert_at))]
@@ -115,11 +132,23 @@ pub(crate) fn read_insert(
     let values_path = Path::Element(&*path, 3);
     let table = read_table(alloc, &Path::Element(&*path, 1), catalogue, form.table)?;
     let key = read_statement_expr(alloc, catalogue, scope, &key_path, form.key)?;
-    as_many(alloc, &values_path, catalogue, table, form.values)?;
-    let values = read_exprs(alloc, catalogue, scope, &values_path, 0, form.values)?;
-    let key = as_int(alloc, &key_path, key)?;
-    let values = into_row(alloc, catalogue, table, &values_path, values)?;
-    Ok(Stmt::Insert { table, key, values })
+    let (key, _) = paired(
+        key,
+        as_many(alloc, &values_path, catalogue, table, form.values),
+    )?;
+    let (key, values) = paired(
+        key,
+        read_exprs(alloc, catalogue, scope, &values_path, 0, form.values),
+    )?;
+    insert_statement(
+        alloc,
+        catalogue,
+        table,
+        &key_path,
+        key,
+        &values_path,
+        values,
+    )
 }
 
 #[tactic(auto, unfolding(crate::specs::Statements::delete_at))]

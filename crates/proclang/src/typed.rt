@@ -1,6 +1,6 @@
 //! Expressions of the types that are asked for.
 
-ghost use Rattle.std.specs.Prelude.{◌≡◌};
+ghost use Rattle.std.specs.Prelude.{◌≡◌, Ok, Err, IfOk, IfErr};
 ghost use Rattle.documents.specs.Reading.{Reads};
 ghost use Rattle.proclang_types.specs.Views.{int_view, text_view, bool_view, value_view, expr_view};
 ghost use Rattle.proclang.specs.Paths.{places};
@@ -46,5 +46,19 @@ pub(crate) fn as_value(alloc: Global, path: &Path<'_>, expr: Expr) -> Result<Val
         Expr::Int(expr) => Ok(ValueExpr::Int(expr)),
         Expr::Text(expr) => Ok(ValueExpr::Text(expr)),
         Expr::Bool(_) => Err(fault(alloc, FaultKind::TypeMismatch, path)),
+    }
+}
+
+/// What was read earlier, and what is read now. What was read earlier is let go here where this fails.
+pub(crate) fn paired<T: Drop, U>(
+    earlier: T,
+    read: Result<U, ProcFault>,
+) -> Result<(T, U), ProcFault>
+    ensures read { IfOk result (λ p. (p.0 ≡ earlier) × (read ≡ Ok p.1)) }
+    ensures fault { IfErr result (λ e. read ≡ Err e) }
+{
+    match read {
+        Ok(later) => Ok((earlier, later)),
+        Err(fault) => Err(fault),
     }
 }
