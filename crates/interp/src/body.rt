@@ -5,7 +5,7 @@ ghost use Rattle.proclang_types.specs.Views.{stmts_view};
 ghost use Rattle.meaning.specs.Entries.{nothing, run_of};
 ghost use Rattle.meaning.specs.Outcomes.{as_reply, is_commit};
 ghost use Rattle.workspace.specs.Overlay.{applied};
-ghost use Rattle.workspace.specs.Coverage.{gate_of, ShowsCovered, OnlyCovered};
+ghost use Rattle.workspace.specs.Coverage.{gate_of, OnlyCovered};
 ghost use Rattle.interp.specs.Endings.{outcome_of};
 
 use crate::block::block;
@@ -15,7 +15,7 @@ use proclang_types::Stmt;
 use std::alloc::Global;
 use std::collections::BTreeMap;
 use values::{NoMemory, Value};
-use workspace::{Permit, RowView, Stop, Workspace};
+use workspace::{RowView, Shown, Stop, Workspace};
 
 /// The outcome of a run that ended before the body's end.
 fn outcome_of(ending: Ending) -> Outcome
@@ -27,23 +27,21 @@ fn outcome_of(ending: Ending) -> Outcome
     }
 }
 
-/// Runs a body on the rows of the view, of which it asks for no other than the permit covers.
+/// Runs a body on the rows that it is shown, of which it asks for no other than the permit covers.
 pub(crate) fn run_body<V: RowView>(
     alloc: Global,
-    view: &V,
-    permit: &Permit,
+    shown: &Shown<'_, V>,
     arguments: &[Value],
     body: &Vec<Stmt>,
 ) -> Result<Effect, NoMemory>
-    requires { ShowsCovered permit.now (V.tables view.now) (V.shows view.now) }
     ensures gives { IfOk result (λ effect.
-        run_of nothing (gate_of permit.now) (stmts_view body.now.items) arguments.now (V.rows view.now)
-        ≡ (as_reply effect.outcome, applied effect.writes.entries (V.rows view.now))) }
-    ensures covered { IfOk result (λ effect. OnlyCovered permit.now effect.writes.entries) }
+        run_of nothing (gate_of shown.now.permit) (stmts_view body.now.items) arguments.now (V.rows shown.now.view.now)
+        ≡ (as_reply effect.outcome, applied effect.writes.entries (V.rows shown.now.view.now))) }
+    ensures covered { IfOk result (λ effect. OnlyCovered shown.now.permit effect.writes.entries) }
     ensures unchanged { IfOk result (λ effect. is_commit effect.outcome ≡ false → effect.writes.entries ≡ []) }
 {
     let mut space = Workspace::new(alloc, arguments)?;
-    match block(alloc, view, permit, &mut space, body) {
+    match block(alloc, shown, &mut space, body) {
         Ok(()) => Ok(Effect {
             outcome: Outcome::Commit(space.reply),
             writes: space.writes,

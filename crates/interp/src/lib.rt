@@ -12,5 +12,5 @@ mod statement;
 
 pub use effect::Effect;
 pub use entry::{Entry, Footing};
-pub use workspace::RowView;
 pub use runs::run;
+pub use workspace::RowView;

@@ -5,7 +5,7 @@ ghost use Rattle.std.specs.Prelude.{map, OnOk};
 ghost use Rattle.proclang_types.specs.Views.{int_view, value_view};
 ghost use Rattle.meaning.specs.Meaning.{insert_values, delete_key};
 ghost use Rattle.meaning.specs.Entries.{nothing};
-ghost use Rattle.workspace.specs.Coverage.{gate_of, ShowsCovered, KeepsCovered};
+ghost use Rattle.workspace.specs.Coverage.{gate_of, KeepsCovered};
 ghost use Rattle.workspace.specs.States.{state_at};
 ghost use Rattle.workspace.specs.Answers.{Gives};
 
@@ -15,28 +15,27 @@ use meaning::Ending;
 use proclang_types::{IntExpr, ValueExpr};
 use std::alloc::Global;
 use values::{Row, TableNo};
-use workspace::{Permit, RowView, Stop, Workspace, access, is_there};
+use workspace::{RowView, Shown, Stop, Workspace, access, is_there};
 
 /// A new row with a key: one value a column.
 pub(crate) fn insert_values<V: RowView>(
     alloc: Global,
-    view: &V,
-    permit: &Permit,
+    shown: &Shown<'_, V>,
     space: &mut Workspace,
     table: TableNo,
     key: &IntExpr,
     values: &Vec<ValueExpr>,
 ) -> Result<(), Stop>
-    requires { ShowsCovered permit.now (V.tables view.now) (V.shows view.now) }
     ensures gives { Gives (λ _.
-        tt) (state_at (V.rows view.now) space.new) result (insert_values nothing (gate_of permit.now) table
-        (int_view key.now) (map value_view values.now.items) (state_at (V.rows view.now) space.old)) }
-    ensures kept { OnOk result (KeepsCovered permit.now space.old space.new) }
+        tt) (state_at (V.rows shown.now.view.now) space.new) result
+        (insert_values nothing (gate_of shown.now.permit) table (int_view key.now)
+        (map value_view values.now.items) (state_at (V.rows shown.now.view.now) space.old)) }
+    ensures kept { OnOk result (KeepsCovered shown.now.permit space.old space.new) }
 {
-    let number = evaluate_int(view, permit, space, key)?;
-    let values = evaluate_all(alloc, view, permit, space, values)?;
-    let name = access(permit, Right::Write, table, number)?;
-    if is_there(view, permit, space, &name) {
+    let number = evaluate_int(shown, space, key)?;
+    let values = evaluate_all(alloc, shown, space, values)?;
+    let name = access(&shown.permit, Right::Write, table, number)?;
+    if is_there(shown, space, &name) {
         return Err(Stop::End(Ending::Abort(AbortCode::DuplicateRow)));
     }
     space.write(name, Row::new(values))?;
@@ -45,21 +44,20 @@ pub(crate) fn insert_values<V: RowView>(
 
 /// The row with a key is no more.
 pub(crate) fn delete_key<V: RowView>(
-    view: &V,
-    permit: &Permit,
+    shown: &Shown<'_, V>,
     space: &mut Workspace,
     table: TableNo,
     key: &IntExpr,
 ) -> Result<(), Stop>
-    requires { ShowsCovered permit.now (V.tables view.now) (V.shows view.now) }
     ensures gives { Gives (λ _.
-        tt) (state_at (V.rows view.now) space.new) result
-        (delete_key nothing (gate_of permit.now) table (int_view key.now) (state_at (V.rows view.now) space.old)) }
-    ensures kept { OnOk result (KeepsCovered permit.now space.old space.new) }
+        tt) (state_at (V.rows shown.now.view.now) space.new) result
+        (delete_key nothing (gate_of shown.now.permit) table (int_view key.now)
+        (state_at (V.rows shown.now.view.now) space.old)) }
+    ensures kept { OnOk result (KeepsCovered shown.now.permit space.old space.new) }
 {
-    let number = evaluate_int(view, permit, space, key)?;
-    let gone = access(permit, Right::Write, table, number)?;
-    if !is_there(view, permit, space, &gone) {
+    let number = evaluate_int(shown, space, key)?;
+    let gone = access(&shown.permit, Right::Write, table, number)?;
+    if !is_there(shown, space, &gone) {
         return Err(Stop::End(Ending::Abort(AbortCode::NoRow)));
     }
     space.remove(gone)?;

@@ -19,7 +19,7 @@ use meaning::{Ending, Outcome, stand_in_never_shows, stays_in_footprint};
 use std::alloc::Global;
 use std::collections::BTreeMap;
 use values::NoMemory;
-use workspace::{Permit, RowView};
+use workspace::{Permit, RowView, Shown};
 
 /// Runs an entry on the rows of the view.
 fn run_here<V: RowView>(
@@ -52,8 +52,9 @@ fn run_here<V: RowView>(
         footprint,
         uncovered,
     };
+    let shown = Shown { view, permit };
     let request = entry.request();
-    run_body(alloc, view, &permit, request.args(), request.proc().body())
+    run_body(alloc, &shown, request.args(), request.proc().body())
 }
 
 /// Runs an entry over a view of the entry's catalogue that shows each name that the entry may read, and is asked for no other

@@ -6,7 +6,7 @@ ghost use Rattle.values.specs.declared.value.Value.TheVariants.{Int};
 ghost use Rattle.proclang_types.specs.Views.{int_view, value_view};
 ghost use Rattle.meaning.specs.Meaning.{assign_value, get_column, put_column, reply_with};
 ghost use Rattle.meaning.specs.Entries.{nothing};
-ghost use Rattle.workspace.specs.Coverage.{gate_of, ShowsCovered, KeepsCovered};
+ghost use Rattle.workspace.specs.Coverage.{gate_of, KeepsCovered};
 ghost use Rattle.workspace.specs.States.{state_at};
 ghost use Rattle.workspace.specs.Answers.{Gives};
 
@@ -15,7 +15,7 @@ use interp_expr::{evaluate, evaluate_all, evaluate_int};
 use proclang_types::{IntExpr, ValueExpr};
 use std::alloc::Global;
 use values::{NoMemory, Row, TableNo, Value};
-use workspace::{Permit, RowView, Stop, Workspace, access, present_row};
+use workspace::{RowView, Shown, Stop, Workspace, access, present_row};
 
 /// The value in a column; 0 stands for a column that is not there.
 fn column_value(row: &Row, column: usize) -> Result<Value, NoMemory>
@@ -30,42 +30,40 @@ fn column_value(row: &Row, column: usize) -> Result<Value, NoMemory>
 /// A variable gets a value.
 pub(crate) fn assign_value<V: RowView>(
     alloc: Global,
-    view: &V,
-    permit: &Permit,
+    shown: &Shown<'_, V>,
     space: &mut Workspace,
     variable: usize,
     value: &ValueExpr,
 ) -> Result<(), Stop>
-    requires { ShowsCovered permit.now (V.tables view.now) (V.shows view.now) }
     ensures gives { Gives (λ _.
-        tt) (state_at (V.rows view.now) space.new) result (assign_value nothing (gate_of permit.now) variable
-        (value_view value.now) (state_at (V.rows view.now) space.old)) }
-    ensures kept { OnOk result (KeepsCovered permit.now space.old space.new) }
+        tt) (state_at (V.rows shown.now.view.now) space.new) result
+        (assign_value nothing (gate_of shown.now.permit) variable (value_view value.now)
+        (state_at (V.rows shown.now.view.now) space.old)) }
+    ensures kept { OnOk result (KeepsCovered shown.now.permit space.old space.new) }
 {
-    let value = evaluate(alloc, view, permit, space, value)?;
+    let value = evaluate(alloc, shown, space, value)?;
     space.set_variable(variable, value)?;
     Ok(())
 }
 
 /// A variable gets a column of the row with a key.
 pub(crate) fn get_column<V: RowView>(
-    view: &V,
-    permit: &Permit,
+    shown: &Shown<'_, V>,
     space: &mut Workspace,
     variable: usize,
     table: TableNo,
     key: &IntExpr,
     column: usize,
 ) -> Result<(), Stop>
-    requires { ShowsCovered permit.now (V.tables view.now) (V.shows view.now) }
     ensures gives { Gives (λ _.
-        tt) (state_at (V.rows view.now) space.new) result (get_column nothing (gate_of permit.now) variable table
-        (int_view key.now) column (state_at (V.rows view.now) space.old)) }
-    ensures kept { OnOk result (KeepsCovered permit.now space.old space.new) }
+        tt) (state_at (V.rows shown.now.view.now) space.new) result
+        (get_column nothing (gate_of shown.now.permit) variable table (int_view key.now) column
+        (state_at (V.rows shown.now.view.now) space.old)) }
+    ensures kept { OnOk result (KeepsCovered shown.now.permit space.old space.new) }
 {
-    let number = evaluate_int(view, permit, space, key)?;
-    let name = access(permit, Right::Read, table, number)?;
-    let row = present_row(view, permit, space, &name)?;
+    let number = evaluate_int(shown, space, key)?;
+    let name = access(&shown.permit, Right::Read, table, number)?;
+    let row = present_row(&*shown, space, &name)?;
     let value = column_value(row, column)?;
     space.set_variable(variable, value)?;
     Ok(())
@@ -74,25 +72,23 @@ pub(crate) fn get_column<V: RowView>(
 /// A column of the row with a key gets a value.
 pub(crate) fn put_column<V: RowView>(
     alloc: Global,
-    view: &V,
-    permit: &Permit,
+    shown: &Shown<'_, V>,
     space: &mut Workspace,
     table: TableNo,
     key: &IntExpr,
     column: usize,
     value: &ValueExpr,
 ) -> Result<(), Stop>
-    requires { ShowsCovered permit.now (V.tables view.now) (V.shows view.now) }
     ensures gives { Gives (λ _.
-        tt) (state_at (V.rows view.now) space.new) result
-        (put_column nothing (gate_of permit.now) table (int_view key.now) column (value_view value.now)
-        (state_at (V.rows view.now) space.old)) }
-    ensures kept { OnOk result (KeepsCovered permit.now space.old space.new) }
+        tt) (state_at (V.rows shown.now.view.now) space.new) result
+        (put_column nothing (gate_of shown.now.permit) table (int_view key.now) column (value_view value.now)
+        (state_at (V.rows shown.now.view.now) space.old)) }
+    ensures kept { OnOk result (KeepsCovered shown.now.permit space.old space.new) }
 {
-    let number = evaluate_int(view, permit, space, key)?;
-    let value = evaluate(alloc, view, permit, space, value)?;
-    let name = access(permit, Right::Write, table, number)?;
-    let mut row = present_row(view, permit, space, &name)?.clone()?;
+    let number = evaluate_int(shown, space, key)?;
+    let value = evaluate(alloc, shown, space, value)?;
+    let name = access(&shown.permit, Right::Write, table, number)?;
+    let mut row = present_row(&*shown, space, &name)?.clone()?;
     row.set(column, value);
     space.write(name, row)?;
     Ok(())
@@ -101,19 +97,17 @@ pub(crate) fn put_column<V: RowView>(
 /// Appends values to the reply.
 pub(crate) fn reply_with<V: RowView>(
     alloc: Global,
-    view: &V,
-    permit: &Permit,
+    shown: &Shown<'_, V>,
     space: &mut Workspace,
     expressions: &Vec<ValueExpr>,
 ) -> Result<(), Stop>
-    requires { ShowsCovered permit.now (V.tables view.now) (V.shows view.now) }
     ensures gives { Gives (λ _.
-        tt) (state_at (V.rows view.now) space.new) result
-        (reply_with nothing (gate_of permit.now) (map value_view expressions.now.items)
-        (state_at (V.rows view.now) space.old)) }
-    ensures kept { OnOk result (KeepsCovered permit.now space.old space.new) }
+        tt) (state_at (V.rows shown.now.view.now) space.new) result
+        (reply_with nothing (gate_of shown.now.permit) (map value_view expressions.now.items)
+        (state_at (V.rows shown.now.view.now) space.old)) }
+    ensures kept { OnOk result (KeepsCovered shown.now.permit space.old space.new) }
 {
-    let values = evaluate_all(alloc, view, permit, space, expressions)?;
+    let values = evaluate_all(alloc, shown, space, expressions)?;
     space.append_reply(values)?;
     Ok(())
 }

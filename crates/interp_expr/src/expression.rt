@@ -7,7 +7,7 @@ ghost use Rattle.proclang_types.specs.Views.{int_view, text_view, value_view};
 ghost use Rattle.meaning.specs.Runs.{Gate};
 ghost use Rattle.meaning.specs.Meaning.{int_of, text_of, value_of, values_of};
 ghost use Rattle.meaning.specs.Entries.{nothing};
-ghost use Rattle.workspace.specs.Coverage.{gate_of, ShowsCovered, KeepsCovered};
+ghost use Rattle.workspace.specs.Coverage.{gate_of, KeepsCovered};
 ghost use Rattle.workspace.specs.States.{state_at};
 ghost use Rattle.workspace.specs.Answers.{Gives};
 
@@ -15,34 +15,33 @@ use footprint::compute;
 use proclang_types::{IntExpr, TextExpr, ValueExpr};
 use std::alloc::Global;
 use values::{Text, Value};
-use workspace::{Permit, RowView, Stop, Workspace, access_part, count_in, total_in};
+use workspace::{RowView, Shown, Stop, Workspace, access_part, count_in, total_in};
 
 /// The value of a number expression.
 pub fn evaluate_int<V: RowView>(
-    view: &V,
-    permit: &Permit,
+    shown: &Shown<'_, V>,
     space: &mut Workspace,
     expression: &IntExpr,
 ) -> Result<i64, Stop>
-    requires { ShowsCovered permit.now (V.tables view.now) (V.shows view.now) }
-    ensures gives { Gives (λ z. z) (state_at (V.rows view.now) space.new) result
-        (int_of nothing (gate_of permit.now) (int_view expression.now) (state_at (V.rows view.now) space.old)) }
-    ensures kept { OnOk result (KeepsCovered permit.now space.old space.new) }
+    ensures gives { Gives (λ z. z) (state_at (V.rows shown.now.view.now) space.new) result
+        (int_of nothing (gate_of shown.now.permit) (int_view expression.now)
+        (state_at (V.rows shown.now.view.now) space.old)) }
+    ensures kept { OnOk result (KeepsCovered shown.now.permit space.old space.new) }
 {
     match expression {
         IntExpr::Number(number) => Ok(*number),
         IntExpr::Variable(place) => Ok(space.number(*place)),
         IntExpr::Binary(operator, left, right) => {
-            let left = evaluate_int(view, permit, space, left)?;
-            let right = evaluate_int(view, permit, space, right)?;
+            let left = evaluate_int(shown, space, left)?;
+            let right = evaluate_int(shown, space, right)?;
             let number = compute(*operator, left, right)?;
             Ok(number)
         }
         IntExpr::Count { table, part } => {
             space.take_step()?;
-            let number = evaluate_int(view, permit, space, part)?;
-            let part = access_part(permit, *table, number)?;
-            count_in(view, permit, space, *table, part)
+            let number = evaluate_int(shown, space, part)?;
+            let part = access_part(&shown.permit, *table, number)?;
+            count_in(shown, space, *table, part)
         }
         IntExpr::Sum {
             table,
@@ -50,9 +49,9 @@ pub fn evaluate_int<V: RowView>(
             column,
         } => {
             space.take_step()?;
-            let number = evaluate_int(view, permit, space, part)?;
-            let part = access_part(permit, *table, number)?;
-            total_in(view, permit, space, *table, part, *column)
+            let number = evaluate_int(shown, space, part)?;
+            let part = access_part(&shown.permit, *table, number)?;
+            total_in(shown, space, *table, part, *column)
         }
     }
 }
@@ -71,19 +70,18 @@ pub(crate) fn text_of<'a>(space: &'a Workspace, expression: &'a TextExpr) -> &'a
 /// The value of an expression.
 pub fn evaluate<V: RowView>(
     alloc: Global,
-    view: &V,
-    permit: &Permit,
+    shown: &Shown<'_, V>,
     space: &mut Workspace,
     expression: &ValueExpr,
 ) -> Result<Value, Stop>
-    requires { ShowsCovered permit.now (V.tables view.now) (V.shows view.now) }
-    ensures gives { Gives (λ v. v) (state_at (V.rows view.now) space.new) result
-        (value_of nothing (gate_of permit.now) (value_view expression.now) (state_at (V.rows view.now) space.old)) }
-    ensures kept { OnOk result (KeepsCovered permit.now space.old space.new) }
+    ensures gives { Gives (λ v. v) (state_at (V.rows shown.now.view.now) space.new) result
+        (value_of nothing (gate_of shown.now.permit) (value_view expression.now)
+        (state_at (V.rows shown.now.view.now) space.old)) }
+    ensures kept { OnOk result (KeepsCovered shown.now.permit space.old space.new) }
 {
     match expression {
         ValueExpr::Int(expression) => {
-            let number = evaluate_int(view, permit, space, expression)?;
+            let number = evaluate_int(shown, space, expression)?;
             Ok(Value::Int(number))
         }
         ValueExpr::Text(expression) => {
@@ -96,20 +94,18 @@ pub fn evaluate<V: RowView>(
 /// The values of expressions, from left to right.
 pub fn evaluate_all<V: RowView>(
     alloc: Global,
-    view: &V,
-    permit: &Permit,
+    shown: &Shown<'_, V>,
     space: &mut Workspace,
     expressions: &Vec<ValueExpr>,
 ) -> Result<Vec<Value>, Stop>
-    requires { ShowsCovered permit.now (V.tables view.now) (V.shows view.now) }
-    ensures gives { Gives (λ vs. vs.items) (state_at (V.rows view.now) space.new) result
-        (values_of nothing (gate_of permit.now) (map value_view expressions.now.items)
-        (state_at (V.rows view.now) space.old)) }
-    ensures kept { OnOk result (KeepsCovered permit.now space.old space.new) }
+    ensures gives { Gives (λ vs. vs.items) (state_at (V.rows shown.now.view.now) space.new) result
+        (values_of nothing (gate_of shown.now.permit) (map value_view expressions.now.items)
+        (state_at (V.rows shown.now.view.now) space.old)) }
+    ensures kept { OnOk result (KeepsCovered shown.now.permit space.old space.new) }
 {
     let mut values = Vec::new(alloc);
     for expression in expressions {
-        let value = evaluate(alloc, view, permit, space, expression)?;
+        let value = evaluate(alloc, shown, space, expression)?;
         values.push(value)?;
     }
     Ok(values)

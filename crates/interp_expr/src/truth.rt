@@ -6,14 +6,14 @@ ghost use Rattle.proclang_types.specs.Views.{bool_view};
 ghost use Rattle.meaning.specs.Comparing.{compare, compare_bytes};
 ghost use Rattle.meaning.specs.Meaning.{bool_of};
 ghost use Rattle.meaning.specs.Entries.{nothing};
-ghost use Rattle.workspace.specs.Coverage.{gate_of, ShowsCovered, KeepsCovered};
+ghost use Rattle.workspace.specs.Coverage.{gate_of, KeepsCovered};
 ghost use Rattle.workspace.specs.States.{state_at};
 ghost use Rattle.workspace.specs.Answers.{Gives};
 
 use crate::expression::{evaluate_int, text_of};
 use footprint::Right;
 use proclang_types::{BoolExpr, Comparison, Equality};
-use workspace::{Permit, RowView, Stop, Workspace, access, is_there};
+use workspace::{RowView, Shown, Stop, Workspace, access, is_there};
 
 fn compare(test: Comparison, left: i64, right: i64) -> bool
     ensures { result ≡ compare test left right }
@@ -37,20 +37,19 @@ fn compare_texts(test: Equality, left: &str, right: &str) -> bool
 
 /// Whether an expression is true.
 pub fn evaluate_bool<V: RowView>(
-    view: &V,
-    permit: &Permit,
+    shown: &Shown<'_, V>,
     space: &mut Workspace,
     expression: &BoolExpr,
 ) -> Result<bool, Stop>
-    requires { ShowsCovered permit.now (V.tables view.now) (V.shows view.now) }
-    ensures gives { Gives (λ b. b) (state_at (V.rows view.now) space.new) result
-        (bool_of nothing (gate_of permit.now) (bool_view expression.now) (state_at (V.rows view.now) space.old)) }
-    ensures kept { OnOk result (KeepsCovered permit.now space.old space.new) }
+    ensures gives { Gives (λ b. b) (state_at (V.rows shown.now.view.now) space.new) result
+        (bool_of nothing (gate_of shown.now.permit) (bool_view expression.now)
+        (state_at (V.rows shown.now.view.now) space.old)) }
+    ensures kept { OnOk result (KeepsCovered shown.now.permit space.old space.new) }
 {
     match expression {
         BoolExpr::CompareInts(test, left, right) => {
-            let left = evaluate_int(view, permit, space, left)?;
-            let right = evaluate_int(view, permit, space, right)?;
+            let left = evaluate_int(shown, space, left)?;
+            let right = evaluate_int(shown, space, right)?;
             Ok(compare(*test, left, right))
         }
         BoolExpr::CompareTexts(test, left, right) => {
@@ -58,28 +57,28 @@ pub fn evaluate_bool<V: RowView>(
             Ok(same)
         }
         BoolExpr::And(left, right) => {
-            if evaluate_bool(view, permit, space, left)? {
-                evaluate_bool(view, permit, space, right)
+            if evaluate_bool(shown, space, left)? {
+                evaluate_bool(shown, space, right)
             } else {
                 Ok(false)
             }
         }
         BoolExpr::Or(left, right) => {
-            if evaluate_bool(view, permit, space, left)? {
+            if evaluate_bool(shown, space, left)? {
                 Ok(true)
             } else {
-                evaluate_bool(view, permit, space, right)
+                evaluate_bool(shown, space, right)
             }
         }
         BoolExpr::Not(operand) => {
-            let holds = evaluate_bool(view, permit, space, operand)?;
+            let holds = evaluate_bool(shown, space, operand)?;
             Ok(!holds)
         }
         BoolExpr::Exists { table, key } => {
             space.take_step()?;
-            let number = evaluate_int(view, permit, space, key)?;
-            let name = access(permit, Right::Read, *table, number)?;
-            Ok(is_there(view, permit, space, &name))
+            let number = evaluate_int(shown, space, key)?;
+            let name = access(&shown.permit, Right::Read, *table, number)?;
+            Ok(is_there(shown, space, &name))
         }
     }
 }

@@ -7,11 +7,12 @@ ghost use Rattle.catalogue.specs.Places.{partition_numbered};
 ghost use Rattle.proclang_types.specs.declared.right.Right.TheVariants.{Read};
 ghost use Rattle.meaning.specs.Runs.{State, tested_key, accessed, part_accessed, present};
 ghost use Rattle.workspace.specs.Overlay.{applied};
-ghost use Rattle.workspace.specs.Coverage.{gate_of, ShowsCovered, permits, permits_part};
+ghost use Rattle.workspace.specs.Coverage.{gate_of, permits, permits_part};
 ghost use Rattle.workspace.specs.States.{state_at};
 ghost use Rattle.workspace.specs.Answers.{Gives};
 
 use crate::permit::Permit;
+use crate::shown::Shown;
 use crate::stop::Stop;
 use crate::view::RowView;
 use crate::workspace::Workspace;
@@ -76,46 +77,41 @@ pub fn access_part(permit: &Permit, table: TableNo, number: i64) -> Result<u32, 
 /// The row with a name, after the own writes; `None` exactly where there is none.
 #[tactic(auto, using(crate::proofs::Writes::get_applied))]
 pub(crate) fn row_seen<'a, V: RowView>(
-    view: &'a V,
-    permit: &Permit,
+    shown: &'a Shown<'_, V>,
     space: &'a Workspace,
     name: &RowName,
 ) -> Option<&'a Row>
-    requires shows { ShowsCovered permit.now (V.tables view.now) (V.shows view.now) }
-    requires covered { permits permit.now name.now Read ≡ true }
-    ensures { option_copied result ≡ map.get (applied space.now.writes.entries (V.rows view.now)) name.now }
+    requires covered { permits shown.now.permit name.now Read ≡ true }
+    ensures { option_copied result ≡ map.get (applied space.now.writes.entries (V.rows shown.now.view.now)) name.now }
 {
     match space.writes.get(name) {
         Some(write) => write.as_ref(),
-        None => view.row(name.table, name.key),
+        None => shown.view.row(name.table, name.key),
     }
 }
 
 /// The row with a name, after the own writes, or the end of the run where there is none.
 pub fn present_row<'a, V: RowView>(
-    view: &'a V,
-    permit: &Permit,
+    shown: &'a Shown<'_, V>,
     space: &'a Workspace,
     name: &RowName,
 ) -> Result<&'a Row, Stop>
-    requires shows { ShowsCovered permit.now (V.tables view.now) (V.shows view.now) }
-    requires covered { permits permit.now name.now Read ≡ true }
+    requires covered { permits shown.now.permit name.now Read ≡ true }
     ensures { Gives (λ row.
-        row.now) (state_at (V.rows view.now) space.now) result
-        (present (map.get (applied space.now.writes.entries (V.rows view.now)) name.now)
-        (state_at (V.rows view.now) space.now)) }
+        row.now) (state_at (V.rows shown.now.view.now) space.now) result
+        (present (map.get (applied space.now.writes.entries (V.rows shown.now.view.now)) name.now)
+        (state_at (V.rows shown.now.view.now) space.now)) }
 {
-    match row_seen(view, permit, space, name) {
+    match row_seen(shown, space, name) {
         Some(row) => Ok(row),
         None => Err(Stop::End(Ending::Abort(AbortCode::NoRow))),
     }
 }
 
 /// Whether the row with a name is there, after the own writes.
-pub fn is_there<V: RowView>(view: &V, permit: &Permit, space: &Workspace, name: &RowName) -> bool
-    requires shows { ShowsCovered permit.now (V.tables view.now) (V.shows view.now) }
-    requires covered { permits permit.now name.now Read ≡ true }
-    ensures { result ≡ is_some (map.get (applied space.now.writes.entries (V.rows view.now)) name.now) }
+pub fn is_there<V: RowView>(shown: &Shown<'_, V>, space: &Workspace, name: &RowName) -> bool
+    requires covered { permits shown.now.permit name.now Read ≡ true }
+    ensures { result ≡ is_some (map.get (applied space.now.writes.entries (V.rows shown.now.view.now)) name.now) }
 {
-    row_seen(view, permit, space, name).is_some()
+    row_seen(shown, space, name).is_some()
 }

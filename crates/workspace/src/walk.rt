@@ -2,10 +2,10 @@
 
 ghost use Rattle.std.specs.Prelude.{◌≡◌, true, Some, OnSome};
 ghost use Rattle.workspace.specs.Overlay.{applied};
-ghost use Rattle.workspace.specs.Coverage.{ShowsCovered, permits_part};
+ghost use Rattle.workspace.specs.Coverage.{permits_part};
 ghost use Rattle.workspace.specs.Walks.{IsNextKey, IsWalk, untouched, lesser, is_second, come_to};
 
-use crate::permit::Permit;
+use crate::shown::Shown;
 use crate::view::RowView;
 use crate::workspace::Workspace;
 use values::{Key, RowName, TableNo};
@@ -13,17 +13,15 @@ use values::{Key, RowName, TableNo};
 /// The first key of a partition behind a key, or from the start, at which the view has a row.
 #[tactic(auto, using(crate::proofs::Untouched::shows_part))]
 fn next_shown<V: RowView>(
-    view: &V,
-    permit: &Permit,
+    shown: &Shown<'_, V>,
     table: TableNo,
     part: u32,
     after: Option<Key>,
 ) -> Option<Key>
-    requires shows { ShowsCovered permit.now (V.tables view.now) (V.shows view.now) }
-    requires covered { permits_part permit.now table part ≡ true }
-    ensures { IsNextKey permit.now.catalogue.now (V.rows view.now) table part after result }
+    requires covered { permits_part shown.now.permit table part ≡ true }
+    ensures { IsNextKey shown.now.permit.catalogue.now (V.rows shown.now.view.now) table part after result }
 {
-    match view.next_row(table, part, after) {
+    match shown.view.next_row(table, part, after) {
         Some(found) => Some(found.0),
         None => None,
     }
@@ -31,20 +29,18 @@ fn next_shown<V: RowView>(
 
 /// The first key of a partition behind a key, or from the start, at which the view has a row and nothing was written.
 fn next_untouched<V: RowView>(
-    view: &V,
-    permit: &Permit,
+    shown: &Shown<'_, V>,
     space: &Workspace,
     table: TableNo,
     part: u32,
     after: Option<Key>,
 ) -> Option<Key>
-    requires shows { ShowsCovered permit.now (V.tables view.now) (V.shows view.now) }
-    requires covered { permits_part permit.now table part ≡ true }
-    ensures { IsNextKey permit.now.catalogue.now
-        (untouched space.now.writes.entries (V.rows view.now)) table part after result }
+    requires covered { permits_part shown.now.permit table part ≡ true }
+    ensures { IsNextKey shown.now.permit.catalogue.now
+        (untouched space.now.writes.entries (V.rows shown.now.view.now)) table part after result }
 {
     let mut at = after;
-    while let Some(key) = next_shown(view, permit, table, part, at) {
+    while let Some(key) = next_shown(shown, table, part, at) {
         let name = RowName::new(table, key);
         if !space.writes.contains_key(&name) {
             return Some(name.key);
@@ -88,46 +84,45 @@ pub(crate) struct Walk {
 impl Walk {
     /// A walk from the partition's start.
     pub(crate) fn start<V: RowView>(
-        view: &V,
-        permit: &Permit,
+        shown: &Shown<'_, V>,
         space: &Workspace,
         table: TableNo,
         part: u32,
     ) -> Walk
-        requires shows { ShowsCovered permit.now (V.tables view.now) (V.shows view.now) }
-        requires covered { permits_part permit.now table part ≡ true }
-        ensures walk { IsWalk permit.now.catalogue.now space.now.writes.entries (V.rows view.now) table part result }
+        requires covered { permits_part shown.now.permit table part ≡ true }
+        ensures walk { IsWalk shown.now.permit.catalogue.now
+            space.now.writes.entries (V.rows shown.now.view.now) table part result }
         ensures start { result.after ≡ None }
     {
         Walk {
             after: None,
-            theirs: next_untouched(view, permit, space, table, part, None),
-            own: space.next_own(permit.catalogue, table, part, &None),
+            theirs: next_untouched(shown, space, table, part, None),
+            own: space.next_own(shown.permit.catalogue, table, part, &None),
         }
     }
 
     /// The key that comes next, if there is one.
     pub(crate) fn next<V: RowView>(
         &mut self,
-        view: &V,
-        permit: &Permit,
+        shown: &Shown<'_, V>,
         space: &Workspace,
         table: TableNo,
         part: u32,
     ) -> Option<Key>
-        requires shows { ShowsCovered permit.now (V.tables view.now) (V.shows view.now) }
-        requires covered { permits_part permit.now table part ≡ true }
-        requires walk { IsWalk permit.now.catalogue.now space.now.writes.entries (V.rows view.now) table part self.old }
-        ensures next { IsNextKey permit.now.catalogue.now
-            (applied space.now.writes.entries (V.rows view.now)) table part self.old.after result }
-        ensures walk { IsWalk permit.now.catalogue.now space.now.writes.entries (V.rows view.now) table part self.new }
+        requires covered { permits_part shown.now.permit table part ≡ true }
+        requires walk { IsWalk shown.now.permit.catalogue.now
+            space.now.writes.entries (V.rows shown.now.view.now) table part self.old }
+        ensures next { IsNextKey shown.now.permit.catalogue.now
+            (applied space.now.writes.entries (V.rows shown.now.view.now)) table part self.old.after result }
+        ensures walk { IsWalk shown.now.permit.catalogue.now
+            space.now.writes.entries (V.rows shown.now.view.now) table part self.new }
         ensures after { self.new.after ≡ come_to self.old.after result }
     {
         let key = lesser(self.theirs, self.own)?;
         if is_second(&self.theirs, &self.own) {
-            self.own = space.next_own(permit.catalogue, table, part, &Some(key));
+            self.own = space.next_own(shown.permit.catalogue, table, part, &Some(key));
         } else {
-            self.theirs = next_untouched(view, permit, space, table, part, Some(key));
+            self.theirs = next_untouched(shown, space, table, part, Some(key));
         }
         self.after = Some(key);
         Some(key)

@@ -12,21 +12,21 @@ use Rattle.interp.proofs.block.+run.Given as goal
 -- what is left of the block is to be done
 abbrev pub invariant-block-loop-statement : goal.invariant-block-loop-statement
 invariant-block-loop-statement g l =
-    let rows = g.V.RowView.rows l.view in
+    let rows = g.V.RowView.rows l.shown.view.now in
     record {
-      gives : in_order nothing (gate_of l.permit) (block_of (stmts_view (drop l.statement-index l.statements.items))) (state_at rows l.space)
-          ≡ in_order nothing (gate_of l.permit) (block_of (stmts_view l.statements.items)) (state_at rows l.fn.space);
-      kept : KeepsCovered l.permit l.fn.space l.space;
+      gives : in_order nothing (gate_of l.shown.permit) (block_of (stmts_view (drop l.statement-index l.statements.items))) (state_at rows l.space)
+          ≡ in_order nothing (gate_of l.shown.permit) (block_of (stmts_view l.statements.items)) (state_at rows l.fn.space);
+      kept : KeepsCovered l.shown.permit l.fn.space l.space;
     }
 
 -- what is left of the numbers is to be gone through
 abbrev pub invariant-for_each_number-loop-next : goal.invariant-for_each_number-loop-next
 invariant-for_each_number-loop-next g l =
-    let rows = g.V.RowView.rows l.view in
-    let body = in_order nothing (gate_of l.permit) (block_of (stmts_view l.statements.items)) in
+    let rows = g.V.RowView.rows l.shown.view.now in
+    let body = in_order nothing (gate_of l.shown.permit) (block_of (stmts_view l.statements.items)) in
     record {
       gives : turns body (numbers_left l.next l.high) (state_at rows l.space) ≡ turns body (numbers_between l.low l.high) (state_at rows l.fn.space);
-      kept : KeepsCovered l.permit l.fn.space l.space;
+      kept : KeepsCovered l.shown.permit l.fn.space l.space;
     }
 
 abbrev pub decreases-for_each_number-loop-next : goal.decreases-for_each_number-loop-next
@@ -35,9 +35,9 @@ decreases-for_each_number-loop-next g l = length (numbers_left l.next l.high)
 -- what is left of the keys is to be gone through
 abbrev pub invariant-for_each_key-loop-key : goal.invariant-for_each_key-loop-key
 invariant-for_each_key-loop-key g l =
-    let rows = g.V.RowView.rows l.view in
-    let body = in_order nothing (gate_of l.permit) (block_of (stmts_view l.statements.items)) in
+    let rows = g.V.RowView.rows l.shown.view.now in
+    let body = in_order nothing (gate_of l.shown.permit) (block_of (stmts_view l.statements.items)) in
     record {
       gives : turns body (map pos (drop l.key-index l.keys.items)) (state_at rows l.space) ≡ turns body (map pos l.keys.items) (state_at rows l.fn.space);
-      kept : KeepsCovered l.permit l.fn.space l.space;
+      kept : KeepsCovered l.shown.permit l.fn.space l.space;
     }

@@ -6,5 +6,5 @@ use Rattle.interp_expr.proofs.expression.evaluate.Goals as goal
 pub returns-in_ok-text-in-Text-clause-gives : goal.returns-in_ok-text-in-Text-clause-gives
 unfolding and_then
 returns-in_ok-text-in-Text-clause-gives g c =
-    let h = c.text_of.ensures (g.V.RowView.rows c.args.view.now) (gate_of c.args.permit.now) in
+    let h = c.text_of.ensures (g.V.RowView.rows c.args.shown.now.view.now) (gate_of c.args.shown.now.permit) in
     grind (arith, h)

@@ -10,10 +10,10 @@ use Rattle.interp_expr.proofs.expression.evaluate_all.Given as goal
 -- the values so far, and behind them those of what is left, are those of all
 abbrev pub invariant-loop-expression : goal.invariant-loop-expression
 invariant-loop-expression g l =
-    let rows = g.V.RowView.rows l.view in
-    let gate = gate_of l.permit in
+    let rows = g.V.RowView.rows l.shown.view.now in
+    let gate = gate_of l.shown.permit in
     record {
       gives : behind l.values.items (values_of nothing gate (map value_view (drop l.expression-index l.expressions.items)) (state_at rows l.space))
           ≡ values_of nothing gate (map value_view l.expressions.items) (state_at rows l.fn.space);
-      kept : KeepsCovered l.permit l.fn.space l.space;
+      kept : KeepsCovered l.shown.permit l.fn.space l.space;
     }

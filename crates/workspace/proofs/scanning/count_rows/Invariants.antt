@@ -9,13 +9,13 @@ use Rattle.workspace.proofs.scanning.count_rows.Given as goal
 -- the rows so far and those ahead are all, and no more than the keys so far
 abbrev pub invariant-loop-count : goal.invariant-loop-count
 invariant-loop-count g l =
-    let tables = l.permit.catalogue.now in
-    let rows = applied l.space.writes.entries (g.V.RowView.rows l.view) in
+    let tables = l.shown.permit.catalogue.now in
+    let rows = applied l.space.writes.entries (g.V.RowView.rows l.shown.view.now) in
     record {
-      walk : IsWalk tables l.space.writes.entries (g.V.RowView.rows l.view) l.table l.part l.walk;
+      walk : IsWalk tables l.space.writes.entries (g.V.RowView.rows l.shown.view.now) l.table l.part l.walk;
       all : l.count + count_ahead tables l.table l.part l.walk.after rows ≡ len (part_rows tables l.table l.part rows);
       few : l.count ≤ keys_before l.walk.after;
     }
 
 abbrev pub decreases-loop-count : goal.decreases-loop-count
-decreases-loop-count g l = count_ahead l.permit.catalogue.now l.table l.part l.walk.after (applied l.space.writes.entries (g.V.RowView.rows l.view))
+decreases-loop-count g l = count_ahead l.shown.permit.catalogue.now l.table l.part l.walk.after (applied l.space.writes.entries (g.V.RowView.rows l.shown.view.now))

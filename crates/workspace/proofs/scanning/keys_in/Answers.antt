@@ -8,8 +8,8 @@ use Rattle.workspace.proofs.scanning.keys_in.Goals as goal
 
 pub loop-key-preserved : goal.loop-key-preserved
 loop-key-preserved g c =
-    let tables = c.args.permit.now.catalogue.now in
-    let rows = applied c.args.space.now.writes.entries (g.V.RowView.rows c.args.view.now) in
+    let tables = c.args.shown.now.permit.catalogue.now in
+    let rows = applied c.args.space.now.writes.entries (g.V.RowView.rows c.args.shown.now.view.now) in
     record {
       walk = c.in-Some.ensures.walk;
       all =
@@ -19,6 +19,6 @@ loop-key-preserved g c =
 
 pub returns : goal.returns
 returns g c =
-    let tables = c.args.permit.now.catalogue.now in
-    let rows = applied c.args.space.now.writes.entries (g.V.RowView.rows c.args.view.now) in
+    let tables = c.args.shown.now.permit.catalogue.now in
+    let rows = applied c.args.space.now.writes.entries (g.V.RowView.rows c.args.shown.now.view.now) in
     keys_done tables rows c.args.table c.args.part c.loop-key.walk.after c.loop-key.keys.items _ c.in_default.ensures.next c.loop-key.invariant.all

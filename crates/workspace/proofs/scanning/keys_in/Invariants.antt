@@ -9,12 +9,12 @@ use Rattle.workspace.proofs.scanning.keys_in.Given as goal
 -- the keys so far and those ahead are all
 abbrev pub invariant-loop-key : goal.invariant-loop-key
 invariant-loop-key g l =
-    let tables = l.permit.catalogue.now in
-    let rows = applied l.space.writes.entries (g.V.RowView.rows l.view) in
+    let tables = l.shown.permit.catalogue.now in
+    let rows = applied l.space.writes.entries (g.V.RowView.rows l.shown.view.now) in
     record {
-      walk : IsWalk tables l.space.writes.entries (g.V.RowView.rows l.view) l.table l.part l.walk;
+      walk : IsWalk tables l.space.writes.entries (g.V.RowView.rows l.shown.view.now) l.table l.part l.walk;
       all : l.keys.items ++ keys_of (rows_ahead tables l.table l.part l.walk.after rows) ≡ keys_of (entries (part_rows tables l.table l.part rows));
     }
 
 abbrev pub decreases-loop-key : goal.decreases-loop-key
-decreases-loop-key g l = count_ahead l.permit.catalogue.now l.table l.part l.walk.after (applied l.space.writes.entries (g.V.RowView.rows l.view))
+decreases-loop-key g l = count_ahead l.shown.permit.catalogue.now l.table l.part l.walk.after (applied l.space.writes.entries (g.V.RowView.rows l.shown.view.now))

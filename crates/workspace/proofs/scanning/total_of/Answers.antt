@@ -12,8 +12,8 @@ use Rattle.workspace.proofs.scanning.total_of.Goals as goal
 
 pub loop-key-preserved : goal.loop-key-preserved
 loop-key-preserved g c =
-    let tables = c.args.permit.now.catalogue.now in
-    let rows = applied c.args.space.now.writes.entries (g.V.RowView.rows c.args.view.now) in
+    let tables = c.args.shown.now.permit.catalogue.now in
+    let rows = applied c.args.space.now.writes.entries (g.V.RowView.rows c.args.shown.now.view.now) in
     let key = c.in-Some.key in
     let new = to_z w128 (of_z w128 c.added-sum.result) in
     let v : to_z w64 (of_z w64 c.number_in.result) ≡ c.number_in.result = let t = c.number_in.type_inv in grind (arith, to_z-of_z, t) in
@@ -37,8 +37,8 @@ loop-key-preserved g c =
 
 pub returns : goal.returns
 returns g c =
-    let tables = c.args.permit.now.catalogue.now in
-    let rows = applied c.args.space.now.writes.entries (g.V.RowView.rows c.args.view.now) in
+    let tables = c.args.shown.now.permit.catalogue.now in
+    let rows = applied c.args.space.now.writes.entries (g.V.RowView.rows c.args.shown.now.view.now) in
     let d = total_done tables rows c.args.table c.args.part c.loop-key.walk.after c.args.column c.in_default.ensures.next in
     let i = c.loop-key.invariant.all in
     omega (arith, ints, d, i)

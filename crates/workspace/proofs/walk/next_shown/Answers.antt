@@ -3,8 +3,8 @@ use Rattle.workspace.proofs.walk.next_shown.Goals as goal
 
 pub returns-in-Some : goal.returns-in-Some
 returns-in-Some g c =
-    row_shown (g.V.RowView.tables c.args.view.now) c.args.permit.now.catalogue.now (g.V.RowView.rows c.args.view.now) _ _ _ _ _ c.requires.shows.over c.in-Some.ensures
+    row_shown (g.V.RowView.tables c.args.shown.now.view.now) c.args.shown.now.permit.catalogue.now (g.V.RowView.rows c.args.shown.now.view.now) _ _ _ _ _ c.args.shown.now.covered.over c.in-Some.ensures
 
 pub returns-in-None : goal.returns-in-None
 returns-in-None g c =
-    none_shown (g.V.RowView.tables c.args.view.now) c.args.permit.now.catalogue.now (g.V.RowView.rows c.args.view.now) _ _ _ c.requires.shows.over c.in-None.ensures
+    none_shown (g.V.RowView.tables c.args.shown.now.view.now) c.args.shown.now.permit.catalogue.now (g.V.RowView.rows c.args.shown.now.view.now) _ _ _ c.args.shown.now.covered.over c.in-None.ensures
