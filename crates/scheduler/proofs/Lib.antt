@@ -6,6 +6,7 @@ pub mod Numbers
 pub mod Steps
 pub mod Admitting
 pub mod Leading
+pub mod Known
 pub mod Openings
 pub mod Returns
 pub mod Fitting

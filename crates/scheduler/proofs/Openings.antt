@@ -1,7 +1,7 @@
 -- Lending its rows to a ready transaction.
-use Rattle.std.proofs.Common.{◌≡◌, ◌<◌, ◌≤◌, ◌+◌, ◌-◌, ℕ, Bool, true, false, ◌&&◌, List, length, map, Option, Some, None, option_map, IsSome, slice_get, refl, sym, ap, ◌∙◌, subst, arith}
-use Rattle.std.proofs.lemmas.Option.{slice_get-map, slice_get_within}
-use Rattle.std.specs.FinMap.{get}
+use Rattle.std.proofs.Common.{◌≡◌, ◌<◌, ◌≤◌, ◌+◌, ◌-◌, ℕ, Bool, true, false, ◌&&◌, List, length, get_or, map, Option, Some, None, option_map, IsSome, slice_get, slice_set, refl, sym, ap, ◌∙◌, subst, arith}
+use Rattle.std.proofs.lemmas.Option.{slice_get-map, slice_get_within, slice_get_read}
+use Rattle.std.specs.FinMap.{get, insert}
 use Rattle.values.specs.declared.name.RowName.{RowName}
 use Rattle.proclang_types.specs.declared.right.Right.{Right}
 use Rattle.proclang_types.specs.declared.right.Right.TheVariants.{Read}
@@ -9,7 +9,7 @@ use Rattle.coarsen.specs.Subtrees.{Requests}
 use Rattle.coarsen.specs.Plans.{IsPlanOver}
 use Rattle.coarsen.specs.Clashes.{locks_row, ModesClash}
 use Rattle.coarsen.specs.Laws.{ClashEitherWay}
-use Rattle.lock_tree.specs.Locks.{Locks, plan_of}
+use Rattle.lock_tree.specs.Locks.{Locks, plan_of, with_mark}
 use Rattle.lock_tree.specs.Ready.{ready, IsNextReady}
 use Rattle.meaning.specs.Frame.{touches}
 use Rattle.interp.specs.Entries.{EntryParts, entry_shape}
@@ -18,18 +18,21 @@ use Rattle.scheduler.specs.JobRuns.{JobOf, transaction_of}
 use Rattle.scheduler_core.specs.declared.phase.Phase.{Phase}
 use Rattle.scheduler_core.specs.declared.phase.Phase.TheVariants as phase
 use Rattle.scheduler_core.specs.Transactions.{Transaction}
-use Rattle.scheduler_core.specs.Phases.{is_idle, is_out, phase_of}
+use Rattle.scheduler_core.specs.Phases.{is_idle, is_settled, phase_of}
 use Rattle.scheduler_core.specs.Events.{waiting}
 use Rattle.scheduler_core.specs.Choices.{IsLeastLend}
-use Rattle.scheduler_core.specs.Laws.{StaysSound, FollowsPhases}
+use Rattle.scheduler.specs.declared.scheduler.Scheduler.TheInside.{Inside}
 use Rattle.scheduler.specs.declared.slot.Slot.{Slot}
 use Rattle.scheduler.specs.declared.slot.Slot.TheVariants.{Idle, Lent, Held, Ran, Settled}
-use Rattle.scheduler.specs.Schedules.{Work, log_of, phase_in}
-use Rattle.scheduler.specs.Jobs.{IsLentAt}
-use Rattle.scheduler.specs.Scheduled.{IsFitting, IsScheduled}
-use Rattle.scheduler.proofs.Places.{length_map}
+use Rattle.scheduler.specs.Schedules.{Schedule, log_of, phase_in}
+use Rattle.scheduler.specs.Jobs.{IsLentAt, IsApart, LendsJob}
+use Rattle.scheduler.specs.Scheduled.{Fits, IsScheduled, AreSettledBefore}
+use Rattle.scheduler.proofs.Places.{length_map, set_here}
 use Rattle.scheduler.proofs.Slots.{phase_at}
 use Rattle.scheduler.proofs.Numbers.{numbered, log_at, log_length, who, unlent_here}
+use Rattle.scheduler.proofs.Steps.{lent}
+use Rattle.scheduler.proofs.Leading.{settled_set}
+use Rattle.scheduler.proofs.Known.{Known, Keeps, work_in, schedule_in, number_at}
 
 both : (a b : Bool) → (a && b) ≡ true → (a ≡ true) × (b ≡ true)
 both true true e = (refl, refl)
@@ -55,103 +58,124 @@ idle_some (Some phase.Ran) e = absurd (cc)
 idle_some (Some phase.Settled) e = absurd (cc)
 
 -- a transaction that may be lent its rows
-pub record Opening (w : Work) (slots : List Slot) (tree : Locks) (number place : ℕ) : Type 0 where
-  pub number_is : number ≡ w.first + place
-  pub slot : slice_get slots place ≡ Some Idle
-  pub is_ready : ready tree.waiting (w.first + place) ≡ true
+pub record Opening (s : Inside) (number place : ℕ) : Type 0 where
+  pub number_is : number ≡ s.first + place
+  pub slot : slice_get s.slots.items place ≡ Some Idle
+  pub is_ready : ready s.locks.waiting (s.first + place) ≡ true
+  pub in_slots : place < length s.slots.items
+  pub in_entries : place < length s.entries.items
+  pub in_plans : place < length s.plans.items
 
-pub opening_at : (w : Work) (slots : List Slot) (tree : Locks) (number place : ℕ) → number ≡ w.first + place → slice_get slots place ≡ Some Idle → ready tree.waiting number ≡ true → Opening w slots tree number place
-opening_at w slots tree number place e is r = record { number_is = e; slot = is; is_ready = ap (ready tree.waiting) (sym e) ∙ r }
+-- its entry and its plan: what lending asks of them, and what holds of the job that is lent and of the scheduler with it
+pub record Offer (s : Inside) (number place : ℕ) (e : EntryParts) (p : Requests) : Type 0 where
+  pub opening : Opening s number place
+  pub tables : e.request.proc.tables ≡ s.store.tables
+  pub over : IsPlanOver s.store.tables p
+  pub locks : (name : RowName) (right : Right) → touches (entry_shape e) name right ≡ true → locks_row s.store.tables p name right ≡ true
+  pub there : IsSome (plan_of s.locks.waiting number)
+  pub unlent : get s.store.lent number ≡ None
+  pub apart : (other : ℕ) (requests : Requests) → get s.store.lent other ≡ Some requests → ModesClash requests p → ⊥
+  pub lends : (job : JobOf) → job.number ≡ number → job.entry ≡ e → job.loan.plan ≡ p → job.loan.tables ≡ s.store.tables
+      → ((name : RowName) → locks_row s.store.tables p name Read ≡ true → get job.loan.rows name ≡ get s.store.rows name) → IsLentAt (work_in s) place job
+  pub lends_apart : (job : JobOf) → job.loan.plan ≡ p → IsApart (schedule_in s) job
+  pub leaves : (new : List Slot) (stock : Stock) (tree : Locks) (slot : Slot) → new ≡ slice_set s.slots.items place slot
+      → stock.tables ≡ s.store.tables → stock.rows ≡ s.store.rows → stock.lent ≡ insert s.store.lent number p → tree ≡ record (s.locks) { waiting = with_mark number true s.locks.waiting }
+      → phase_in slot ≡ phase.Out → Fits (work_in s) place slot → Keeps (work_in s) new s.settled stock tree
 
-module _ (w : Work) (slots : List Slot) (stock : Stock) (tree : Locks) (fits : IsFitting w) (s : IsScheduled w slots stock tree)
-    (sound : StaysSound w.tables w.first (log_of w) w.start) (follows : FollowsPhases w.first (log_of w)) where
-  pub opening : (number : ℕ) → (is_idle (phase_of w.first (map phase_in slots) number) && ready (waiting w.first (log_of w) (map phase_in slots)) number) ≡ true → Opening w slots tree number (number - w.first)
-  opening number e =
-      let b = both (is_idle (phase_of w.first (map phase_in slots) number)) (ready (waiting w.first (log_of w) (map phase_in slots)) number) e in
-      let n = numbered w.first (map phase_in slots) number phase.Idle (idle_some (phase_of w.first (map phase_in slots) number) b.0) in
+module _ (s : Inside) (k : Known s) where
+  -- the least ready number without a mark is the least to which rows may be lent
+  pub least : (found : Option ℕ) → IsNextReady s.locks.waiting found → IsLeastLend s.arena s.first (log_of (work_in s)) (map phase_in s.slots.items) found
+  least found next = k.follows.next_ready s.arena (map phase_in s.slots.items) found k.scheduled.sound.within (subst (λ (l : Locks). IsNextReady l.waiting found) k.scheduled.tree_is next)
+
+  pub opening_at : (number place : ℕ) → number ≡ s.first + place → slice_get s.slots.items place ≡ Some Idle → ready s.locks.waiting number ≡ true → Opening s number place
+  opening_at number place e is r =
+      let in_slots : place < length s.slots.items = slice_get_within s.slots.items place Idle is in
+      let a : length (map phase_in s.slots.items) ≡ length s.slots.items = length_map phase_in s.slots.items in
+      let b : length (map phase_in s.slots.items) ≤ length (log_of (work_in s)) = k.scheduled.sound.within in
+      let c : length (log_of (work_in s)) ≡ length s.entries.items = log_length s.entries.items s.plans.items k.fits.plans in
+      let d : length s.plans.items ≡ length s.entries.items = k.fits.plans in
       record {
-        number_is = n.0;
-        slot = idle_slot slots (number - w.first) (ap is_idle n.1);
-        is_ready = ap (λ (l : Locks). ready l.waiting (w.first + (number - w.first))) s.tree_is ∙ sym (ap (ready (waiting w.first (log_of w) (map phase_in slots))) n.0) ∙ b.1;
+        number_is = e;
+        slot = is;
+        is_ready = ap (ready s.locks.waiting) (sym e) ∙ r;
+        in_slots = in_slots;
+        in_entries = omega (arith, in_slots, a, b, c);
+        in_plans = omega (arith, in_slots, a, b, c, d);
       }
 
-  -- the least ready number without a mark is the least to which rows may be lent
-  pub least : (found : Option ℕ) → IsNextReady tree.waiting found → IsLeastLend w.arena w.first (log_of w) (map phase_in slots) found
-  least found next = follows.next_ready w.arena (map phase_in slots) found s.sound.within (subst (λ (l : Locks). IsNextReady l.waiting found) s.tree_is next)
+  -- the same, as an event of its number finds it
+  pub opening_seen : (now : Schedule) → schedule_in s ≡ now → (number place : ℕ) → number ≡ now.work.first + place → (seen : List Slot) → seen ≡ s.slots.items → slice_get seen place ≡ Some Idle
+      → ready s.locks.waiting number ≡ true → Opening s number place
+  opening_seen now view number place n seen same idle r =
+      opening_at number place (number_at s now view number place n) (subst (λ (xs : List Slot). slice_get xs place ≡ Some Idle) same idle) r
 
-  pub next_opening : (number : ℕ) → IsNextReady tree.waiting (Some number) → Opening w slots tree number (number - w.first)
-  next_opening number next = opening number (least (Some number) next).0
+  pub next_opening : (number : ℕ) → IsNextReady s.locks.waiting (Some number) → Opening s number (number - s.first)
+  next_opening number next =
+      let waits = waiting s.first (log_of (work_in s)) (map phase_in s.slots.items) in
+      let b = both (is_idle (phase_of s.first (map phase_in s.slots.items) number)) (ready waits number) (least (Some number) next).0 in
+      let n = numbered s.first (map phase_in s.slots.items) number phase.Idle (idle_some (phase_of s.first (map phase_in s.slots.items) number) b.0) in
+      opening_at number (number - s.first) n.0 (idle_slot s.slots.items (number - s.first) (ap is_idle n.1)) (ap (λ (l : Locks). ready l.waiting number) k.scheduled.tree_is ∙ b.1)
 
-  module _ (number place : ℕ) (o : Opening w slots tree number place) where
-    pub in_slots : place < length slots
-    in_slots = slice_get_within slots (place) Idle o.slot
+  module _ (number place : ℕ) (o : Opening s number place) where
+    idle_phase : slice_get (map phase_in s.slots.items) place ≡ Some phase.Idle
+    idle_phase = phase_at s.slots.items place Idle o.slot
 
-    pub in_entries : place < length w.entries
-    in_entries =
-        let a : place < length slots = in_slots in
-        let b : length (map phase_in slots) ≡ length slots = length_map phase_in slots in
-        let c : length (map phase_in slots) ≤ length (log_of w) = s.sound.within in
-        let d : length (log_of w) ≡ length w.entries = log_length w.entries w.plans fits.plans in
-        omega (arith, a, b, c, d)
+    ready_there : ready (waiting s.first (log_of (work_in s)) (map phase_in s.slots.items)) (s.first + place) ≡ true
+    ready_there = sym (ap (λ (l : Locks). ready l.waiting (s.first + place)) k.scheduled.tree_is) ∙ o.is_ready
 
-    pub in_plans : place < length w.plans
-    in_plans = let a : place < length w.entries = in_entries in let e : length w.plans ≡ length w.entries = fits.plans in omega (arith, a, e)
-
-    idle_phase : slice_get (map phase_in slots) (place) ≡ Some phase.Idle
-    idle_phase = phase_at slots (place) Idle o.slot
-
-    ready_there : ready (waiting w.first (log_of w) (map phase_in slots)) (w.first + (place)) ≡ true
-    ready_there = sym (ap (λ (l : Locks). ready l.waiting (w.first + (place))) s.tree_is) ∙ o.is_ready
-
-    pub unlent : get stock.lent number ≡ None
-    unlent = ap (get stock.lent) o.number_is ∙ s.lent_is (w.first + (place)) ∙ unlent_here w (map phase_in slots) (place) idle_phase
-
-    module _ (e : EntryParts) (p : Requests) (at_entry : slice_get w.entries (place) ≡ Some e) (at_plan : slice_get w.plans (place) ≡ Some p) where
-      abbrev t : Transaction
-      t = record { entry = entry_shape e; plan = p }
-
-      pub at : slice_get (log_of w) (place) ≡ Some t
-      at = log_at w.entries w.plans (place) e p at_entry at_plan
-
-      pub over_tables : e.request.proc.tables ≡ stock.tables
-      over_tables = (fits.over (place) t at).0 ∙ sym s.tables
-
-      pub plan_over : IsPlanOver stock.tables p
-      plan_over = subst (λ ts. IsPlanOver ts p) (sym s.tables) (fits.over (place) t at).1
-
-      pub locks : (name : RowName) (right : Right) → touches (entry_shape e) name right ≡ true → locks_row stock.tables p name right ≡ true
-      locks name right h = ap (λ ts. locks_row ts p name right) s.tables ∙ (fits.planned (place) t at).locks name right h
-
-      pub there : IsSome (plan_of tree.waiting number)
-      there =
-          let found : plan_of (waiting w.first (log_of w) (map phase_in slots)) (w.first + (place)) ≡ Some p = follows.there (map phase_in slots) (place) t phase.Idle at idle_phase refl in
-          let found_here : plan_of tree.waiting number ≡ Some p = ap (plan_of tree.waiting) o.number_is ∙ ap (λ (l : Locks). plan_of l.waiting (w.first + (place))) s.tree_is ∙ found in
-          subst (λ q. IsSome q) (sym found_here) refl
-
-      pub apart : ClashEitherWay → (other : ℕ) (requests : Requests) → get stock.lent other ≡ Some requests → ModesClash requests p → ⊥
-      apart turn other requests is conflict =
-          let u = who w (map phase_in slots) other requests (sym (s.lent_is other) ∙ is) in
-          sound.lends_apart (map phase_in slots) stock.rows (place) u.0 t u.1 s.sound idle_phase ready_there u.3 at u.2
-          (turn.requests u.1.plan p (subst (λ q. ModesClash q p) u.4 conflict))
-
-      module _ (job : JobOf) (n : job.number ≡ number) (je : job.entry ≡ e) (jp : job.loan.plan ≡ p) (jt : job.loan.tables ≡ stock.tables)
-          (shows : (name : RowName) → locks_row stock.tables p name Read ≡ true → get job.loan.rows name ≡ get stock.rows name) where
-        of_job : ◌≡◌ {A = Transaction} t (transaction_of job)
-        of_job = sym (ap (λ (x : EntryParts). record { entry = entry_shape x; plan = job.loan.plan }) je ∙ ap (λ (q : Requests). record { entry = entry_shape e; plan = q }) jp)
-
-        place_is : job.number - w.first ≡ place
-        place_is = let e : number ≡ w.first + place = o.number_is in omega (arith, n, e)
-
-        pub lent_at_place : IsLentAt w (place) job
-        lent_at_place = record {
-          job_at = record { number = n ∙ o.number_is; tables = jt ∙ s.tables; transaction = at ∙ ap (λ (x : Transaction). Some x) of_job };
-          shows = sound.lent_rows (map phase_in slots) stock.rows (place) t job.loan.rows s.sound idle_phase ready_there at
-              (λ name locked. shows name (ap (λ ts. locks_row ts p name Read) s.tables ∙ locked));
+    pub offer : ClashEitherWay → (e : EntryParts) (p : Requests) → e ≡ get_or s.entries.items place e → p ≡ get_or s.plans.items place p → Offer s number place e p
+    offer turn e p at_entry at_plan =
+        let ps = map phase_in s.slots.items in
+        let waits = waiting s.first (log_of (work_in s)) ps in
+        let t : Transaction = record { entry = entry_shape e; plan = p } in
+        let at : slice_get (log_of (work_in s)) place ≡ Some t =
+        log_at s.entries.items s.plans.items place e p (slice_get_read s.entries.items (length s.entries.items) place e refl o.in_entries at_entry)
+        (slice_get_read s.plans.items (length s.plans.items) place p refl o.in_plans at_plan) in
+        let found : plan_of s.locks.waiting number ≡ Some p =
+        ap (plan_of s.locks.waiting) o.number_is ∙ ap (λ (l : Locks). plan_of l.waiting (s.first + place)) k.scheduled.tree_is ∙ k.follows.there ps place t phase.Idle at idle_phase refl in
+        record {
+          opening = o;
+          tables = (k.fits.over place t at).0 ∙ sym k.scheduled.tables;
+          over = subst (λ ts. IsPlanOver ts p) (sym k.scheduled.tables) (k.fits.over place t at).1;
+          locks = λ name right h. ap (λ ts. locks_row ts p name right) k.scheduled.tables ∙ (k.fits.planned place t at).locks name right h;
+          there = subst (λ q. IsSome q) (sym found) refl;
+          unlent = ap (get s.store.lent) o.number_is ∙ k.scheduled.lent_is (s.first + place) ∙ unlent_here (work_in s) ps place idle_phase;
+          apart = λ other requests is conflict.
+              let u = who (work_in s) ps other requests (sym (k.scheduled.lent_is other) ∙ is) in
+              k.sound.lends_apart ps s.store.rows place u.0 t u.1 k.scheduled.sound idle_phase ready_there u.3 at u.2
+              (turn.requests u.1.plan p (subst (λ q. ModesClash q p) u.4 conflict));
+          lends = λ job n je jp jt shows.
+              let of_job : ◌≡◌ {A = Transaction} t (transaction_of job) =
+              sym (ap (λ (x : EntryParts). record { entry = entry_shape x; plan = job.loan.plan }) je ∙ ap (λ (q : Requests). record { entry = entry_shape e; plan = q }) jp) in
+              record {
+                job_at = record { number = n ∙ o.number_is; tables = jt ∙ k.scheduled.tables; transaction = at ∙ ap (λ (x : Transaction). Some x) of_job };
+                shows = k.sound.lent_rows ps s.store.rows place t job.loan.rows k.scheduled.sound idle_phase ready_there at
+                    (λ name locked. shows name (ap (λ ts. locks_row ts p name Read) k.scheduled.tables ∙ locked));
+              };
+          lends_apart = λ job jp other u is out conflict.
+              k.sound.lends_apart ps s.store.rows place other t u k.scheduled.sound idle_phase ready_there out at is (subst (λ q. ModesClash q u.plan) jp conflict);
+          leaves = λ new stock tree slot set tables rows is marked out fits. (
+            k.fits,
+            subst (λ (xs : List Slot). IsScheduled (work_in s) xs stock tree) (sym set)
+                (lent (work_in s) k.sound k.follows s.slots.items s.store stock s.locks tree place t slot k.scheduled o.slot o.is_ready at tables rows
+                (is ∙ ap (λ n. insert s.store.lent n p) o.number_is)
+                (marked ∙ ap (λ n. record (s.locks) { waiting = with_mark n true s.locks.waiting }) o.number_is)
+                out fits),
+            subst (λ (xs : List Slot). AreSettledBefore xs s.settled) (sym set)
+                (settled_set s.slots.items s.settled place Idle slot k.settled o.slot refl (ap (λ (q : Phase). is_settled (Some q)) out)),
+          );
         }
 
-        pub job_lent : IsLentAt w (job.number - w.first) job
-        job_lent = subst (λ k. IsLentAt w k job) (sym place_is) lent_at_place
-
-        pub job_apart : (k : ℕ) (u : Transaction) → slice_get (log_of w) k ≡ Some u → is_out (slice_get (map phase_in slots) k) ≡ true → ModesClash job.loan.plan u.plan → ⊥
-        job_apart k u is out conflict =
-            sound.lends_apart (map phase_in slots) stock.rows (place) k t u s.sound idle_phase ready_there out at is (subst (λ q. ModesClash q u.plan) jp conflict)
+-- the job that is lent at a place that its number gives
+pub lends_job : (s : Inside) (number : ℕ) (e : EntryParts) (p : Requests) → Offer s number (number - s.first) e p → (job : JobOf) (new : List Slot)
+    → job.number ≡ number → IsLentAt (work_in s) (number - s.first) job → job.loan.plan ≡ p → new ≡ slice_set s.slots.items (number - s.first) Lent
+    → LendsJob (schedule_in s) job (record { work = work_in s; slots = new })
+lends_job s number e p f job new n is_lent jp set =
+    let there : new ≡ slice_set s.slots.items (job.number - s.first) Lent = set ∙ ap (λ m. slice_set s.slots.items (m - s.first) Lent) (sym n) in
+    let slot : slice_get s.slots.items (job.number - s.first) ≡ Some Idle = subst (λ m. slice_get s.slots.items (m - s.first) ≡ Some Idle) (sym n) f.opening.slot in
+    record {
+      lent = subst (λ m. IsLentAt (work_in s) (m - s.first) job) (sym n) is_lent;
+      apart = f.lends_apart job jp;
+      new_is = ap (λ (xs : List Slot). record { work = work_in s; slots = xs }) there;
+      out = ap (λ (xs : List Slot). slice_get xs (job.number - s.first)) there ∙ set_here s.slots.items (job.number - s.first) Idle Lent slot;
+    }

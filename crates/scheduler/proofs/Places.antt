@@ -1,5 +1,5 @@
 -- Places of lists.
-use Rattle.std.proofs.Common.{◌≡◌, ◌≢◌, ℕ, zero, suc, List, [], ◌∷◌, ◌++◌, length, map, take, Some, refl, slice_get, slice_set, ap, ◌⊎◌, inl, inr}
+use Rattle.std.proofs.Common.{◌≡◌, ◌≢◌, ℕ, zero, suc, List, [], ◌∷◌, ◌++◌, length, map, take, Some, refl, slice_get, slice_set, ap, ◌∙◌, ◌⊎◌, inl, inr}
 
 pub push_end : {X : Type 0} (xs : List X) (x : X) → slice_get (xs ++ x ∷ []) (length xs) ≡ Some x
 push_end [] x = refl
@@ -45,6 +45,10 @@ pub set_twice : {X : Type 0} (xs : List X) (k : ℕ) (x y : X) → slice_set (sl
 set_twice [] k x y = refl
 set_twice (z ∷ xs) zero x y = refl
 set_twice (z ∷ xs) (suc k) x y = ap (λ ys. z ∷ ys) (set_twice xs k x y)
+
+-- what is put back where another stood meanwhile
+pub put_back : {X : Type 0} (xs mid new : List X) (k : ℕ) (x y : X) → mid ≡ slice_set xs k x → new ≡ slice_set mid k y → new ≡ slice_set xs k y
+put_back xs mid new k x y taken put = put ∙ ap (λ zs. slice_set zs k y) taken ∙ set_twice xs k x y
 
 pub take_pushed : {X : Type 0} (xs : List X) (x : X) → take (length xs) (xs ++ x ∷ []) ≡ xs
 take_pushed [] x = refl

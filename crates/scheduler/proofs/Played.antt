@@ -1,5 +1,5 @@
 -- What is answered to events.
-use Rattle.std.proofs.Common.{◌≡◌, ◌+◌, ◌++◌, ℕ, true, false, ◌&&◌, List, [], ◌∷◌, length, map, Option, Some, None, option_map, slice_get, slice_set, refl, sym, ap, ◌∙◌, subst, arith, inl, inr}
+use Rattle.std.proofs.Common.{◌≡◌, ◌+◌, ◌++◌, ℕ, true, false, ◌&&◌, List, [], ◌∷◌, length, map, Option, Some, None, option_map, slice_get, slice_set, refl, sym, ap, ◌∙◌, subst, arith}
 use Rattle.std.proofs.lemmas.Option.{slice_get-map}
 use Rattle.lock_tree.specs.Locks.{Locks}
 use Rattle.lock_tree.specs.Ready.{ready}
@@ -8,26 +8,20 @@ use Rattle.meaning.specs.declared.outcome.Outcome.{Outcome}
 use Rattle.scheduler_core.specs.declared.event.Event.{Event}
 use Rattle.scheduler_core.specs.declared.event.Event.TheVariants.{Lend, Run, Settle}
 use Rattle.scheduler_core.specs.declared.event.StepAnswer.{StepAnswer}
-use Rattle.scheduler_core.specs.declared.event.StepAnswer.TheVariants.{Made}
+use Rattle.scheduler_core.specs.declared.event.StepAnswer.TheVariants.{Made, Refused}
 use Rattle.scheduler_core.specs.declared.phase.Phase.{Phase}
 use Rattle.scheduler_core.specs.declared.phase.Phase.TheVariants as phase
 use Rattle.scheduler_core.specs.Transactions.{Transaction}
 use Rattle.scheduler_core.specs.Phases.{is_idle, is_lent, was_run}
 use Rattle.scheduler_core.specs.Events.{waiting, enabled, step, Answers, Played}
-use Rattle.scheduler_core.specs.Laws.{AreByPlaces}
+use Rattle.scheduler_core.specs.Laws.{AreByPlaces, EventsByPlaces}
+use Rattle.scheduler.specs.declared.scheduler.Scheduler.TheInside.{Inside}
 use Rattle.scheduler.specs.declared.slot.Slot.{Slot}
 use Rattle.scheduler.specs.declared.slot.Slot.TheVariants as slot
-use Rattle.scheduler.specs.Schedules.{Work, log_of, phase_in}
-use Rattle.scheduler.proofs.Places.{map_set, set_back, set_or_was}
+use Rattle.scheduler.specs.Schedules.{Work, Schedule, log_of, phases_of, phase_in, KeepsItsJobs}
+use Rattle.scheduler.proofs.Places.{map_set, set_back}
 use Rattle.scheduler.proofs.Slots.{phase_at}
-
--- no job is with the caller, where a slot is another
-pub keeps_set : (slots : List Slot) (place : ℕ) (s : Slot) → ((k : ℕ) → slice_get slots k ≡ Some slot.Lent → ⊥) → (s ≡ slot.Lent → ⊥)
-    → (k : ℕ) → slice_get (slice_set slots place s) k ≡ Some slot.Lent → ⊥
-keeps_set slots place s keeps other k is = elim (set_or_was slots place s k slot.Lent is) [
-  | inl e ↦ other e
-  | inr was ↦ keeps k was
-]
+use Rattle.scheduler.proofs.Known.{Known, work_in, schedule_in, number_at, keeps_jobs}
 
 lent_only : (o : Option Slot) → (o ≡ Some slot.Lent → ⊥) → ((job : JobOf) → o ≡ Some (slot.Held job) → ⊥) → is_lent (option_map phase_in o) ≡ false
 lent_only None a b = refl
@@ -73,6 +67,32 @@ module _ (w : Work) (slots : List Slot) (by_places : AreByPlaces w.arena w.first
     ap (λ k. enabled w.arena w.first (log_of w) (map phase_in slots) (Settle k)) n ∙ by_places.settle place ∙ ap was_run (phase_at slots place (slot.Ran job ran) is),
     ap (map phase_in) e ∙ map_set phase_in slots place (slot.Settled outcome) ∙ sym (by_places.after_settle place) ∙ ap (λ k. step w.first (map phase_in slots) (Settle k)) (sym n),
   )
+
+-- what is answered to an event of the transaction at a place of a scheduler
+module _ (s : Inside) (k : Known s) (now : Schedule) (view : schedule_in s ≡ now) (by_places : EventsByPlaces) (number place : ℕ) (n : number ≡ now.work.first + place) (new : List Slot) where
+  by_work : AreByPlaces s.arena s.first (log_of (work_in s)) (map phase_in s.slots.items)
+  by_work = by_places s.arena s.first (log_of (work_in s)) (map phase_in s.slots.items)
+
+  answers : (event : Event) (answer : StepAnswer) → Answers s.arena s.first (log_of (work_in s)) (map phase_in s.slots.items) event answer (map phase_in new)
+      → Answers now.work.arena now.work.first (log_of now.work) (phases_of now) event answer (map phase_in new)
+  answers event answer a = subst (λ (t : Schedule). Answers t.work.arena t.work.first (log_of t.work) (phases_of t) event answer (map phase_in new)) view a
+
+  pub answers_lend : (x : Slot) → slice_get s.slots.items place ≡ Some slot.Idle → ready s.locks.waiting number ≡ true → phase_in x ≡ phase.Out → new ≡ slice_set s.slots.items place x
+      → Answers now.work.arena now.work.first (log_of now.work) (phases_of now) (Lend number) Made (map phase_in new)
+  answers_lend x is r out e = answers (Lend number) Made (lend_made (work_in s) s.slots.items by_work number place (number_at s now view number place n) s.locks new x k.scheduled.tree_is is r out e)
+
+  pub answers_run : (job job2 : JobOf) (outcome : Outcome) → slice_get s.slots.items place ≡ Some (slot.Held job) → new ≡ slice_set s.slots.items place (slot.Ran job2 outcome)
+      → Answers now.work.arena now.work.first (log_of now.work) (phases_of now) (Run number) Made (map phase_in new)
+  answers_run job job2 outcome is e = answers (Run number) Made (run_made (work_in s) s.slots.items by_work number place (number_at s now view number place n) new job job2 outcome is e)
+
+  pub refuses_run : KeepsItsJobs now → ((job : JobOf) → slice_get s.slots.items place ≡ Some (slot.Held job) → ⊥) → new ≡ s.slots.items
+      → Answers now.work.arena now.work.first (log_of now.work) (phases_of now) (Run number) Refused (map phase_in new)
+  refuses_run keeps other same =
+      answers (Run number) Refused (run_refused (work_in s) s.slots.items by_work number place (number_at s now view number place n) (keeps_jobs s now view keeps) other, ap (map phase_in) same)
+
+  pub answers_settle : (job : JobOf) (outcome : Outcome) → slice_get s.slots.items place ≡ Some (slot.Ran job outcome) → new ≡ slice_set s.slots.items place (slot.Settled outcome)
+      → Answers now.work.arena now.work.first (log_of now.work) (phases_of now) (Settle number) Made (map phase_in new)
+  answers_settle job outcome is e = answers (Settle number) Made (settle_made (work_in s) s.slots.items by_work number place (number_at s now view number place n) new job outcome outcome is e)
 
 -- the phases are as they were
 pub same_phases : (slots new : List Slot) (place : ℕ) (old s : Slot) → slice_get slots place ≡ Some old → phase_in s ≡ phase_in old → new ≡ slice_set slots place s → map phase_in new ≡ map phase_in slots

@@ -1,7 +1,7 @@
 -- Jobs that come back.
-use Rattle.std.proofs.Common.{◌≡◌, ◌<◌, ◌≤◌, ◌+◌, ◌-◌, ℕ, nat_le, ◌&&◌, true, false, List, length, map, Option, Some, IsSome, slice_get, slice_set, refl, sym, ap, ◌∙◌, subst, arith, if◌then◌else◌}
+use Rattle.std.proofs.Common.{◌≡◌, ◌<◌, ◌≤◌, ◌+◌, ◌-◌, ℕ, nat_le, ◌&&◌, true, false, List, length, map, Option, Some, None, IsSome, slice_get, slice_set, refl, sym, ap, ◌∙◌, subst, arith, if◌then◌else◌}
 use Rattle.std.proofs.lemmas.Option.{slice_get_within}
-use Rattle.std.specs.FinMap.{get}
+use Rattle.std.specs.FinMap.{get, remove}
 use Rattle.values.specs.declared.name.RowName.{RowName}
 use Rattle.catalogue.specs.Shapes.{TableShape}
 use Rattle.values.specs.Database.{Database}
@@ -10,7 +10,7 @@ use Rattle.coarsen.specs.Subtrees.{Requests, own_over}
 use Rattle.coarsen.specs.Clashes.{locks_row}
 use Rattle.footprint.specs.Tree.{row_resource}
 use Rattle.std.proofs.lemmas.Bool.Decides.{nat_tests}
-use Rattle.lock_tree.specs.Locks.{Locks, plan_of}
+use Rattle.lock_tree.specs.Locks.{Locks, plan_of, with_mark, without}
 use Rattle.lock_tree.specs.Ready.{ready}
 use Rattle.meaning.specs.declared.outcome.Outcome.{Outcome}
 use Rattle.meaning.specs.Outcomes.{as_reply}
@@ -23,15 +23,19 @@ use Rattle.scheduler_core.specs.Transactions.{Transaction}
 use Rattle.scheduler_core.specs.Phases.{is_idle, is_out, is_settled}
 use Rattle.scheduler_core.specs.Events.{waiting, enabled}
 use Rattle.scheduler_core.specs.Sound as core
-use Rattle.scheduler_core.specs.Laws.{StaysSound, FollowsPhases, AreByPlaces}
+use Rattle.scheduler_core.specs.Laws.{StaysSound, EventsByPlaces}
+use Rattle.scheduler.specs.declared.scheduler.Scheduler.TheInside.{Inside}
 use Rattle.scheduler.specs.declared.slot.Slot.{Slot}
-use Rattle.scheduler.specs.declared.slot.Slot.TheVariants.{Idle, Lent}
+use Rattle.scheduler.specs.declared.slot.Slot.TheVariants.{Idle, Lent, Held, Ran, Settled}
 use Rattle.scheduler.specs.Schedules.{Work, Schedule, log_of, phase_in}
 use Rattle.scheduler.specs.Jobs.{IsJobAt, IsLentAt, IsRunAt, ComesBack}
-use Rattle.scheduler.specs.Scheduled.{IsScheduled}
+use Rattle.scheduler.specs.Scheduled.{IsScheduled, AreSettledBefore}
 use Rattle.scheduler.proofs.Places.{set_here, map_set}
 use Rattle.scheduler.proofs.Slots.{phase_at}
 use Rattle.scheduler.proofs.Numbers.{lent_here}
+use Rattle.scheduler.proofs.Steps.{ran, taken_back, settled, same_phase}
+use Rattle.scheduler.proofs.Leading.{settled_before, settled_set}
+use Rattle.scheduler.proofs.Known.{Known, Keeps, work_in, schedule_in}
 
 -- what is locked to write is locked to read
 one_of : (x : ℕ) → nat_le 2 x ≡ true → nat_le 1 x ≡ true
@@ -81,51 +85,122 @@ module _ (w : Work) (place : ℕ) (sound : StaysSound w.tables w.first (log_of w
             (subst (λ ts. core.IsRunOf ts (transaction_of lent) lent.loan.rows (as_reply outcome) job.loan.rows) is.job_at.tables comes.1);
       }
 
-  module _ (slots : List Slot) (stock : Stock) (tree : Locks) (follows : FollowsPhases w.first (log_of w)) (s : IsScheduled w slots stock tree)
-      (old : Slot) (at : slice_get slots place ≡ Some old) (out : is_out (Some (phase_in old)) ≡ true) (still : is_settled (Some (phase_in old)) ≡ false) (job : JobOf) (j : IsJobAt w place job) where
-    was : slice_get (map phase_in slots) place ≡ Some (phase_in old)
-    was = phase_at slots place old at
+-- the rows of a store where a job was given back
+abbrev RowsOf : JobOf → Database → Database → Type 0
+RowsOf job old new = (name : RowName) → get new name ≡ (if locks_row job.loan.tables job.loan.plan name Write then get job.loan.rows name else get old name)
 
-    pub lent_plan : get stock.lent (w.first + place) ≡ Some job.loan.plan
-    lent_plan = s.lent_is (w.first + place) ∙ lent_here w (map phase_in slots) place (transaction_of job) (phase_in old) j.transaction was out
+-- a job of a transaction that is out: what giving its rows back asks of it, and what holds of the scheduler with them
+pub record Return (s : Inside) (number place : ℕ) (old : Slot) (job : JobOf) : Type 0 where
+  pub number_is : number ≡ s.first + place
+  pub was : slice_get s.slots.items place ≡ Some old
+  pub lent : get s.store.lent number ≡ Some job.loan.plan
+  pub there : IsSome (plan_of s.locks.waiting number)
+  pub tables : job.loan.tables ≡ s.store.tables
+  pub within : place < length s.slots.items
+  pub settles : (outcome : Outcome) → IsRunAt (work_in s) place job outcome → (new : List Slot) (stock : Stock) (tree : Locks) → new ≡ slice_set s.slots.items place (Settled outcome)
+      → stock.tables ≡ s.store.tables → RowsOf job s.store.rows stock.rows → stock.lent ≡ remove s.store.lent number
+      → tree ≡ record (s.locks) { waiting = without number s.locks.waiting } → IsScheduled (work_in s) new stock tree
+  pub before : (outcome : Outcome) (new : List Slot) → new ≡ slice_set s.slots.items place (Settled outcome) → (i : ℕ) → i < s.settled → is_settled (slice_get (map phase_in new) i) ≡ true
+  pub takes_back : IsLentAt (work_in s) place job → (new : List Slot) (stock : Stock) (tree : Locks) → new ≡ slice_set s.slots.items place Idle
+      → stock.tables ≡ s.store.tables → RowsOf job s.store.rows stock.rows → stock.lent ≡ remove s.store.lent number
+      → tree ≡ record (s.locks) { waiting = with_mark number false s.locks.waiting } → Keeps (work_in s) new s.settled stock tree
+  -- where it is given back, its transaction can be lent its rows again
+  pub lent_again : EventsByPlaces → (new : List Slot) → new ≡ slice_set s.slots.items place Idle → enabled s.arena s.first (log_of (work_in s)) (map phase_in new) (Lend number) ≡ true
 
-    pub lent_number : (number : ℕ) → number ≡ w.first + place → get stock.lent number ≡ Some job.loan.plan
-    lent_number number e = ap (get stock.lent) e ∙ lent_plan
+module _ (s : Inside) (k : Known s) (number place : ℕ) (number_is : number ≡ s.first + place) (old : Slot) (at : slice_get s.slots.items place ≡ Some old)
+    (out : is_out (Some (phase_in old)) ≡ true) (still : is_settled (Some (phase_in old)) ≡ false) (job : JobOf) (j : IsJobAt (work_in s) place job) where
+  was : slice_get (map phase_in s.slots.items) place ≡ Some (phase_in old)
+  was = phase_at s.slots.items place old at
 
-    pub waits : (number : ℕ) → number ≡ w.first + place → IsSome (plan_of tree.waiting number)
-    waits number e =
-        let found : plan_of (waiting w.first (log_of w) (map phase_in slots)) (w.first + place) ≡ Some job.loan.plan = follows.there (map phase_in slots) place (transaction_of job) (phase_in old) j.transaction was still in
-        let here : plan_of tree.waiting number ≡ Some job.loan.plan = ap (plan_of tree.waiting) e ∙ ap (λ (l : Locks). plan_of l.waiting (w.first + place)) s.tree_is ∙ found in
-        subst (λ q. IsSome q) (sym here) refl
+  -- the rows of a job that shows what it was lent are those of the store
+  same_rows : (new : Database) → core.IsLent s.catalogue (log_of (work_in s)) s.start.value.rows place job.loan.rows → RowsOf job s.store.rows new → (name : RowName) → get new name ≡ get s.store.rows name
+  same_rows new shows rows name = rows name ∙ elim (locks_row job.loan.tables job.loan.plan name Write) as (λ b. locks_row job.loan.tables job.loan.plan name Write ≡ b → (if b then get job.loan.rows name else get s.store.rows name) ≡ get s.store.rows name) [
+    | true ↦ λ locked.
+        let read : locks_row s.catalogue job.loan.plan name Read ≡ true = ap (λ ts. locks_row ts job.loan.plan name Read) (sym j.tables) ∙ read_too job.loan.tables job.loan.plan name locked in
+        shows (transaction_of job) j.transaction name read
+        ∙ sym (k.sound.out_rows (map phase_in s.slots.items) s.store.rows place (transaction_of job) k.scheduled.sound (ap (λ (o : Option Phase). is_out o) was ∙ out) j.transaction name read)
+    | false ↦ λ _. refl
+  ] refl
 
-    pub loan_tables : job.loan.tables ≡ stock.tables
-    loan_tables = j.tables ∙ sym s.tables
+  pub return : Return s number place old job
+  return =
+      let ps = map phase_in s.slots.items in
+      let is_out_there : is_out (slice_get ps place) ≡ true = ap (λ (o : Option Phase). is_out o) was ∙ out in
+      let found : plan_of s.locks.waiting number ≡ Some job.loan.plan =
+      ap (plan_of s.locks.waiting) number_is ∙ ap (λ (l : Locks). plan_of l.waiting (s.first + place)) k.scheduled.tree_is
+      ∙ k.follows.there ps place (transaction_of job) (phase_in old) j.transaction was still in
+      record {
+        number_is = number_is;
+        was = at;
+        lent =
+            ap (get s.store.lent) number_is ∙ k.scheduled.lent_is (s.first + place)
+            ∙ lent_here (work_in s) ps place (transaction_of job) (phase_in old) j.transaction was out;
+        there = subst (λ q. IsSome q) (sym found) refl;
+        tables = j.tables ∙ sym k.scheduled.tables;
+        within = slice_get_within s.slots.items place old at;
+        settles = λ outcome run new stock tree set tables rows lent released.
+            subst (λ (xs : List Slot). IsScheduled (work_in s) xs stock tree) (sym set)
+            (settled (work_in s) k.sound k.follows s.slots.items s.store stock s.locks tree place old job outcome k.scheduled at out run tables rows
+            (lent ∙ ap (remove s.store.lent) number_is)
+            (released ∙ ap (λ n. record (s.locks) { waiting = without n s.locks.waiting }) number_is));
+        before = λ outcome new set.
+            subst (λ (xs : List Slot). (i : ℕ) → i < s.settled → is_settled (slice_get (map phase_in xs) i) ≡ true) (sym set)
+            (settled_before s.slots.items s.settled place old (Settled outcome) k.settled at still);
+        takes_back = λ is new stock tree set tables rows lent unmarked. (
+          k.fits,
+          subst (λ (xs : List Slot). IsScheduled (work_in s) xs stock tree) (sym set)
+              (taken_back (work_in s) k.sound k.follows s.slots.items s.store stock s.locks tree place old (transaction_of job) k.scheduled at out j.transaction tables (same_rows stock.rows is.shows rows)
+              (lent ∙ ap (remove s.store.lent) number_is)
+              (unmarked ∙ ap (λ n. record (s.locks) { waiting = with_mark n false s.locks.waiting }) number_is)),
+          subst (λ (xs : List Slot). AreSettledBefore xs s.settled) (sym set) (settled_set s.slots.items s.settled place old Idle k.settled at still refl),
+        );
+        lent_again = λ by_places new set.
+            let qs = map phase_in (slice_set s.slots.items place Idle) in
+            let idle : slice_get qs place ≡ Some phase.Idle = phase_at (slice_set s.slots.items place Idle) place Idle (set_here s.slots.items place old Idle at) in
+            let is_ready : ready (waiting s.first (log_of (work_in s)) qs) (s.first + place) ≡ true =
+            ap (λ (rs : List Phase). ready (waiting s.first (log_of (work_in s)) rs) (s.first + place)) (map_set phase_in s.slots.items place Idle)
+            ∙ k.follows.stays_ready.gives_back ps place is_out_there k.scheduled.ready in
+            ap (λ (xs : List Slot). enabled s.arena s.first (log_of (work_in s)) (map phase_in xs) (Lend number)) set
+            ∙ ap (λ (n : ℕ). enabled s.arena s.first (log_of (work_in s)) qs (Lend n)) number_is
+            ∙ (by_places s.arena s.first (log_of (work_in s)) qs).lend place
+            ∙ ap (λ (o : Option Phase). is_idle o && ready (waiting s.first (log_of (work_in s)) qs) (s.first + place)) idle
+            ∙ is_ready;
+      }
 
-    pub inside : place < length slots
-    inside = slice_get_within slots place old at
+-- a job that comes back run, and one that is given back
+module _ (s : Inside) (k : Known s) (now : Schedule) (view : schedule_in s ≡ now) (done : DoneOf) (back : ComesBack now done)
+    (number : ℕ) (job : JobOf) (o : Option Outcome) (n : number ≡ done.job.number) (same : job ≡ done.job) (e : o ≡ done.outcome) where
+  returns : IsJobAt (work_in s) (number - s.first) job → slice_get s.slots.items (number - s.first) ≡ Some Lent → Return s number (number - s.first) Lent job
+  returns at was = return s k number (number - s.first) (number_there (work_in s) (number - s.first) job number done at n same) Lent was refl refl job at
 
-    -- the rows of a job that shows what it was lent are those of the store
-    pub same_rows : (new : Database) → core.IsLent w.tables (log_of w) w.start place job.loan.rows
-        → ((name : RowName) → get new name ≡ (if locks_row job.loan.tables job.loan.plan name Write then get job.loan.rows name else get stock.rows name))
-        → (name : RowName) → get new name ≡ get stock.rows name
-    same_rows new shows rows name = rows name ∙ elim (locks_row job.loan.tables job.loan.plan name Write) as (λ b. locks_row job.loan.tables job.loan.plan name Write ≡ b → (if b then get job.loan.rows name else get stock.rows name) ≡ get stock.rows name) [
-      | true ↦ λ locked.
-          let read : locks_row w.tables job.loan.plan name Read ≡ true = ap (λ ts. locks_row ts job.loan.plan name Read) (sym j.tables) ∙ read_too job.loan.tables job.loan.plan name locked in
-          shows (transaction_of job) j.transaction name read
-          ∙ sym (sound.out_rows (map phase_in slots) stock.rows place (transaction_of job) s.sound (ap (λ (o : Option Phase). is_out o) was ∙ out) j.transaction name read)
-      | false ↦ λ _. refl
-    ] refl
+  pub returns_run : (outcome : Outcome) → o ≡ Some outcome → IsRunAt (work_in s) (number - s.first) job outcome × Return s number (number - s.first) Lent job
+  returns_run outcome is =
+      let b = back_parts (schedule_in s) done number job o (Some outcome) (subst (λ t. ComesBack t done) (sym view) back) n same e is in
+      let run = run_at (work_in s) (number - s.first) k.sound b.1 job outcome b.2 b.3 in
+      (run, returns run.job_at b.0)
 
-    -- where it is given back, its transaction can be lent its rows again
-    pub can_be_lent : AreByPlaces w.arena w.first (log_of w) (map phase_in (slice_set slots place Idle)) → (number : ℕ) → number ≡ w.first + place
-        → enabled w.arena w.first (log_of w) (map phase_in (slice_set slots place Idle)) (Lend number) ≡ true
-    can_be_lent by number e =
-        let ps = map phase_in (slice_set slots place Idle) in
-        let idle : slice_get ps place ≡ Some phase.Idle = phase_at (slice_set slots place Idle) place Idle (set_here slots place old Idle at) in
-        let is_ready : ready (waiting w.first (log_of w) ps) (w.first + place) ≡ true =
-        ap (λ (qs : List Phase). ready (waiting w.first (log_of w) qs) (w.first + place)) (map_set phase_in slots place Idle)
-        ∙ follows.stays_ready.gives_back (map phase_in slots) place (ap (λ (o : Option Phase). is_out o) was ∙ out) s.ready in
-        ap (λ (n : ℕ). enabled w.arena w.first (log_of w) ps (Lend n)) e
-        ∙ by.lend place
-        ∙ ap (λ (o : Option Phase). is_idle o && ready (waiting w.first (log_of w) ps) (w.first + place)) idle
-        ∙ is_ready
+  pub returns_lent : o ≡ None → IsLentAt (work_in s) (number - s.first) job × Return s number (number - s.first) Lent job
+  returns_lent is =
+      let b = back_parts (schedule_in s) done number job o None (subst (λ t. ComesBack t done) (sym view) back) n same e is in
+      let lent = given_back (work_in s) (number - s.first) b.1 job b.2 b.3 in
+      (lent, returns lent.job_at b.0)
+
+-- a job that is with the scheduler is run, and one that could not be run stays lent
+module _ (s : Inside) (k : Known s) (place : ℕ) (held job : JobOf) (new : List Slot) (was : slice_get s.slots.items place ≡ Some (Held held)) where
+  pub runs : (outcome : Outcome) → ComesOf held (Some outcome) job → new ≡ slice_set s.slots.items place (Ran job outcome) → Keeps (work_in s) new s.settled s.store s.locks
+  runs outcome comes set =
+      let fits = k.scheduled.kept place (Held held) was in
+      let run = run_at (work_in s) place k.sound held job outcome fits comes in (
+        k.fits,
+        subst (λ (xs : List Slot). IsScheduled (work_in s) xs s.store s.locks) (sym set)
+            (ran (work_in s) k.sound k.follows s.slots.items s.store s.locks place (Held held) (Ran job outcome) (transaction_of held) k.scheduled was refl fits.job_at.transaction refl run),
+        subst (λ (xs : List Slot). AreSettledBefore xs s.settled) (sym set) (settled_set s.slots.items s.settled place (Held held) (Ran job outcome) k.settled was refl refl),
+      )
+
+  pub stays_lent : job ≡ held → new ≡ slice_set s.slots.items place (Held job) → Keeps (work_in s) new s.settled s.store s.locks
+  stays_lent same set = (
+    k.fits,
+    subst (λ (xs : List Slot). IsScheduled (work_in s) xs s.store s.locks) (sym set)
+        (same_phase (work_in s) k.sound k.follows s.slots.items s.store s.locks place (Held held) (Held job) k.scheduled was refl (given_back (work_in s) place held job (k.scheduled.kept place (Held held) was) same)),
+    subst (λ (xs : List Slot). AreSettledBefore xs s.settled) (sym set) (settled_set s.slots.items s.settled place (Held held) (Held job) k.settled was refl refl),
+  )

@@ -1,173 +1,72 @@
-use Rattle.std.proofs.Common.{◌≡◌, ◌<◌, ◌-◌, ℕ, true, false, List, map, slice_get, slice_set, Some, None, sym, ap, ◌∙◌, subst, refl}
-use Rattle.std.specs.FinMap.{remove}
-use Rattle.lock_tree.specs.Locks.{with_mark, without}
+use Rattle.std.proofs.Common.{◌≡◌, ◌-◌, true, List, map, ◌∙◌, subst}
 use Rattle.scheduler_core.specs.declared.event.Event.TheVariants.{Lend}
-use Rattle.scheduler_core.specs.Phases.{is_settled}
 use Rattle.scheduler_core.specs.Events.{enabled}
 use Rattle.scheduler.specs.declared.slot.Slot.{Slot}
-use Rattle.scheduler.specs.declared.slot.Slot.TheVariants.{Idle, Lent, Settled}
-use Rattle.scheduler.specs.Schedules.{log_of, phase_in, work_of}
-use Rattle.scheduler.specs.Jobs.{ComesBack}
-use Rattle.scheduler.specs.Scheduled.{IsScheduled, AreSettledBefore}
-use Rattle.scheduler.proofs.Returns.{back_parts, number_there, given_back, run_at, lent_number, waits, inside, same_rows, can_be_lent}
-use Rattle.scheduler.proofs.Steps.{taken_back, settled}
-use Rattle.scheduler.proofs.Leading.{settled_before, settled_set}
+use Rattle.scheduler.specs.declared.slot.Slot.TheVariants.{Lent}
+use Rattle.scheduler.specs.Jobs.{IsLentAt, IsRunAt}
+use Rattle.scheduler.specs.Schedules.{log_of, phase_in}
+use Rattle.scheduler.specs.Scheduled.{AreSettledBefore}
+use Rattle.scheduler.proofs.Known.{known, work_in}
+use Rattle.scheduler.proofs.Returns.{Return, returns_run, returns_lent}
+use Rattle.scheduler.proofs.scheduler.Scheduler.settle.Goals.{In-Some, In-None}
 use Rattle.scheduler.proofs.scheduler.Scheduler.settle.Goals as goal
 
+-- a job that comes back run
+run : (c : In-Some)
+    → IsRunAt (work_in c.self.inside) (c.no-number.result - c.self.inside.first) c.into_parts-job.result.0 c.in-Some.outcome × Return c.self.inside c.no-number.result (c.no-number.result - c.self.inside.first) Lent c.into_parts-job.result.0
+run c =
+    let k = known c.self.inside c.self.invariant c.rows_are_serial.ensures c.admitted_and_unsettled_wait.ensures in
+    returns_run c.self.inside k c.args.self.now c.self.view_is c.args.done c.requires c.no-number.result c.into_parts-job.result.0 c.into_parts-job.result.1
+    c.no-number.ensures c.into_parts-job.ensures.job c.into_parts-job.ensures.outcome c.in-Some.outcome c.in-Some.is
+
+-- and one that is given back
+given : (c : In-None)
+    → IsLentAt (work_in c.self.inside) (c.no-number.result - c.self.inside.first) c.into_parts-job.result.0 × Return c.self.inside c.no-number.result (c.no-number.result - c.self.inside.first) Lent c.into_parts-job.result.0
+given c =
+    let k = known c.self.inside c.self.invariant c.rows_are_serial.ensures c.admitted_and_unsettled_wait.ensures in
+    returns_lent c.self.inside k c.args.self.now c.self.view_is c.args.done c.requires c.no-number.result c.into_parts-job.result.0 c.into_parts-job.result.1
+    c.no-number.ensures c.into_parts-job.ensures.job c.into_parts-job.ensures.outcome c.in-None.is
+
 pub give_back-requires-clause-lent : goal.give_back-requires-clause-lent
-give_back-requires-clause-lent c =
-    let w = work_of c.self.inside.catalogue c.self.inside.arena c.self.inside.first c.self.inside.entries.items c.self.inside.plans.items c.self.inside.start.value.rows in
-    let sound = c.rows_are_serial.ensures w.tables w.first (log_of w) w.start c.self.invariant.0.planned in
-    let follows = c.admitted_and_unsettled_wait.ensures w.first (log_of w) in
-    let place = c.no-number.result - c.self.inside.first in
-    let job = c.into_parts-job.result.0 in
-    let back = subst (λ s. ComesBack s c.args.done) (sym c.self.view_is) c.requires in
-    let b = back_parts (record { work = w; slots = c.self.inside.slots.items }) c.args.done c.no-number.result job c.into_parts-job.result.1 (Some c.in-Some.outcome) back c.no-number.ensures c.into_parts-job.ensures.job c.into_parts-job.ensures.outcome c.in-Some.is in
-    let run = run_at w place sound b.1 job c.in-Some.outcome b.2 b.3 in
-    let at = run.job_at in
-    let number = number_there w place job c.no-number.result c.args.done at c.no-number.ensures c.into_parts-job.ensures.job in
-    lent_number w place sound c.self.inside.slots.items c.self.inside.store c.self.inside.locks follows c.self.invariant.1 Lent b.0 refl refl job at c.no-number.result number
+give_back-requires-clause-lent c = (run (goal.at.give_back-requires-clause-lent c).In-Some).1.lent
 
 pub give_back-requires-clause-there : goal.give_back-requires-clause-there
-give_back-requires-clause-there c =
-    let w = work_of c.self.inside.catalogue c.self.inside.arena c.self.inside.first c.self.inside.entries.items c.self.inside.plans.items c.self.inside.start.value.rows in
-    let sound = c.rows_are_serial.ensures w.tables w.first (log_of w) w.start c.self.invariant.0.planned in
-    let follows = c.admitted_and_unsettled_wait.ensures w.first (log_of w) in
-    let place = c.no-number.result - c.self.inside.first in
-    let job = c.into_parts-job.result.0 in
-    let back = subst (λ s. ComesBack s c.args.done) (sym c.self.view_is) c.requires in
-    let b = back_parts (record { work = w; slots = c.self.inside.slots.items }) c.args.done c.no-number.result job c.into_parts-job.result.1 (Some c.in-Some.outcome) back c.no-number.ensures c.into_parts-job.ensures.job c.into_parts-job.ensures.outcome c.in-Some.is in
-    let run = run_at w place sound b.1 job c.in-Some.outcome b.2 b.3 in
-    let at = run.job_at in
-    let number = number_there w place job c.no-number.result c.args.done at c.no-number.ensures c.into_parts-job.ensures.job in
-    waits w place sound c.self.inside.slots.items c.self.inside.store c.self.inside.locks follows c.self.invariant.1 Lent b.0 refl refl job at c.no-number.result number
+give_back-requires-clause-there c = (run (goal.at.give_back-requires-clause-there c).In-Some).1.there
 
 pub put-requires : goal.put-requires
-put-requires c =
-    let w = work_of c.self.inside.catalogue c.self.inside.arena c.self.inside.first c.self.inside.entries.items c.self.inside.plans.items c.self.inside.start.value.rows in
-    let sound = c.rows_are_serial.ensures w.tables w.first (log_of w) w.start c.self.invariant.0.planned in
-    let follows = c.admitted_and_unsettled_wait.ensures w.first (log_of w) in
-    let place = c.no-number.result - c.self.inside.first in
-    let job = c.into_parts-job.result.0 in
-    let back = subst (λ s. ComesBack s c.args.done) (sym c.self.view_is) c.requires in
-    let b = back_parts (record { work = w; slots = c.self.inside.slots.items }) c.args.done c.no-number.result job c.into_parts-job.result.1 (Some c.in-Some.outcome) back c.no-number.ensures c.into_parts-job.ensures.job c.into_parts-job.ensures.outcome c.in-Some.is in
-    let run = run_at w place sound b.1 job c.in-Some.outcome b.2 b.3 in
-    let at = run.job_at in
-    let number = number_there w place job c.no-number.result c.args.done at c.no-number.ensures c.into_parts-job.ensures.job in
-    inside w place sound c.self.inside.slots.items c.self.inside.store c.self.inside.locks follows c.self.invariant.1 Lent b.0 refl refl job at
+put-requires c = (run (goal.at.put-requires c).In-Some).1.within
 
 pub count_settled-self-inside-requires-clause-before : goal.count_settled-self-inside-requires-clause-before
 count_settled-self-inside-requires-clause-before c =
-    let w = work_of c.self.inside.catalogue c.self.inside.arena c.self.inside.first c.self.inside.entries.items c.self.inside.plans.items c.self.inside.start.value.rows in
-    let sound = c.rows_are_serial.ensures w.tables w.first (log_of w) w.start c.self.invariant.0.planned in
-    let follows = c.admitted_and_unsettled_wait.ensures w.first (log_of w) in
-    let place = c.no-number.result - c.self.inside.first in
-    let job = c.into_parts-job.result.0 in
-    let back = subst (λ s. ComesBack s c.args.done) (sym c.self.view_is) c.requires in
-    let b = back_parts (record { work = w; slots = c.self.inside.slots.items }) c.args.done c.no-number.result job c.into_parts-job.result.1 (Some c.in-Some.outcome) back c.no-number.ensures c.into_parts-job.ensures.job c.into_parts-job.ensures.outcome c.in-Some.is in
-    let run = run_at w place sound b.1 job c.in-Some.outcome b.2 b.3 in
-    let at = run.job_at in
-    let number = number_there w place job c.no-number.result c.args.done at c.no-number.ensures c.into_parts-job.ensures.job in
-    subst (λ (slots : List Slot). (k : ℕ) → k < c.self.inside.settled → is_settled (slice_get (map phase_in slots) k) ≡ true) (sym (c.deref.ensures.value ∙ c.put.ensures))
-    (settled_before c.self.inside.slots.items c.self.inside.settled place Lent (Settled c.in-Some.outcome) c.self.invariant.2 b.0 refl)
+    (run (goal.at.count_settled-self-inside-requires-clause-before c).In-Some).1.before c.in-Some.outcome _ (c.deref.ensures.value ∙ c.put.ensures)
 
 pub invariant_of-self : goal.invariant_of-self
 invariant_of-self c =
-    let w = work_of c.self.inside.catalogue c.self.inside.arena c.self.inside.first c.self.inside.entries.items c.self.inside.plans.items c.self.inside.start.value.rows in
-    let sound = c.rows_are_serial.ensures w.tables w.first (log_of w) w.start c.self.invariant.0.planned in
-    let follows = c.admitted_and_unsettled_wait.ensures w.first (log_of w) in
-    let place = c.no-number.result - c.self.inside.first in
-    let job = c.into_parts-job.result.0 in
-    let back = subst (λ s. ComesBack s c.args.done) (sym c.self.view_is) c.requires in
-    let b = back_parts (record { work = w; slots = c.self.inside.slots.items }) c.args.done c.no-number.result job c.into_parts-job.result.1 (Some c.in-Some.outcome) back c.no-number.ensures c.into_parts-job.ensures.job c.into_parts-job.ensures.outcome c.in-Some.is in
-    let run = run_at w place sound b.1 job c.in-Some.outcome b.2 b.3 in
-    let at = run.job_at in
-    let number = number_there w place job c.no-number.result c.args.done at c.no-number.ensures c.into_parts-job.ensures.job in (
+    let r = run (goal.at.invariant_of-self c).In-Some in (
       c.self.invariant.0,
-      subst (λ (slots : List Slot). IsScheduled w slots c.give_back.new.store c.give_back.new.locks) (sym c.put.ensures)
-          (settled w sound follows c.self.inside.slots.items c.self.inside.store c.give_back.new.store c.self.inside.locks c.give_back.new.locks place Lent job c.in-Some.outcome c.self.invariant.1
-          b.0 refl run c.give_back.ensures.tables c.give_back.ensures.rows
-          (c.give_back.ensures.lent ∙ ap (remove c.self.inside.store.lent) number)
-          (c.give_back.ensures.released ∙ ap (λ k. record (c.self.inside.locks) { waiting = without k c.self.inside.locks.waiting }) number)),
+      r.1.settles c.in-Some.outcome r.0 c.put.new.slots.items c.give_back.new.store c.give_back.new.locks c.put.ensures
+          c.give_back.ensures.tables c.give_back.ensures.rows c.give_back.ensures.lent c.give_back.ensures.released,
       subst (λ (slots : List Slot). AreSettledBefore slots c.count_settled-self-inside.result) c.deref.ensures.value
           (record { before = c.count_settled-self-inside.ensures.before; next = c.count_settled-self-inside.ensures.next; within = c.count_settled-self-inside.ensures.within }),
     )
 
 pub take_back-requires-clause-lent : goal.take_back-requires-clause-lent
-take_back-requires-clause-lent c =
-    let w = work_of c.self.inside.catalogue c.self.inside.arena c.self.inside.first c.self.inside.entries.items c.self.inside.plans.items c.self.inside.start.value.rows in
-    let sound = c.rows_are_serial.ensures w.tables w.first (log_of w) w.start c.self.invariant.0.planned in
-    let follows = c.admitted_and_unsettled_wait.ensures w.first (log_of w) in
-    let place = c.no-number.result - c.self.inside.first in
-    let job = c.into_parts-job.result.0 in
-    let back = subst (λ s. ComesBack s c.args.done) (sym c.self.view_is) c.requires in
-    let b = back_parts (record { work = w; slots = c.self.inside.slots.items }) c.args.done c.no-number.result job c.into_parts-job.result.1 None back c.no-number.ensures c.into_parts-job.ensures.job c.into_parts-job.ensures.outcome c.in-None.is in
-    let lent = given_back w place b.1 job b.2 b.3 in
-    let at = lent.job_at in
-    let number = number_there w place job c.no-number.result c.args.done at c.no-number.ensures c.into_parts-job.ensures.job in
-    lent_number w place sound c.self.inside.slots.items c.self.inside.store c.self.inside.locks follows c.self.invariant.1 Lent b.0 refl refl job at c.no-number.result number
+take_back-requires-clause-lent c = (given (goal.at.take_back-requires-clause-lent c).In-None).1.lent
 
 pub take_back-requires-clause-there : goal.take_back-requires-clause-there
-take_back-requires-clause-there c =
-    let w = work_of c.self.inside.catalogue c.self.inside.arena c.self.inside.first c.self.inside.entries.items c.self.inside.plans.items c.self.inside.start.value.rows in
-    let sound = c.rows_are_serial.ensures w.tables w.first (log_of w) w.start c.self.invariant.0.planned in
-    let follows = c.admitted_and_unsettled_wait.ensures w.first (log_of w) in
-    let place = c.no-number.result - c.self.inside.first in
-    let job = c.into_parts-job.result.0 in
-    let back = subst (λ s. ComesBack s c.args.done) (sym c.self.view_is) c.requires in
-    let b = back_parts (record { work = w; slots = c.self.inside.slots.items }) c.args.done c.no-number.result job c.into_parts-job.result.1 None back c.no-number.ensures c.into_parts-job.ensures.job c.into_parts-job.ensures.outcome c.in-None.is in
-    let lent = given_back w place b.1 job b.2 b.3 in
-    let at = lent.job_at in
-    let number = number_there w place job c.no-number.result c.args.done at c.no-number.ensures c.into_parts-job.ensures.job in
-    waits w place sound c.self.inside.slots.items c.self.inside.store c.self.inside.locks follows c.self.invariant.1 Lent b.0 refl refl job at c.no-number.result number
+take_back-requires-clause-there c = (given (goal.at.take_back-requires-clause-there c).In-None).1.there
 
 pub put-requires-in-None : goal.put-requires-in-None
-put-requires-in-None c =
-    let w = work_of c.self.inside.catalogue c.self.inside.arena c.self.inside.first c.self.inside.entries.items c.self.inside.plans.items c.self.inside.start.value.rows in
-    let sound = c.rows_are_serial.ensures w.tables w.first (log_of w) w.start c.self.invariant.0.planned in
-    let follows = c.admitted_and_unsettled_wait.ensures w.first (log_of w) in
-    let place = c.no-number.result - c.self.inside.first in
-    let job = c.into_parts-job.result.0 in
-    let back = subst (λ s. ComesBack s c.args.done) (sym c.self.view_is) c.requires in
-    let b = back_parts (record { work = w; slots = c.self.inside.slots.items }) c.args.done c.no-number.result job c.into_parts-job.result.1 None back c.no-number.ensures c.into_parts-job.ensures.job c.into_parts-job.ensures.outcome c.in-None.is in
-    let lent = given_back w place b.1 job b.2 b.3 in
-    let at = lent.job_at in
-    let number = number_there w place job c.no-number.result c.args.done at c.no-number.ensures c.into_parts-job.ensures.job in
-    inside w place sound c.self.inside.slots.items c.self.inside.store c.self.inside.locks follows c.self.invariant.1 Lent b.0 refl refl job at
+put-requires-in-None c = (given (goal.at.put-requires-in-None c).In-None).1.within
 
 pub invariant_of-self-in-None : goal.invariant_of-self-in-None
 invariant_of-self-in-None c =
-    let w = work_of c.self.inside.catalogue c.self.inside.arena c.self.inside.first c.self.inside.entries.items c.self.inside.plans.items c.self.inside.start.value.rows in
-    let sound = c.rows_are_serial.ensures w.tables w.first (log_of w) w.start c.self.invariant.0.planned in
-    let follows = c.admitted_and_unsettled_wait.ensures w.first (log_of w) in
-    let place = c.no-number.result - c.self.inside.first in
-    let job = c.into_parts-job.result.0 in
-    let back = subst (λ s. ComesBack s c.args.done) (sym c.self.view_is) c.requires in
-    let b = back_parts (record { work = w; slots = c.self.inside.slots.items }) c.args.done c.no-number.result job c.into_parts-job.result.1 None back c.no-number.ensures c.into_parts-job.ensures.job c.into_parts-job.ensures.outcome c.in-None.is in
-    let lent = given_back w place b.1 job b.2 b.3 in
-    let at = lent.job_at in
-    let number = number_there w place job c.no-number.result c.args.done at c.no-number.ensures c.into_parts-job.ensures.job in (
-      c.self.invariant.0,
-      subst (λ (slots : List Slot). IsScheduled w slots c.take_back.new.store c.take_back.new.locks) (sym c.put-in-None.ensures)
-          (taken_back w sound follows c.self.inside.slots.items c.self.inside.store c.take_back.new.store c.self.inside.locks c.take_back.new.locks place Lent _ c.self.invariant.1
-          b.0 refl at.transaction c.take_back.ensures.tables (same_rows w place sound c.self.inside.slots.items c.self.inside.store c.self.inside.locks follows c.self.invariant.1 Lent b.0 refl refl job at c.take_back.new.store.rows lent.shows c.take_back.ensures.rows)
-          (c.take_back.ensures.lent ∙ ap (remove c.self.inside.store.lent) number)
-          (c.take_back.ensures.unmarked ∙ ap (λ k. record (c.self.inside.locks) { waiting = with_mark k false c.self.inside.locks.waiting }) number)),
-      subst (λ (slots : List Slot). AreSettledBefore slots c.self.inside.settled) (sym c.put-in-None.ensures)
-          (settled_set c.self.inside.slots.items c.self.inside.settled place Lent Idle c.self.invariant.2 b.0 refl refl),
-    )
+    let g = given (goal.at.invariant_of-self-in-None c).In-None in
+    g.1.takes_back g.0 c.put-in-None.new.slots.items c.take_back.new.store c.take_back.new.locks c.put-in-None.ensures
+    c.take_back.ensures.tables c.take_back.ensures.rows c.take_back.ensures.lent c.take_back.ensures.unmarked
 
 pub returns-in-None-clause-ready : goal.returns-in-None-clause-ready
 returns-in-None-clause-ready c = λ _.
-    let w = work_of c.self.inside.catalogue c.self.inside.arena c.self.inside.first c.self.inside.entries.items c.self.inside.plans.items c.self.inside.start.value.rows in
-    let sound = c.rows_are_serial.ensures w.tables w.first (log_of w) w.start c.self.invariant.0.planned in
-    let follows = c.admitted_and_unsettled_wait.ensures w.first (log_of w) in
-    let place = c.no-number.result - c.self.inside.first in
-    let job = c.into_parts-job.result.0 in
-    let back = subst (λ s. ComesBack s c.args.done) (sym c.self.view_is) c.requires in
-    let b = back_parts (record { work = w; slots = c.self.inside.slots.items }) c.args.done c.no-number.result job c.into_parts-job.result.1 None back c.no-number.ensures c.into_parts-job.ensures.job c.into_parts-job.ensures.outcome c.in-None.is in
-    let at = (given_back w place b.1 job b.2 b.3).job_at in
-    let number = number_there w place job c.no-number.result c.args.done at c.no-number.ensures c.into_parts-job.ensures.job in
-    let by_places = c.events_by_places.ensures w.arena w.first (log_of w) (map phase_in (slice_set c.self.inside.slots.items place Idle)) in
-    subst (λ (slots : List Slot). enabled w.arena w.first (log_of w) (map phase_in slots) (Lend c.args.done.job.number) ≡ true) (sym c.put-in-None.ensures)
-    (can_be_lent w place sound c.self.inside.slots.items c.self.inside.store c.self.inside.locks follows c.self.invariant.1 Lent b.0 refl refl job at by_places c.args.done.job.number (sym c.no-number.ensures ∙ number))
+    let r = (given (goal.at.returns-in-None-clause-ready c).In-None).1 in
+    subst (λ n. enabled c.self.inside.arena c.self.inside.first (log_of (work_in c.self.inside)) (map phase_in c.put-in-None.new.slots.items) (Lend n) ≡ true) c.no-number.ensures
+    (r.lent_again c.events_by_places.ensures c.put-in-None.new.slots.items c.put-in-None.ensures)
