@@ -23,7 +23,7 @@ In each crate's folder `must-fail/` stand edits. Each makes one wrong body of a 
 the prover must refuse it by the crate's own contracts. Those right in `must-fail/` and in `must-fail/together/` are
 tried by the gate: one of each public function, and beside it the wrong bodies that such an executor is most easily
 written with, as a lock that is overtaken, a reply out of order or a job that is claimed twice. Those in `together/`,
-of the crates whose checks take longest, are tried many in one check, where each is told apart by the open goals of its
+of the crates that have more than five, are tried many in one check, where each is told apart by the open goals of its
 own function. Those in `must-fail/more/` the gate leaves out, and `scripts/edits.py more` tries them. A file is named after the function whose meaning it turns, and after what it does.
 `scripts/list_edits.sh` writes this list from those names.
 
