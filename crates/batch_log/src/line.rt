@@ -11,8 +11,8 @@ use crate::form::{LineForm, line_form};
 use catalogue::read_values;
 use requests::{Procs, Request, RequestFault};
 use serde_json::Value;
-use std::str;
 use std::alloc::Global;
+use std::str;
 
 /// What a line of a log says.
 #[derive(Drop)]

@@ -39,7 +39,11 @@ pub(crate) fn begin(
     let Ok(entries) = prepare(alloc, batch, &catalogue, procs, &store) else {
         return Err(store);
     };
-    let Settings { threshold, arena, .. } = settings;
+    let Settings {
+        threshold,
+        arena,
+        ..
+    } = settings;
     match Scheduler::new(alloc, catalogue, store, entries, first, threshold, arena) {
         Ok(scheduler) => Ok(scheduler),
         Err((_, store, _, _)) => Err(store),

@@ -1,7 +1,6 @@
 //! The tree of resources: the database, its tables, their partitions, their rows.
 
 use catalogue::Catalogue;
-
 use values::{RowName, TableNo};
 
 /// What stands in a partition: the whole of it, or the row with a key, whether or not such a row is there.

@@ -7,8 +7,8 @@ ghost use Rattle.sha2.specs.Sha256.{sha256};
 ghost use Rattle.report_text.specs.Texts.{digest, row_line, table_name, values_text};
 
 use crate::values_text::push_values;
-use sha2::{Digest, Sha256};
 use catalogue::Catalogue;
+use sha2::{Digest, Sha256};
 use std::alloc::{AllocError, Global};
 use values::{Row, RowName, TableNo};
 

@@ -7,11 +7,11 @@ ghost use Rattle.report_text.specs.Merge.{rows_behind, ShowsAll};
 
 use crate::digest::{digest_of, row_line};
 use crate::heads::heads_of;
-use workspace::RowView;
-use sha2::{Digest, Sha256};
 use catalogue::Catalogue;
+use sha2::{Digest, Sha256};
 use std::alloc::{AllocError, Global};
 use values::{RowName, TableNo};
+use workspace::RowView;
 
 /// Feeds a hasher the row lines of a table.
 fn feed_table<V: RowView>(

@@ -68,4 +68,4 @@ IsRowTaken at one old new = (shelf : Resource) (name : RowName) → place_at new
 abbrev pub AreRowsPut : List TableShape → List RowName → Shelves → Shelves → Shelves → Type 0
 AreRowsPut tables names loan old new = (name : RowName) → place_at new (shelf_of tables name) name
     ≡ (if is_named names name && (has_place old (shelf_of tables name) name && has_place loan (shelf_of tables name) name)
-      then placed (seen_at loan (shelf_of tables name) name).row else place_at old (shelf_of tables name) name)
+    then placed (seen_at loan (shelf_of tables name) name).row else place_at old (shelf_of tables name) name)

@@ -15,8 +15,8 @@ use catalogue::Catalogue;
 use documents::five;
 use proclang::read_procs;
 use serde_json::Value;
-use std::str;
 use std::alloc::Global;
+use std::str;
 
 /// The catalogue, the procedures and the rows of a document `["setup", 1, CATALOGUE, PROCEDURES, ROWS]`.
 #[tactic(auto, unfolding(crate::specs::Setups::setup_form))]
