@@ -1,4 +1,4 @@
--- Claimed: what contracts promise to a reader rests on these words.
+-- Of the code: invariants and steps; no promise rests on these words.
 -- The types of a statement's parts once they are read: the statement, or the fault of the first part of a wrong type.
 use Rattle.std.specs.Prelude.{ℕ, List, Result, Ok}
 use Rattle.documents.specs.Reading.{◌>>=◌}
