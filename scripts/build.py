@@ -5,7 +5,7 @@
 
 and runs the program with these words, whose exit status is then its own. A library is begun once those that it stands on are
 built. The one with the longest chain of code above it has as many jobs as there are processors, and goes before the others,
-which have one job each and take the processors where it leaves them. What is begun, how long it took and how many are left
+which have two jobs each and take the processors where it leaves them. What is begun, how long it took and how many are left
 goes to standard error; what the toolchain says of a crate, to the file `build.log` in its folder `out/`. A crate whose source
 is as it was is not built again. However the script ends, its checks end with it, and the next run goes on from the work that
 they kept.
@@ -24,6 +24,7 @@ from concurrent.futures import FIRST_COMPLETED, ThreadPoolExecutor, wait
 
 MEMORY_OF_A_CHECK = 4 << 30  # bytes
 MOST_JOBS = 4
+FEW_JOBS = 2
 LATER = 10  # how much less a processor is given to a check that none waits for most
 
 
@@ -56,10 +57,10 @@ def processors():
     return max(1, min(len(os.sched_getaffinity(0)), free // MEMORY_OF_A_CHECK))
 
 
-def build(library, jobs):
-    """Builds one library with so many jobs, behind other checks where it has one, and tells whether it is built and how long it took."""
+def build(library, jobs, is_first):
+    """Builds one library with so many jobs, before other checks or behind them, and tells whether it is built and how long it took."""
     begun = time.monotonic()
-    if jobs == 1:
+    if not is_first:
         os.setpriority(os.PRIO_PROCESS, threading.get_native_id(), LATER)
     os.makedirs(os.path.join(library.folder, "out"), exist_ok=True)
     library = copy.copy(library)
@@ -84,14 +85,14 @@ def build_all(libraries):
     while left or running:
         ready = [it for it in left if built.issuperset(set(it.below()) & set(libraries))]
         for library in ready[: most - len(running)]:
-            is_first = all(jobs == 1 for _, jobs in running.values())
-            jobs = min(MOST_JOBS, most) if is_first else 1
+            is_first = not any(first for _, first in running.values())
+            jobs = min(MOST_JOBS if is_first else FEW_JOBS, most)
             say(f"proving {library.name}; {len(left)} of {len(libraries)} crates are left")
             left.remove(library)
             # (a thread of its own, since a thread's priority can't be raised again)
-            running[ThreadPoolExecutor(1).submit(build, library, jobs)] = library, jobs
+            running[ThreadPoolExecutor(1).submit(build, library, jobs, is_first)] = library, is_first
         for ended in wait(running, return_when=FIRST_COMPLETED).done:
-            library, jobs = running.pop(ended)
+            library, _ = running.pop(ended)
             well, seconds = ended.result()
             if not well:
                 return library
