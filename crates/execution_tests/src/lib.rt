@@ -9,6 +9,8 @@ mod gates;
 #[cfg(test)]
 mod handing_over;
 #[cfg(test)]
+mod orders;
+#[cfg(test)]
 mod plain;
 #[cfg(test)]
 mod plain_comparison;

@@ -80,7 +80,7 @@ const PLAYS: [Played<'static>; 4] = [
 ];
 
 /// What has come of so many calls.
-fn replies(alloc: Global, scheduler: &Scheduler, count: usize) -> Result<String, Fail> {
+pub(crate) fn replies(alloc: Global, scheduler: &Scheduler, count: usize) -> Result<String, Fail> {
     let mut text = String::new(alloc);
     for number in 0..count {
         match scheduler.reply(number as u64) {
@@ -92,7 +92,11 @@ fn replies(alloc: Global, scheduler: &Scheduler, count: usize) -> Result<String,
 }
 
 /// Plays events, and says of each what came of it.
-fn play(alloc: Global, scheduler: &mut Scheduler, events: &[Event]) -> Result<String, Fail>
+pub(crate) fn play(
+    alloc: Global,
+    scheduler: &mut Scheduler,
+    events: &[Event],
+) -> Result<String, Fail>
     requires { KeepsItsJobs scheduler.old }
     ensures { KeepsItsJobs scheduler.new }
 {

@@ -8,17 +8,17 @@ pub below_next : (n : ℕ) (ws : List Waiting) → AreBelow n ws → AreBelow (n
 below_next n [] below = tt
 below_next n (w ∷ ws) below = (let l = below.0 in omega (arith, l), below_next n ws below.1)
 
-pub below_end : (n : ℕ) (ws : List Waiting) (w : Waiting) → w.number ≡ n → AreBelow n ws → AreBelow (n + 1) (ws ++ w ∷ [])
+pub below_end : (n : ℕ) (ws : List Waiting) (w : Waiting) → w.no ≡ n → AreBelow n ws → AreBelow (n + 1) (ws ++ w ∷ [])
 below_end n [] w is below = (omega (arith, is), tt)
 below_end n (v ∷ ws) w is below = (let l = below.0 in omega (arith, l), below_end n ws w is below.1)
 
 pub below_marked : (n k : ℕ) (m : Bool) (ws : List Waiting) → AreBelow n ws → AreBelow n (with_mark k m ws)
 below_marked n k m [] below = tt
-below_marked n k m (w ∷ ws) below = (let l = below.0 in let e = number_kept (w.number == k) w m in omega (arith, l, e), below_marked n k m ws below.1)
+below_marked n k m (w ∷ ws) below = (let l = below.0 in let e = number_kept (w.no == k) w m in omega (arith, l, e), below_marked n k m ws below.1)
 
 pub below_without : (n k : ℕ) (ws : List Waiting) → AreBelow n ws → AreBelow n (without k ws)
 below_without n k [] below = tt
-below_without n k (w ∷ ws) below = elim (w.number == k) as (λ v. AreBelow n (cond v (without k ws) (w ∷ without k ws))) [
+below_without n k (w ∷ ws) below = elim (w.no == k) as (λ v. AreBelow n (cond v (without k ws) (w ∷ without k ws))) [
   | true ↦ below_without n k ws below.1
   | false ↦ (below.0, below_without n k ws below.1)
 ]

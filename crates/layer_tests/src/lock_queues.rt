@@ -70,15 +70,15 @@ fn add(
     alloc: Global,
     tree: &mut LockTree,
     plain: &mut Plain,
-    number: u64,
+    no: u64,
     plan: &Plan,
 ) -> Result<(), Fail>
-    requires { AreBelow number tree.old.waiting }
-    ensures { AreBelow (number + 1) tree.new.waiting }
+    requires { AreBelow no tree.old.waiting }
+    ensures { AreBelow (no + 1) tree.new.waiting }
 {
-    match tree.enqueue(number, plan) {
-        Ok(()) => assert!(rt; plain.enqueue(alloc, number, plan)?),
-        Err(EnqueueFault::Full) => assert!(rt; !plain.enqueue(alloc, number, plan)?),
+    match tree.enqueue(no, plan) {
+        Ok(()) => assert!(rt; plain.enqueue(alloc, no, plan)?),
+        Err(EnqueueFault::Full) => assert!(rt; !plain.enqueue(alloc, no, plan)?),
         Err(EnqueueFault::NoMemory) => return Err(Fail::from("out of memory")),
     }
     Ok(())
@@ -86,21 +86,21 @@ fn add(
 
 /// Marks, unmarks or releases a ready transaction in both.
 #[tactic(auto, using(lock_tree::proofs::Below::ready_there, crate::proofs::Below::below_marked, crate::proofs::Below::below_without))]
-fn change(tree: &mut LockTree, plain: &mut Plain, number: u64, kind: u64)
+fn change(tree: &mut LockTree, plain: &mut Plain, no: u64, kind: u64)
     ensures { (above : ℕ) → AreBelow above tree.old.waiting → AreBelow above tree.new.waiting }
 {
-    if !tree.is_ready(number) {
+    if !tree.is_ready(no) {
         return;
     }
     if kind == 0 {
-        tree.mark(number);
-        plain.set_mark(number, true);
+        tree.mark(no);
+        plain.set_mark(no, true);
     } else if kind == 1 {
-        tree.unmark(number);
-        plain.set_mark(number, false);
+        tree.unmark(no);
+        plain.set_mark(no, false);
     } else {
-        tree.release(number);
-        plain.release(number);
+        tree.release(no);
+        plain.release(no);
     }
 }
 
@@ -121,10 +121,10 @@ fn queues_and_one_list_agree(rt: HostRuntime) -> Result<(), Fail> {
     let mut tree = LockTree::new(alloc, 40)?;
     let mut plain = Plain::new(alloc, 40);
     let mut chance = Chance(2026);
-    'steps: for number in 0..10_000u64 {
+    'steps: for no in 0..10_000u64 {
         let plan = some_plan(alloc, &mut chance)?;
-        add(&rt, alloc, &mut tree, &mut plain, number, &plan)?;
-        let other = number.saturating_sub(chance.below(24));
+        add(&rt, alloc, &mut tree, &mut plain, no, &plan)?;
+        let other = no.saturating_sub(chance.below(24));
         assert_eq!(rt; tree.is_ready(other), plain.is_ready(other));
         let kind = chance.below(4);
         change(&mut tree, &mut plain, other, kind);

@@ -10,7 +10,7 @@ use std::test::Fail;
 /// A transaction with its plan and its mark.
 #[derive(Drop)]
 struct Waits {
-    number: u64,
+    no: u64,
     plan: Vec<(Resource, Mode)>,
     marked: bool,
 }
@@ -32,9 +32,9 @@ fn mode_on(plan: &[(Resource, Mode)], resource: &Resource) -> Option<Mode> {
 }
 
 /// Whether a mode goes with what all up to a transaction ask for on a resource.
-fn fits_before(waiting: &[Waits], resource: &Resource, number: u64, mode: Mode) -> bool {
+fn fits_before(waiting: &[Waits], resource: &Resource, no: u64, mode: Mode) -> bool {
     for other in waiting {
-        if other.number >= number {
+        if other.no >= no {
             return true;
         }
         if let Some(held) = mode_on(other.plan.as_slice(), resource) {
@@ -47,13 +47,13 @@ fn fits_before(waiting: &[Waits], resource: &Resource, number: u64, mode: Mode) 
 }
 
 /// Whether the requests on a resource up to a transaction's go with one another.
-fn is_granted(waiting: &[Waits], resource: &Resource, number: u64) -> bool {
+fn is_granted(waiting: &[Waits], resource: &Resource, no: u64) -> bool {
     for other in waiting {
-        if other.number > number {
+        if other.no > no {
             return true;
         }
         if let Some(mode) = mode_on(other.plan.as_slice(), resource) {
-            if !fits_before(waiting, resource, other.number, mode) {
+            if !fits_before(waiting, resource, other.no, mode) {
                 return false;
             }
         }
@@ -61,9 +61,9 @@ fn is_granted(waiting: &[Waits], resource: &Resource, number: u64) -> bool {
     true
 }
 
-fn all_granted(waiting: &[Waits], plan: &[(Resource, Mode)], number: u64) -> bool {
+fn all_granted(waiting: &[Waits], plan: &[(Resource, Mode)], no: u64) -> bool {
     for (resource, _) in plan {
-        if !is_granted(waiting, resource, number) {
+        if !is_granted(waiting, resource, no) {
             return false;
         }
     }
@@ -88,29 +88,24 @@ impl Plain {
     }
 
     /// Puts a transaction behind all others, if there is room for its requests.
-    pub(crate) fn enqueue(
-        &mut self,
-        alloc: Global,
-        number: u64,
-        plan: &Plan,
-    ) -> Result<bool, Fail> {
+    pub(crate) fn enqueue(&mut self, alloc: Global, no: u64, plan: &Plan) -> Result<bool, Fail> {
         if used(self.waiting.as_slice()).saturating_add(plan.requests().len()) > self.arena {
             return Ok(false);
         }
         let plan = Vec::from_slice(alloc, plan.requests())?;
         self.waiting.push(Waits {
-            number,
+            no,
             plan,
             marked: false,
         })?;
         Ok(true)
     }
 
-    pub(crate) fn is_ready(&self, number: u64) -> bool {
+    pub(crate) fn is_ready(&self, no: u64) -> bool {
         let waiting = self.waiting.as_slice();
         for waits in waiting {
-            if waits.number == number {
-                return all_granted(waiting, waits.plan.as_slice(), number);
+            if waits.no == no {
+                return all_granted(waiting, waits.plan.as_slice(), no);
             }
         }
         false
@@ -118,22 +113,22 @@ impl Plain {
 
     pub(crate) fn next_ready(&self) -> Option<u64> {
         for waits in &self.waiting {
-            if !waits.marked && self.is_ready(waits.number) {
-                return Some(waits.number);
+            if !waits.marked && self.is_ready(waits.no) {
+                return Some(waits.no);
             }
         }
         None
     }
 
-    pub(crate) fn set_mark(&mut self, number: u64, mark: bool) {
+    pub(crate) fn set_mark(&mut self, no: u64, mark: bool) {
         for waits in self.waiting.iter_mut() {
-            if waits.number == number {
+            if waits.no == no {
                 waits.marked = mark;
             }
         }
     }
 
-    pub(crate) fn release(&mut self, number: u64) {
-        self.waiting.retain(|waits| waits.number != number);
+    pub(crate) fn release(&mut self, no: u64) {
+        self.waiting.retain(|waits| waits.no != no);
     }
 }

@@ -9,7 +9,6 @@
 mod answer;
 mod bank;
 mod executing;
-mod outputs;
 mod planning;
 mod reading;
 mod refusal;

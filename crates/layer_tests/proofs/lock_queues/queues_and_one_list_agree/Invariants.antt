@@ -3,4 +3,4 @@ use Rattle.layer_tests.proofs.lock_queues.queues_and_one_list_agree.Given as goa
 
 -- the next number is greater than all
 abbrev pub invariant-steps : goal.invariant-steps
-invariant-steps g l = AreBelow l.number l.tree.waiting
+invariant-steps g l = AreBelow l.no l.tree.waiting

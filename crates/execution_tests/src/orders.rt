@@ -1,0 +1,83 @@
+//! Every order of the events of three transactions, of which each waits for the one before it.
+
+use crate::plays::{play, replies};
+use crate::test_world::{Call, scheduler};
+use scheduler::Event;
+use std::alloc::Global;
+use std::test::Fail;
+
+/// The steps of the transactions, one after the other.
+const STEPS: [Event; 9] = [
+    Event::Lend(0),
+    Event::Run(0),
+    Event::Settle(0),
+    Event::Lend(1),
+    Event::Run(1),
+    Event::Settle(1),
+    Event::Lend(2),
+    Event::Run(2),
+    Event::Settle(2),
+];
+
+/// Behind how many of these steps the second transaction is admitted, and the third: each before its own first step.
+const ADMITTED_BEHIND: [(usize, usize); 22] = [
+    (0, 0),
+    (0, 1),
+    (0, 2),
+    (0, 3),
+    (0, 4),
+    (0, 5),
+    (0, 6),
+    (1, 1),
+    (1, 2),
+    (1, 3),
+    (1, 4),
+    (1, 5),
+    (1, 6),
+    (2, 2),
+    (2, 3),
+    (2, 4),
+    (2, 5),
+    (2, 6),
+    (3, 3),
+    (3, 4),
+    (3, 5),
+    (3, 6),
+];
+
+/// The events, where the second and the third transaction are admitted behind so many steps.
+fn events_in_order(alloc: Global, second: usize, third: usize) -> Result<Vec<Event>, Fail> {
+    let mut events = vec![in alloc; Event::Admit]?;
+    for (place, step) in STEPS.iter().enumerate() {
+        if place == second {
+            events.push(Event::Admit)?;
+        }
+        if place == third {
+            events.push(Event::Admit)?;
+        }
+        events.push(*step)?;
+    }
+    Ok(events)
+}
+
+/// Two counts of a partition's rows around an insert into it. Each asks for what the one before it locks, so nothing can be
+/// done at a time but to admit the next one, and the next step of the first that is not settled. These are all orders.
+#[test]
+fn every_order_of_counts_around_an_insert_replies_alike(rt: HostRuntime) -> Result<(), Fail> {
+    let alloc = rt.alloc();
+    let calls: [Call<'_>; 3] = [("cnt", &[]), ("ins", &[4, 7]), ("cnt", &[])];
+    for (second, third) in ADMITTED_BEHIND {
+        let mut scheduler = scheduler(alloc, &calls, 0, 65_536)?;
+        let events = events_in_order(alloc, second, third)?;
+        assert_eq!(rt;
+            play(alloc, &mut scheduler, &events)?.as_str(),
+            "++++++++++++",
+            "{second}, {third}"
+        );
+        assert_eq!(rt;
+            replies(alloc, &scheduler, 3)?.as_str(),
+            "commit 1;commit;commit 2;"
+        );
+    }
+    Ok(())
+}
