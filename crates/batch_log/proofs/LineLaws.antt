@@ -24,7 +24,7 @@ use Rattle.batch_log.specs.declared.line.LogLine.{LogLine}
 use Rattle.batch_log.specs.declared.line.LogLine.TheVariants.{Call, Cut}
 use Rattle.batch_log.specs.Forms.{Form, call_form, cut_form, words_form, items_form, line_form}
 use Rattle.batch_log.specs.Lines.{all_fit, call_said, form_said, document_said, line_said}
-use Rattle.batch_log.specs.LineRules.{SpellsLine, SaysCall, SaysForm, SaysLine, takes, are_taken, in_call, in_form, in_document, broken_line_rules, LineIsExact}
+use Rattle.batch_log.specs.LineRules.{SpellsLine, SaysCall, SaysForm, SaysLine, takes, are_taken, in_call, in_form, in_document, line_faults, LineIsExact}
 
 ok_is : {A : Type 0} (x y : A) → ◌≡◌ {A = Result A LogFaultKind} (Ok x) (Ok y) → x ≡ y
 ok_is x y e = cc
@@ -144,7 +144,7 @@ document_first : (procs : List ProcParts) (o : Option Data) → IsFirst (documen
 document_first procs None = refl
 document_first procs (Some d) = form_first procs (line_form d)
 
-first_by : (procs : List ProcParts) (line : List ℕ) (b : Bool) → is_utf8 line ≡ b → IsFirst (line_said procs line) (broken_line_rules procs line)
+first_by : (procs : List ProcParts) (line : List ℕ) (b : Bool) → is_utf8 line ≡ b → IsFirst (line_said procs line) (line_faults procs line)
 unfolding line_said
 first_by procs line true e = rw e (document_first procs (read line))
 first_by procs line false e = rw e refl

@@ -1,5 +1,5 @@
 -- Claimed: what contracts promise to a reader rests on these words.
--- Which lines of a log say a call or a cut, and every rule that a line breaks. No rule here hangs on what reading gives.
+-- Which lines of a log say a call or a cut, and the faults of a line. No rule here hangs on what reading gives.
 use Rattle.std.specs.Prelude.{◌≡◌, ℕ, Bool, true, false, List, [], ◌∷◌, ◌++◌, Option, Some, None, is_some, Ok, if◌then◌else◌, codes}
 use Rattle.std.specs.Str.{is_utf8}
 use Rattle.serde_json.specs.Data.{Data, string, array}
@@ -44,7 +44,7 @@ pub record SaysLine (procs : List ProcParts) (line : List ℕ) (said : LogLine) 
   pub is_form : SpellsLine document form
   pub says : SaysForm procs form said
 
--- ---- the rules that a line breaks, in their order
+-- ---- the faults of a line, in the order in which its rules are looked at
 
 abbrev pub takes : ProcParts → Option (List Value) → Bool
 takes proc None = false
@@ -67,8 +67,9 @@ abbrev pub in_document : List ProcParts → Option Data → List LogFaultKind
 in_document procs None = NotJson ∷ []
 in_document procs (Some d) = in_form procs (line_form d)
 
-abbrev pub broken_line_rules : List ProcParts → List ℕ → List LogFaultKind
-broken_line_rules procs line = if is_utf8 line then in_document procs (read line) else NotJson ∷ []
+-- the first of them is answered, and there is none where no rule is broken
+abbrev pub line_faults : List ProcParts → List ℕ → List LogFaultKind
+line_faults procs line = if is_utf8 line then in_document procs (read line) else NotJson ∷ []
 
 -- ---- laws
 
@@ -76,4 +77,4 @@ broken_line_rules procs line = if is_utf8 line then in_document procs (read line
 pub record LineIsExact (procs : List ProcParts) (line : List ℕ) : Type 0 where
   pub found : (said : LogLine) → line_said procs line ≡ Ok said → SaysLine procs line said
   pub only : (said : LogLine) → SaysLine procs line said → line_said procs line ≡ Ok said
-  pub is_first : IsFirst (line_said procs line) (broken_line_rules procs line)
+  pub is_first : IsFirst (line_said procs line) (line_faults procs line)

@@ -3,7 +3,7 @@ use Rattle.std.proofs.Common.{◌≡◌, ℕ, List, [], Bool, true, false, Optio
 use Rattle.std.specs.FinMap as map_of
 use Rattle.row_store.specs.Stock.{with_rows}
 use Rattle.setup.specs.declared.fault.SetupFault.{SetupFault}
-use Rattle.setup.specs.declared.setup.Setup.{Setup}
+use Rattle.requests.specs.declared.setup.Setup.{Setup}
 use Rattle.setup.specs.Faults.{is_memory}
 use Rattle.setup.specs.FirstFault.{BreaksFirst}
 use Rattle.running.specs.declared.run_fault.RunFault.{RunFault}

@@ -7,9 +7,10 @@ use Rattle.std.specs.Io.KnownBytes.{Appends}
 use Rattle.devices.specs.Devices.{AppendsFront}
 use Rattle.row_store.specs.Stock.{with_rows}
 use Rattle.setup.specs.declared.fault.SetupFault.{SetupFault}
-use Rattle.setup.specs.declared.setup.Setup.{Setup}
+use Rattle.requests.specs.declared.setup.Setup.{Setup}
 use Rattle.setup.specs.Faults.{is_memory}
 use Rattle.setup.specs.FirstFault.{BreaksFirst}
+use Rattle.requests.specs.ProcLists.{AreOver}
 use Rattle.setup.specs.Says.{SaysSetup}
 use Rattle.setup.specs.Setups.{setup_view}
 use Rattle.batch_log.specs.declared.fault.LogFaultKind.{LogFaultKind}
@@ -58,11 +59,12 @@ IsWithoutSetup holds status =
     ⊎ (((status ≡ 1) × (text : List ℕ) × holds (Some text) × (fault : SetupFault) × BreaksFirst text fault)
     ⊎ (status ≡ 3))
 
--- the setup is what the text at its path says
+-- the setup is what the text at its path says, and each of its procedures is over its catalogue
 pub record IsSetupAt (holds : Holding) (setup : Setup) : Type 0 where
   pub text : List ℕ
   pub held : holds (Some text)
   pub says : SaysSetup text (setup_view setup)
+  pub over : AreOver setup.catalogue setup.procs.procs
 
 -- ---- the command `run`
 

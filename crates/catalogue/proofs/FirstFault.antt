@@ -12,7 +12,7 @@ use Rattle.documents.specs.Reading.{◌>>=◌, rule, formed}
 use Rattle.documents.specs.FirstFault.{broken, in_each, first, IsFirst}
 use Rattle.documents.proofs.Steps.{bind_ok, rule_ok, formed_ok}
 use Rattle.documents.proofs.FirstFault.{rule_first, bind_first, formed_first, rule_last, ok_first, if_first, each_first}
-use Rattle.catalogue.specs.Broken.{is_among, name_of_column, in_column_form, in_column, is_partitions, name_of_table, in_table_form, in_table, in_catalogue_form, broken_catalogue_rules}
+use Rattle.catalogue.specs.Broken.{is_among, name_of_column, in_column_form, in_column, is_partitions, name_of_table, in_table_form, in_table, in_catalogue_form, catalogue_faults}
 
 used_among : {X : Type 0} (name_of : X → List ℕ) (name : List ℕ) (xs : List X) → is_used name_of name xs ≡ is_among name (map name_of xs)
 used_among name_of name [] = refl
@@ -88,7 +88,7 @@ table_name_so before d t e =
     ap (option_map (λ (f : List ℕ × ℤ × List Data). f.0)) is_form ∙ ap (λ (x : TableShape). Some x.name) is
 
 -- the first rule that is broken, or none is
-pub catalogue_first : (d : Data) → IsFirst (catalogue_at d) (broken_catalogue_rules d)
+pub catalogue_first : (d : Data) → IsFirst (catalogue_at d) (catalogue_faults d)
 unfolding catalogue_at
 catalogue_first d = formed_first Shape (catalogue_form d) _ in_catalogue_form refl (λ tables.
     rule_first (ltb 0 (length tables) && leb (length tables) 64) Limit _ (in_each name_of_table in_table [] tables)

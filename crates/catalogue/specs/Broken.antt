@@ -1,5 +1,5 @@
 -- Claimed: what contracts promise to a reader rests on these words.
--- Every rule that a catalogue's document breaks, in the order of the document. No rule here hangs on what reading does.
+-- The faults of a catalogue's document, in the order in which its rules are looked at: the first is the one that is answered, and there is none where no rule is broken. No rule here hangs on what reading does.
 use Rattle.std.specs.Prelude.{ℕ, ℤ, pos, negsuc, List, [], ◌∷◌, ◌++◌, length, Option, Some, None, option_map, Bool, false, ◌&&◌, not, nat_lt, nat_le, ◌==◌}
 use Rattle.std.specs.Str.{bytes_eq}
 use Rattle.std.specs.List.{list_any}
@@ -52,5 +52,6 @@ abbrev pub in_catalogue_form : Option (List Data) → List CatalogueFault
 in_catalogue_form None = Shape ∷ []
 in_catalogue_form (Some tables) = broken (nat_lt 0 (length tables) && nat_le (length tables) 64) Limit ++ in_each name_of_table in_table [] tables
 
-abbrev pub broken_catalogue_rules : Data → List CatalogueFault
-broken_catalogue_rules d = in_catalogue_form (catalogue_form d)
+-- the faults of a catalogue's document, the first of which is answered
+abbrev pub catalogue_faults : Data → List CatalogueFault
+catalogue_faults d = in_catalogue_form (catalogue_form d)

@@ -53,3 +53,7 @@ abbrev pub SaysCatalogue : Data → List TableShape → Type 0
 SaysCatalogue d ts = (version : Data) × (tables : List Data)
     × (d ≡ array (items_of (string (codes "catalogue") ∷ version ∷ array (items_of tables) ∷ [])))
     × (integer version ≡ Some (pos 1)) × Says SaysTable tables ts
+
+-- a document says one catalogue, and no other
+abbrev pub OneCatalogueIsSaid : Type 0
+OneCatalogueIsSaid = (d : Data) (ts us : List TableShape) → SaysCatalogue d ts → IsCatalogue ts → SaysCatalogue d us → IsCatalogue us → ts ≡ us

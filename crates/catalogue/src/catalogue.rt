@@ -50,7 +50,7 @@ impl Catalogue {
     ghost use Rattle.documents.specs.FirstFault.{first};
     ghost use Rattle.catalogue.specs.Reading.{catalogue_at, is_memory};
     ghost use Rattle.catalogue.specs.Rules.{IsCatalogue, SaysCatalogue};
-    ghost use Rattle.catalogue.specs.Broken.{broken_catalogue_rules};
+    ghost use Rattle.catalogue.specs.Broken.{catalogue_faults};
     ghost use Rattle.catalogue.specs.declared.fault.CatalogueFault.TheVariants.{Memory};
 
     /// The catalogue that a document says, or the first rule that the document breaks.
@@ -62,10 +62,10 @@ impl Catalogue {
             Reads is_memory (λ x. x) result (Ok c) }
         // The fault is the first rule that the document breaks.
         ensures first { IfErr result (λ e.
-            (e ≡ Memory) ⊎ (first (broken_catalogue_rules (view document.now)) ≡ Some e)) }
+            (e ≡ Memory) ⊎ (first (catalogue_faults (view document.now)) ≡ Some e)) }
         // A document that is read breaks no rule, and one that breaks none is read, unless memory runs out.
-        ensures unbroken { OnOk result (broken_catalogue_rules (view document.now) ≡ []) }
-        ensures none { broken_catalogue_rules (view document.now) ≡ [] → IsOkUnless result Memory }
+        ensures unbroken { OnOk result (catalogue_faults (view document.now) ≡ []) }
+        ensures none { catalogue_faults (view document.now) ≡ [] → IsOkUnless result Memory }
         ensures exact { Reads is_memory (λ x. x) result (catalogue_at (view document.now)) }
     {
         let tables = match read_document(alloc, document) {

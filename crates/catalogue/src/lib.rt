@@ -4,6 +4,7 @@
 mod catalogue;
 mod document;
 mod fault;
+pub mod laws;
 mod reading;
 mod said;
 mod table;
@@ -11,4 +12,5 @@ mod table;
 pub use catalogue::Catalogue;
 pub use document::column_form;
 pub use fault::CatalogueFault;
+pub use laws::one_catalogue_is_said;
 pub use said::{read_value, read_values};

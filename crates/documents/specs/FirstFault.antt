@@ -1,5 +1,5 @@
 -- Claimed: what contracts promise to a reader rests on these words.
--- The rules that a document breaks, in the document's order, and the first of them.
+-- The faults of a document, in the order in which its rules are looked at, and the first of them.
 use Rattle.std.specs.Prelude.{◌≡◌, List, [], ◌∷◌, ◌++◌, Option, Some, None, Result, Ok, Err, Bool, true, false}
 use Rattle.std.specs.Option.{option_to_list}
 use Rattle.serde_json.specs.Data.{Data}
@@ -18,7 +18,7 @@ abbrev pub first : {F : Type 0} → List F → Option F
 first [] = None
 first (f ∷ fs) = Some f
 
--- no rule is broken, or the fault is the first of those that are
+-- there is no fault, or it is the first of them
 abbrev pub IsFirst : {A F : Type 0} → Result A F → List F → Type 0
 IsFirst (Ok x) faults = faults ≡ []
 IsFirst (Err e) faults = first faults ≡ Some e

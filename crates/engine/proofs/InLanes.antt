@@ -108,7 +108,7 @@ lent_out slots k new place out = elim (same_or_other place k) [
 pub admitted_lanes : (s : Schedule) (seat : SchedulerSeatOf) → AreInLanes s seat → AreInLanes (record s { slots = s.slots ++ Idle ∷ [] }) seat
 admitted_lanes s seat h = record {
   each = λ lane job there. let o = h.each lane job there in record {
-    out = pushed_at s.slots Idle Lent (job.number - s.work.first) o.out;
+    out = pushed_at s.slots Idle Lent (job.no - s.work.first) o.out;
     lent = o.lent;
   };
   apart = h.apart;
@@ -145,28 +145,28 @@ apart_places : (slots : List Slot) (i k : ℕ) (a b : Slot) → slice_get slots 
 apart_places slots i k a b at_i at_k d e = d (some_is a b (sym at_i ∙ ap (slice_get slots) e ∙ at_k))
 
 module _ (s : Schedule) (seat : SchedulerSeatOf) (h : AreInLanes s seat) (job : JobOf) (new : Schedule) (lends : LendsJob s job new)
-    (can : enabled s.work.arena s.work.first (log_of s.work) (phases_of s) (events.Lend job.number) ≡ true) (lane : ℕ) (lowest : IsLowestFree seat.jobs lane) where
+    (can : enabled s.work.arena s.work.first (log_of s.work) (phases_of s) (events.Lend job.no) ≡ true) (lane : ℕ) (lowest : IsLowestFree seat.jobs lane) where
   abbrev place : ℕ
-  place = job.number - s.work.first
+  place = job.no - s.work.first
 
-  numbered : job.number ≡ s.work.first + place
-  numbered = lends.lent.job_at.number
+  numbered : job.no ≡ s.work.first + place
+  numbered = lends.lent.job_at.no
 
   was_idle : slice_get s.slots place ≡ Some Idle
   was_idle = idle_slot s.slots place (
       ap is_idle (sym (at_place s.work.first place (phases_of s)))
       ∙ ap (λ (n : ℕ). is_idle (phase_of s.work.first (phases_of s) n)) (sym numbered)
-      ∙ and_left (is_idle (phase_of s.work.first (phases_of s) job.number)) _ can)
+      ∙ and_left (is_idle (phase_of s.work.first (phases_of s) job.no)) _ can)
 
   pub lent_settled : StaysSettled (phases_of s) (phases_of new)
   lent_settled = subst (λ (t : Schedule). StaysSettled (phases_of s) (phases_of t)) (sym lends.new_is) (set_settled s.slots place Idle Lent was_idle refl)
 
-  other_slot : (other : JobOf) → IsOut s other → other.number - s.work.first ≢ place
-  other_slot other o = apart_places s.slots (other.number - s.work.first) place Lent Idle o.out was_idle (λ e. let x : Lent ≡ Idle = e in cc)
+  other_slot : (other : JobOf) → IsOut s other → other.no - s.work.first ≢ place
+  other_slot other o = apart_places s.slots (other.no - s.work.first) place Lent Idle o.out was_idle (λ e. let x : Lent ≡ Idle = e in cc)
 
   still_out : (other : JobOf) → IsOut s other → IsOut new other
   still_out other o = subst (λ (t : Schedule). IsOut t other) (sym lends.new_is) (record {
-    out = set_past s.slots place (other.number - s.work.first) Lent (other_slot other o) ∙ o.out;
+    out = set_past s.slots place (other.no - s.work.first) Lent (other_slot other o) ∙ o.out;
     lent = o.lent;
   })
 
@@ -192,18 +192,18 @@ module _ (s : Schedule) (seat : SchedulerSeatOf) (h : AreInLanes s seat) (job : 
   each_out k other there (inr d) = still_out other (h.each k other (sym (elsewhere k d) ∙ there))
 
   -- a job that was in a lane before has another number
-  other_number : (k : ℕ) (other : JobOf) → slice_get seat.jobs k ≡ Some (Some other) → other.number ≢ job.number
+  other_number : (k : ℕ) (other : JobOf) → slice_get seat.jobs k ≡ Some (Some other) → other.no ≢ job.no
   other_number k other there e = other_slot other (h.each k other there) (ap (λ (n : ℕ). n - s.work.first) e)
 
   each_apart : (i k : ℕ) (a b : JobOf) → i ≢ k → slice_get jobs_now i ≡ Some (Some a) → slice_get jobs_now k ≡ Some (Some b)
-      → (i ≡ lane) ⊎ (i ≢ lane) → (k ≡ lane) ⊎ (k ≢ lane) → a.number ≢ b.number
+      → (i ≡ lane) ⊎ (i ≢ lane) → (k ≡ lane) ⊎ (k ≢ lane) → a.no ≢ b.no
   each_apart i k a b d at_i at_k (inl e) (inl f) = absurd (d (e ∙ sym f))
   each_apart i k a b d at_i at_k (inl e) (inr f) =
       let same : job ≡ a = (let x : Some (Some job) ≡ Some (Some a) = sym here ∙ ap (slice_get jobs_now) (sym e) ∙ at_i in cc) in
-      λ equal. other_number k b (sym (elsewhere k f) ∙ at_k) (sym equal ∙ sym (ap (λ (j : JobOf). j.number) same))
+      λ equal. other_number k b (sym (elsewhere k f) ∙ at_k) (sym equal ∙ sym (ap (λ (j : JobOf). j.no) same))
   each_apart i k a b d at_i at_k (inr e) (inl f) =
       let same : job ≡ b = (let x : Some (Some job) ≡ Some (Some b) = sym here ∙ ap (slice_get jobs_now) (sym f) ∙ at_k in cc) in
-      λ equal. other_number i a (sym (elsewhere i e) ∙ at_i) (equal ∙ sym (ap (λ (j : JobOf). j.number) same))
+      λ equal. other_number i a (sym (elsewhere i e) ∙ at_i) (equal ∙ sym (ap (λ (j : JobOf). j.no) same))
   each_apart i k a b d at_i at_k (inr e) (inr f) = h.apart i k a b d (sym (elsewhere i e) ∙ at_i) (sym (elsewhere k f) ∙ at_k)
 
   kept_job : (n : ℕ) → HasJob seat n → HasJob (puts_in seat lane job) n
@@ -225,19 +225,19 @@ module _ (s : Schedule) (seat : SchedulerSeatOf) (h : AreInLanes s seat) (job : 
 
 -- ---- settling
 
-number_by : (job : JobOf) (outcome : Option Outcome) (back : JobOf) → ComesOf job outcome back → back.number ≡ job.number
-number_by job None back comes = ap (λ (j : JobOf). j.number) comes
-number_by job (Some outcome) back comes = ap (λ (j : JobOf). j.number) comes.0
+number_by : (job : JobOf) (outcome : Option Outcome) (back : JobOf) → ComesOf job outcome back → back.no ≡ job.no
+number_by job None back comes = ap (λ (j : JobOf). j.no) comes
+number_by job (Some outcome) back comes = ap (λ (j : JobOf). j.no) comes.0
 
 -- what comes of a job has its number
-pub done_number : (job : JobOf) (done : DoneOf) → IsDoneOf job done → done.job.number ≡ job.number
+pub done_number : (job : JobOf) (done : DoneOf) → IsDoneOf job done → done.job.no ≡ job.no
 done_number job done comes = number_by job done.outcome done.job comes
 
 module _ (s : Schedule) (seat new_seat : SchedulerSeatOf) (h : AreInLanes s seat) (lane : ℕ) (done : DoneOf) (c : Collects seat lane done new_seat) where
   out : IsOut s c.job
   out = h.each lane c.job c.there
 
-  number : done.job.number ≡ c.job.number
+  number : done.job.no ≡ c.job.no
   number = done_number c.job done c.comes
 
   pub comes_back : ComesBack s done
@@ -249,7 +249,7 @@ module _ (s : Schedule) (seat new_seat : SchedulerSeatOf) (h : AreInLanes s seat
   }
 
   abbrev spot : ℕ
-  spot = done.job.number - s.work.first
+  spot = done.job.no - s.work.first
 
   was_lent : slice_get s.slots spot ≡ Some Lent
   was_lent = comes_back.out
@@ -272,11 +272,11 @@ module _ (s : Schedule) (seat new_seat : SchedulerSeatOf) (h : AreInLanes s seat
   before : (k : ℕ) (job : JobOf) → slice_get new_seat.jobs k ≡ Some (Some job) → slice_get seat.jobs k ≡ Some (Some job)
   before k job there = sym (other_lane k (apart_lane k job there)) ∙ there
 
-  other_spot : (k : ℕ) (job : JobOf) → slice_get new_seat.jobs k ≡ Some (Some job) → job.number - s.work.first ≢ spot
+  other_spot : (k : ℕ) (job : JobOf) → slice_get new_seat.jobs k ≡ Some (Some job) → job.no - s.work.first ≢ spot
   other_spot k job there e =
       let o = h.each k job (before k job there) in
-      let one : job.number ≡ s.work.first + (job.number - s.work.first) = o.lent.job_at.number in
-      let two : c.job.number ≡ s.work.first + (c.job.number - s.work.first) = out.lent.job_at.number in
+      let one : job.no ≡ s.work.first + (job.no - s.work.first) = o.lent.job_at.no in
+      let two : c.job.no ≡ s.work.first + (c.job.no - s.work.first) = out.lent.job_at.no in
       h.apart k lane job c.job (apart_lane k job there) (before k job there) c.there (omega (arith, one, two, e, number))
 
   has_still : (slot : Slot) → is_out (Some (phase_in slot)) ≡ false → (place : ℕ) → is_out (slice_get (phases_of (with_slot slot)) place) ≡ true → HasJob new_seat (s.work.first + place)
@@ -285,14 +285,14 @@ module _ (s : Schedule) (seat new_seat : SchedulerSeatOf) (h : AreInLanes s seat
       let has = h.all place was.1 in
       let d : has.lane ≢ lane = (λ e.
       let same : c.job ≡ has.job = (let x : Some (Some c.job) ≡ Some (Some has.job) = sym c.there ∙ ap (slice_get seat.jobs) (sym e) ∙ has.there in cc) in
-      let n : c.job.number ≡ s.work.first + place = ap (λ (j : JobOf). j.number) same ∙ has.numbered in
+      let n : c.job.no ≡ s.work.first + place = ap (λ (j : JobOf). j.no) same ∙ has.numbered in
       was.0 (omega (arith, n, number))) in
       record { lane = has.lane; job = has.job; there = other_lane has.lane d ∙ has.there; numbered = has.numbered }
 
   pub settled_lanes : (slot : Slot) → is_out (Some (phase_in slot)) ≡ false → AreInLanes (with_slot slot) new_seat
   settled_lanes slot home = record {
     each = λ k job there. let o = h.each k job (before k job there) in record {
-      out = set_past s.slots spot (job.number - s.work.first) slot (other_spot k job there) ∙ o.out;
+      out = set_past s.slots spot (job.no - s.work.first) slot (other_spot k job there) ∙ o.out;
       lent = o.lent;
     };
     apart = λ i k a b d at_i at_k. h.apart i k a b d (before i a at_i) (before k b at_k);
@@ -301,8 +301,8 @@ module _ (s : Schedule) (seat new_seat : SchedulerSeatOf) (h : AreInLanes s seat
 
 -- settling what was collected
 pub settled_by : (s new : Schedule) (seat new_seat : SchedulerSeatOf) → AreInLanes s seat → (lane : ℕ) (done : DoneOf) → Collects seat lane done new_seat → (o : Option Outcome)
-    → IfSome o (λ outcome. new ≡ record s { slots = slice_set s.slots (done.job.number - s.work.first) (Settled outcome) })
-    → (o ≡ None → new ≡ record s { slots = slice_set s.slots (done.job.number - s.work.first) Idle })
+    → IfSome o (λ outcome. new ≡ record s { slots = slice_set s.slots (done.job.no - s.work.first) (Settled outcome) })
+    → (o ≡ None → new ≡ record s { slots = slice_set s.slots (done.job.no - s.work.first) Idle })
     → AreInLanes new new_seat × StaysSettled (phases_of s) (phases_of new)
 settled_by s new seat new_seat h lane done c None settled back =
     subst (λ (t : Schedule). AreInLanes t new_seat × StaysSettled (phases_of s) (phases_of t)) (sym (back refl))

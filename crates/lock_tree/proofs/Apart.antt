@@ -95,11 +95,11 @@ passes held n k (Some c) qs b other rest granted = elim ((head_fits held (n, c) 
 granted_fits : (r : Resource) (held : List Mode) (ws : List Waiting) (k : ℕ) (plan : Requests) (b : Mode)
     → plan_of ws k ≡ Some plan → mode_on r plan ≡ Some b → has_number k (granted_beside held (queue r ws)) ≡ true → list_all (λ h. are_compatible h b) held ≡ true
 granted_fits r held [] k plan b is on granted = absurd (no_plan plan is)
-granted_fits r held (w ∷ ws) k plan b is on granted = elim (w.number == k) as (λ v. (w.number == k) ≡ v → cond v (Some w.plan) (plan_of ws k) ≡ Some plan → list_all (λ h. are_compatible h b) held ≡ true) [
+granted_fits r held (w ∷ ws) k plan b is on granted = elim (w.no == k) as (λ v. (w.no == k) ≡ v → cond v (Some w.plan) (plan_of ws k) ≡ Some plan → list_all (λ h. are_compatible h b) held ≡ true) [
   | true ↦ λ here is.
       let o : mode_on r w.plan ≡ Some b = ap (mode_on r) (some_same w.plan plan is) ∙ on in
-      (head_fits held (w.number, b) (queue r ws) k (sym (ap (λ x. has_number k (granted_beside held (asks w.number x (queue r ws)))) o) ∙ granted)).0
-  | false ↦ λ elsewhere is. passes held w.number k (mode_on r w.plan) (queue r ws) b elsewhere (λ more. granted_fits r more ws k plan b is on) granted
+      (head_fits held (w.no, b) (queue r ws) k (sym (ap (λ x. has_number k (granted_beside held (asks w.no x (queue r ws)))) o) ∙ granted)).0
+  | false ↦ λ elsewhere is. passes held w.no k (mode_on r w.plan) (queue r ws) b elsewhere (λ more. granted_fits r more ws k plan b is on) granted
 ] refl is
 
 beyond : (held : List Mode) (n k : ℕ) (o : Option Mode) (qs : Queue) (a b : Mode) → (n == k) ≡ false
@@ -113,8 +113,8 @@ beyond held n k (Some c) qs a b other rest granted = elim ((head_fits held (n, c
 
 above_there : (n : ℕ) (ws : List Waiting) (k : ℕ) (plan : Requests) → AreAbove n ws → plan_of ws k ≡ Some plan → n < k
 above_there n [] k plan h is = absurd (no_plan plan is)
-above_there n (w ∷ ws) k plan h is = elim (w.number == k) as (λ v. (w.number == k) ≡ v → cond v (Some w.plan) (plan_of ws k) ≡ Some plan → n < k) [
-  | true ↦ λ here is. (let e = same_numbers w.number k here in let l = h.0 in omega (arith, e, l))
+above_there n (w ∷ ws) k plan h is = elim (w.no == k) as (λ v. (w.no == k) ≡ v → cond v (Some w.plan) (plan_of ws k) ≡ Some plan → n < k) [
+  | true ↦ λ here is. (let e = same_numbers w.no k here in let l = h.0 in omega (arith, e, l))
   | false ↦ λ elsewhere is. above_there n ws k plan h.1 is
 ] refl is
 
@@ -124,21 +124,21 @@ granted_apart : (r : Resource) (held : List Mode) (ws : List Waiting) (i k : ℕ
     → has_number k (granted_beside held (queue r ws)) ≡ true → are_compatible a b ≡ true
 granted_apart r held [] i k p q a b rising less first second on_p on_q granted = absurd (no_plan p first)
 granted_apart r held (w ∷ ws) i k p q a b rising less first second on_p on_q granted =
-    elim (w.number == i) as (λ v. (w.number == i) ≡ v → cond v (Some w.plan) (plan_of ws i) ≡ Some p → are_compatible a b ≡ true) [
+    elim (w.no == i) as (λ v. (w.no == i) ≡ v → cond v (Some w.plan) (plan_of ws i) ≡ Some p → are_compatible a b ≡ true) [
       | true ↦ λ here first.
           let o : mode_on r w.plan ≡ Some a = ap (mode_on r) (some_same w.plan p first) ∙ on_p in
-          let other : (w.number == k) ≡ false = other_numbers w.number k (let e = same_numbers w.number i here in omega (arith, e, less)) in
+          let other : (w.no == k) ≡ false = other_numbers w.no k (let e = same_numbers w.no i here in omega (arith, e, less)) in
           let there : plan_of ws k ≡ Some q = sym (ap (λ v. cond v (Some w.plan) (plan_of ws k)) other) ∙ second in
-          let g : has_number k (granted_beside held ((w.number, a) ∷ queue r ws)) ≡ true = sym (ap (λ x. has_number k (granted_beside held (asks w.number x (queue r ws)))) o) ∙ granted in
-          elim ((head_fits held (w.number, a) (queue r ws) k g).1) [
+          let g : has_number k (granted_beside held ((w.no, a) ∷ queue r ws)) ≡ true = sym (ap (λ x. has_number k (granted_beside held (asks w.no x (queue r ws)))) o) ∙ granted in
+          elim ((head_fits held (w.no, a) (queue r ws) k g).1) [
             | inl clash ↦ absurd (true_false (sym clash ∙ other))
             | inr later ↦ (both (are_compatible a b) (list_all (λ h. are_compatible h b) held) (granted_fits r (a ∷ held) ws k q b there on_q later)).0
           ]
       | false ↦ λ elsewhere first.
-          let before = above_there w.number ws i p rising.0 first in
-          let other : (w.number == k) ≡ false = other_numbers w.number k (omega (arith, before, less)) in
+          let before = above_there w.no ws i p rising.0 first in
+          let other : (w.no == k) ≡ false = other_numbers w.no k (omega (arith, before, less)) in
           let after : plan_of ws k ≡ Some q = sym (ap (λ v. cond v (Some w.plan) (plan_of ws k)) other) ∙ second in
-          beyond held w.number k (mode_on r w.plan) (queue r ws) a b other (λ more. granted_apart r more ws i k p q a b rising.1 less first after on_p on_q) granted
+          beyond held w.no k (mode_on r w.plan) (queue r ws) a b other (λ more. granted_apart r more ws i k p q a b rising.1 less first after on_p on_q) granted
     ] refl first
 
 each : (test : Resource × Mode → Bool) (es : Requests) (x : Resource × Mode) → list_all test es ≡ true → Contains es x → test x ≡ true
@@ -166,5 +166,5 @@ each_request test (e ∷ es) h =
 
 pub first_is_ready : FirstReady
 first_is_ready = λ w ws.
-    ap (λ v. all_of (w ∷ ws) w.number (cond v (Some w.plan) (plan_of ws w.number))) (same_itself w.number)
-    ∙ each_request (λ r. has_number w.number (granted (queue r (w ∷ ws)))) w.plan (λ r has. first_asks w.number (mode_on r w.plan) (queue r ws) has)
+    ap (λ v. all_of (w ∷ ws) w.no (cond v (Some w.plan) (plan_of ws w.no))) (same_itself w.no)
+    ∙ each_request (λ r. has_number w.no (granted (queue r (w ∷ ws)))) w.plan (λ r has. first_asks w.no (mode_on r w.plan) (queue r ws) has)

@@ -25,41 +25,41 @@ below_other : (n k : ℕ) → n < k → (k == n) ≡ false
 below_other n k h = grind (arith, nat_tests)
 
 module _ (queues : Resource → Queue) (n : ℕ) (mode : Mode) (lately : Queue) where
-  knows_more : (e : Enqueued) → (e.number == n) ≡ false → Knows queues ((n, mode) ∷ lately) e → Knows queues lately e
+  knows_more : (e : Enqueued) → (e.no == n) ≡ false → Knows queues ((n, mode) ∷ lately) e → Knows queues lately e
   knows_more e other known = record {
     sound = known.sound;
     complete = λ g. elim (known.complete g) [
       | inl ready ↦ inl ready
-      | inr late ↦ inr (sym (ap (λ v. v || has_number e.number lately) (other_way n e.number other)) ∙ late)
+      | inr late ↦ inr (sym (ap (λ v. v || has_number e.no lately) (other_way n e.no other)) ∙ late)
     ];
   }
 
   known_above : (es : List Enqueued) → AreAbove n (all_waiting es) → AreKnown queues ((n, mode) ∷ lately) es → AreKnown queues lately es
   known_above [] above known = tt
-  known_above (e ∷ es) above known = (knows_more e (below_other n e.number above.0) known.0, known_above es above.1 known.1)
+  known_above (e ∷ es) above known = (knows_more e (below_other n e.no above.0) known.0, known_above es above.1 known.1)
 
   -- nobody has the number
   pub none_to_note : (es : List Enqueued) → place_of n (all_waiting es) ≡ None → AreKnown queues ((n, mode) ∷ lately) es → AreKnown queues lately es
   none_to_note [] h known = tt
-  none_to_note (e ∷ es) h known = elim (e.number == n) as (λ v. (e.number == n) ≡ v → cond v (Some 0) (option_map (λ n. n + 1) (place_of n (all_waiting es))) ≡ None → AreKnown queues lately (e ∷ es)) [
+  none_to_note (e ∷ es) h known = elim (e.no == n) as (λ v. (e.no == n) ≡ v → cond v (Some 0) (option_map (λ n. n + 1) (place_of n (all_waiting es))) ≡ None → AreKnown queues lately (e ∷ es)) [
     | true ↦ λ here h. absurd (cc)
     | false ↦ λ other h. (knows_more e other known.0, none_to_note es (no_later_place (place_of n (all_waiting es)) h) known.1)
   ] refl h
 
-  knows_now : (e : Enqueued) (b : Bool) → e.number ≡ n → b ≡ granted_in queues n e.plan.items → Knows queues lately (record e { ready = b })
+  knows_now : (e : Enqueued) (b : Bool) → e.no ≡ n → b ≡ granted_in queues n e.plan.items → Knows queues lately (record e { ready = b })
   knows_now e b same is =
-      let at_it : granted_in queues e.number e.plan.items ≡ b = ap (λ k. granted_in queues k e.plan.items) same ∙ sym is in
+      let at_it : granted_in queues e.no e.plan.items ≡ b = ap (λ k. granted_in queues k e.plan.items) same ∙ sym is in
       record { sound = λ h. at_it ∙ h; complete = λ g. inl (sym at_it ∙ g) }
 
   -- the one with the number
   pub noted_at : (es : List Enqueued) (i : ℕ) (d : Enqueued) (b : Bool) → IsRising (all_waiting es) → place_of n (all_waiting es) ≡ Some i → b ≡ granted_in queues n (at es i d).plan.items
       → AreKnown queues ((n, mode) ∷ lately) es → AreKnown queues lately (slice_set es i (record (at es i d) { ready = b }))
   noted_at [] i d b rising h is known = absurd (none_some i h)
-  noted_at (e ∷ es) i d b rising h is known = elim (e.number == n) as (λ v. (e.number == n) ≡ v → cond v (Some 0) (option_map (λ n. n + 1) (place_of n (all_waiting es))) ≡ Some i
+  noted_at (e ∷ es) i d b rising h is known = elim (e.no == n) as (λ v. (e.no == n) ≡ v → cond v (Some 0) (option_map (λ n. n + 1) (place_of n (all_waiting es))) ≡ Some i
       → AreKnown queues lately (slice_set (e ∷ es) i (record (at (e ∷ es) i d) { ready = b }))) [
         | true ↦ λ here h.
             let first : 0 ≡ i = some_one 0 i h in
-            let same : e.number ≡ n = same_numbers e.number n here in
+            let same : e.no ≡ n = same_numbers e.no n here in
             let plan : b ≡ granted_in queues n e.plan.items = is ∙ ap (λ j. granted_in queues n (at (e ∷ es) j d).plan.items) (sym first) in
             let now : AreKnown queues lately (slice_set (e ∷ es) 0 (record (at (e ∷ es) 0 d) { ready = b })) =
             (knows_now e b same plan, known_above es (subst (λ k. AreAbove k (all_waiting es)) same rising.0) known.1) in

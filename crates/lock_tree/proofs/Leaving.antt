@@ -179,13 +179,13 @@ no_one : (n : ℕ) → has_number n [] ≡ true → ⊥
 no_one n h = absurd (cc)
 
 -- an entry that knows goes on knowing, but for what was granted lately
-pub knows_left : (k : ℕ) (r : Resource) (old new : Resource → Queue) → Left k r old new → (e : Enqueued) → (e.number == k) ≡ false → Knows old [] e → Knows new (newly k (old r)) e
+pub knows_left : (k : ℕ) (r : Resource) (old new : Resource → Queue) → Left k r old new → (e : Enqueued) → (e.no == k) ≡ false → Knows old [] e → Knows new (newly k (old r)) e
 knows_left k r old new left e other known = record {
-  sound = λ h. plan_still k r old new left e.number other e.plan.items (known.sound h);
-  complete = λ h. elim (plan_newly k r old new left e.number other e.plan.items h) [
+  sound = λ h. plan_still k r old new left e.no other e.plan.items (known.sound h);
+  complete = λ h. elim (plan_newly k r old new left e.no other e.plan.items h) [
     | inl was ↦ elim (known.complete was) [
       | inl ready ↦ inl ready
-      | inr none ↦ absurd (no_one e.number none)
+      | inr none ↦ absurd (no_one e.no none)
     ]
     | inr now ↦ inr now
   ];
@@ -200,7 +200,7 @@ same_itself r = ap is_eq (tied_itself resources_total r)
 pub left_here : (k : ℕ) (r : Resource) (old new : Resource → Queue) → Left k r old new → new r ≡ others k (old r)
 left_here k r old new left = left r ∙ ap (λ v. cond v (others k (old r)) (old r)) (same_itself r)
 
-pub known_left : (k : ℕ) (r : Resource) (old new : Resource → Queue) → Left k r old new → (es : List Enqueued) → AllByRecursion (λ w. (w.number == k) ≡ false) (all_waiting es)
+pub known_left : (k : ℕ) (r : Resource) (old new : Resource → Queue) → Left k r old new → (es : List Enqueued) → AllByRecursion (λ w. (w.no == k) ≡ false) (all_waiting es)
     → AreKnown old [] es → AreKnown new (newly k (old r)) es
 known_left k r old new left [] other known = tt
 known_left k r old new left (e ∷ es) other known = (knows_left k r old new left e other.0 known.0, known_left k r old new left es other.1 known.1)

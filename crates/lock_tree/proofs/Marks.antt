@@ -29,55 +29,55 @@ pub rising_numbers : (xs : List ℕ) (es : List Enqueued) → xs ≡ open_of es 
 rising_numbers xs es is rising = subst AreRising (sym is) (open_rising es rising)
 
 -- there is room to note that a transaction is open
-pub room_to_note : (xs : List ℕ) (es : List Enqueued) (i capacity : ℕ) (d f : Enqueued) → xs ≡ open_of es → IsRising (all_waiting es) → i < length es → f.number ≡ (at es i d).number → length es ≤ capacity
-    → is_open f ≡ true → length (placed f.number true xs) ≤ capacity
+pub room_to_note : (xs : List ℕ) (es : List Enqueued) (i capacity : ℕ) (d f : Enqueued) → xs ≡ open_of es → IsRising (all_waiting es) → i < length es → f.no ≡ (at es i d).no → length es ≤ capacity
+    → is_open f ≡ true → length (placed f.no true xs) ≤ capacity
 room_to_note xs es i capacity d f is rising l same room open_one =
-    let e : open_of (slice_set es i f) ≡ placed f.number true xs =
-    open_set es i f.number d f rising l (sym same) refl ∙ ap (λ b. placed f.number b (open_of es)) open_one ∙ ap (placed f.number true) (sym is) in
+    let e : open_of (slice_set es i f) ≡ placed f.no true xs =
+    open_set es i f.no d f rising l (sym same) refl ∙ ap (λ b. placed f.no b (open_of es)) open_one ∙ ap (placed f.no true) (sym is) in
     let few = open_few (slice_set es i f) in
     let n = set_length es i f in
     let m = ap length e in
     omega (arith, few, n, m, room)
 
-pub noted_set : (xs new : List ℕ) (es : List Enqueued) (i : ℕ) (d f : Enqueued) → xs ≡ open_of es → IsRising (all_waiting es) → i < length es → f.number ≡ (at es i d).number → new ≡ placed f.number (is_open f) xs
+pub noted_set : (xs new : List ℕ) (es : List Enqueued) (i : ℕ) (d f : Enqueued) → xs ≡ open_of es → IsRising (all_waiting es) → i < length es → f.no ≡ (at es i d).no → new ≡ placed f.no (is_open f) xs
     → new ≡ open_of (slice_set es i f)
-noted_set xs new es i d f is rising l same now = now ∙ ap (placed f.number (is_open f)) is ∙ sym (open_set es i f.number d f rising l (sym same) refl)
+noted_set xs new es i d f is rising l same now = now ∙ ap (placed f.no (is_open f)) is ∙ sym (open_set es i f.no d f rising l (sym same) refl)
 
 pub set_few : (es : List Enqueued) (i capacity : ℕ) (f : Enqueued) → length es ≤ capacity → length (slice_set es i f) ≤ capacity
 set_few es i capacity f l = let n = set_length es i f in omega (arith, n, l)
 
-above_set : (a : ℕ) (es : List Enqueued) (i : ℕ) (d f : Enqueued) → i < length es → f.number ≡ (at es i d).number → AreAbove a (all_waiting es) → AreAbove a (all_waiting (slice_set es i f))
+above_set : (a : ℕ) (es : List Enqueued) (i : ℕ) (d f : Enqueued) → i < length es → f.no ≡ (at es i d).no → AreAbove a (all_waiting es) → AreAbove a (all_waiting (slice_set es i f))
 above_set a [] i d f l same above = tt
 above_set a (e ∷ es) zero d f l same above = (let m = above.0 in omega (arith, m, same), above.1)
 above_set a (e ∷ es) (suc i) d f l same above = (above.0, above_set a es i d f (omega (arith, l)) same above.1)
 
 -- numbers rise on where all else changes
-pub rising_set : (es : List Enqueued) (i : ℕ) (d f : Enqueued) → i < length es → f.number ≡ (at es i d).number → IsRising (all_waiting es) → IsRising (all_waiting (slice_set es i f))
+pub rising_set : (es : List Enqueued) (i : ℕ) (d f : Enqueued) → i < length es → f.no ≡ (at es i d).no → IsRising (all_waiting es) → IsRising (all_waiting (slice_set es i f))
 rising_set [] i d f l same rising = tt
 rising_set (e ∷ es) zero d f l same rising = (subst (λ n. AreAbove n (all_waiting es)) (sym same) rising.0, rising.1)
-rising_set (e ∷ es) (suc i) d f l same rising = (above_set e.number es i d f (omega (arith, l)) same rising.0, rising_set es i d f (omega (arith, l)) same rising.1)
+rising_set (e ∷ es) (suc i) d f l same rising = (above_set e.no es i d f (omega (arith, l)) same rising.0, rising_set es i d f (omega (arith, l)) same rising.1)
 
 -- the same, of the transaction as the code reads it again
-pub room_at : (xs : List ℕ) (es : List Enqueued) (i capacity : ℕ) (m f seen : Enqueued) → xs ≡ open_of es → IsRising (all_waiting es) → i < length es → m ≡ at es i m → f.number ≡ m.number → seen ≡ at (slice_set es i f) i seen
-    → length es ≤ capacity → is_open seen ≡ true → length (placed seen.number true xs) ≤ capacity
+pub room_at : (xs : List ℕ) (es : List Enqueued) (i capacity : ℕ) (m f seen : Enqueued) → xs ≡ open_of es → IsRising (all_waiting es) → i < length es → m ≡ at es i m → f.no ≡ m.no → seen ≡ at (slice_set es i f) i seen
+    → length es ≤ capacity → is_open seen ≡ true → length (placed seen.no true xs) ≤ capacity
 room_at xs es i capacity m f seen is rising l item same again room open_one =
     let it : seen ≡ f = again ∙ set_at es i seen f l in
-    subst (λ (e : Enqueued). length (placed e.number true xs) ≤ capacity) (sym it)
-    (room_to_note xs es i capacity m f is rising l (same ∙ ap (λ (e : Enqueued). e.number) item) room (sym (ap is_open it) ∙ open_one))
+    subst (λ (e : Enqueued). length (placed e.no true xs) ≤ capacity) (sym it)
+    (room_to_note xs es i capacity m f is rising l (same ∙ ap (λ (e : Enqueued). e.no) item) room (sym (ap is_open it) ∙ open_one))
 
-pub noted_again : (xs new : List ℕ) (es : List Enqueued) (i : ℕ) (m f seen : Enqueued) → xs ≡ open_of es → IsRising (all_waiting es) → i < length es → m ≡ at es i m → f.number ≡ m.number → seen ≡ at (slice_set es i f) i seen
-    → new ≡ placed seen.number (is_open seen) xs → new ≡ open_of (slice_set es i f)
+pub noted_again : (xs new : List ℕ) (es : List Enqueued) (i : ℕ) (m f seen : Enqueued) → xs ≡ open_of es → IsRising (all_waiting es) → i < length es → m ≡ at es i m → f.no ≡ m.no → seen ≡ at (slice_set es i f) i seen
+    → new ≡ placed seen.no (is_open seen) xs → new ≡ open_of (slice_set es i f)
 noted_again xs new es i m f seen is rising l item same again now =
-    noted_set xs new es i m f is rising l (same ∙ ap (λ (e : Enqueued). e.number) item) (now ∙ ap (λ (e : Enqueued). placed e.number (is_open e) xs) (again ∙ set_at es i seen f l))
+    noted_set xs new es i m f is rising l (same ∙ ap (λ (e : Enqueued). e.no) item) (now ∙ ap (λ (e : Enqueued). placed e.no (is_open e) xs) (again ∙ set_at es i seen f l))
 
-pub rising_again : (es : List Enqueued) (i : ℕ) (m f : Enqueued) → i < length es → m ≡ at es i m → f.number ≡ m.number → IsRising (all_waiting es) → IsRising (all_waiting (slice_set es i f))
-rising_again es i m f l item same rising = rising_set es i m f l (same ∙ ap (λ (e : Enqueued). e.number) item) rising
+pub rising_again : (es : List Enqueued) (i : ℕ) (m f : Enqueued) → i < length es → m ≡ at es i m → f.no ≡ m.no → IsRising (all_waiting es) → IsRising (all_waiting (slice_set es i f))
+rising_again es i m f l item same rising = rising_set es i m f l (same ∙ ap (λ (e : Enqueued). e.no) item) rising
 
 waiting_end : (es : List Enqueued) (e : Enqueued) → all_waiting (es ++ e ∷ []) ≡ all_waiting es ++ waiting_of e ∷ []
 waiting_end [] e = refl
 waiting_end (f ∷ es) e = ap (λ ws. waiting_of f ∷ ws) (waiting_end es e)
 
-pub below_end : (es : List Enqueued) (e : Enqueued) → AreBelow e.number (all_waiting es) → IsRising (all_waiting es) → IsRising (all_waiting (es ++ e ∷ []))
+pub below_end : (es : List Enqueued) (e : Enqueued) → AreBelow e.no (all_waiting es) → IsRising (all_waiting es) → IsRising (all_waiting (es ++ e ∷ []))
 below_end es e below rising = subst IsRising (sym (waiting_end es e)) (rising_end (all_waiting es) (waiting_of e) rising below)
 
 above_removed : (a : ℕ) (es : List Enqueued) (i : ℕ) → AreAbove a (all_waiting es) → AreAbove a (all_waiting (remove es i))
@@ -90,7 +90,7 @@ pub removed_rising : (es : List Enqueued) (i : ℕ) → IsRising (all_waiting es
 removed_rising [] zero rising = tt
 removed_rising [] (suc i) rising = tt
 removed_rising (e ∷ es) zero rising = rising.1
-removed_rising (e ∷ es) (suc i) rising = (above_removed e.number es i rising.0, removed_rising es i rising.1)
+removed_rising (e ∷ es) (suc i) rising = (above_removed e.no es i rising.0, removed_rising es i rising.1)
 
 pub end_length : (es : List Enqueued) (e : Enqueued) → length (es ++ e ∷ []) ≡ suc (length es)
 end_length [] e = refl

@@ -21,8 +21,8 @@ pub record StandsAt (es : List Enqueued) (i : ℕ) (e : Enqueued) : Type 0 where
 
 -- the first of the open ones
 pub record IsFirstOpen (es : List Enqueued) (n : ℕ) : Type 0 where
-  pub one : (e : Enqueued) × (i : ℕ) × StandsAt es i e × (is_open e ≡ true) × (e.number ≡ n)
-  pub least : (i : ℕ) (e : Enqueued) → StandsAt es i e → is_open e ≡ true → n ≤ e.number
+  pub one : (e : Enqueued) × (i : ℕ) × StandsAt es i e × (is_open e ≡ true) × (e.no ≡ n)
+  pub least : (i : ℕ) (e : Enqueued) → StandsAt es i e → is_open e ≡ true → n ≤ e.no
 
 true_false : true ≡ false → ⊥
 true_false e = absurd (cc)
@@ -46,8 +46,8 @@ first_or_behind f es (suc j) e s = inr (j, refl, record { within = (let l = s.wi
 
 nobody_open : (es : List Enqueued) → open_of es ≡ [] → (i : ℕ) (e : Enqueued) → StandsAt es i e → is_open e ≡ true → ⊥
 nobody_open [] none i e s o = (let l = s.within in absurd (omega (arith, l)))
-nobody_open (f ∷ es) none i e s o = elim (is_open f) as (λ v. is_open f ≡ v → cond v (f.number ∷ open_of es) (open_of es) ≡ [] → ⊥) [
-  | true ↦ λ u none. no_first f.number (open_of es) none
+nobody_open (f ∷ es) none i e s o = elim (is_open f) as (λ v. is_open f ≡ v → cond v (f.no ∷ open_of es) (open_of es) ≡ [] → ⊥) [
+  | true ↦ λ u none. no_first f.no (open_of es) none
   | false ↦ λ u none. elim (first_or_behind f es i e s) [
     | inl same ↦ true_false (sym o ∙ ap is_open same ∙ u)
     | inr b ↦ nobody_open es none b.0 e b.2 o
@@ -56,16 +56,16 @@ nobody_open (f ∷ es) none i e s o = elim (is_open f) as (λ v. is_open f ≡ v
 
 first_open : (es : List Enqueued) (n : ℕ) (ns : List ℕ) → IsRising (all_waiting es) → open_of es ≡ n ∷ ns → IsFirstOpen es n
 first_open [] n ns rising is = absurd (none_first n ns is)
-first_open (f ∷ es) n ns rising is = elim (is_open f) as (λ v. is_open f ≡ v → cond v (f.number ∷ open_of es) (open_of es) ≡ n ∷ ns → IsFirstOpen (f ∷ es) n) [
+first_open (f ∷ es) n ns rising is = elim (is_open f) as (λ v. is_open f ≡ v → cond v (f.no ∷ open_of es) (open_of es) ≡ n ∷ ns → IsFirstOpen (f ∷ es) n) [
   | true ↦ λ u is.
-      let same : f.number ≡ n = number_first f.number n (open_of es) ns is in
+      let same : f.no ≡ n = number_first f.no n (open_of es) ns is in
       record {
         one = (f, 0, record { within = omega arith; there = refl }, u, same);
         least = λ i e s o. elim (first_or_behind f es i e s) [
-          | inl it ↦ (let k = ap (λ (x : Enqueued). x.number) it in omega (arith, k, same))
+          | inl it ↦ (let k = ap (λ (x : Enqueued). x.no) it in omega (arith, k, same))
           | inr b ↦
-              (let above = before_member f.number es b.0 e rising.0 b.2.within in
-              let k = ap (λ (x : Enqueued). x.number) b.2.there in
+              (let above = before_member f.no es b.0 e rising.0 b.2.within in
+              let k = ap (λ (x : Enqueued). x.no) b.2.there in
               omega (arith, above, k, same))
         ];
       }
@@ -97,7 +97,7 @@ and : (a b : Bool) → a ≡ false → b ≡ true → (not a && b) ≡ true
 and a b e f = ap (λ x. not x && b) e ∙ f
 
 module _ (lines : Lines) (es : List Enqueued) (ws : List Waiting) (view : all_waiting es ≡ ws) (rising : IsRising (all_waiting es)) (is : (r : Resource) → line lines r ≡ queue r (all_waiting es)) (known : AreKnown (line lines) [] es) where
-  flag : (i : ℕ) (e : Enqueued) → StandsAt es i e → e.ready ≡ ready ws e.number
+  flag : (i : ℕ) (e : Enqueued) → StandsAt es i e → e.ready ≡ ready ws e.no
   flag i e s = item_flag lines es es ws i e refl view rising is known s.within s.there
 
   opens : (i : ℕ) (e : Enqueued) → StandsAt es i e → is_open e ≡ true → IsOpen ws (waiting_of e)
@@ -109,11 +109,11 @@ module _ (lines : Lines) (es : List Enqueued) (ws : List Waiting) (view : all_wa
         is_ready = sym (flag i e s) ∙ p.1;
       }
 
-  is_opened : (w : Waiting) → IsOpen ws w → (e : Enqueued) × (i : ℕ) × StandsAt es i e × (is_open e ≡ true) × (e.number ≡ w.number)
+  is_opened : (w : Waiting) → IsOpen ws w → (e : Enqueued) × (i : ℕ) × StandsAt es i e × (is_open e ≡ true) × (e.no ≡ w.no)
   is_opened w o =
       let m = member_stands es w (subst (λ (xs : List Waiting). Contains xs w) (sym view) o.there) in
       let e = m.0 in
-      let number : e.number ≡ w.number = ap (λ (x : Waiting). x.number) m.3 in
+      let number : e.no ≡ w.no = ap (λ (x : Waiting). x.no) m.3 in
       let unmarked : e.marked ≡ false = ap (λ (x : Waiting). x.marked) m.3 ∙ o.unmarked in
       let is_ready : e.ready ≡ true = flag m.1 e m.2 ∙ ap (ready ws) number ∙ o.is_ready in
       (e, m.1, m.2, and e.marked e.ready unmarked is_ready, number)

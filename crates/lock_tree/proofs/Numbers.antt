@@ -11,7 +11,7 @@ use Rattle.lock_tree.proofs.Places.{at}
 
 -- ---- entries
 
-pub before_member : (n : ℕ) (es : List Enqueued) (i : ℕ) (d : Enqueued) → AreAbove n (all_waiting es) → i < length es → n < (at es i d).number
+pub before_member : (n : ℕ) (es : List Enqueued) (i : ℕ) (d : Enqueued) → AreAbove n (all_waiting es) → i < length es → n < (at es i d).no
 before_member n [] i d above l = absurd (omega (arith, l))
 before_member n (e ∷ es) zero d above l = above.0
 before_member n (e ∷ es) (suc i) d above l = before_member n es i d above.1 (omega (arith, l))
@@ -23,25 +23,25 @@ is_less : (a k : ℕ) → a < k → nat_lt a k ≡ true
 is_less a k h = grind (arith, nat_tests)
 
 -- lesser numbers stand before the others
-pub parted : (n : ℕ) (es : List Enqueued) → IsRising (all_waiting es) → IsPartitionedBy (λ (e : Enqueued). nat_lt e.number n) es
+pub parted : (n : ℕ) (es : List Enqueued) → IsRising (all_waiting es) → IsPartitionedBy (λ (e : Enqueued). nat_lt e.no n) es
 parted n [] rising i j d le l h = absurd (omega (arith, l))
 parted n (e ∷ es) rising zero zero d le l h = h
 parted n (e ∷ es) rising zero (suc j) d le l h =
-    let above = before_member e.number es j d rising.0 (omega (arith, l)) in
-    let less = less_than (at es j d).number n h in
-    is_less e.number n (omega (arith, above, less))
+    let above = before_member e.no es j d rising.0 (omega (arith, l)) in
+    let less = less_than (at es j d).no n h in
+    is_less e.no n (omega (arith, above, less))
 parted n (e ∷ es) rising (suc i) zero d le l h = absurd (omega (arith, le))
 parted n (e ∷ es) rising (suc i) (suc j) d le l h = parted n es rising.1 i j d (omega (arith, le)) (omega (arith, l)) h
 
 abbrev IsPointOf : ℕ → List Enqueued → ℕ → Type 0
-IsPointOf n es i = IsPartitionPoint (λ (e : Enqueued). nat_lt e.number n ≡ true) (λ (e : Enqueued). nat_lt e.number n ≡ false) es i
+IsPointOf n es i = IsPartitionPoint (λ (e : Enqueued). nat_lt e.no n ≡ true) (λ (e : Enqueued). nat_lt e.no n ≡ false) es i
 
 pub point : (n : ℕ) (es : List Enqueued) (i : ℕ) → i ≤ length es → IsPointOf n es i → i ≡ place_from n es
 point n [] i l h = omega (arith, l)
 point n (e ∷ es) zero l h = sym (ap (λ v. cond v (place_from n es + 1) 0) (h.1 0 e (omega arith) (omega arith)))
 point n (e ∷ es) (suc i) l h =
     let rest = point n es i (omega (arith, l)) (λ k d a b. h.0 (suc k) d (omega arith) (omega (arith, b)), λ k d a b. h.1 (suc k) d (omega (arith, a)) (omega (arith, b))) in
-    let here : cond (nat_lt e.number n) (place_from n es + 1) 0 ≡ place_from n es + 1 = ap (λ v. cond v (place_from n es + 1) 0) (h.0 0 e (omega arith) (omega arith)) in
+    let here : cond (nat_lt e.no n) (place_from n es + 1) 0 ≡ place_from n es + 1 = ap (λ v. cond v (place_from n es + 1) 0) (h.0 0 e (omega arith) (omega arith)) in
     omega (arith, rest, here)
 
 other_number : (a n : ℕ) → (a ≡ n → ⊥) → (a == n) ≡ false
@@ -55,7 +55,7 @@ none_above n [] above = refl
 none_above n (e ∷ es) above =
     let l = above.0 in
     ap (λ o. option_map (λ k. k + 1) o) (none_above n es above.1)
-    ∙ sym (ap (λ v. cond v (Some 0) (option_map (λ k. k + 1) (place_of n (all_waiting es)))) (other_number e.number n (λ e. omega (arith, e, l))))
+    ∙ sym (ap (λ v. cond v (Some 0) (option_map (λ k. k + 1) (place_of n (all_waiting es)))) (other_number e.no n (λ e. omega (arith, e, l))))
 
 less_above : (a b : ℕ) (es : List Enqueued) → a < b → AreAbove b (all_waiting es) → AreAbove a (all_waiting es)
 less_above a b [] l h = tt
@@ -64,23 +64,23 @@ less_above a b (e ∷ es) l h = (let m = h.0 in omega (arith, l, m), less_above 
 strictly : (n a : ℕ) → n ≤ a → (a ≡ n → ⊥) → n < a
 strictly n a le other = grind arith
 
-above_none : (n : ℕ) (e : Enqueued) (es : List Enqueued) → n ≤ e.number → (e.number ≡ n → ⊥) → AreAbove e.number (all_waiting es) → None ≡ place_of n (all_waiting es)
-above_none n e es le other above = none_above n es (less_above n e.number es (strictly n e.number le other) above)
+above_none : (n : ℕ) (e : Enqueued) (es : List Enqueued) → n ≤ e.no → (e.no ≡ n → ⊥) → AreAbove e.no (all_waiting es) → None ≡ place_of n (all_waiting es)
+above_none n e es le other above = none_above n es (less_above n e.no es (strictly n e.no le other) above)
 
 -- where the first number that isn't less is another, nobody has the number
-pub not_there : (n : ℕ) (es : List Enqueued) (i : ℕ) → IsRising (all_waiting es) → i ≡ place_from n es → (i < length es → (d : Enqueued) → (at es i d).number ≡ n → ⊥) → None ≡ place_of n (all_waiting es)
+pub not_there : (n : ℕ) (es : List Enqueued) (i : ℕ) → IsRising (all_waiting es) → i ≡ place_from n es → (i < length es → (d : Enqueued) → (at es i d).no ≡ n → ⊥) → None ≡ place_of n (all_waiting es)
 not_there n [] i rising is other = refl
 not_there n (e ∷ es) i rising is other =
-    elim (nat_lt e.number n) as (λ v. nat_lt e.number n ≡ v → i ≡ cond v (place_from n es + 1) 0 → None ≡ place_of n (all_waiting (e ∷ es))) [
+    elim (nat_lt e.no n) as (λ v. nat_lt e.no n ≡ v → i ≡ cond v (place_from n es + 1) 0 → None ≡ place_of n (all_waiting (e ∷ es))) [
       | true ↦ λ less is.
-          let m = less_than e.number n less in
+          let m = less_than e.no n less in
           let at_next : i ≡ suc (place_from n es) = omega (arith, is) in
-          let rest = not_there n es (place_from n es) rising.1 refl (λ l d same. other (omega (arith, at_next, l)) d (ap (λ j. (at (e ∷ es) j d).number) at_next ∙ same)) in
+          let rest = not_there n es (place_from n es) rising.1 refl (λ l d same. other (omega (arith, at_next, l)) d (ap (λ j. (at (e ∷ es) j d).no) at_next ∙ same)) in
           ap (λ o. option_map (λ k. k + 1) o) rest
-          ∙ sym (ap (λ v. cond v (Some 0) (option_map (λ k. k + 1) (place_of n (all_waiting es)))) (other_number e.number n (λ same. omega (arith, same, m))))
+          ∙ sym (ap (λ v. cond v (Some 0) (option_map (λ k. k + 1) (place_of n (all_waiting es)))) (other_number e.no n (λ same. omega (arith, same, m))))
       | false ↦ λ more is.
-          let m = not_less e.number n more in
-          let here : e.number ≡ n → ⊥ = λ same. other (omega (arith, is)) e (ap (λ j. (at (e ∷ es) j e).number) is ∙ same) in
+          let m = not_less e.no n more in
+          let here : e.no ≡ n → ⊥ = λ same. other (omega (arith, is)) e (ap (λ j. (at (e ∷ es) j e).no) is ∙ same) in
           ap (λ o. option_map (λ k. k + 1) o) (above_none n e es m here rising.0)
-          ∙ sym (ap (λ v. cond v (Some 0) (option_map (λ k. k + 1) (place_of n (all_waiting es)))) (other_number e.number n here))
+          ∙ sym (ap (λ v. cond v (Some 0) (option_map (λ k. k + 1) (place_of n (all_waiting es)))) (other_number e.no n here))
     ] refl is

@@ -88,29 +88,29 @@ placed_new n (x ∷ xs) i is no_one =
 
 over_open : (n : ℕ) (es : List Enqueued) → AreAbove n (all_waiting es) → AllOver n (open_of es)
 over_open n [] above = tt
-over_open n (e ∷ es) above = elim (is_open e) as (λ v. AllOver n (cond v (e.number ∷ open_of es) (open_of es))) [
+over_open n (e ∷ es) above = elim (is_open e) as (λ v. AllOver n (cond v (e.no ∷ open_of es) (open_of es))) [
   | true ↦ (above.0, over_open n es above.1)
   | false ↦ over_open n es above.1
 ]
 
 pub open_rising : (es : List Enqueued) → IsRising (all_waiting es) → AreRising (open_of es)
 open_rising [] rising = tt
-open_rising (e ∷ es) rising = elim (is_open e) as (λ v. AreRising (cond v (e.number ∷ open_of es) (open_of es))) [
-  | true ↦ (over_open e.number es rising.0, open_rising es rising.1)
+open_rising (e ∷ es) rising = elim (is_open e) as (λ v. AreRising (cond v (e.no ∷ open_of es) (open_of es))) [
+  | true ↦ (over_open e.no es rising.0, open_rising es rising.1)
   | false ↦ open_rising es rising.1
 ]
 
 pub open_few : (es : List Enqueued) → length (open_of es) ≤ length es
 open_few [] = omega arith
-open_few (e ∷ es) = elim (is_open e) as (λ v. length (cond v (e.number ∷ open_of es) (open_of es)) ≤ suc (length es)) [
+open_few (e ∷ es) = elim (is_open e) as (λ v. length (cond v (e.no ∷ open_of es) (open_of es)) ≤ suc (length es)) [
   | true ↦ let h = open_few es in omega (arith, h)
   | false ↦ let h = open_few es in omega (arith, h)
 ]
 
-pub open_end : (es : List Enqueued) (e : Enqueued) → open_of (es ++ e ∷ []) ≡ open_of es ++ cond (is_open e) (e.number ∷ []) []
+pub open_end : (es : List Enqueued) (e : Enqueued) → open_of (es ++ e ∷ []) ≡ open_of es ++ cond (is_open e) (e.no ∷ []) []
 open_end [] e = refl
-open_end (f ∷ es) e = elim (is_open f) as (λ v. cond v (f.number ∷ open_of (es ++ e ∷ [])) (open_of (es ++ e ∷ [])) ≡ cond v (f.number ∷ open_of es) (open_of es) ++ cond (is_open e) (e.number ∷ []) []) [
-  | true ↦ ap (λ xs. f.number ∷ xs) (open_end es e)
+open_end (f ∷ es) e = elim (is_open f) as (λ v. cond v (f.no ∷ open_of (es ++ e ∷ [])) (open_of (es ++ e ∷ [])) ≡ cond v (f.no ∷ open_of es) (open_of es) ++ cond (is_open e) (e.no ∷ []) []) [
+  | true ↦ ap (λ xs. f.no ∷ xs) (open_end es e)
   | false ↦ open_end es e
 ]
 
@@ -130,41 +130,41 @@ placed_itself n x there xs same =
 placed_later : (n x : ℕ) (there : Bool) (xs : List ℕ) → x < n → placed n there (x ∷ xs) ≡ x ∷ placed n there xs
 placed_later n x there xs less = ap (λ v. cond v (x ∷ placed n there xs) (front_with n there x xs)) (is_less x n less)
 
-above_at : (n : ℕ) (es : List Enqueued) (i : ℕ) (d : Enqueued) → AreAbove n (all_waiting es) → i < length es → n < (at es i d).number
+above_at : (n : ℕ) (es : List Enqueued) (i : ℕ) (d : Enqueued) → AreAbove n (all_waiting es) → i < length es → n < (at es i d).no
 above_at n [] i d above l = absurd (omega (arith, l))
 above_at n (e ∷ es) zero d above l = above.0
 above_at n (e ∷ es) (suc i) d above l = above_at n es i d above.1 (omega (arith, l))
 
 -- one transaction changes
-pub open_set : (es : List Enqueued) (i n : ℕ) (d f : Enqueued) → IsRising (all_waiting es) → i < length es → (at es i d).number ≡ n → f.number ≡ n → open_of (slice_set es i f) ≡ placed n (is_open f) (open_of es)
+pub open_set : (es : List Enqueued) (i n : ℕ) (d f : Enqueued) → IsRising (all_waiting es) → i < length es → (at es i d).no ≡ n → f.no ≡ n → open_of (slice_set es i f) ≡ placed n (is_open f) (open_of es)
 open_set [] i n d f rising l same now = absurd (omega (arith, l))
 open_set (e ∷ es) zero n d f rising l same now =
     ap (λ k. cond (is_open f) (k ∷ open_of es) (open_of es)) now
-    ∙ sym (elim (is_open e) as (λ v. placed n (is_open f) (cond v (e.number ∷ open_of es) (open_of es)) ≡ cond (is_open f) (n ∷ open_of es) (open_of es)) [
-      | true ↦ placed_itself n e.number (is_open f) (open_of es) same
+    ∙ sym (elim (is_open e) as (λ v. placed n (is_open f) (cond v (e.no ∷ open_of es) (open_of es)) ≡ cond (is_open f) (n ∷ open_of es) (open_of es)) [
+      | true ↦ placed_itself n e.no (is_open f) (open_of es) same
       | false ↦ placed_over n (is_open f) (open_of es) (over_open n es (subst (λ k. AreAbove k (all_waiting es)) same rising.0))
     ])
 open_set (e ∷ es) (suc i) n d f rising l same now =
     let m : i < length es = omega (arith, l) in
-    let less : e.number < n = (let a = above_at e.number es i d rising.0 m in omega (arith, a, same)) in
-    elim (is_open e) as (λ v. cond v (e.number ∷ open_of (slice_set es i f)) (open_of (slice_set es i f)) ≡ placed n (is_open f) (cond v (e.number ∷ open_of es) (open_of es))) [
-      | true ↦ ap (λ xs. e.number ∷ xs) (open_set es i n d f rising.1 m same now) ∙ sym (placed_later n e.number (is_open f) (open_of es) less)
+    let less : e.no < n = (let a = above_at e.no es i d rising.0 m in omega (arith, a, same)) in
+    elim (is_open e) as (λ v. cond v (e.no ∷ open_of (slice_set es i f)) (open_of (slice_set es i f)) ≡ placed n (is_open f) (cond v (e.no ∷ open_of es) (open_of es))) [
+      | true ↦ ap (λ xs. e.no ∷ xs) (open_set es i n d f rising.1 m same now) ∙ sym (placed_later n e.no (is_open f) (open_of es) less)
       | false ↦ open_set es i n d f rising.1 m same now
     ]
 
 -- one transaction goes
-pub open_removed : (es : List Enqueued) (i n : ℕ) (d : Enqueued) → IsRising (all_waiting es) → i < length es → (at es i d).number ≡ n → open_of (remove es i) ≡ placed n false (open_of es)
+pub open_removed : (es : List Enqueued) (i n : ℕ) (d : Enqueued) → IsRising (all_waiting es) → i < length es → (at es i d).no ≡ n → open_of (remove es i) ≡ placed n false (open_of es)
 open_removed [] i n d rising l same = absurd (omega (arith, l))
 open_removed (e ∷ es) zero n d rising l same =
-    sym (elim (is_open e) as (λ v. placed n false (cond v (e.number ∷ open_of es) (open_of es)) ≡ open_of es) [
-      | true ↦ placed_itself n e.number false (open_of es) same
+    sym (elim (is_open e) as (λ v. placed n false (cond v (e.no ∷ open_of es) (open_of es)) ≡ open_of es) [
+      | true ↦ placed_itself n e.no false (open_of es) same
       | false ↦ placed_over n false (open_of es) (over_open n es (subst (λ k. AreAbove k (all_waiting es)) same rising.0))
     ])
 open_removed (e ∷ es) (suc i) n d rising l same =
     let m : i < length es = omega (arith, l) in
-    let less : e.number < n = (let a = above_at e.number es i d rising.0 m in omega (arith, a, same)) in
-    elim (is_open e) as (λ v. cond v (e.number ∷ open_of (remove es i)) (open_of (remove es i)) ≡ placed n false (cond v (e.number ∷ open_of es) (open_of es))) [
-      | true ↦ ap (λ xs. e.number ∷ xs) (open_removed es i n d rising.1 m same) ∙ sym (placed_later n e.number false (open_of es) less)
+    let less : e.no < n = (let a = above_at e.no es i d rising.0 m in omega (arith, a, same)) in
+    elim (is_open e) as (λ v. cond v (e.no ∷ open_of (remove es i)) (open_of (remove es i)) ≡ placed n false (cond v (e.no ∷ open_of es) (open_of es))) [
+      | true ↦ ap (λ xs. e.no ∷ xs) (open_removed es i n d rising.1 m same) ∙ sym (placed_later n e.no false (open_of es) less)
       | false ↦ open_removed es i n d rising.1 m same
     ]
 

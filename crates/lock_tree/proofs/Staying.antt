@@ -90,23 +90,23 @@ ready_too old new n same more h = ap (all_granted new n) same ∙ all_stay old n
 
 plan_before_more : (ws : List Waiting) (w : Waiting) (n : ℕ) → is_some (plan_of ws n) ≡ true → plan_of (ws ++ w ∷ []) n ≡ plan_of ws n
 plan_before_more [] w n there = absurd (cc)
-plan_before_more (v ∷ ws) w n there = elim (v.number == n) as (λ b. is_some (cond b (Some v.plan) (plan_of ws n)) ≡ true → cond b (Some v.plan) (plan_of (ws ++ w ∷ []) n) ≡ cond b (Some v.plan) (plan_of ws n)) [
+plan_before_more (v ∷ ws) w n there = elim (v.no == n) as (λ b. is_some (cond b (Some v.plan) (plan_of ws n)) ≡ true → cond b (Some v.plan) (plan_of (ws ++ w ∷ []) n) ≡ cond b (Some v.plan) (plan_of ws n)) [
   | true ↦ λ _. refl
   | false ↦ λ there. plan_before_more ws w n there
 ] there
 
 plan_marked : (ws : List Waiting) (k : ℕ) (mark : Bool) (n : ℕ) → plan_of (with_mark k mark ws) n ≡ plan_of ws n
 plan_marked [] k mark n = refl
-plan_marked (w ∷ ws) k mark n = elim (w.number == k) as (λ b. plan_of (cond b (record w { marked = mark }) w ∷ with_mark k mark ws) n ≡ plan_of (w ∷ ws) n) [
-  | true ↦ ap (cond (w.number == n) (Some w.plan)) (plan_marked ws k mark n)
-  | false ↦ ap (cond (w.number == n) (Some w.plan)) (plan_marked ws k mark n)
+plan_marked (w ∷ ws) k mark n = elim (w.no == k) as (λ b. plan_of (cond b (record w { marked = mark }) w ∷ with_mark k mark ws) n ≡ plan_of (w ∷ ws) n) [
+  | true ↦ ap (cond (w.no == n) (Some w.plan)) (plan_marked ws k mark n)
+  | false ↦ ap (cond (w.no == n) (Some w.plan)) (plan_marked ws k mark n)
 ]
 
 plan_without : (ws : List Waiting) (k n : ℕ) → k ≢ n → plan_of (without k ws) n ≡ plan_of ws n
 plan_without [] k n differ = refl
-plan_without (w ∷ ws) k n differ = elim (w.number == k) as (λ b. (w.number == k) ≡ b → plan_of (cond b (without k ws) (w ∷ without k ws)) n ≡ plan_of (w ∷ ws) n) [
-  | true ↦ λ is_k. plan_without ws k n differ ∙ sym (ap (λ b. cond b (Some w.plan) (plan_of ws n)) (another k n w.number differ is_k))
-  | false ↦ λ _. ap (cond (w.number == n) (Some w.plan)) (plan_without ws k n differ)
+plan_without (w ∷ ws) k n differ = elim (w.no == k) as (λ b. (w.no == k) ≡ b → plan_of (cond b (without k ws) (w ∷ without k ws)) n ≡ plan_of (w ∷ ws) n) [
+  | true ↦ λ is_k. plan_without ws k n differ ∙ sym (ap (λ b. cond b (Some w.plan) (plan_of ws n)) (another k n w.no differ is_k))
+  | false ↦ λ _. ap (cond (w.no == n) (Some w.plan)) (plan_without ws k n differ)
 ] refl
   where
     another : (k n m : ℕ) → k ≢ n → (m == k) ≡ true → (m == n) ≡ false
@@ -115,7 +115,7 @@ plan_without (w ∷ ws) k n differ = elim (w.number == k) as (λ b. (w.number ==
 pub ready_stays : ReadyStays
 ready_stays = record {
   enqueued = λ ws w n h. ready_too ws (ws ++ w ∷ []) n (plan_before_more ws w n (ready_there ws n h))
-      (λ r g. ap (λ q. has_number n (granted q)) (queue_end r ws w) ∙ granted_before_more [] (queue r ws) (asks w.number (mode_on r w.plan) []) n g) h;
+      (λ r g. ap (λ q. has_number n (granted q)) (queue_end r ws w) ∙ granted_before_more [] (queue r ws) (asks w.no (mode_on r w.plan) []) n g) h;
   marked = λ ws k mark n h. ready_too ws (with_mark k mark ws) n (plan_marked ws k mark n) (λ r g. ap (λ q. has_number n (granted q)) (queue_marked r k mark ws) ∙ g) h;
   released = λ ws k n differ h. ready_too ws (without k ws) n (plan_without ws k n differ)
       (λ r g. ap (λ q. has_number n (granted q)) (queue_without r k ws) ∙ granted_without [] [] (queue r ws) k n differ (λ b all. all) g) h;

@@ -20,19 +20,19 @@ use Rattle.lock_tree.proofs.Places.{at, plan_at, marked_at, number_kept, plan_ke
 
 -- ---- queues
 
-pub queue_end : (r : Resource) (ws : List Waiting) (w : Waiting) → queue r (ws ++ w ∷ []) ≡ queue r ws ++ asks w.number (mode_on r w.plan) []
+pub queue_end : (r : Resource) (ws : List Waiting) (w : Waiting) → queue r (ws ++ w ∷ []) ≡ queue r ws ++ asks w.no (mode_on r w.plan) []
 queue_end r [] w = refl
-queue_end r (v ∷ ws) w = elim (mode_on r v.plan) as (λ o. asks v.number o (queue r (ws ++ w ∷ [])) ≡ asks v.number o (queue r ws) ++ asks w.number (mode_on r w.plan) []) [
+queue_end r (v ∷ ws) w = elim (mode_on r v.plan) as (λ o. asks v.no o (queue r (ws ++ w ∷ [])) ≡ asks v.no o (queue r ws) ++ asks w.no (mode_on r w.plan) []) [
   | None ↦ queue_end r ws w
-  | Some mode ↦ ap (λ q. (v.number, mode) ∷ q) (queue_end r ws w)
+  | Some mode ↦ ap (λ q. (v.no, mode) ∷ q) (queue_end r ws w)
 ]
 
 pub queue_marked : (r : Resource) (k : ℕ) (m : Bool) (ws : List Waiting) → queue r (with_mark k m ws) ≡ queue r ws
 queue_marked r k m [] = refl
 queue_marked r k m (w ∷ ws) =
-    ap (λ n. asks n (mode_on r (cond (w.number == k) (record w { marked = m }) w).plan) (queue r (with_mark k m ws))) (number_kept (w.number == k) w m)
-    ∙ ap (λ (p : Requests). asks w.number (mode_on r p) (queue r (with_mark k m ws))) (plan_kept (w.number == k) w m)
-    ∙ ap (λ q. asks w.number (mode_on r w.plan) q) (queue_marked r k m ws)
+    ap (λ n. asks n (mode_on r (cond (w.no == k) (record w { marked = m }) w).plan) (queue r (with_mark k m ws))) (number_kept (w.no == k) w m)
+    ∙ ap (λ (p : Requests). asks w.no (mode_on r p) (queue r (with_mark k m ws))) (plan_kept (w.no == k) w m)
+    ∙ ap (λ q. asks w.no (mode_on r w.plan) q) (queue_marked r k m ws)
 
 others_asks : (k n : ℕ) (o : Option Mode) (q : Queue) → others k (asks n o q) ≡ cond (n == k) (others k q) (asks n o (others k q))
 others_asks k n None q = elim (n == k) as (λ v. others k q ≡ cond v (others k q) (others k q)) [ true ↦ refl | false ↦ refl ]
@@ -41,10 +41,10 @@ others_asks k n (Some mode) q = elim (n == k) as (λ v. cond (not v) ((n, mode) 
 pub queue_without : (r : Resource) (k : ℕ) (ws : List Waiting) → queue r (without k ws) ≡ others k (queue r ws)
 queue_without r k [] = refl
 queue_without r k (w ∷ ws) =
-    elim (w.number == k) as (λ v. queue r (cond v (without k ws) (w ∷ without k ws)) ≡ cond v (others k (queue r ws)) (asks w.number (mode_on r w.plan) (others k (queue r ws)))) [
+    elim (w.no == k) as (λ v. queue r (cond v (without k ws) (w ∷ without k ws)) ≡ cond v (others k (queue r ws)) (asks w.no (mode_on r w.plan) (others k (queue r ws)))) [
       | true ↦ queue_without r k ws
-      | false ↦ ap (λ q. asks w.number (mode_on r w.plan) q) (queue_without r k ws)
-    ] ∙ sym (others_asks k w.number (mode_on r w.plan) (queue r ws))
+      | false ↦ ap (λ q. asks w.no (mode_on r w.plan) q) (queue_without r k ws)
+    ] ∙ sym (others_asks k w.no (mode_on r w.plan) (queue r ws))
 
 above_other : (n k : ℕ) → k < n → (n == k) ≡ false
 above_other n k h = grind (arith, nat_tests)
@@ -53,9 +53,9 @@ above_other n k h = grind (arith, nat_tests)
 others_above : (r : Resource) (k : ℕ) (ws : List Waiting) → AreAbove k ws → others k (queue r ws) ≡ queue r ws
 others_above r k [] above = refl
 others_above r k (w ∷ ws) above =
-    others_asks k w.number (mode_on r w.plan) (queue r ws)
-    ∙ ap (λ v. cond v (others k (queue r ws)) (asks w.number (mode_on r w.plan) (others k (queue r ws)))) (above_other w.number k above.0)
-    ∙ ap (λ q. asks w.number (mode_on r w.plan) q) (others_above r k ws above.1)
+    others_asks k w.no (mode_on r w.plan) (queue r ws)
+    ∙ ap (λ v. cond v (others k (queue r ws)) (asks w.no (mode_on r w.plan) (others k (queue r ws)))) (above_other w.no k above.0)
+    ∙ ap (λ q. asks w.no (mode_on r w.plan) q) (others_above r k ws above.1)
 
 some_plan : (p q : Requests) → Some p ≡ Some q → p ≡ q
 some_plan p q e = cc
@@ -64,22 +64,22 @@ some_plan p q e = cc
 pub queue_elsewhere : (r : Resource) (k : ℕ) (ws : List Waiting) (plan : Requests) → IsRising ws → plan_of ws k ≡ Some plan → mode_on r plan ≡ None → others k (queue r ws) ≡ queue r ws
 queue_elsewhere r k [] plan rising is none = refl
 queue_elsewhere r k (w ∷ ws) plan rising is none =
-    elim (w.number == k) as (λ v. (w.number == k) ≡ v → cond v (Some w.plan) (plan_of ws k) ≡ Some plan → others k (queue r (w ∷ ws)) ≡ queue r (w ∷ ws)) [
+    elim (w.no == k) as (λ v. (w.no == k) ≡ v → cond v (Some w.plan) (plan_of ws k) ≡ Some plan → others k (queue r (w ∷ ws)) ≡ queue r (w ∷ ws)) [
       | true ↦ λ here is.
           let o : mode_on r w.plan ≡ None = ap (mode_on r) (some_plan w.plan plan is) ∙ none in
-          let above : AreAbove k ws = subst (λ n. AreAbove n ws) (same_numbers w.number k here) rising.0 in
-          ap (λ m. others k (asks w.number m (queue r ws))) o ∙ others_above r k ws above ∙ sym (ap (λ m. asks w.number m (queue r ws)) o)
+          let above : AreAbove k ws = subst (λ n. AreAbove n ws) (same_numbers w.no k here) rising.0 in
+          ap (λ m. others k (asks w.no m (queue r ws))) o ∙ others_above r k ws above ∙ sym (ap (λ m. asks w.no m (queue r ws)) o)
       | false ↦ λ other is.
-          others_asks k w.number (mode_on r w.plan) (queue r ws)
-          ∙ ap (λ v. cond v (others k (queue r ws)) (asks w.number (mode_on r w.plan) (others k (queue r ws)))) other
-          ∙ ap (λ q. asks w.number (mode_on r w.plan) q) (queue_elsewhere r k ws plan rising.1 is none)
+          others_asks k w.no (mode_on r w.plan) (queue r ws)
+          ∙ ap (λ v. cond v (others k (queue r ws)) (asks w.no (mode_on r w.plan) (others k (queue r ws)))) other
+          ∙ ap (λ q. asks w.no (mode_on r w.plan) q) (queue_elsewhere r k ws plan rising.1 is none)
     ] refl is
 
 -- ---- the others
 
-pub others_without : (k : ℕ) (ws : List Waiting) → AllByRecursion (λ w. (w.number == k) ≡ false) (without k ws)
+pub others_without : (k : ℕ) (ws : List Waiting) → AllByRecursion (λ w. (w.no == k) ≡ false) (without k ws)
 others_without k [] = tt
-others_without k (w ∷ ws) = elim (w.number == k) as (λ v. (w.number == k) ≡ v → AllByRecursion (λ w. (w.number == k) ≡ false) (cond v (without k ws) (w ∷ without k ws))) [
+others_without k (w ∷ ws) = elim (w.no == k) as (λ v. (w.no == k) ≡ v → AllByRecursion (λ w. (w.no == k) ≡ false) (cond v (without k ws) (w ∷ without k ws))) [
   | true ↦ λ here. others_without k ws
   | false ↦ λ other. (other, others_without k ws)
 ] refl
@@ -121,20 +121,20 @@ was_ready n b (inr h) = absurd (no_one n h)
 
 -- the flag of the transaction at a place
 pub flag_at : (queues : Resource → Queue) (es : List Enqueued) (k i : ℕ) (d : Enqueued) → ((r : Resource) → queues r ≡ queue r (all_waiting es)) → AreKnown queues [] es → i < length es
-    → (at es i d).number ≡ k → plan_of (all_waiting es) k ≡ Some (at es i d).plan.items → (at es i d).ready ≡ ready (all_waiting es) k
+    → (at es i d).no ≡ k → plan_of (all_waiting es) k ≡ Some (at es i d).plan.items → (at es i d).ready ≡ ready (all_waiting es) k
 flag_at queues es k i d lines known l number plan =
     let e = at es i d in
     let knows = known_at queues es i d l known in
-    exactly e.ready (granted_in queues e.number e.plan.items) knows.sound (λ g. was_ready e.number e.ready (knows.complete g))
-    ∙ same_plan queues (λ r. queue r (all_waiting es)) lines e.number e.plan.items
+    exactly e.ready (granted_in queues e.no e.plan.items) knows.sound (λ g. was_ready e.no e.ready (knows.complete g))
+    ∙ same_plan queues (λ r. queue r (all_waiting es)) lines e.no e.plan.items
     ∙ ap (λ n. granted_in (λ r. queue r (all_waiting es)) n e.plan.items) number
     ∙ sym (ap (all_granted (all_waiting es) k) plan)
 
-pub number_at : (k : ℕ) (es : List Enqueued) (i : ℕ) (d : Enqueued) → place_of k (all_waiting es) ≡ Some i → (at es i d).number ≡ k
+pub number_at : (k : ℕ) (es : List Enqueued) (i : ℕ) (d : Enqueued) → place_of k (all_waiting es) ≡ Some i → (at es i d).no ≡ k
 number_at k [] i d h = absurd (none_some i h)
-number_at k (e ∷ es) i d h = elim (e.number == k) as (λ v. (e.number == k) ≡ v → cond v (Some 0) (option_map (λ n. n + 1) (place_of k (all_waiting es))) ≡ Some i → (at (e ∷ es) i d).number ≡ k) [
-  | true ↦ λ here h. ap (λ n. (at (e ∷ es) n d).number) (sym (some_one 0 i h)) ∙ same_numbers e.number k here
-  | false ↦ λ other h. let j = later_place (place_of k (all_waiting es)) i h in ap (λ n. (at (e ∷ es) n d).number) j.2 ∙ number_at k es j.0 d j.1
+number_at k (e ∷ es) i d h = elim (e.no == k) as (λ v. (e.no == k) ≡ v → cond v (Some 0) (option_map (λ n. n + 1) (place_of k (all_waiting es))) ≡ Some i → (at (e ∷ es) i d).no ≡ k) [
+  | true ↦ λ here h. ap (λ n. (at (e ∷ es) n d).no) (sym (some_one 0 i h)) ∙ same_numbers e.no k here
+  | false ↦ λ other h. let j = later_place (place_of k (all_waiting es)) i h in ap (λ n. (at (e ∷ es) n d).no) j.2 ∙ number_at k es j.0 d j.1
 ] refl h
 
 -- nobody has the number
@@ -156,32 +156,32 @@ same_itself k = grind (arith, nat_tests)
 less_other : (i k : ℕ) → i < k → (i == k) ≡ false
 less_other i k h = grind (arith, nat_tests)
 
-member_above : (n : ℕ) (es : List Enqueued) (i : ℕ) (d : Enqueued) → AreAbove n (all_waiting es) → i < length es → n < (at es i d).number
+member_above : (n : ℕ) (es : List Enqueued) (i : ℕ) (d : Enqueued) → AreAbove n (all_waiting es) → i < length es → n < (at es i d).no
 member_above n [] i d above l = absurd (omega (arith, l))
 member_above n (e ∷ es) zero d above l = above.0
 member_above n (e ∷ es) (suc i) d above l = member_above n es i d above.1 (omega (arith, l))
 
-pub place_at : (es : List Enqueued) (i : ℕ) (d : Enqueued) → IsRising (all_waiting es) → i < length es → place_of (at es i d).number (all_waiting es) ≡ Some i
+pub place_at : (es : List Enqueued) (i : ℕ) (d : Enqueued) → IsRising (all_waiting es) → i < length es → place_of (at es i d).no (all_waiting es) ≡ Some i
 place_at [] i d rising l = absurd (omega (arith, l))
-place_at (e ∷ es) zero d rising l = ap (λ v. cond v (Some 0) (option_map (λ n. n + 1) (place_of e.number (all_waiting es)))) (same_itself e.number)
+place_at (e ∷ es) zero d rising l = ap (λ v. cond v (Some 0) (option_map (λ n. n + 1) (place_of e.no (all_waiting es)))) (same_itself e.no)
 place_at (e ∷ es) (suc i) d rising l =
     let m : i < length es = omega (arith, l) in
-    let less : e.number < (at es i d).number = member_above e.number es i d rising.0 m in
-    ap (λ v. cond v (Some 0) (option_map (λ n. n + 1) (place_of (at es i d).number (all_waiting es)))) (less_other e.number (at es i d).number less)
+    let less : e.no < (at es i d).no = member_above e.no es i d rising.0 m in
+    ap (λ v. cond v (Some 0) (option_map (λ n. n + 1) (place_of (at es i d).no (all_waiting es)))) (less_other e.no (at es i d).no less)
     ∙ ap (option_map (λ n. n + 1)) (place_at es i d rising.1 m) ∙ ap (λ n. Some n) (add-one i)
 
 pub item_flag : (lines : Lines) (seen es : List Enqueued) (ws : List Waiting) (i : ℕ) (d : Enqueued) → seen ≡ es → all_waiting es ≡ ws → IsRising (all_waiting es) → ((r : Resource) → line lines r ≡ queue r (all_waiting es))
-    → AreKnown (line lines) [] es → i < length seen → d ≡ at seen i d → d.ready ≡ ready ws d.number
+    → AreKnown (line lines) [] es → i < length seen → d ≡ at seen i d → d.ready ≡ ready ws d.no
 item_flag lines seen es ws i d same view rising is known l item =
     let within : i < length es = (let e = ap length same in omega (arith, l, e)) in
     let read : d ≡ at es i d = item ∙ ap (λ (xs : List Enqueued). at xs i d) same in
-    let place : place_of d.number (all_waiting es) ≡ Some i = ap (λ (e : Enqueued). place_of e.number (all_waiting es)) read ∙ place_at es i d rising within in
-    ready_flag lines es es ws d.number i d refl view is known (sym place) within read
+    let place : place_of d.no (all_waiting es) ≡ Some i = ap (λ (e : Enqueued). place_of e.no (all_waiting es)) read ∙ place_at es i d rising within in
+    ready_flag lines es es ws d.no i d refl view is known (sym place) within read
 
 known_same : (old new : Resource → Queue) → ((r : Resource) → old r ≡ new r) → (es : List Enqueued) → AreKnown old [] es → AreKnown new [] es
 known_same old new same [] known = tt
 known_same old new same (e ∷ es) known =
-    let s = same_plan old new same e.number e.plan.items in
+    let s = same_plan old new same e.no e.plan.items in
     (record { sound = λ h. sym s ∙ known.0.sound h; complete = λ g. known.0.complete (s ∙ g) }, known_same old new same es known.1)
 
 pub known_as_before : (old new : Lines) (es seen : List Enqueued) → ((r : Resource) → line new r ≡ line old r) → seen ≡ es → AreKnown (line old) [] es → AreKnown (line new) [] seen
@@ -199,7 +199,7 @@ same_tree arena free ts seen old new same items indexed tree = record {
 -- one more transaction
 pub joined_tree : (arena free size : ℕ) (ts seen new : Transactions) (e : Enqueued) (old lender lines : Lines) → IsTree arena free ts old → seen.entries.items ≡ ts.entries.items → ((r : Resource) → line lender r ≡ line old r)
     → size ≡ length e.plan.items → size ≤ free → IsIndexed new
-    → ((r : Resource) → line lines r ≡ line lender r ++ asks e.number (mode_on r e.plan.items) []) → all_waiting new.entries.items ≡ all_waiting seen.entries.items ++ waiting_of e ∷ [] → AreKnown (line lines) [] new.entries.items
+    → ((r : Resource) → line lines r ≡ line lender r ++ asks e.no (mode_on r e.plan.items) []) → all_waiting new.entries.items ≡ all_waiting seen.entries.items ++ waiting_of e ∷ [] → AreKnown (line lines) [] new.entries.items
     → IsTree arena (free - size) new lines
 joined_tree arena free size ts seen new e old lender lines tree items same n room indexed joined waiting known =
     let ws = all_waiting ts.entries.items in
@@ -209,7 +209,7 @@ joined_tree arena free size ts seen new e old lender lines tree items same n roo
     record {
       room = (let r = tree.room in omega (arith, more, n, room, r));
       indexed = indexed;
-      lines = λ r. joined r ∙ ap (λ q. q ++ asks e.number (mode_on r e.plan.items) []) (same r ∙ tree.lines r) ∙ sym (queue_end r ws w) ∙ ap (queue r) (sym is);
+      lines = λ r. joined r ∙ ap (λ q. q ++ asks e.no (mode_on r e.plan.items) []) (same r ∙ tree.lines r) ∙ sym (queue_end r ws w) ∙ ap (queue r) (sym is);
       known = known;
     }
 

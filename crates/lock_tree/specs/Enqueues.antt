@@ -6,4 +6,4 @@ use Rattle.lock_tree.specs.Locks.{Waiting}
 -- each number is less
 abbrev pub AreBelow : ℕ → List Waiting → Type 0
 AreBelow number [] = ⊤
-AreBelow number (w ∷ ws) = (w.number < number) × AreBelow number ws
+AreBelow number (w ∷ ws) = (w.no < number) × AreBelow number ws

@@ -29,7 +29,7 @@ ReadyApart =
 
 -- the first of all is ready
 abbrev pub FirstReady : Type 0
-FirstReady = (w : Waiting) (ws : List Waiting) → ready (w ∷ ws) w.number ≡ true
+FirstReady = (w : Waiting) (ws : List Waiting) → ready (w ∷ ws) w.no ≡ true
 
 -- a ready transaction stays ready until it is released: when one more is enqueued, when any is marked or unmarked, and when
 -- another is released

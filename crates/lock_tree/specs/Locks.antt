@@ -5,7 +5,7 @@ use Rattle.coarsen.specs.Subtrees.{Requests}
 
 -- a transaction that is enqueued and not released: its number, its plan, and whether it is marked
 pub record Waiting : Type 0 where
-  pub number : ℕ
+  pub no : ℕ
   pub plan : Requests
   pub marked : Bool
 
@@ -22,23 +22,23 @@ used (w ∷ ws) = length w.plan + used ws
 -- the plan of a transaction
 abbrev pub plan_of : List Waiting → ℕ → Option Requests
 plan_of [] number = None
-plan_of (w ∷ ws) number = if w.number == number then Some w.plan else plan_of ws number
+plan_of (w ∷ ws) number = if w.no == number then Some w.plan else plan_of ws number
 
 -- all but one transaction
 abbrev pub without : ℕ → List Waiting → List Waiting
 without number [] = []
-without number (w ∷ ws) = if w.number == number then without number ws else w ∷ without number ws
+without number (w ∷ ws) = if w.no == number then without number ws else w ∷ without number ws
 
 -- the same transactions, with one of them marked or not
 abbrev pub with_mark : ℕ → Bool → List Waiting → List Waiting
 with_mark number mark [] = []
-with_mark number mark (w ∷ ws) = (if w.number == number then record w { marked = mark } else w) ∷ with_mark number mark ws
+with_mark number mark (w ∷ ws) = (if w.no == number then record w { marked = mark } else w) ∷ with_mark number mark ws
 
 -- later transactions have greater numbers
 abbrev pub AreAbove : ℕ → List Waiting → Type 0
 AreAbove number [] = ⊤
-AreAbove number (w ∷ ws) = (number < w.number) × AreAbove number ws
+AreAbove number (w ∷ ws) = (number < w.no) × AreAbove number ws
 
 abbrev pub IsRising : List Waiting → Type 0
 IsRising [] = ⊤
-IsRising (w ∷ ws) = AreAbove w.number ws × IsRising ws
+IsRising (w ∷ ws) = AreAbove w.no ws × IsRising ws

@@ -6,7 +6,7 @@ use Rattle.lock_tree.specs.declared.enqueued.Enqueued.{Enqueued}
 -- how many transactions have lesser numbers, where numbers rise
 abbrev pub place_from : ℕ → List Enqueued → ℕ
 place_from number [] = 0
-place_from number (e ∷ es) = if nat_lt e.number number then place_from number es + 1 else 0
+place_from number (e ∷ es) = if nat_lt e.no number then place_from number es + 1 else 0
 
 abbrev pub is_open : Enqueued → Bool
 is_open e = not e.marked && e.ready
@@ -14,7 +14,7 @@ is_open e = not e.marked && e.ready
 -- the numbers of those that are ready and not marked
 abbrev pub open_of : List Enqueued → List ℕ
 open_of [] = []
-open_of (e ∷ es) = if is_open e then e.number ∷ open_of es else open_of es
+open_of (e ∷ es) = if is_open e then e.no ∷ open_of es else open_of es
 
 -- how many numbers are less, where numbers rise
 abbrev pub places_before : ℕ → List ℕ → ℕ

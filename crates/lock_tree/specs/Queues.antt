@@ -25,7 +25,7 @@ asks number (Some mode) queue = (number, mode) ∷ queue
 -- the queue of a resource: the requests on it, in order
 abbrev pub queue : Resource → List Waiting → Queue
 queue resource [] = []
-queue resource (w ∷ ws) = asks w.number (mode_on resource w.plan) (queue resource ws)
+queue resource (w ∷ ws) = asks w.no (mode_on resource w.plan) (queue resource ws)
 
 -- what is granted of a queue: its longest front whose members are compatible with each other, and with what is held
 abbrev pub granted_beside : List Mode → Queue → Queue

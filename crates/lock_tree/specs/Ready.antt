@@ -19,11 +19,11 @@ ready waiting number = all_granted waiting number (plan_of waiting number)
 pub record IsOpen (waiting : List Waiting) (w : Waiting) : Type 0 where
   pub there : Contains waiting w
   pub unmarked : w.marked ≡ false
-  pub is_ready : ready waiting w.number ≡ true
+  pub is_ready : ready waiting w.no ≡ true
 
 -- the least number of those that are ready and not marked, None where there is none
 abbrev pub IsNextReady : List Waiting → Option ℕ → Type 0
 IsNextReady waiting None = (w : Waiting) → IsOpen waiting w → ⊥
 IsNextReady waiting (Some number) =
-    ((w : Waiting) × IsOpen waiting w × (w.number ≡ number))
-    × ((w : Waiting) → IsOpen waiting w → number ≤ w.number)
+    ((w : Waiting) × IsOpen waiting w × (w.no ≡ number))
+    × ((w : Waiting) → IsOpen waiting w → number ≤ w.no)

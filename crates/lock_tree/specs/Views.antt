@@ -9,7 +9,7 @@ use Rattle.lock_tree.specs.declared.enqueued.Enqueued.{Enqueued}
 use Rattle.lock_tree.specs.Locks.{Waiting, Locks}
 
 abbrev pub waiting_of : Enqueued → Waiting
-waiting_of e = record { number = e.number; plan = e.plan.items; marked = e.marked }
+waiting_of e = record { no = e.no; plan = e.plan.items; marked = e.marked }
 
 abbrev pub all_waiting : List Enqueued → List Waiting
 all_waiting es = map waiting_of es
@@ -18,7 +18,7 @@ abbrev pub requests_code : Coded Requests
 requests_code = coded_list (coded× resource.the_row.coded mode.the_row.coded)
 
 abbrev pub waiting_code : Coded Waiting
-waiting_code = code_by (ℕ × (Requests × Bool)) (coded× coded_ℕ (coded× requests_code coded_bool)) (λ w. (w.number, (w.plan, w.marked))) (λ p. record { number = p.0; plan = p.1.0; marked = p.1.1 }) (λ _. refl)
+waiting_code = code_by (ℕ × (Requests × Bool)) (coded× coded_ℕ (coded× requests_code coded_bool)) (λ w. (w.no, (w.plan, w.marked))) (λ p. record { no = p.0; plan = p.1.0; marked = p.1.1 }) (λ _. refl)
 
 abbrev pub locks_code : Coded Locks
 locks_code = code_by (ℕ × List Waiting) (coded× coded_ℕ (coded_list waiting_code)) (λ l. (l.arena, l.waiting)) (λ p. record { arena = p.0; waiting = p.1 }) (λ _. refl)

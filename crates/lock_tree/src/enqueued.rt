@@ -11,7 +11,7 @@ use values::NoMemory;
 /// A transaction with its plan, and whether each of its requests is granted.
 #[derive(Drop)]
 pub(crate) struct Enqueued {
-    pub(crate) number: u64,
+    pub(crate) no: u64,
     pub(crate) plan: Vec<(Resource, Mode)>,
     pub(crate) marked: bool,
     pub(crate) ready: bool,
@@ -21,15 +21,15 @@ impl Enqueued {
     /// A transaction without a mark.
     pub(crate) fn new(
         alloc: Global,
-        number: u64,
+        no: u64,
         plan: &[(Resource, Mode)],
     ) -> Result<Enqueued, NoMemory>
         ensures { IfOk result (λ entry.
-            waiting_of entry ≡ record { number = number; plan = plan.now; marked = false }) }
+            waiting_of entry ≡ record { no = no; plan = plan.now; marked = false }) }
     {
         let plan = Vec::from_slice(alloc, plan)?;
         Ok(Enqueued {
-            number,
+            no,
             plan,
             marked: false,
             ready: false,

@@ -9,11 +9,11 @@ use footprint::Resource;
 use modes::Mode;
 
 /// Whether each request of a plan is granted to the transaction.
-pub(crate) fn are_granted(queues: &Queues, plan: &[(Resource, Mode)], number: u64) -> bool
-    ensures { result ≡ granted_in (line queues.now) number plan.now }
+pub(crate) fn are_granted(queues: &Queues, plan: &[(Resource, Mode)], no: u64) -> bool
+    ensures { result ≡ granted_in (line queues.now) no plan.now }
 {
     for (resource, _) in plan {
-        if !is_granted(queues, resource, number) {
+        if !is_granted(queues, resource, no) {
             return false;
         }
     }

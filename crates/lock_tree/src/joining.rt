@@ -38,15 +38,15 @@ pub(crate) fn make_room_for(
 }
 
 /// Puts a transaction behind the others in the queues of its plan.
-fn join_all(queues: &mut Queues, plan: &[(Resource, Mode)], number: u64)
+fn join_all(queues: &mut Queues, plan: &[(Resource, Mode)], no: u64)
     requires room { AllByRecursion (λ request. HasRoom queues.old request.0) plan.now }
     requires apart { IsStrictlySortedBy resource_cmp (keys_of plan.now) }
-    requires above { AllByRecursion (λ request. AllUnder number (numbers_of (line queues.old request.0))) plan.now }
+    requires above { AllByRecursion (λ request. AllUnder no (numbers_of (line queues.old request.0))) plan.now }
     ensures { (other : AnyResource) →
-        line queues.new other ≡ line queues.old other ++ asks number (mode_on other plan.now) [] }
+        line queues.new other ≡ line queues.old other ++ asks no (mode_on other plan.now) [] }
 {
     for (resource, mode) in plan {
-        push(queues, resource, number, *mode);
+        push(queues, resource, no, *mode);
     }
 }
 
@@ -56,18 +56,18 @@ pub(crate) fn join(queues: &mut Queues, transactions: &mut Transactions, mut ent
     requires indexed { IsIndexed transactions.old }
     requires place { HasPlace transactions.old }
     requires apart { IsStrictlySortedBy resource_cmp (keys_of entry.plan.items) }
-    requires below { AreBelow entry.number (all_waiting transactions.old.entries.items) }
+    requires below { AreBelow entry.no (all_waiting transactions.old.entries.items) }
     requires above { AllByRecursion (λ request.
-        AllUnder entry.number (numbers_of (line queues.old request.0))) entry.plan.items }
+        AllUnder entry.no (numbers_of (line queues.old request.0))) entry.plan.items }
     requires known { AreKnown (line queues.old) [] transactions.old.entries.items }
     ensures indexed { IsIndexed transactions.new }
     ensures joined { (other : AnyResource) →
-        line queues.new other ≡ line queues.old other ++ asks entry.number (mode_on other entry.plan.items) [] }
+        line queues.new other ≡ line queues.old other ++ asks entry.no (mode_on other entry.plan.items) [] }
     ensures waiting { all_waiting transactions.new.entries.items ≡ all_waiting transactions.old.entries.items
         ++ waiting_of entry ∷ [] }
     ensures known { AreKnown (line queues.new) [] transactions.new.entries.items }
 {
-    join_all(queues, entry.plan.as_slice(), entry.number);
-    entry.ready = are_granted(queues, entry.plan.as_slice(), entry.number);
+    join_all(queues, entry.plan.as_slice(), entry.no);
+    entry.ready = are_granted(queues, entry.plan.as_slice(), entry.no);
     transactions.push(entry);
 }

@@ -17,16 +17,16 @@ use footprint::Resource;
 use modes::Mode;
 
 /// Notes whether a transaction is ready.
-fn note(queues: &Queues, transactions: &mut Transactions, number: u64)
+fn note(queues: &Queues, transactions: &mut Transactions, no: u64)
     requires { IsIndexed transactions.old }
     ensures indexed { IsIndexed transactions.new }
     ensures same { all_waiting transactions.new.entries.items ≡ all_waiting transactions.old.entries.items }
     ensures noted { (mode : AnyMode) (lately : Queue) →
-        AreKnown (line queues.now) ((number, mode) ∷ lately) transactions.old.entries.items →
+        AreKnown (line queues.now) ((no, mode) ∷ lately) transactions.old.entries.items →
         AreKnown (line queues.now) lately transactions.new.entries.items }
 {
-    if let Some(place) = place_of(&transactions.entries, number) {
-        let ready = are_granted(queues, transactions.entries[place].plan.as_slice(), number);
+    if let Some(place) = place_of(&transactions.entries, no) {
+        let ready = are_granted(queues, transactions.entries[place].plan.as_slice(), no);
         transactions.set_ready(place, ready);
     }
 }
@@ -41,26 +41,26 @@ fn note_granted(queues: &Queues, transactions: &mut Transactions, resource: &Res
     ensures known { AreKnown (line queues.now) [] transactions.new.entries.items }
 {
     let mut place = first;
-    while let Some(number) = granted_at(queues, resource, place) {
-        note(queues, transactions, number);
+    while let Some(no) = granted_at(queues, resource, place) {
+        note(queues, transactions, no);
         place += 1;
     }
 }
 
 /// Takes a transaction off a resource's queue, and notes who gets ready.
-fn leave_one(queues: &mut Queues, transactions: &mut Transactions, resource: &Resource, number: u64)
+fn leave_one(queues: &mut Queues, transactions: &mut Transactions, resource: &Resource, no: u64)
     requires indexed { IsIndexed transactions.old }
     requires others { AllByRecursion (λ waiting.
-        (waiting.number == number) ≡ false) (all_waiting transactions.old.entries.items) }
+        (waiting.no == no) ≡ false) (all_waiting transactions.old.entries.items) }
     requires known { AreKnown (line queues.old) [] transactions.old.entries.items }
     ensures left { (other : AnyResource) →
-        line queues.new other ≡ (if is_same other resource.now then others number (line queues.old other)
+        line queues.new other ≡ (if is_same other resource.now then others no (line queues.old other)
         else line queues.old other) }
     ensures indexed { IsIndexed transactions.new }
     ensures same { all_waiting transactions.new.entries.items ≡ all_waiting transactions.old.entries.items }
     ensures known { AreKnown (line queues.new) [] transactions.new.entries.items }
 {
-    let stay = remove(queues, resource, number);
+    let stay = remove(queues, resource, no);
     note_granted(queues, transactions, resource, stay);
 }
 
@@ -69,20 +69,20 @@ pub(crate) fn leave_all(
     queues: &mut Queues,
     transactions: &mut Transactions,
     plan: &[(Resource, Mode)],
-    number: u64,
+    no: u64,
 )
     requires indexed { IsIndexed transactions.old }
     requires others { AllByRecursion (λ waiting.
-        (waiting.number == number) ≡ false) (all_waiting transactions.old.entries.items) }
+        (waiting.no == no) ≡ false) (all_waiting transactions.old.entries.items) }
     requires known { AreKnown (line queues.old) [] transactions.old.entries.items }
     requires elsewhere { (other : AnyResource) → mode_on other plan.now ≡ None →
-        others number (line queues.old other) ≡ line queues.old other }
-    ensures left { (other : AnyResource) → line queues.new other ≡ others number (line queues.old other) }
+        others no (line queues.old other) ≡ line queues.old other }
+    ensures left { (other : AnyResource) → line queues.new other ≡ others no (line queues.old other) }
     ensures indexed { IsIndexed transactions.new }
     ensures same { all_waiting transactions.new.entries.items ≡ all_waiting transactions.old.entries.items }
     ensures known { AreKnown (line queues.new) [] transactions.new.entries.items }
 {
     for (resource, _) in plan {
-        leave_one(queues, transactions, resource, number);
+        leave_one(queues, transactions, resource, no);
     }
 }

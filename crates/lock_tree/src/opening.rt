@@ -7,38 +7,38 @@ ghost use Rattle.lock_tree.specs.Open.{places_before, placed, AreRising};
 use std::collections::VecDeque;
 
 /// How many of the numbers are less.
-fn places_before(numbers: &VecDeque<u64>, number: u64) -> usize
+fn places_before(numbers: &VecDeque<u64>, no: u64) -> usize
     requires { AreRising numbers.now.items }
-    ensures exact { result ≡ places_before number numbers.now.items }
+    ensures exact { result ≡ places_before no numbers.now.items }
     ensures within { result ≤ length numbers.now.items }
 {
-    numbers.partition_point(|other| *other < number)
+    numbers.partition_point(|other| *other < no)
 }
 
 /// Takes a number out of rising ones.
-pub(crate) fn take_out(numbers: &mut VecDeque<u64>, number: u64)
+pub(crate) fn take_out(numbers: &mut VecDeque<u64>, no: u64)
     requires { AreRising numbers.old.items }
-    ensures items { numbers.new.items ≡ placed number false numbers.old.items }
+    ensures items { numbers.new.items ≡ placed no false numbers.old.items }
     ensures capacity { deque_capacity numbers.new ≡ deque_capacity numbers.old }
 {
-    let place = places_before(numbers, number);
-    if place < numbers.len() && numbers[place] == number {
+    let place = places_before(numbers, no);
+    if place < numbers.len() && numbers[place] == no {
         numbers.remove(place);
     }
 }
 
 /// Puts a number among rising ones. There is room for it.
-pub(crate) fn put(numbers: &mut VecDeque<u64>, number: u64)
+pub(crate) fn put(numbers: &mut VecDeque<u64>, no: u64)
     requires rising { AreRising numbers.old.items }
-    requires room { length (placed number true numbers.old.items) ≤ deque_capacity numbers.old }
-    ensures items { numbers.new.items ≡ placed number true numbers.old.items }
+    requires room { length (placed no true numbers.old.items) ≤ deque_capacity numbers.old }
+    ensures items { numbers.new.items ≡ placed no true numbers.old.items }
     ensures capacity { deque_capacity numbers.old ≤ deque_capacity numbers.new }
 {
-    let place = places_before(numbers, number);
-    if place < numbers.len() && numbers[place] == number {
+    let place = places_before(numbers, no);
+    if place < numbers.len() && numbers[place] == no {
         return;
     }
-    let _ = numbers.insert(place, number);
+    let _ = numbers.insert(place, no);
 }
 
 /// The least of rising numbers, `None` where there is none.

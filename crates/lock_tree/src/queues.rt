@@ -16,11 +16,11 @@ use values::NoMemory;
 pub(crate) type Queues = BTreeMap<Resource, RequestLine>;
 
 /// Whether a transaction's request on a resource is granted.
-pub(crate) fn is_granted(queues: &Queues, resource: &Resource, number: u64) -> bool
-    ensures { result ≡ has_number number (granted (line queues.now resource.now)) }
+pub(crate) fn is_granted(queues: &Queues, resource: &Resource, no: u64) -> bool
+    ensures { result ≡ has_number no (granted (line queues.now resource.now)) }
 {
     match queues.get(resource) {
-        Some(line) => line.is_granted(number),
+        Some(line) => line.is_granted(no),
         None => false,
     }
 }
@@ -57,29 +57,29 @@ pub(crate) fn make_room(
 }
 
 /// Puts a request behind the others on its resource.
-pub(crate) fn push(queues: &mut Queues, resource: &Resource, number: u64, mode: Mode)
+pub(crate) fn push(queues: &mut Queues, resource: &Resource, no: u64, mode: Mode)
     requires room { HasRoom queues.old resource.now }
-    requires above { AllUnder number (numbers_of (line queues.old resource.now)) }
+    requires above { AllUnder no (numbers_of (line queues.old resource.now)) }
     ensures pushed { (other : AnyResource) →
-        line queues.new other ≡ (if is_same other resource.now then line queues.old other ++ (number, mode) ∷ []
+        line queues.new other ≡ (if is_same other resource.now then line queues.old other ++ (no, mode) ∷ []
         else line queues.old other) }
     ensures room { (other : AnyResource) → is_same other resource.now ≡ false → HasRoom queues.old other →
         HasRoom queues.new other }
 {
     if let Some(line) = queues.get_mut(resource) {
-        line.push(number, mode);
+        line.push(no, mode);
     }
 }
 
 /// Takes a transaction off a resource's queue: how many of the others were granted before.
-fn leave_line(queues: &mut Queues, resource: &Resource, number: u64) -> usize
+fn leave_line(queues: &mut Queues, resource: &Resource, no: u64) -> usize
     ensures left { (other : AnyResource) →
-        line queues.new other ≡ (if is_same other resource.now then others number (line queues.old other)
+        line queues.new other ≡ (if is_same other resource.now then others no (line queues.old other)
         else line queues.old other) }
-    ensures stay { result ≡ length (others number (granted (line queues.old resource.now))) }
+    ensures stay { result ≡ length (others no (granted (line queues.old resource.now))) }
 {
     match queues.get_mut(resource) {
-        Some(line) => line.leave(number),
+        Some(line) => line.leave(no),
         None => 0,
     }
 }
@@ -106,14 +106,14 @@ fn forget_empty(queues: &mut Queues, resource: &Resource)
 
 /// Takes a transaction off a resource's queue, and forgets the resource where none asks for it: how many of the others
 /// were granted before.
-pub(crate) fn remove(queues: &mut Queues, resource: &Resource, number: u64) -> usize
+pub(crate) fn remove(queues: &mut Queues, resource: &Resource, no: u64) -> usize
     ensures left { (other : AnyResource) →
-        line queues.new other ≡ (if is_same other resource.now then others number (line queues.old other)
+        line queues.new other ≡ (if is_same other resource.now then others no (line queues.old other)
         else line queues.old other) }
-    ensures stay { result ≡ length (others number (granted (line queues.old resource.now))) }
+    ensures stay { result ≡ length (others no (granted (line queues.old resource.now))) }
     ensures kept { IsKeptForRequests queues.new resource.now }
 {
-    let stay = leave_line(queues, resource, number);
+    let stay = leave_line(queues, resource, no);
     forget_empty(queues, resource);
     stay
 }

@@ -38,12 +38,12 @@ impl Model for RequestLine {
 }
 
 /// How many of the requests are of lesser numbers.
-fn place_from(requests: &VecDeque<(u64, Mode)>, number: u64) -> usize
+fn place_from(requests: &VecDeque<(u64, Mode)>, no: u64) -> usize
     requires { AreRising (numbers_of requests.now.items) }
-    ensures exact { result ≡ places_before number (numbers_of requests.now.items) }
+    ensures exact { result ≡ places_before no (numbers_of requests.now.items) }
     ensures within { result ≤ length requests.now.items }
 {
-    requests.partition_point(|request| request.0 < number)
+    requests.partition_point(|request| request.0 < no)
 }
 
 /// Goes on behind the first so many requests, which are granted, as long as each is compatible with all before it: how
@@ -68,16 +68,16 @@ fn take_out(
     front: usize,
     held: &mut Held,
     place: usize,
-    number: u64,
+    no: u64,
 ) -> usize
     requires rising { AreRising (numbers_of requests.old.items) }
     requires front { front ≡ length (granted requests.old.items) }
     requires held { AreHeld held.old (modes_of (granted requests.old.items)) }
     requires place { place < length requests.old.items }
-    requires number { (d : ℕ × AnyMode) → (slice_index_or requests.old.items place d).0 ≡ number }
-    ensures requests { requests.new.items ≡ others number requests.old.items }
-    ensures stay { result ≡ length (others number (granted requests.old.items)) }
-    ensures held { AreHeld held.new (modes_of (others number (granted requests.old.items))) }
+    requires number { (d : ℕ × AnyMode) → (slice_index_or requests.old.items place d).0 ≡ no }
+    ensures requests { requests.new.items ≡ others no requests.old.items }
+    ensures stay { result ≡ length (others no (granted requests.old.items)) }
+    ensures held { AreHeld held.new (modes_of (others no (granted requests.old.items))) }
 {
     let Some((_, mode)) = requests.remove(place) else {
         unreachable!()
@@ -120,41 +120,35 @@ impl RequestLine {
     }
 
     /// Puts a request behind the others. There is room for it.
-    pub(crate) fn push(&mut self, number: u64, mode: Mode)
+    pub(crate) fn push(&mut self, no: u64, mode: Mode)
         requires room { 0 < self.old.room }
-        requires above { AllUnder number (numbers_of self.old.requests) }
-        ensures { self.new.requests ≡ self.old.requests ++ (number, mode) ∷ [] }
+        requires above { AllUnder no (numbers_of self.old.requests) }
+        ensures { self.new.requests ≡ self.old.requests ++ (no, mode) ∷ [] }
     {
-        self.requests.push_back_reserved((number, mode));
+        self.requests.push_back_reserved((no, mode));
         self.granted = extend(&self.requests, self.granted, &mut self.held);
     }
 
     /// Takes a transaction's request out: how many of the others were granted before.
-    pub(crate) fn leave(&mut self, number: u64) -> usize
-        ensures requests { self.new.requests ≡ others number self.old.requests }
-        ensures stay { result ≡ length (others number (granted self.old.requests)) }
+    pub(crate) fn leave(&mut self, no: u64) -> usize
+        ensures requests { self.new.requests ≡ others no self.old.requests }
+        ensures stay { result ≡ length (others no (granted self.old.requests)) }
     {
-        let place = place_from(&self.requests, number);
-        if place >= self.requests.len() || self.requests[place].0 != number {
+        let place = place_from(&self.requests, no);
+        if place >= self.requests.len() || self.requests[place].0 != no {
             return self.granted;
         }
-        let stay = take_out(
-            &mut self.requests,
-            self.granted,
-            &mut self.held,
-            place,
-            number,
-        );
+        let stay = take_out(&mut self.requests, self.granted, &mut self.held, place, no);
         self.granted = extend(&self.requests, stay, &mut self.held);
         stay
     }
 
     /// Whether a transaction's request is granted.
-    pub(crate) fn is_granted(&self, number: u64) -> bool
-        ensures { result ≡ has_number number (granted self.now.requests) }
+    pub(crate) fn is_granted(&self, no: u64) -> bool
+        ensures { result ≡ has_number no (granted self.now.requests) }
     {
-        let place = place_from(&self.requests, number);
-        place < self.granted && self.requests[place].0 == number
+        let place = place_from(&self.requests, no);
+        place < self.granted && self.requests[place].0 == no
     }
 
     /// The number of the granted request at a place, `None` where none is granted there.

@@ -23,22 +23,22 @@ pub(crate) struct Transactions {
 }
 
 /// How many transactions have lesser numbers.
-fn place_from(entries: &VecDeque<Enqueued>, number: u64) -> usize
+fn place_from(entries: &VecDeque<Enqueued>, no: u64) -> usize
     requires { IsRising (all_waiting entries.now.items) }
-    ensures exact { result ≡ place_from number entries.now.items }
+    ensures exact { result ≡ place_from no entries.now.items }
     ensures within { result ≤ length entries.now.items }
 {
-    entries.partition_point(|entry| entry.number < number)
+    entries.partition_point(|entry| entry.no < no)
 }
 
 /// The place of the transaction with a number, `None` exactly where none has it.
-pub(crate) fn place_of(entries: &VecDeque<Enqueued>, number: u64) -> Option<usize>
+pub(crate) fn place_of(entries: &VecDeque<Enqueued>, no: u64) -> Option<usize>
     requires { IsRising (all_waiting entries.now.items) }
-    ensures exact { result ≡ place_of number (all_waiting entries.now.items) }
+    ensures exact { result ≡ place_of no (all_waiting entries.now.items) }
     ensures within { IfSome result (λ place. place < length entries.now.items) }
 {
-    let place = place_from(entries, number);
-    if place < entries.len() && entries[place].number == number {
+    let place = place_from(entries, no);
+    if place < entries.len() && entries[place].no == no {
         return Some(place);
     }
     None
@@ -48,25 +48,25 @@ pub(crate) fn place_of(entries: &VecDeque<Enqueued>, number: u64) -> Option<usiz
 fn note_open(numbers: &mut VecDeque<u64>, entry: &Enqueued)
     requires rising { AreRising numbers.old.items }
     requires room { is_open entry.now ≡ true →
-        length (placed entry.now.number true numbers.old.items) ≤ deque_capacity numbers.old }
-    ensures items { numbers.new.items ≡ placed entry.now.number (is_open entry.now) numbers.old.items }
+        length (placed entry.now.no true numbers.old.items) ≤ deque_capacity numbers.old }
+    ensures items { numbers.new.items ≡ placed entry.now.no (is_open entry.now) numbers.old.items }
     ensures capacity { deque_capacity numbers.old ≤ deque_capacity numbers.new }
 {
     if entry.is_open() {
-        put(numbers, entry.number);
+        put(numbers, entry.no);
     } else {
-        take_out(numbers, entry.number);
+        take_out(numbers, entry.no);
     }
 }
 
 /// Notes whether a transaction that comes behind the others is open.
 fn push_open(numbers: &mut VecDeque<u64>, entry: &Enqueued)
     requires { deque_len numbers.old < deque_capacity numbers.old }
-    ensures items { numbers.new.items ≡ numbers.old.items ++ (if is_open entry.now then entry.now.number ∷ [] else []) }
+    ensures items { numbers.new.items ≡ numbers.old.items ++ (if is_open entry.now then entry.now.no ∷ [] else []) }
     ensures capacity { deque_capacity numbers.new ≡ deque_capacity numbers.old }
 {
     if entry.is_open() {
-        numbers.push_back_reserved(entry.number);
+        numbers.push_back_reserved(entry.no);
     }
 }
 
@@ -101,7 +101,7 @@ impl Transactions {
     pub(crate) fn push(&mut self, entry: Enqueued)
         requires indexed { IsIndexed self.old }
         requires place { HasPlace self.old }
-        requires below { AreBelow entry.number (all_waiting self.old.entries.items) }
+        requires below { AreBelow entry.no (all_waiting self.old.entries.items) }
         ensures indexed { IsIndexed self.new }
         ensures entries { self.new.entries.items ≡ self.old.entries.items ++ entry ∷ [] }
     {
@@ -148,7 +148,7 @@ impl Transactions {
         let Some(entry) = self.entries.remove(place) else {
             unreachable!()
         };
-        take_out(&mut self.open, entry.number);
+        take_out(&mut self.open, entry.no);
         entry
     }
 }

@@ -68,12 +68,12 @@ impl LockTree {
 
     /// Puts a transaction behind all others, without a mark. Full exactly where there is less room than the plan has
     /// requests. On an error nothing has changed.
-    pub fn enqueue(&mut self, number: u64, plan: &Plan) -> Result<(), EnqueueFault>
-        requires { AreBelow number self.old.waiting }
+    pub fn enqueue(&mut self, no: u64, plan: &Plan) -> Result<(), EnqueueFault>
+        requires { AreBelow no self.old.waiting }
         ensures enqueued { OnOk result (self.new
             ≡ record self.old {
               waiting = self.old.waiting
-                  ++ record { number = number; plan = plan.now; marked = false } ∷ [];
+                  ++ record { no = no; plan = plan.now; marked = false } ∷ [];
             }) }
         ensures full { (result ≡ Err EnqueueFault.Full) ↔ (self.old.arena < used self.old.waiting + length plan.now) }
         ensures err { OnErr result (self.new ≡ self.old) }
@@ -82,7 +82,7 @@ impl LockTree {
         if size > self.free {
             return Err(EnqueueFault::Full);
         }
-        let entry = Enqueued::new(self.alloc, number, plan.requests())?;
+        let entry = Enqueued::new(self.alloc, no, plan.requests())?;
         self.transactions.make_place()?;
         make_room_for(self.alloc, &mut self.queues, plan.requests())?;
         join(&mut self.queues, &mut self.transactions, entry);
@@ -91,10 +91,10 @@ impl LockTree {
     }
 
     /// Whether the transaction is there and each of its requests is granted.
-    pub fn is_ready(&self, number: u64) -> bool
-        ensures { result ≡ ready self.now.waiting number }
+    pub fn is_ready(&self, no: u64) -> bool
+        ensures { result ≡ ready self.now.waiting no }
     {
-        match place_of(&self.transactions.entries, number) {
+        match place_of(&self.transactions.entries, no) {
             Some(place) => self.transactions.entries[place].ready,
             None => false,
         }
@@ -108,42 +108,42 @@ impl LockTree {
     }
 
     /// Marks a transaction.
-    pub fn mark(&mut self, number: u64)
-        requires { IsSome (plan_of self.old.waiting number) }
-        ensures { self.new ≡ record self.old { waiting = with_mark number true self.old.waiting } }
+    pub fn mark(&mut self, no: u64)
+        requires { IsSome (plan_of self.old.waiting no) }
+        ensures { self.new ≡ record self.old { waiting = with_mark no true self.old.waiting } }
     {
-        self.set_mark(number, true);
+        self.set_mark(no, true);
     }
 
     /// Takes the mark off a transaction.
-    pub fn unmark(&mut self, number: u64)
-        requires { IsSome (plan_of self.old.waiting number) }
-        ensures { self.new ≡ record self.old { waiting = with_mark number false self.old.waiting } }
+    pub fn unmark(&mut self, no: u64)
+        requires { IsSome (plan_of self.old.waiting no) }
+        ensures { self.new ≡ record self.old { waiting = with_mark no false self.old.waiting } }
     {
-        self.set_mark(number, false);
+        self.set_mark(no, false);
     }
 
-    fn set_mark(&mut self, number: u64, mark: bool)
-        ensures { self.new ≡ record self.old { waiting = with_mark number mark self.old.waiting } }
+    fn set_mark(&mut self, no: u64, mark: bool)
+        ensures { self.new ≡ record self.old { waiting = with_mark no mark self.old.waiting } }
     {
-        if let Some(place) = place_of(&self.transactions.entries, number) {
+        if let Some(place) = place_of(&self.transactions.entries, no) {
             self.transactions.set_mark(place, mark);
         }
     }
 
     /// Takes a transaction out of the tree.
-    pub fn release(&mut self, number: u64)
-        requires { IsSome (plan_of self.old.waiting number) }
-        ensures { self.new ≡ record self.old { waiting = without number self.old.waiting } }
+    pub fn release(&mut self, no: u64)
+        requires { IsSome (plan_of self.old.waiting no) }
+        ensures { self.new ≡ record self.old { waiting = without no self.old.waiting } }
     {
-        if let Some(place) = place_of(&self.transactions.entries, number) {
+        if let Some(place) = place_of(&self.transactions.entries, no) {
             let entry = self.transactions.remove(place);
             self.free += entry.plan.len();
             leave_all(
                 &mut self.queues,
                 &mut self.transactions,
                 entry.plan.as_slice(),
-                number,
+                no,
             );
         }
     }

@@ -32,7 +32,7 @@ use Rattle.proclang.specs.BrokenExpressions.{not_int, in_expr}
 use Rattle.proclang.specs.declared.expr_form.Section.TheVariants as sections
 use Rattle.proclang.specs.BrokenNames.{in_table}
 use Rattle.proclang.specs.BrokenStatements.{in_parts, in_block}
-use Rattle.proclang.specs.BrokenProcs.{in_named_parts, in_new_name, name_of_param, in_param_form, in_param, in_params, params_of_form, params_said, in_int, in_entry_form, in_entry, in_footprint_form, in_footprint, name_of_proc, in_proc_form, in_proc, in_procs_form, broken_proc_rules}
+use Rattle.proclang.specs.BrokenProcs.{in_named_parts, in_new_name, name_of_param, in_param_form, in_param, in_params, params_of_form, params_said, in_int, in_entry_form, in_entry, in_footprint_form, in_footprint, name_of_proc, in_proc_form, in_proc, in_procs_form, procedures_faults}
 use Rattle.proclang.proofs.FirstNames.{found_first}
 use Rattle.proclang.proofs.FirstTypes.{type_so, int_first}
 use Rattle.proclang.proofs.FirstExpressions.{expr_first}
@@ -196,7 +196,7 @@ proc_name_so tables path before d p e =
     ap (option_map (λ (f : ProcDocument). f.name)) (formed_ok (At Shape path) (proc_form d) form.0 form.1) ∙ ap (λ (q : ProcSyntax). Some q.name) is
 
 -- the first rule that is broken, or none is
-pub procs_first : (tables : List TableShape) (d : Data) → IsFirst (procs_at tables d) (broken_proc_rules tables d)
+pub procs_first : (tables : List TableShape) (d : Data) → IsFirst (procs_at tables d) (procedures_faults tables d)
 unfolding procs_at
 procs_first tables d = formed_first (At Shape []) (versioned_list (codes "procs") d) _ (in_procs_form tables) refl (λ ds.
     rule_first (leb (length ds) 256) (At Limit (2 ∷ [])) (λ _. each_proc tables (2 ∷ []) ds) (in_named_parts name_of_proc (in_proc tables) (2 ∷ []) 0 [] ds)

@@ -1,5 +1,5 @@
 -- Claimed: what contracts promise to a reader rests on these words.
--- Every rule that an expression breaks, each with its path, in the order of the rules: a form before its parts, the parts from left to right, and their types after all of them. No rule here hangs on what reading gives.
+-- The faults of an expression, each with its path, in the order in which rules are looked at: a form before its parts, the parts from left to right, and their types after all of them. No rule here hangs on what reading gives.
 use Rattle.std.specs.Prelude.{ℕ, zero, suc, nat_le, Bool, true, false, List, [], ◌∷◌, ◌++◌, length, Option, Some, None, is_some}
 use Rattle.serde_json.specs.Data.{Data}
 use Rattle.documents.specs.FirstFault.{broken}

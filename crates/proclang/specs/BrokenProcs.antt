@@ -1,5 +1,5 @@
 -- Claimed: what contracts promise to a reader rests on these words.
--- Every rule that a document of procedures breaks, each with its path, in the order of the rules. No rule here hangs on what reading gives.
+-- The faults of a document of procedures, each with its path, in the order in which rules are looked at: the first is the one that is answered, and there is none where no rule is broken. Those behind the first may follow from it, and be of rules that the document keeps: a parameter whose type is refused is no variable, so a use of its name stands here as that of an unknown one. No rule here hangs on what reading gives.
 use Rattle.std.specs.Prelude.{ℕ, ◌+◌, not, List, [], ◌∷◌, ◌++◌, Option, Some, None, option_map, codes}
 use Rattle.std.specs.Option.{option_to_list}
 use Rattle.serde_json.specs.Data.{Data}
@@ -99,6 +99,6 @@ abbrev pub in_procs_form : List TableShape → Option (List Data) → List ProcF
 in_procs_form tables None = At Shape [] ∷ []
 in_procs_form tables (Some ds) = too_many (2 ∷ []) 256 ds ++ in_named_parts name_of_proc (in_proc tables) (2 ∷ []) 0 [] ds
 
--- every rule that a document of procedures over the tables of a catalogue breaks
-abbrev pub broken_proc_rules : List TableShape → Data → List ProcFault
-broken_proc_rules tables d = in_procs_form tables (versioned_list (codes "procs") d)
+-- the faults of a document of procedures over the tables of a catalogue, the first of which is answered
+abbrev pub procedures_faults : List TableShape → Data → List ProcFault
+procedures_faults tables d = in_procs_form tables (versioned_list (codes "procs") d)

@@ -1,5 +1,5 @@
 -- Claimed: what contracts promise to a reader rests on these words.
--- Every rule that a statement or a block breaks, each with its path, in the order of the rules; and the variables that are seen after a statement. No rule here hangs on what reading gives.
+-- The faults of a statement and of a block, each with its path, in the order in which rules are looked at; and the variables that are seen after a statement. No rule here hangs on what reading gives.
 use Rattle.std.specs.Prelude.{ℕ, zero, suc, ℤ, pos, negsuc, ◌+◌, ◌==◌, Bool, true, false, ◌&&◌, not, nat_le, List, [], ◌∷◌, ◌++◌, length, Option, Some, None, option_map, option_and_then, unwrap_or}
 use Rattle.std.specs.List.{zip}
 use Rattle.serde_json.specs.Data.{Data}

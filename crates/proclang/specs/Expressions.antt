@@ -17,6 +17,7 @@ use Rattle.proclang.specs.declared.fault.ProcFault.{ProcFault}
 use Rattle.proclang.specs.declared.fault.ProcFault.TheVariants.{At}
 use Rattle.proclang.specs.declared.operator.Operator.{Operator}
 use Rattle.proclang.specs.declared.operator.Operator.TheVariants.{Arithmetic, Less, AtMost, Same, And, Or}
+use Rattle.proclang.specs.declared.expr_context.ExprContext.{ExprContext}
 use Rattle.proclang.specs.declared.expr_form.Section.{Section}
 use Rattle.proclang.specs.declared.expr_form.Section.TheVariants as sections
 use Rattle.proclang.specs.declared.scope.Found.{Found}
@@ -164,6 +165,10 @@ expr_at section tables zero path scope d = do
 expr_at section tables (suc room) path scope d = do
   form ← formed (At Shape path) (form_in section d)
   node_at tables (expr_at section tables room) path scope form
+
+-- how an expression is read in a context
+abbrev pub reader_in : ExprContext → PartReader
+reader_in c = expr_at c.section c.catalogue.now c.room
 
 -- an outermost expression in a statement
 abbrev pub statement_expr : List TableShape → List ℕ → List Seen → Data → Result ExprSyntax ProcFault

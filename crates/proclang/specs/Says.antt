@@ -62,3 +62,7 @@ pub record SaysProcs (tables : List TableShape) (d : Data) (ps : List ProcSyntax
   pub few : length list ≤ 256
   pub are : Says (SaysProc tables) list ps
   pub names : AreNames (map (λ p. p.name) ps)
+
+-- over given tables, a document says one list of procedures, and no other
+abbrev pub OneListOfProceduresIsSaid : Type 0
+OneListOfProceduresIsSaid = (tables : List TableShape) (d : Data) (ps qs : List ProcSyntax) → SaysProcs tables d ps → SaysProcs tables d qs → ps ≡ qs

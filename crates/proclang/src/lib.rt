@@ -2,8 +2,10 @@
 #![tactic(auto)]
 
 mod combine;
+mod expr_context;
 mod expr_form;
 mod fault;
+pub mod laws;
 mod limits;
 mod node;
 mod operator;
@@ -25,6 +27,7 @@ mod typed;
 mod typed_stmt;
 
 pub use fault::{FaultKind, Places, ProcFault};
+pub use laws::one_list_of_procedures_is_said;
 pub use proclang_types::{
     BoolExpr, Comparison, Equality, Expr, FootprintEntry, IntExpr, IntOperator, Param, Proc, Right,
     Stmt, TextExpr, ValueExpr,

@@ -6,7 +6,7 @@ ghost use Rattle.documents.specs.FirstFault.{first};
 ghost use Rattle.documents.specs.Reading.{Reads};
 ghost use Rattle.proclang_types.specs.Procedures.{proc_syntax};
 ghost use Rattle.proclang_types.specs.Syntax.{ProcSyntax};
-ghost use Rattle.proclang.specs.BrokenProcs.{broken_proc_rules};
+ghost use Rattle.proclang.specs.BrokenProcs.{procedures_faults};
 ghost use Rattle.proclang.specs.Says.{SaysProcs};
 ghost use Rattle.proclang.specs.declared.fault.ProcFault.TheVariants.{Memory};
 ghost use Rattle.proclang.specs.Paths.{places};
@@ -76,10 +76,10 @@ pub fn read_procs(
         Reads is_memory (λ p. map proc_syntax p.procs) result (Ok ps) }
     // The fault is the first rule that the document breaks, with its path.
     ensures first { IfErr result (λ e. (e ≡ Memory) ⊎
-        (first (broken_proc_rules catalogue.now (view document.now)) ≡ Some e)) }
+        (first (procedures_faults catalogue.now (view document.now)) ≡ Some e)) }
     // A document that is read breaks no rule, and one that breaks none is read, unless memory runs out.
-    ensures unbroken { OnOk result (broken_proc_rules catalogue.now (view document.now) ≡ []) }
-    ensures none { broken_proc_rules catalogue.now (view document.now) ≡ [] → IsOkUnless result Memory }
+    ensures unbroken { OnOk result (procedures_faults catalogue.now (view document.now) ≡ []) }
+    ensures none { procedures_faults catalogue.now (view document.now) ≡ [] → IsOkUnless result Memory }
     ensures exact { Reads is_memory (λ p. map proc_syntax p.procs) result (procs_at catalogue.now (view document.now)) }
 {
     match read_document(alloc, document, catalogue) {

@@ -7,9 +7,10 @@ ghost use Rattle.proclang_types.specs.Views.{expr_view};
 ghost use Rattle.proclang.specs.Paths.{places};
 ghost use Rattle.proclang.specs.Faults.{is_memory};
 ghost use Rattle.proclang.specs.Seen.{found_in};
-ghost use Rattle.proclang.specs.Expressions.{named, literal_at, not_at, binary_at, exists_at, count_at, sum_at, expr_at, statement_expr};
+ghost use Rattle.proclang.specs.Expressions.{named, literal_at, not_at, binary_at, exists_at, count_at, sum_at, reader_in, statement_expr};
 
 use crate::combine::combine;
+use crate::expr_context::{DEEPEST, ExprContext};
 use crate::expr_form::{BinaryForm, CountForm, ExistsForm, ExprForm, Section, SumForm, form_in};
 use crate::fault::{FaultKind, ProcFault, fault};
 use crate::node::{count, negation, sum};
@@ -22,9 +23,6 @@ use proclang_types::{BoolExpr, Expr, IntExpr, TextExpr};
 use serde_json::Value;
 use std::alloc::Global;
 use values::{ColType, Text};
-
-/// The last depth that blocks and expressions may nest to; the outermost have depth 1.
-pub(crate) const DEEPEST: u32 = 24;
 
 fn read_variable(
     alloc: Global,
@@ -56,18 +54,15 @@ fn read_literal(alloc: Global, path: &Path<'_>, text: &str) -> Result<Expr, Proc
 #[tactic(auto, unfolding(crate::specs::Expressions::not_at))]
 fn read_not(
     alloc: Global,
-    section: Section,
-    catalogue: &Catalogue,
-    scope: &Scope,
-    room: u32,
+    context: ExprContext<'_>,
     path: &Path<'_>,
     part: &Value,
 ) -> Result<Expr, ProcFault>
     ensures { Reads is_memory expr_view result
-        (not_at (expr_at section catalogue.now room) (places path.now) scope.now (view part.now)) }
+        (not_at (reader_in context.entry) (places path.now) context.entry.scope.now (view part.now)) }
 {
     let part_path = Path::Element(&*path, 1);
-    let part = read_expr(alloc, section, catalogue, scope, room, &part_path, part)?;
+    let part = read_expr(alloc, context, &part_path, part)?;
     let part = as_bool(alloc, &part_path, part)?;
     negation(alloc, part)
 }
@@ -76,34 +71,18 @@ fn read_not(
 #[tactic(auto, unfolding(crate::specs::Expressions::binary_at))]
 fn read_binary(
     alloc: Global,
-    section: Section,
-    catalogue: &Catalogue,
-    scope: &Scope,
-    room: u32,
+    context: ExprContext<'_>,
     path: &Path<'_>,
     form: BinaryForm<'_>,
 ) -> Result<Expr, ProcFault>
     ensures { Reads is_memory expr_view result
-        (binary_at (expr_at section catalogue.now room) (places path.now) scope.now form.entry.operator
+        (binary_at (reader_in context.entry) (places path.now) context.entry.scope.now form.entry.operator
         (view form.entry.left.now) (view form.entry.right.now)) }
 {
     let left_path = Path::Element(&*path, 1);
     let right_path = Path::Element(&*path, 2);
-    let left = read_expr(
-        alloc, section, catalogue, scope, room, &left_path, form.left,
-    )?;
-    let (left, right) = paired(
-        left,
-        read_expr(
-            alloc,
-            section,
-            catalogue,
-            scope,
-            room,
-            &right_path,
-            form.right,
-        ),
-    )?;
+    let left = read_expr(alloc, context, &left_path, form.left)?;
+    let (left, right) = paired(left, read_expr(alloc, context, &right_path, form.right))?;
     combine(alloc, form.operator, &left_path, left, &right_path, right)
 }
 
@@ -111,20 +90,22 @@ fn read_binary(
 #[tactic(auto, unfolding(crate::specs::Expressions::exists_at))]
 fn read_exists(
     alloc: Global,
-    section: Section,
-    catalogue: &Catalogue,
-    scope: &Scope,
-    room: u32,
+    context: ExprContext<'_>,
     path: &Path<'_>,
     form: ExistsForm<'_>,
 ) -> Result<Expr, ProcFault>
     ensures { Reads is_memory expr_view result
-        (exists_at catalogue.now (expr_at section catalogue.now room) (places path.now) scope.now form.entry.table.now
-        (view form.entry.key.now)) }
+        (exists_at context.entry.catalogue.now (reader_in context.entry) (places path.now) context.entry.scope.now
+        form.entry.table.now (view form.entry.key.now)) }
 {
     let key_path = Path::Element(&*path, 2);
-    let table = read_table(alloc, &Path::Element(&*path, 1), catalogue, form.table)?;
-    let key = read_expr(alloc, section, catalogue, scope, room, &key_path, form.key)?;
+    let table = read_table(
+        alloc,
+        &Path::Element(&*path, 1),
+        context.catalogue,
+        form.table,
+    )?;
+    let key = read_expr(alloc, context, &key_path, form.key)?;
     let key = as_int(alloc, &key_path, key)?;
     Ok(Expr::Bool(BoolExpr::Exists { table, key }))
 }
@@ -133,28 +114,22 @@ fn read_exists(
 #[tactic(auto, unfolding(crate::specs::Expressions::count_at))]
 fn read_count(
     alloc: Global,
-    section: Section,
-    catalogue: &Catalogue,
-    scope: &Scope,
-    room: u32,
+    context: ExprContext<'_>,
     path: &Path<'_>,
     form: CountForm<'_>,
 ) -> Result<Expr, ProcFault>
     ensures { Reads is_memory expr_view result
-        (count_at catalogue.now (expr_at section catalogue.now room) (places path.now) scope.now form.entry.table.now
-        (view form.entry.number.now)) }
+        (count_at context.entry.catalogue.now (reader_in context.entry) (places path.now) context.entry.scope.now
+        form.entry.table.now (view form.entry.number.now)) }
 {
     let part_path = Path::Element(&*path, 2);
-    let table = read_table(alloc, &Path::Element(&*path, 1), catalogue, form.table)?;
-    let part = read_expr(
+    let table = read_table(
         alloc,
-        section,
-        catalogue,
-        scope,
-        room,
-        &part_path,
-        form.number,
+        &Path::Element(&*path, 1),
+        context.catalogue,
+        form.table,
     )?;
+    let part = read_expr(alloc, context, &part_path, form.number)?;
     let part = as_int(alloc, &part_path, part)?;
     count(alloc, table, part)
 }
@@ -163,32 +138,26 @@ fn read_count(
 #[tactic(auto, unfolding(crate::specs::Expressions::sum_at))]
 fn read_sum(
     alloc: Global,
-    section: Section,
-    catalogue: &Catalogue,
-    scope: &Scope,
-    room: u32,
+    context: ExprContext<'_>,
     path: &Path<'_>,
     form: SumForm<'_>,
 ) -> Result<Expr, ProcFault>
     ensures { Reads is_memory expr_view result
-        (sum_at catalogue.now (expr_at section catalogue.now room) (places path.now) scope.now form.entry.table.now
-        (view form.entry.number.now) form.entry.column.now) }
+        (sum_at context.entry.catalogue.now (reader_in context.entry) (places path.now) context.entry.scope.now
+        form.entry.table.now (view form.entry.number.now) form.entry.column.now) }
 {
     let part_path = Path::Element(&*path, 2);
     let column_path = Path::Element(&*path, 3);
-    let table = read_table(alloc, &Path::Element(&*path, 1), catalogue, form.table)?;
-    let part = read_expr(
+    let table = read_table(
         alloc,
-        section,
-        catalogue,
-        scope,
-        room,
-        &part_path,
-        form.number,
+        &Path::Element(&*path, 1),
+        context.catalogue,
+        form.table,
     )?;
+    let part = read_expr(alloc, context, &part_path, form.number)?;
     let (part, (column, kind)) = paired(
         part,
-        read_column(alloc, &column_path, catalogue, table, form.column),
+        read_column(alloc, &column_path, context.catalogue, table, form.column),
     )?;
     let part = as_int(alloc, &part_path, part)?;
     if kind != ColType::Int {
@@ -197,38 +166,37 @@ fn read_sum(
     sum(alloc, table, part, column)
 }
 
-/// The expression that the document says in that section of a procedure, where these variables are seen, and so many
-/// levels may still nest.
+/// The expression that the document says there.
 #[cycle(expression)]
 #[tactic(auto, unfolding(crate::specs::Expressions::expr_at, crate::specs::Expressions::node_at))]
 pub(crate) fn read_expr(
     alloc: Global,
-    section: Section,
-    catalogue: &Catalogue,
-    scope: &Scope,
-    room: u32,
+    context: ExprContext<'_>,
     path: &Path<'_>,
     value: &Value,
 ) -> Result<Expr, ProcFault>
     ensures { Reads is_memory expr_view result
-        (expr_at section catalogue.now room (places path.now) scope.now (view value.now)) }
+        (reader_in context.entry (places path.now) context.entry.scope.now (view value.now)) }
 {
-    let Some(form) = form_in(section, value) else {
+    let Some(form) = form_in(context.section, value) else {
         return Err(fault(alloc, FaultKind::Shape, path));
     };
-    if room == 0 {
+    if context.room == 0 {
         return Err(fault(alloc, FaultKind::Limit, path));
     }
-    let room = room - 1;
+    let inner = ExprContext {
+        room: context.room - 1,
+        ..context
+    };
     match form {
         ExprForm::Number(number) => Ok(Expr::Int(IntExpr::Number(number))),
         ExprForm::Literal(text) => read_literal(alloc, path, text),
-        ExprForm::Variable(name) => read_variable(alloc, path, scope, name),
-        ExprForm::Not(part) => read_not(alloc, section, catalogue, scope, room, path, part),
-        ExprForm::Binary(form) => read_binary(alloc, section, catalogue, scope, room, path, form),
-        ExprForm::Exists(form) => read_exists(alloc, section, catalogue, scope, room, path, form),
-        ExprForm::Count(form) => read_count(alloc, section, catalogue, scope, room, path, form),
-        ExprForm::Sum(form) => read_sum(alloc, section, catalogue, scope, room, path, form),
+        ExprForm::Variable(name) => read_variable(alloc, path, context.scope, name),
+        ExprForm::Not(part) => read_not(alloc, inner, path, part),
+        ExprForm::Binary(form) => read_binary(alloc, inner, path, form),
+        ExprForm::Exists(form) => read_exists(alloc, inner, path, form),
+        ExprForm::Count(form) => read_count(alloc, inner, path, form),
+        ExprForm::Sum(form) => read_sum(alloc, inner, path, form),
     }
 }
 
@@ -243,5 +211,11 @@ pub(crate) fn read_statement_expr(
     ensures { Reads is_memory expr_view result
         (statement_expr catalogue.now (places path.now) scope.now (view value.now)) }
 {
-    read_expr(alloc, Section::Body, catalogue, scope, DEEPEST, path, value)
+    let context = ExprContext {
+        section: Section::Body,
+        catalogue,
+        scope,
+        room: DEEPEST,
+    };
+    read_expr(alloc, context, path, value)
 }

@@ -9,12 +9,13 @@ ghost use Rattle.proclang.specs.Faults.{is_memory};
 ghost use Rattle.proclang.specs.ProcForms.{row_parts, part_parts, entry_form_view};
 ghost use Rattle.proclang.specs.Procs.{int_at, entry_of, entry_at, each_entry, footprint_at};
 
+use crate::expr_context::{DEEPEST, ExprContext};
 use crate::expr_form::Section;
 use crate::fault::{FaultKind, ProcFault, fault};
 use crate::limits::at_most;
 use crate::path::Path;
 use crate::proc_form::{EntryForm, declared_form, entry_form};
-use crate::read_expr::{DEEPEST, read_expr};
+use crate::read_expr::read_expr;
 use crate::read_names::read_table;
 use crate::scope::Scope;
 use crate::typed::as_int;
@@ -34,8 +35,13 @@ fn read_int(
 ) -> Result<IntExpr, ProcFault>
     ensures { Reads is_memory int_view result (int_at catalogue.now (places path.now) scope.now (view value.now)) }
 {
-    let footprint = Section::Footprint;
-    let expr = read_expr(alloc, footprint, catalogue, scope, DEEPEST, path, value)?;
+    let context = ExprContext {
+        section: Section::Footprint,
+        catalogue,
+        scope,
+        room: DEEPEST,
+    };
+    let expr = read_expr(alloc, context, path, value)?;
     as_int(alloc, path, expr)
 }
 

@@ -10,11 +10,11 @@ ghost use Rattle.proclang.specs.Faults.{is_memory};
 ghost use Rattle.proclang.specs.ProcForms.{proc_parts_of};
 ghost use Rattle.proclang.specs.Procs.{parts_view, parts_at, proc_at};
 
+use crate::expr_context::DEEPEST;
 use crate::fault::{FaultKind, ProcFault, fault};
 use crate::path::Path;
 use crate::proc_form::{ProcForm, proc_form};
 use crate::read_block::read_block;
-use crate::read_expr::DEEPEST;
 use crate::read_footprint::read_footprint;
 use crate::read_names::declare;
 use crate::read_params::read_params;

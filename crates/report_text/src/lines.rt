@@ -31,12 +31,12 @@ fn push_reply_words(alloc: Global, text: &mut String, outcome: &Outcome) -> Resu
 pub fn push_reply_line(
     alloc: Global,
     text: &mut String,
-    number: u64,
+    no: u64,
     outcome: &Outcome,
 ) -> Result<(), AllocError>
-    ensures { OnOk result (string_bytes text.new ≡ string_bytes text.old ++ reply_line number (as_reply outcome.now)) }
+    ensures { OnOk result (string_bytes text.new ≡ string_bytes text.old ++ reply_line no (as_reply outcome.now)) }
 {
-    write!(text, "{number}")?;
+    write!(text, "{no}")?;
     push_reply_words(alloc, text, outcome)?;
     text.push_str("\n")
 }

@@ -67,14 +67,14 @@ fn push_resource(
 fn push_request(
     text: &mut String,
     catalogue: &Catalogue,
-    number: u64,
+    no: u64,
     request: (Resource, Mode),
 ) -> Result<(), AllocError>
-    ensures { OnOk result (string_bytes text.new ≡ string_bytes text.old ++ request_line catalogue.now number request) }
+    ensures { OnOk result (string_bytes text.new ≡ string_bytes text.old ++ request_line catalogue.now no request) }
 {
     let (resource, mode) = request;
     let word = mode_word(mode);
-    write!(text, "{number} {word} ")?;
+    write!(text, "{no} {word} ")?;
     push_resource(text, catalogue, resource)?;
     text.push_str("\n")
 }
@@ -82,14 +82,14 @@ fn push_request(
 fn push_requests(
     text: &mut String,
     catalogue: &Catalogue,
-    number: u64,
+    no: u64,
     requests: &[(Resource, Mode)],
 ) -> Result<(), AllocError>
     ensures { OnOk result (string_bytes text.new ≡ string_bytes text.old
-        ++ request_lines catalogue.now number requests.now) }
+        ++ request_lines catalogue.now no requests.now) }
 {
     for request in requests {
-        push_request(text, catalogue, number, *request)?;
+        push_request(text, catalogue, no, *request)?;
     }
     Ok(())
 }
@@ -100,15 +100,15 @@ fn push_requests(
 pub fn push_plan(
     text: &mut String,
     catalogue: &Catalogue,
-    number: u64,
+    no: u64,
     plan: &Plan,
 ) -> Result<(), AllocError>
-    ensures { OnOk result (string_bytes text.new ≡ string_bytes text.old ++ plan_lines catalogue.now number plan.now) }
+    ensures { OnOk result (string_bytes text.new ≡ string_bytes text.old ++ plan_lines catalogue.now no plan.now) }
 {
     let requests = plan.requests();
     if requests.is_empty() {
-        writeln!(text, "{number} none")
+        writeln!(text, "{no} none")
     } else {
-        push_requests(text, catalogue, number, requests)
+        push_requests(text, catalogue, no, requests)
     }
 }

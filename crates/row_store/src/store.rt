@@ -71,14 +71,14 @@ impl RowStore {
 
     /// Lends the rows that a plan locks under a number. No loan is out under that number, and none is out whose plan is in
     /// conflict with the plan. An `Err` leaves the store as it was.
-    pub fn lend(&mut self, number: u64, plan: &Plan) -> Result<Loan, NoMemory>
+    pub fn lend(&mut self, no: u64, plan: &Plan) -> Result<Loan, NoMemory>
         requires over { IsPlanOver self.old.tables plan.now }
-        requires unlent { map.get self.old.lent number ≡ None }
+        requires unlent { map.get self.old.lent no ≡ None }
         requires apart { (other : ℕ) (requests : Requests) → map.get self.old.lent other ≡ Some requests →
             ModesClash requests plan.now → ⊥ }
         ensures tables { self.new.tables ≡ self.old.tables }
         ensures rows { self.new.rows ≡ self.old.rows }
-        ensures lent { OnOk result (self.new.lent ≡ map.insert self.old.lent number plan.now) }
+        ensures lent { OnOk result (self.new.lent ≡ map.insert self.old.lent no plan.now) }
         ensures err { OnErr result (self.new ≡ self.old) }
         ensures loan_tables { IfOk result (λ loan. loan.tables ≡ self.old.tables) }
         ensures loan_plan { IfOk result (λ loan. loan.plan ≡ plan.now) }
@@ -89,7 +89,7 @@ impl RowStore {
         clashes_are_either_way();
         let held = hold(self.alloc, &self.catalogue, &mut self.shelves, plan)?;
         let catalogue = self.catalogue.clone()?;
-        self.lent.insert(number, Snapshot::of(plan))?;
+        self.lent.insert(no, Snapshot::of(plan))?;
         empty_places(&self.catalogue, &mut self.shelves, &held.written_names);
         Ok(Loan {
             alloc: self.alloc,
@@ -101,13 +101,13 @@ impl RowStore {
 
     /// Takes back what was lent under a number: the loan's rows at the names that its plan locks to write; every other name
     /// keeps its row. It takes no memory.
-    pub fn give_back(&mut self, number: u64, loan: Loan)
-        requires lent { map.get self.old.lent number ≡ Some loan.plan }
+    pub fn give_back(&mut self, no: u64, loan: Loan)
+        requires lent { map.get self.old.lent no ≡ Some loan.plan }
         requires tables { loan.tables ≡ self.old.tables }
         ensures tables { self.new.tables ≡ self.old.tables }
         ensures rows { (name : AnyName) → map.get self.new.rows name ≡ (if locks_row loan.tables loan.plan name Write
             then map.get loan.rows name else map.get self.old.rows name) }
-        ensures lent { self.new.lent ≡ map.remove self.old.lent number }
+        ensures lent { self.new.lent ≡ map.remove self.old.lent no }
     {
         locked_rows_conflict();
         let Loan {
@@ -117,7 +117,7 @@ impl RowStore {
             held,
         } = loan;
         put_back(&self.catalogue, &mut self.shelves, held);
-        self.lent.remove(&number);
+        self.lent.remove(&no);
     }
 
     /// Makes the writes of a transaction: puts each row in place of what has its name, and takes away the row of each name

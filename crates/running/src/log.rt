@@ -25,9 +25,8 @@ use crate::run_fault::RunFault;
 use crate::transcript::Transcript;
 use batch_log::{LogFaultKind, LogReader, Sink, Source};
 use engine::{BatchDone, Engine, ExecFault, Settings};
-use requests::Request;
+use requests::{Request, Setup};
 use sequencer::{Batch, BatchFault};
-use setup::Setup;
 use std::alloc::Global;
 
 /// The fault of a run whose batch the engine holds.

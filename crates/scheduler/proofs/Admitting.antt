@@ -1,15 +1,9 @@
 -- Admitting a transaction.
-use Rattle.std.proofs.Common.{◌≡◌, ◌<◌, ◌≤◌, ◌+◌, ℕ, zero, suc, nat_le, true, false, List, [], ◌∷◌, length, map, Some, None, Result, Ok, Err, ◌↔◌, slice_get, refl, sym, ap, ◌∙◌, subst, arith}
-use Rattle.std.proofs.lemmas.Bool.Decides.{nat_tests}
+use Rattle.std.proofs.Common.{◌≡◌, ◌≤◌, ◌+◌, ℕ, zero, suc, nat_le, false, List, [], ◌∷◌, length, map, Some, None, slice_get, refl, sym, ap, ◌∙◌, subst, arith}
 use Rattle.std.proofs.lemmas.Option.{slice_get_past}
 use Rattle.coarsen.specs.Subtrees.{Requests}
 use Rattle.lock_tree.specs.Locks.{Locks, used}
 use Rattle.lock_tree.specs.Enqueues.{AreBelow}
-use Rattle.lock_tree.specs.declared.tree.EnqueueFault.{EnqueueFault}
-use Rattle.lock_tree.specs.declared.tree.EnqueueFault.TheVariants as enqueue
-use Rattle.scheduler.specs.declared.scheduler.AdmitFault.{AdmitFault}
-use Rattle.scheduler.specs.declared.scheduler.AdmitFault.TheVariants as admit
-use Rattle.scheduler.specs.Admissions.{admit_fault}
 use Rattle.interp.specs.Entries.{EntryParts, entry_shape}
 use Rattle.row_store.specs.Stock.{Stock}
 use Rattle.scheduler_core.specs.declared.event.Event.TheVariants.{Admit}
@@ -56,33 +50,3 @@ module _ (w : Work) (slots : List Slot) (stock : Stock) (tree : Locks) (s : IsSc
       let count : length (map phase_in slots) ≡ length slots = length_map phase_in slots in
       let n : w.first + length (map phase_in slots) ≡ number = omega (arith, count, e) in
       subst (λ k. AreBelow k tree.waiting) n (subst (λ (l : Locks). AreBelow (w.first + length (map phase_in slots)) l.waiting) (sym s.tree_is) (follows.below (map phase_in slots)))
-
-  pub has_next : (place : ℕ) (t : Transaction) → place ≡ length slots → slice_get (log_of w) place ≡ Some t → slice_get (log_of w) (length slots) ≡ Some t
-  has_next place t e at = ap (slice_get (log_of w)) (sym e) ∙ at
-
-  pub enabled_where : (place : ℕ) (t : Transaction) (plan : Requests) → place ≡ length slots → slice_get (log_of w) place ≡ Some t → t.plan ≡ plan → used tree.waiting + length plan ≤ w.arena
-      → enabled w.arena w.first (log_of w) (map phase_in slots) Admit ≡ true
-  enabled_where place t plan e at is fits =
-      let size : length t.plan ≡ length plan = ap length is in
-      let less : used tree.waiting + length t.plan ≤ w.arena = omega (arith, size, fits) in
-      room t (has_next place t e at) ∙ grind (arith, nat_tests)
-
-  pub refused_where : (place : ℕ) (t : Transaction) (plan : Requests) → place ≡ length slots → slice_get (log_of w) place ≡ Some t → t.plan ≡ plan → w.arena < used tree.waiting + length plan
-      → enabled w.arena w.first (log_of w) (map phase_in slots) Admit ≡ false
-  refused_where place t plan e at is full =
-      let size : length t.plan ≡ length plan = ap length is in
-      let less : w.arena < used tree.waiting + length t.plan = omega (arith, size, full) in
-      room t (has_next place t e at) ∙ grind (arith, nat_tests)
-
--- what an enqueuing that went well, and one that was refused, say of the room
-pub fits_where : (r : Result (Unit {0}) EnqueueFault) (u : Unit {0}) (x arena room : ℕ) → r ≡ Ok u → ((r ≡ Err enqueue.Full) ↔ (arena < x)) → arena ≡ room → x ≤ room
-fits_where r u x arena room is full same = elim (nat_le x arena) as (λ b. nat_le x arena ≡ b → x ≤ room) [
-  | true ↦ λ e. let l : x ≤ arena = grind (arith, nat_tests) in omega (arith, l, same)
-  | false ↦ λ e. let l : arena < x = grind (arith, nat_tests) in
-      let g : Ok u ≡ Err enqueue.Full = sym is ∙ full.1 l in absurd (cc)
-] refl
-
-pub full_where : (r : Result (Unit {0}) EnqueueFault) (fault : EnqueueFault) (given : AdmitFault) (x arena room : ℕ) → r ≡ Err fault → ((r ≡ Err enqueue.Full) ↔ (arena < x)) → arena ≡ room
-    → given ≡ admit_fault fault → ◌≡◌ {A = Result ℕ AdmitFault} (Err given) (Err admit.Full) → room < x
-full_where r enqueue.Full given x arena room is full same from e = let l : arena < x = full.0 is in omega (arith, l, same)
-full_where r enqueue.NoMemory given x arena room is full same from e = let a : given ≡ admit.Full = cc in let g : admit.NoMemory ≡ admit.Full = sym from ∙ a in absurd (cc)

@@ -65,6 +65,6 @@ is_run job outcome ws left locks ran e =
 
 -- a job whose loan has other rows
 pub with_rows_left : (number : ℕ) (entry : EntryParts) (old new : Lent) → new.tables ≡ old.tables → new.plan ≡ old.plan
-    → ◌≡◌ {A = JobOf} (record { number = number; entry = entry; loan = new }) (record { number = number; entry = entry; loan = record { tables = old.tables; plan = old.plan; rows = new.rows } })
+    → ◌≡◌ {A = JobOf} (record { no = number; entry = entry; loan = new }) (record { no = number; entry = entry; loan = record { tables = old.tables; plan = old.plan; rows = new.rows } })
 with_rows_left number entry old new t p =
-    ap (λ (x : List TableShape × Requests). record { number = number; entry = entry; loan = record { tables = x.0; plan = x.1; rows = new.rows } }) (ap (λ x. (x, new.plan)) t ∙ ap (λ x. (old.tables, x)) p)
+    ap (λ (x : List TableShape × Requests). record { no = number; entry = entry; loan = record { tables = x.0; plan = x.1; rows = new.rows } }) (ap (λ x. (x, new.plan)) t ∙ ap (λ x. (old.tables, x)) p)

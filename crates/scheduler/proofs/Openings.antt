@@ -75,7 +75,7 @@ pub record Offer (s : Inside) (number place : ℕ) (e : EntryParts) (p : Request
   pub there : IsSome (plan_of s.locks.waiting number)
   pub unlent : get s.store.lent number ≡ None
   pub apart : (other : ℕ) (requests : Requests) → get s.store.lent other ≡ Some requests → ModesClash requests p → ⊥
-  pub lends : (job : JobOf) → job.number ≡ number → job.entry ≡ e → job.loan.plan ≡ p → job.loan.tables ≡ s.store.tables
+  pub lends : (job : JobOf) → job.no ≡ number → job.entry ≡ e → job.loan.plan ≡ p → job.loan.tables ≡ s.store.tables
       → ((name : RowName) → locks_row s.store.tables p name Read ≡ true → get job.loan.rows name ≡ get s.store.rows name) → IsLentAt (work_in s) place job
   pub lends_apart : (job : JobOf) → job.loan.plan ≡ p → IsApart (schedule_in s) job
   pub leaves : (new : List Slot) (stock : Stock) (tree : Locks) (slot : Slot) → new ≡ slice_set s.slots.items place slot
@@ -148,7 +148,7 @@ module _ (s : Inside) (k : Known s) where
               let of_job : ◌≡◌ {A = Transaction} t (transaction_of job) =
               sym (ap (λ (x : EntryParts). record { entry = entry_shape x; plan = job.loan.plan }) je ∙ ap (λ (q : Requests). record { entry = entry_shape e; plan = q }) jp) in
               record {
-                job_at = record { number = n ∙ o.number_is; tables = jt ∙ k.scheduled.tables; transaction = at ∙ ap (λ (x : Transaction). Some x) of_job };
+                job_at = record { no = n ∙ o.number_is; tables = jt ∙ k.scheduled.tables; transaction = at ∙ ap (λ (x : Transaction). Some x) of_job };
                 shows = k.sound.lent_rows ps s.store.rows place t job.loan.rows k.scheduled.sound idle_phase ready_there at
                     (λ name locked. shows name (ap (λ ts. locks_row ts p name Read) k.scheduled.tables ∙ locked));
               };
@@ -168,14 +168,14 @@ module _ (s : Inside) (k : Known s) where
 
 -- the job that is lent at a place that its number gives
 pub lends_job : (s : Inside) (number : ℕ) (e : EntryParts) (p : Requests) → Offer s number (number - s.first) e p → (job : JobOf) (new : List Slot)
-    → job.number ≡ number → IsLentAt (work_in s) (number - s.first) job → job.loan.plan ≡ p → new ≡ slice_set s.slots.items (number - s.first) Lent
+    → job.no ≡ number → IsLentAt (work_in s) (number - s.first) job → job.loan.plan ≡ p → new ≡ slice_set s.slots.items (number - s.first) Lent
     → LendsJob (schedule_in s) job (record { work = work_in s; slots = new })
 lends_job s number e p f job new n is_lent jp set =
-    let there : new ≡ slice_set s.slots.items (job.number - s.first) Lent = set ∙ ap (λ m. slice_set s.slots.items (m - s.first) Lent) (sym n) in
-    let slot : slice_get s.slots.items (job.number - s.first) ≡ Some Idle = subst (λ m. slice_get s.slots.items (m - s.first) ≡ Some Idle) (sym n) f.opening.slot in
+    let there : new ≡ slice_set s.slots.items (job.no - s.first) Lent = set ∙ ap (λ m. slice_set s.slots.items (m - s.first) Lent) (sym n) in
+    let slot : slice_get s.slots.items (job.no - s.first) ≡ Some Idle = subst (λ m. slice_get s.slots.items (m - s.first) ≡ Some Idle) (sym n) f.opening.slot in
     record {
       lent = subst (λ m. IsLentAt (work_in s) (m - s.first) job) (sym n) is_lent;
       apart = f.lends_apart job jp;
       new_is = ap (λ (xs : List Slot). record { work = work_in s; slots = xs }) there;
-      out = ap (λ (xs : List Slot). slice_get xs (job.number - s.first)) there ∙ set_here s.slots.items (job.number - s.first) Idle Lent slot;
+      out = ap (λ (xs : List Slot). slice_get xs (job.no - s.first)) there ∙ set_here s.slots.items (job.no - s.first) Idle Lent slot;
     }

@@ -46,10 +46,10 @@ read_too tables plan name e = one_of (own_over plan (row_resource tables name)) 
 
 -- a job whose loan alone has changed
 same_but_rows : (lent job : JobOf) (rows : Database) → job ≡ record lent { loan = record (lent.loan) { rows = rows } }
-    → (job.number ≡ lent.number) × (job.loan.tables ≡ lent.loan.tables) × (transaction_of job ≡ transaction_of lent)
-same_but_rows lent job rows e = (ap (λ (j : JobOf). j.number) e, ap (λ (j : JobOf). j.loan.tables) e, ap transaction_of e)
+    → (job.no ≡ lent.no) × (job.loan.tables ≡ lent.loan.tables) × (transaction_of job ≡ transaction_of lent)
+same_but_rows lent job rows e = (ap (λ (j : JobOf). j.no) e, ap (λ (j : JobOf). j.loan.tables) e, ap transaction_of e)
 
-pub back_parts : (s : Schedule) (done : DoneOf) (number : ℕ) (job : JobOf) (o p : Option Outcome) → ComesBack s done → number ≡ done.job.number → job ≡ done.job → o ≡ done.outcome → o ≡ p
+pub back_parts : (s : Schedule) (done : DoneOf) (number : ℕ) (job : JobOf) (o p : Option Outcome) → ComesBack s done → number ≡ done.job.no → job ≡ done.job → o ≡ done.outcome → o ≡ p
     → (slice_get s.slots (number - s.work.first) ≡ Some Lent) × (lent : JobOf) × IsLentAt s.work (number - s.work.first) lent × ComesOf lent p job
 back_parts s done number job o p b n j e f = (
   subst (λ k. slice_get s.slots (k - s.work.first) ≡ Some Lent) (sym n) b.out,
@@ -63,8 +63,8 @@ pub comes_of : (job : JobOf) (done : DoneOf) (job2 : JobOf) (o p : Option Outcom
 comes_of job done job2 o p comes j e f = subst (λ q. ComesOf job q job2) (sym e ∙ f) (subst (λ x. ComesOf job done.outcome x) (sym j) comes)
 
 -- the number of a job is that of its place
-pub number_there : (w : Work) (place : ℕ) (job : JobOf) (number : ℕ) (done : DoneOf) → IsJobAt w place job → number ≡ done.job.number → job ≡ done.job → number ≡ w.first + place
-number_there w place job number done j n e = n ∙ sym (ap (λ (x : JobOf). x.number) e) ∙ j.number
+pub number_there : (w : Work) (place : ℕ) (job : JobOf) (number : ℕ) (done : DoneOf) → IsJobAt w place job → number ≡ done.job.no → job ≡ done.job → number ≡ w.first + place
+number_there w place job number done j n e = n ∙ sym (ap (λ (x : JobOf). x.no) e) ∙ j.no
 
 -- a job that is given back is the one that was lent
 pub given_back : (w : Work) (place : ℕ) (lent job : JobOf) → IsLentAt w place lent → job ≡ lent → IsLentAt w place job
@@ -77,7 +77,7 @@ module _ (w : Work) (place : ℕ) (sound : StaysSound w.tables w.first (log_of w
       let same = same_but_rows lent job job.loan.rows comes.0 in
       record {
         job_at = record {
-          number = same.0 ∙ is.job_at.number;
+          no = same.0 ∙ is.job_at.no;
           tables = same.1 ∙ is.job_at.tables;
           transaction = is.job_at.transaction ∙ ap (λ (t : Transaction). Some t) (sym same.2);
         };
@@ -169,7 +169,7 @@ module _ (s : Inside) (k : Known s) (number place : ℕ) (number_is : number ≡
 
 -- a job that comes back run, and one that is given back
 module _ (s : Inside) (k : Known s) (now : Schedule) (view : schedule_in s ≡ now) (done : DoneOf) (back : ComesBack now done)
-    (number : ℕ) (job : JobOf) (o : Option Outcome) (n : number ≡ done.job.number) (same : job ≡ done.job) (e : o ≡ done.outcome) where
+    (number : ℕ) (job : JobOf) (o : Option Outcome) (n : number ≡ done.job.no) (same : job ≡ done.job) (e : o ≡ done.outcome) where
   returns : IsJobAt (work_in s) (number - s.first) job → slice_get s.slots.items (number - s.first) ≡ Some Lent → Return s number (number - s.first) Lent job
   returns at was = return s k number (number - s.first) (number_there (work_in s) (number - s.first) job number done at n same) Lent was refl refl job at
 

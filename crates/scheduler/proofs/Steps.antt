@@ -95,7 +95,7 @@ module _ (w : Work) (sound : StaysSound w.tables w.first (log_of w) w.start) (fo
   still_ready e ready = subst (OutAreReady w.first (log_of w)) (sym e) ready
 
   pub admitted : (slots : List Slot) (stock : Stock) (tree new : Locks) (t : Transaction) (number : ℕ) → Good slots stock tree → slice_get (log_of w) (length slots) ≡ Some t → number ≡ w.first + length slots
-      → new ≡ record tree { waiting = tree.waiting ++ record { number = number; plan = t.plan; marked = false } ∷ [] } → Good (slots ++ Idle ∷ []) stock new
+      → new ≡ record tree { waiting = tree.waiting ++ record { no = number; plan = t.plan; marked = false } ∷ [] } → Good (slots ++ Idle ∷ []) stock new
   admitted slots stock tree new t number s at n is =
       let ps = map phase_in slots in
       let count : length ps ≡ length slots = length_map phase_in slots in
@@ -109,8 +109,8 @@ module _ (w : Work) (sound : StaysSound w.tables w.first (log_of w) w.start) (fo
         ready = still_ready more (follows.stays_ready.admits ps t at_end s.ready);
         kept = kept_more w slots s.kept;
         tree_is =
-            is ∙ ap (λ (l : Locks). record { arena = l.arena; waiting = l.waiting ++ record { number = number; plan = t.plan; marked = false } ∷ [] }) s.tree_is
-            ∙ ap (λ (c : ℕ). record { arena = w.arena; waiting = waiting w.first (log_of w) ps ++ record { number = c; plan = t.plan; marked = false } ∷ [] }) k
+            is ∙ ap (λ (l : Locks). record { arena = l.arena; waiting = l.waiting ++ record { no = number; plan = t.plan; marked = false } ∷ [] }) s.tree_is
+            ∙ ap (λ (c : ℕ). record { arena = w.arena; waiting = waiting w.first (log_of w) ps ++ record { no = c; plan = t.plan; marked = false } ∷ [] }) k
             ∙ ap (λ (ws : List Waiting). record { arena = w.arena; waiting = ws }) (sym (follows.admits ps t at_end))
             ∙ tree_same (ps ++ phase.Idle ∷ []) (map phase_in (slots ++ Idle ∷ [])) (sym more);
         lent_is = λ i. s.lent_is i ∙ sym (lent_pushed w ps i) ∙ ap (λ (qs : List Phase). lent_to w qs i) (sym more);

@@ -17,7 +17,7 @@ use Rattle.row_store.specs.Stock.{Lent, lent_code}
 
 -- a transaction's number, its entry and the rows that were lent to it
 pub record JobOf : Type 0 where
-  pub number : ℕ
+  pub no : ℕ
   pub entry : EntryParts
   pub loan : Lent
 
@@ -43,7 +43,7 @@ abbrev pub IsDoneOf : JobOf → DoneOf → Type 0
 IsDoneOf job done = ComesOf job done.outcome done.job
 
 abbrev pub job_code : Coded JobOf
-job_code = code_by (ℕ × (EntryParts × Lent)) (coded× coded_ℕ (coded× entries.the_row.coded lent_code)) (λ j. (j.number, (j.entry, j.loan))) (λ p. record { number = p.0; entry = p.1.0; loan = p.1.1 }) (λ _. refl)
+job_code = code_by (ℕ × (EntryParts × Lent)) (coded× coded_ℕ (coded× entries.the_row.coded lent_code)) (λ j. (j.no, (j.entry, j.loan))) (λ p. record { no = p.0; entry = p.1.0; loan = p.1.1 }) (λ _. refl)
 
 abbrev pub done_code : Coded DoneOf
 done_code = code_by (JobOf × Option Outcome) (coded× job_code (coded_option outcomes.the_row.coded)) (λ d. (d.job, d.outcome)) (λ p. record { job = p.0; outcome = p.1 }) (λ _. refl)

@@ -13,7 +13,7 @@ use Rattle.scheduler.specs.Schedules.{Work, Schedule, log_of, phases_of}
 
 -- the job is of the transaction at a place of the log
 pub record IsJobAt (w : Work) (place : ℕ) (job : JobOf) : Type 0 where
-  pub number : job.number ≡ w.first + place
+  pub no : job.no ≡ w.first + place
   pub tables : job.loan.tables ≡ w.tables
   pub transaction : slice_get (log_of w) place ≡ Some (transaction_of job)
 
@@ -33,10 +33,10 @@ IsApart s job = (place : ℕ) (t : Transaction) → slice_get (log_of s.work) pl
 
 -- a job that is lent, and what it leaves
 pub record LendsJob (old : Schedule) (job : JobOf) (new : Schedule) : Type 0 where
-  pub lent : IsLentAt old.work (job.number - old.work.first) job
+  pub lent : IsLentAt old.work (job.no - old.work.first) job
   pub apart : IsApart old job
-  pub new_is : new ≡ record old { slots = slice_set old.slots (job.number - old.work.first) Lent }
-  pub out : slice_get new.slots (job.number - old.work.first) ≡ Some Lent
+  pub new_is : new ≡ record old { slots = slice_set old.slots (job.no - old.work.first) Lent }
+  pub out : slice_get new.slots (job.no - old.work.first) ≡ Some Lent
 
 abbrev pub LendsTo : Schedule → Option JobOf → Schedule → Type 0
 LendsTo old None new = new ≡ old
@@ -44,13 +44,13 @@ LendsTo old (Some job) new = LendsJob old job new
 
 abbrev pub number_of_job : Option JobOf → Option ℕ
 number_of_job None = None
-number_of_job (Some job) = Some job.number
+number_of_job (Some job) = Some job.no
 
 -- a job comes back that was lent and is still out: it is the run of that job, or that job given back
 pub record ComesBack (s : Schedule) (done : DoneOf) : Type 0 where
-  pub out : slice_get s.slots (done.job.number - s.work.first) ≡ Some Lent
+  pub out : slice_get s.slots (done.job.no - s.work.first) ≡ Some Lent
   pub lent : JobOf
-  pub was_lent : IsLentAt s.work (done.job.number - s.work.first) lent
+  pub was_lent : IsLentAt s.work (done.job.no - s.work.first) lent
   pub comes : IsDoneOf lent done
 
 -- what comes of a job that was lent can be settled

@@ -4,6 +4,5 @@ pub mod Schedules
 pub mod Moments
 pub mod Jobs
 pub mod Scheduled
-pub mod Admissions
 pub mod Replies
 pub mod Settling

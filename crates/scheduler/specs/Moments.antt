@@ -1,7 +1,8 @@
 -- Claimed: what contracts promise to a reader rests on these words.
 -- What can be done at a moment of a scheduler, and what answers come to.
-use Rattle.std.specs.Prelude.{ℕ, Bool, List, Option}
+use Rattle.std.specs.Prelude.{◌≡◌, ◌<◌, ℕ, Bool, false, List, length, Option}
 use Rattle.scheduler_core.specs.declared.event.Event.{Event}
+use Rattle.scheduler_core.specs.declared.event.Event.TheVariants.{Admit}
 use Rattle.scheduler_core.specs.declared.event.StepAnswer.{StepAnswer}
 use Rattle.scheduler_core.specs.Events.{enabled, Answers, Played}
 use Rattle.scheduler_core.specs.Choices.{enabled_events, IsNextEvent, IsLeastLend}
@@ -10,6 +11,10 @@ use Rattle.scheduler.specs.Schedules.{Schedule, log_of, phases_of, IsChoice}
 -- whether the event can be made
 abbrev pub can_make : Schedule → Event → Bool
 can_make s = enabled s.work.arena s.work.first (log_of s.work) (phases_of s)
+
+-- not all are admitted, and there is less room than the plan of the next one has requests
+abbrev pub LacksRoom : Schedule → Type 0
+LacksRoom s = (length s.slots < length s.work.entries) × (can_make s Admit ≡ false)
 
 -- the events that can be made, in their order
 abbrev pub events_at : Schedule → List Event

@@ -17,13 +17,13 @@ use scheduler_core::{
 use values::NoMemory;
 
 /// The step that an admitted transaction makes next, `None` exactly where it is settled.
-fn next_step(slot: &Slot, number: u64) -> Option<Event>
-    ensures { steps_of result ≡ next_step number (phase_in slot.now) }
+fn next_step(slot: &Slot, no: u64) -> Option<Event>
+    ensures { steps_of result ≡ next_step no (phase_in slot.now) }
 {
     match slot {
-        Slot::Idle => Some(Event::Lend(number)),
-        Slot::Lent | Slot::Held(_) => Some(Event::Run(number)),
-        Slot::Ran(_, _) => Some(Event::Settle(number)),
+        Slot::Idle => Some(Event::Lend(no)),
+        Slot::Lent | Slot::Held(_) => Some(Event::Run(no)),
+        Slot::Ran(_, _) => Some(Event::Settle(no)),
         Slot::Settled(_) => None,
     }
 }
@@ -61,8 +61,8 @@ impl Scheduler {
         next_event_is_enabled();
         let admitted = self.slots.len();
         if self.settled < admitted {
-            let number = self.first + self.settled as u64;
-            return next_step(&self.slots[self.settled], number);
+            let no = self.first + self.settled as u64;
+            return next_step(&self.slots[self.settled], no);
         }
         if admitted == self.entries.len() {
             return None;
@@ -71,7 +71,7 @@ impl Scheduler {
     }
 
     /// Whether the next transaction can be admitted: there is one, and there is room for its requests.
-    fn can_admit(&self) -> bool
+    pub(crate) fn can_admit(&self) -> bool
         ensures { result ≡ can_make self.now AnyEvent.Admit }
     {
         let admitted = self.slots.len();

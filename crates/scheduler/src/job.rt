@@ -14,7 +14,7 @@ use values::NoMemory;
 #[derive(Drop)]
 pub struct Job {
     alloc: Global,
-    number: u64,
+    no: u64,
     entry: Entry,
     loan: Loan,
 }
@@ -27,21 +27,21 @@ impl Model for Job {
 
     ghost coded = { job_code };
 
-    ghost view = { λ j. record { number = j.number; entry = j.entry; loan = j.loan } };
+    ghost view = { λ j. record { no = j.no; entry = j.entry; loan = j.loan } };
 
     ghost invariant = { λ j. (j.entry.request.proc.tables ≡ j.loan.tables) × LocksTouched j.entry j.loan };
 }
 
 impl Job {
     /// A job of these. The entry is over the loan's tables, and the loan's plan locks each row name that it may touch.
-    pub(crate) fn new(alloc: Global, number: u64, entry: Entry, loan: Loan) -> Job
+    pub(crate) fn new(alloc: Global, no: u64, entry: Entry, loan: Loan) -> Job
         requires tables { entry.request.proc.tables ≡ loan.tables }
         requires locks { LocksTouched entry loan }
-        ensures { result ≡ record { number = number; entry = entry; loan = loan } }
+        ensures { result ≡ record { no = no; entry = entry; loan = loan } }
     {
         Job {
             alloc,
-            number,
+            no,
             entry,
             loan,
         }
@@ -49,9 +49,9 @@ impl Job {
 
     /// The transaction's number.
     pub fn no(&self) -> u64
-        ensures { result ≡ self.now.number }
+        ensures { result ≡ self.now.no }
     {
-        self.number
+        self.no
     }
 
     /// The job's loan.
@@ -83,7 +83,7 @@ impl Model for Done {
 impl Done {
     /// The transaction's number.
     pub fn no(&self) -> u64
-        ensures { result ≡ self.now.job.number }
+        ensures { result ≡ self.now.job.no }
     {
         self.job.no()
     }

@@ -24,7 +24,7 @@ pub(crate) fn lend_to(
     alloc: Global,
     store: &mut RowStore,
     locks: &mut LockTree,
-    number: u64,
+    no: u64,
     entry: &Entry,
     plan: &Plan,
 ) -> Result<Job, NoMemory>
@@ -32,17 +32,17 @@ pub(crate) fn lend_to(
     requires locks { (name : Name) (right : Right) → touches (entry_shape entry.now) name right ≡ true →
         locks_row store.old.tables plan.now name right ≡ true }
     requires over { IsPlanOver store.old.tables plan.now }
-    requires unlent { map.get store.old.lent number ≡ None }
+    requires unlent { map.get store.old.lent no ≡ None }
     requires apart { (other : ℕ) (requests : Requests) → map.get store.old.lent other ≡ Some requests →
         ModesClash requests plan.now → ⊥ }
-    requires there { IsSome (plan_of locks.old.waiting number) }
+    requires there { IsSome (plan_of locks.old.waiting no) }
     ensures tables { store.new.tables ≡ store.old.tables }
     ensures rows { store.new.rows ≡ store.old.rows }
-    ensures lent { OnOk result (store.new.lent ≡ map.insert store.old.lent number plan.now) }
-    ensures marked { OnOk result (locks.new ≡ record locks.old { waiting = with_mark number true locks.old.waiting }) }
+    ensures lent { OnOk result (store.new.lent ≡ map.insert store.old.lent no plan.now) }
+    ensures marked { OnOk result (locks.new ≡ record locks.old { waiting = with_mark no true locks.old.waiting }) }
     ensures err_store { OnErr result (store.new ≡ store.old) }
     ensures err_locks { OnErr result (locks.new ≡ locks.old) }
-    ensures number { IfOk result (λ job. job.number ≡ number) }
+    ensures number { IfOk result (λ job. job.no ≡ no) }
     ensures entry { IfOk result (λ job. job.entry ≡ entry.now) }
     ensures plan { IfOk result (λ job. job.loan.plan ≡ plan.now) }
     ensures loan_tables { IfOk result (λ job. job.loan.tables ≡ store.old.tables) }
@@ -50,39 +50,39 @@ pub(crate) fn lend_to(
         map.get job.loan.rows name ≡ map.get store.old.rows name) }
 {
     let entry = entry.clone()?;
-    let loan = store.lend(number, plan)?;
-    locks.mark(number);
-    Ok(Job::new(alloc, number, entry, loan))
+    let loan = store.lend(no, plan)?;
+    locks.mark(no);
+    Ok(Job::new(alloc, no, entry, loan))
 }
 
 /// Puts what a transaction left into the store, and takes its requests out of the lock tree.
-pub(crate) fn give_back(store: &mut RowStore, locks: &mut LockTree, number: u64, job: Job)
-    requires lent { map.get store.old.lent number ≡ Some job.loan.plan }
+pub(crate) fn give_back(store: &mut RowStore, locks: &mut LockTree, no: u64, job: Job)
+    requires lent { map.get store.old.lent no ≡ Some job.loan.plan }
     requires tables { job.loan.tables ≡ store.old.tables }
-    requires there { IsSome (plan_of locks.old.waiting number) }
+    requires there { IsSome (plan_of locks.old.waiting no) }
     ensures tables { store.new.tables ≡ store.old.tables }
     ensures rows { (name : Name) →
         map.get store.new.rows name ≡ (if locks_row job.loan.tables job.loan.plan name Right.Write
         then map.get job.loan.rows name else map.get store.old.rows name) }
-    ensures lent { store.new.lent ≡ map.remove store.old.lent number }
-    ensures released { locks.new ≡ record locks.old { waiting = without number locks.old.waiting } }
+    ensures lent { store.new.lent ≡ map.remove store.old.lent no }
+    ensures released { locks.new ≡ record locks.old { waiting = without no locks.old.waiting } }
 {
-    store.give_back(number, job.into_loan());
-    locks.release(number);
+    store.give_back(no, job.into_loan());
+    locks.release(no);
 }
 
 /// Puts the rows of a job that was not run back into the store, and takes the mark off its transaction.
-pub(crate) fn take_back(store: &mut RowStore, locks: &mut LockTree, number: u64, job: Job)
-    requires lent { map.get store.old.lent number ≡ Some job.loan.plan }
+pub(crate) fn take_back(store: &mut RowStore, locks: &mut LockTree, no: u64, job: Job)
+    requires lent { map.get store.old.lent no ≡ Some job.loan.plan }
     requires tables { job.loan.tables ≡ store.old.tables }
-    requires there { IsSome (plan_of locks.old.waiting number) }
+    requires there { IsSome (plan_of locks.old.waiting no) }
     ensures tables { store.new.tables ≡ store.old.tables }
     ensures rows { (name : Name) →
         map.get store.new.rows name ≡ (if locks_row job.loan.tables job.loan.plan name Right.Write
         then map.get job.loan.rows name else map.get store.old.rows name) }
-    ensures lent { store.new.lent ≡ map.remove store.old.lent number }
-    ensures unmarked { locks.new ≡ record locks.old { waiting = with_mark number false locks.old.waiting } }
+    ensures lent { store.new.lent ≡ map.remove store.old.lent no }
+    ensures unmarked { locks.new ≡ record locks.old { waiting = with_mark no false locks.old.waiting } }
 {
-    store.give_back(number, job.into_loan());
-    locks.unmark(number);
+    store.give_back(no, job.into_loan());
+    locks.unmark(no);
 }

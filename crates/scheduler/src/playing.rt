@@ -19,15 +19,15 @@ use values::NoMemory;
 
 impl Scheduler {
     /// The place of an admitted transaction, `None` exactly where the number is of no such transaction.
-    fn place_of(&self, number: u64) -> Option<usize>
-        ensures some { IfSome result (λ place. (number ≡ self.now.work.first + place) ×
+    fn place_of(&self, no: u64) -> Option<usize>
+        ensures some { IfSome result (λ place. (no ≡ self.now.work.first + place) ×
             (place < length self.now.slots)) }
-        ensures none { result ≡ None → phase_of self.now.work.first (phases_of self.now) number ≡ None }
+        ensures none { result ≡ None → phase_of self.now.work.first (phases_of self.now) no ≡ None }
     {
-        if number < self.first {
+        if no < self.first {
             return None;
         }
-        let place = (number - self.first) as usize;
+        let place = (no - self.first) as usize;
         if place >= self.slots.len() {
             return None;
         }
@@ -48,9 +48,9 @@ impl Scheduler {
         }
     }
 
-    fn play_lend(&mut self, number: u64) -> StepAnswer
+    fn play_lend(&mut self, no: u64) -> StepAnswer
         requires { KeepsItsJobs self.old }
-        ensures answer { AnswersAt self.old (AnyEvent.Lend number) result self.new }
+        ensures answer { AnswersAt self.old (AnyEvent.Lend no) result self.new }
         ensures same { result ≢ AnyAnswer.Made → self.new ≡ self.old }
         ensures work { self.new.work ≡ self.old.work }
         ensures keeps { KeepsItsJobs self.new }
@@ -59,20 +59,20 @@ impl Scheduler {
         rows_are_serial();
         events_by_places();
         clashes_are_either_way();
-        let Some(place) = self.place_of(number) else {
+        let Some(place) = self.place_of(no) else {
             return StepAnswer::Refused;
         };
         if !is_idle(&self.slots, place) {
             return StepAnswer::Refused;
         }
-        if !self.locks.is_ready(number) {
+        if !self.locks.is_ready(no) {
             return StepAnswer::Refused;
         }
         match lend_to(
             self.alloc,
             &mut self.store,
             &mut self.locks,
-            number,
+            no,
             &self.entries[place],
             &self.plans[place],
         ) {
@@ -84,9 +84,9 @@ impl Scheduler {
         }
     }
 
-    fn play_run(&mut self, number: u64) -> StepAnswer
+    fn play_run(&mut self, no: u64) -> StepAnswer
         requires { KeepsItsJobs self.old }
-        ensures answer { AnswersAt self.old (AnyEvent.Run number) result self.new }
+        ensures answer { AnswersAt self.old (AnyEvent.Run no) result self.new }
         ensures same { result ≢ AnyAnswer.Made → self.new ≡ self.old }
         ensures work { self.new.work ≡ self.old.work }
         ensures keeps { KeepsItsJobs self.new }
@@ -94,7 +94,7 @@ impl Scheduler {
         admitted_and_unsettled_wait();
         rows_are_serial();
         events_by_places();
-        let Some(place) = self.place_of(number) else {
+        let Some(place) = self.place_of(no) else {
             return StepAnswer::Refused;
         };
         let Some(job) = take_held(&mut self.slots, place) else {
@@ -113,9 +113,9 @@ impl Scheduler {
         }
     }
 
-    pub(crate) fn play_settle(&mut self, number: u64) -> StepAnswer
+    pub(crate) fn play_settle(&mut self, no: u64) -> StepAnswer
         requires { KeepsItsJobs self.old }
-        ensures answer { AnswersAt self.old (AnyEvent.Settle number) result self.new }
+        ensures answer { AnswersAt self.old (AnyEvent.Settle no) result self.new }
         ensures same { result ≢ AnyAnswer.Made → self.new ≡ self.old }
         ensures memory { result ≢ AnyAnswer.NoMemory }
         ensures work { self.new.work ≡ self.old.work }
@@ -124,13 +124,13 @@ impl Scheduler {
         admitted_and_unsettled_wait();
         rows_are_serial();
         events_by_places();
-        let Some(place) = self.place_of(number) else {
+        let Some(place) = self.place_of(no) else {
             return StepAnswer::Refused;
         };
         let Some((job, outcome)) = take_run(&mut self.slots, place) else {
             return StepAnswer::Refused;
         };
-        give_back(&mut self.store, &mut self.locks, number, job);
+        give_back(&mut self.store, &mut self.locks, no, job);
         put(&mut self.slots, place, Slot::Settled(outcome));
         self.settled = count_settled(&self.slots, self.settled);
         StepAnswer::Made
@@ -148,9 +148,9 @@ impl Scheduler {
     {
         match event {
             Event::Admit => self.play_admit(),
-            Event::Lend(number) => self.play_lend(number),
-            Event::Run(number) => self.play_run(number),
-            Event::Settle(number) => self.play_settle(number),
+            Event::Lend(no) => self.play_lend(no),
+            Event::Run(no) => self.play_run(no),
+            Event::Settle(no) => self.play_settle(no),
         }
     }
 

@@ -6,7 +6,7 @@ ghost use Rattle.scheduler_core.specs.declared.event.Event.{Event as AnyEvent};
 ghost use Rattle.interp.specs.Over.{AreEntriesOver};
 ghost use Rattle.scheduler.specs.Logs.{ArePlansOf};
 ghost use Rattle.scheduler.specs.Schedules.{log_of, phases_of, work_of};
-ghost use Rattle.scheduler.specs.Moments.{can_make, IsLeastLendAt};
+ghost use Rattle.scheduler.specs.Moments.{can_make, LacksRoom, IsLeastLendAt};
 ghost use Rattle.scheduler.specs.Jobs.{LendsTo, ComesBack, number_of_job};
 
 use crate::job::{Done, Job};
@@ -16,7 +16,7 @@ use crate::slot::{Slot, count_settled, put};
 use catalogue::Catalogue;
 use coarsen::{Plan, clashes_are_either_way};
 use interp::Entry;
-use lock_tree::{EnqueueFault, LockTree};
+use lock_tree::LockTree;
 use row_store::RowStore;
 use scheduler_core::{admitted_and_unsettled_wait, events_by_places, rows_are_serial};
 use std::alloc::Global;
@@ -137,7 +137,8 @@ impl Scheduler {
         ensures admitted { OnOk result (self.new ≡ record self.old { slots = self.old.slots ++ Slot.Idle ∷ [] }) }
         // All are admitted exactly where it says so.
         ensures all { (result ≡ Err AdmitFault.AllAdmitted) ↔ (length self.old.work.entries ≤ length self.old.slots) }
-        ensures full { result ≡ Err AdmitFault.Full → can_make self.old AnyEvent.Admit ≡ false }
+        // Full exactly where there is a next one, and less room than its plan has requests.
+        ensures full { (result ≡ Err AdmitFault.Full) ↔ LacksRoom self.old }
         ensures last { result ≡ Err AdmitFault.AllAdmitted → can_make self.old AnyEvent.Admit ≡ false }
         ensures err { OnErr result (self.new ≡ self.old) }
     {
@@ -147,15 +148,20 @@ impl Scheduler {
         if place >= self.plans.len() {
             return Err(AdmitFault::AllAdmitted);
         }
-        let number = self.first + place as u64;
+        if !self.can_admit() {
+            return Err(AdmitFault::Full);
+        }
+        let no = self.first + place as u64;
         if self.slots.push(Slot::Idle).is_err() {
             return Err(AdmitFault::NoMemory);
         }
-        if let Err(fault) = self.locks.enqueue(number, &self.plans[place]) {
-            self.slots.truncate(place);
-            return Err(AdmitFault::from(fault));
+        match self.locks.enqueue(no, &self.plans[place]) {
+            Ok(()) => Ok(no),
+            Err(_) => {
+                self.slots.truncate(place);
+                Err(AdmitFault::NoMemory)
+            }
         }
-        Ok(number)
     }
 
     /// Lends its rows to the ready transaction of the least number that is not out, if there is one. On an error nothing has
@@ -170,15 +176,15 @@ impl Scheduler {
         admitted_and_unsettled_wait();
         rows_are_serial();
         clashes_are_either_way();
-        let Some(number) = self.locks.next_ready() else {
+        let Some(no) = self.locks.next_ready() else {
             return Ok(None);
         };
-        let place = (number - self.first) as usize;
+        let place = (no - self.first) as usize;
         let job = lend_to(
             self.alloc,
             &mut self.store,
             &mut self.locks,
-            number,
+            no,
             &self.entries[place],
             &self.plans[place],
         )?;
@@ -192,45 +198,32 @@ impl Scheduler {
         requires { ComesBack self.old done }
         ensures settled { IfSome done.outcome (λ outcome.
             self.new ≡ record self.old {
-              slots = slice_set self.old.slots (done.job.number - self.old.work.first)
+              slots = slice_set self.old.slots (done.job.no - self.old.work.first)
                   (Slot.Settled outcome);
             }) }
         ensures back { done.outcome ≡ None →
             self.new ≡ record self.old {
               slots = slice_set self.old.slots
-                  (done.job.number - self.old.work.first) Slot.Idle;
+                  (done.job.no - self.old.work.first) Slot.Idle;
             } }
-        ensures ready { done.outcome ≡ None → can_make self.new (AnyEvent.Lend done.job.number) ≡ true }
+        ensures ready { done.outcome ≡ None → can_make self.new (AnyEvent.Lend done.job.no) ≡ true }
     {
         admitted_and_unsettled_wait();
         rows_are_serial();
         events_by_places();
-        let number = done.no();
-        let place = (number - self.first) as usize;
+        let no = done.no();
+        let place = (no - self.first) as usize;
         let (job, outcome) = done.into_parts();
         match outcome {
             Some(outcome) => {
-                give_back(&mut self.store, &mut self.locks, number, job);
+                give_back(&mut self.store, &mut self.locks, no, job);
                 put(&mut self.slots, place, Slot::Settled(outcome));
                 self.settled = count_settled(&self.slots, self.settled);
             }
             None => {
-                take_back(&mut self.store, &mut self.locks, number, job);
+                take_back(&mut self.store, &mut self.locks, no, job);
                 put(&mut self.slots, place, Slot::Idle);
             }
-        }
-    }
-}
-
-impl From<EnqueueFault> for AdmitFault {
-    ghost use Rattle.scheduler.specs.Admissions.{admit_fault};
-
-    ghost from_gives = { λ fault given. given ≡ admit_fault fault };
-
-    fn from(fault: EnqueueFault) -> AdmitFault {
-        match fault {
-            EnqueueFault::Full => AdmitFault::Full,
-            EnqueueFault::NoMemory => AdmitFault::NoMemory,
         }
     }
 }

@@ -26,8 +26,8 @@ impl Scheduler {
         admitted_and_unsettled_wait();
         rows_are_serial();
         if let Some(job) = take_held(&mut self.slots, place) {
-            let number = self.first + place as u64;
-            take_back(&mut self.store, &mut self.locks, number, job);
+            let no = self.first + place as u64;
+            take_back(&mut self.store, &mut self.locks, no, job);
             put(&mut self.slots, place, Slot::Idle);
         }
     }
@@ -42,8 +42,8 @@ impl Scheduler {
         ensures count { length self.new.slots ≡ length self.old.slots }
     {
         events_by_places();
-        let number = self.first + place as u64;
-        self.play_settle(number);
+        let no = self.first + place as u64;
+        self.play_settle(no);
         self.take_back_held(place);
     }
 

@@ -197,8 +197,8 @@ step_numbered number Ran unsettled = refl
 step_numbered number Settled unsettled = absurd (cc)
 
 module _ (first_ready : FirstReady) (arena first : ℕ) (log : List Transaction) (phases : List Phase) where
-  ready_first : (w : Waiting) (rest : List Waiting) → waiting first log phases ≡ w ∷ rest → ready (waiting first log phases) w.number ≡ true
-  ready_first w rest is = ap (λ ws. ready ws w.number) is ∙ first_ready w rest
+  ready_first : (w : Waiting) (rest : List Waiting) → waiting first log phases ≡ w ∷ rest → ready (waiting first log phases) w.no ≡ true
+  ready_first w rest is = ap (λ ws. ready ws w.no) is ∙ first_ready w rest
 
   enabled_at : (place : ℕ) (p : Phase) → slice_get phases place ≡ Some p → is_settled (Some p) ≡ false → ready (waiting first log phases) (first + place) ≡ true
       → enabled arena first log phases (step_of (first + place) p) ≡ true

@@ -93,16 +93,16 @@ module _ (arena first : ℕ) (log : List Transaction) (phases : List Phase) wher
       let (place, numbered, idle) = placed first phases number Idle (idle_is (phase_of first phases number) parts.0) in
       (place, numbered, idle, ap (ready (waiting first log phases)) (sym numbered) ∙ parts.1)
 
-  open_lends : (w : Waiting) → IsOpen (waiting first log phases) w → enabled arena first log phases (Lend w.number) ≡ true
+  open_lends : (w : Waiting) → IsOpen (waiting first log phases) w → enabled arena first log phases (Lend w.no) ≡ true
   open_lends w is_open =
       let h : Waits first log phases w = waits_from first log phases w is_open.there in
       let idle : h.phase ≡ Idle = unmarked_idle h.phase h.unsettled (sym (ap (λ (x : Waiting). x.marked) h.is) ∙ is_open.unmarked) in
-      let numbered : w.number ≡ first + h.place = ap (λ (x : Waiting). x.number) h.is in
+      let numbered : w.no ≡ first + h.place = ap (λ (x : Waiting). x.no) h.is in
       subst (λ (n : ℕ). enabled arena first log phases (Lend n) ≡ true) (sym numbered)
       (lend_there h.place (h.phase_at ∙ ap (λ (x : Phase). Some x) idle) (sym (ap (ready (waiting first log phases)) numbered) ∙ is_open.is_ready))
 
   lends_open : length phases ≤ length log → (number : ℕ) → enabled arena first log phases (Lend number) ≡ true
-      → (w : Waiting) × IsOpen (waiting first log phases) w × (w.number ≡ number)
+      → (w : Waiting) × IsOpen (waiting first log phases) w × (w.no ≡ number)
   lends_open within number can =
       let (place, numbered, idle, is_ready) = lend_from number can in
       let inside = get_within phases place Idle idle in

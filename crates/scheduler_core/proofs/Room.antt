@@ -24,7 +24,7 @@ used_pushed (v ∷ ws) w = let rest = used_pushed ws w in omega (arith, rest)
 
 used_marked : (number : ℕ) (mark : Bool) (ws : List Waiting) → used (with_mark number mark ws) ≡ used ws
 used_marked number mark [] = refl
-used_marked number mark (w ∷ ws) = elim (cases (w.number == number)) [
+used_marked number mark (w ∷ ws) = elim (cases (w.no == number)) [
   | inl same ↦ rw same (ap (λ (n : ℕ). length w.plan + n) (used_marked number mark ws))
   | inr other ↦ rw other (ap (λ (n : ℕ). length w.plan + n) (used_marked number mark ws))
 ]
@@ -33,7 +33,7 @@ used_without : (number : ℕ) (ws : List Waiting) → used (without number ws) �
 used_without number [] = omega arith
 used_without number (w ∷ ws) =
     let rest = used_without number ws in
-    elim (cases (w.number == number)) [
+    elim (cases (w.no == number)) [
       | inl same ↦ rw same (omega (arith, rest))
       | inr other ↦ rw other (omega (arith, rest))
     ]

@@ -11,7 +11,7 @@ use Rattle.scheduler_core.proofs.Numbers.{first_place, lesser_number, greater_nu
 use Rattle.scheduler_core.proofs.Waits.{nothing_waits}
 
 abbrev pub wait : ℕ → Transaction → Bool → Waiting
-wait number t mark = record { number = number; plan = t.plan; marked = mark }
+wait number t mark = record { no = number; plan = t.plan; marked = mark }
 
 -- admitting appends
 pub waits_pushed : (first : ℕ) (log : List Transaction) (phases : List Phase) (t : Transaction) → slice_get log (length phases) ≡ Some t

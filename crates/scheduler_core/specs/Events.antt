@@ -18,7 +18,7 @@ waiting first [] phases = []
 waiting first (t ∷ log) [] = []
 waiting first (t ∷ log) (p ∷ phases) =
     if is_settled (Some p) then waiting (suc first) log phases
-    else record { number = first; plan = t.plan; marked = is_out (Some p) } ∷ waiting (suc first) log phases
+    else record { no = first; plan = t.plan; marked = is_out (Some p) } ∷ waiting (suc first) log phases
 
 -- each transaction that is out is ready
 abbrev pub OutAreReady : ℕ → List Transaction → List Phase → Type 0

@@ -150,7 +150,7 @@ pub record GivenBackCanBeLent : Type 0 where
 pub record FollowsPhases (first : ℕ) (log : List Transaction) : Type 0 where
   pub starts : waiting first log [] ≡ []
   pub admits : (phases : List Phase) (t : Transaction) → slice_get log (length phases) ≡ Some t
-      → waiting first log (phases ++ Idle ∷ []) ≡ waiting first log phases ++ record { number = first + length phases; plan = t.plan; marked = false } ∷ []
+      → waiting first log (phases ++ Idle ∷ []) ≡ waiting first log phases ++ record { no = first + length phases; plan = t.plan; marked = false } ∷ []
   pub lends : (phases : List Phase) (place : ℕ) → slice_get phases place ≡ Some Idle
       → waiting first log (slice_set phases place Out) ≡ with_mark (first + place) true (waiting first log phases)
   pub runs : (phases : List Phase) (place : ℕ) → slice_get phases place ≡ Some Out

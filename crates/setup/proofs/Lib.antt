@@ -1,3 +1,4 @@
 pub mod Texts
 pub mod SaidRows
 pub mod SaidSetups
+pub mod OneSetup

@@ -17,7 +17,7 @@ use Rattle.catalogue.specs.Rules.{Says}
 use Rattle.catalogue.specs.Shapes.{TableShape}
 use Rattle.setup.specs.declared.fault.SetupFault.{SetupFault}
 use Rattle.setup.specs.declared.fault.SetupFault.TheVariants.{Shape, RowTable, RowKey, RowValue, RowTwice}
-use Rattle.setup.specs.FirstFault.{Place, Form, place_of_form, place_said, values_for, is_taken, in_row_form, in_row, in_rows_form, broken_setup_rules}
+use Rattle.setup.specs.FirstFault.{Place, Form, place_of_form, place_said, values_for, is_taken, in_row_form, in_row, in_rows_form, rows_faults}
 use Rattle.setup.specs.Faults.{is_memory}
 use Rattle.setup.specs.Rows.{RowAt, row_values, is_given, row_at, rows_at}
 use Rattle.setup.specs.Says.{SaysRow, same_name, SaysRows}
@@ -162,7 +162,7 @@ place_so tables before d row e =
     let form : text_number_list d ≡ Some (h.table, pos row.1, h.list) = ap text_number_list h.is_form ∙ text_number_list_again h.table h.key (pos row.1) h.list h.is_key in
     ap (option_and_then (place_of_form tables)) form ∙ ap (option_and_then (λ (t : ℕ). option_map (λ (key : ℕ). (t, key)) (key_of (pos row.1)))) h.is_table
 
-pub rows_first : (tables : List TableShape) (d : Data) → IsFirst (rows_at tables d) (broken_setup_rules tables d)
+pub rows_first : (tables : List TableShape) (d : Data) → IsFirst (rows_at tables d) (rows_faults tables d)
 unfolding rows_at
 rows_first tables d = formed_first Shape (versioned_list (codes "rows") d) _ (in_rows_form tables) refl (λ ds.
     each_first place_of (row_at tables) (place_said tables) (in_row tables) (row_first tables) (place_so tables) [] ds)

@@ -28,9 +28,9 @@ use Rattle.proclang.specs.declared.fault.ProcFault.{ProcFault}
 use Rattle.proclang.specs.declared.fault.ProcFault.TheVariants as proc_faults
 use Rattle.setup.specs.declared.fault.SetupFault.{SetupFault}
 use Rattle.setup.specs.declared.fault.SetupFault.TheVariants.{Procedure}
-use Rattle.setup.specs.declared.setup.Setup.{Setup}
+use Rattle.requests.specs.declared.setup.Setup.{Setup}
 use Rattle.setup.specs.Faults.{is_memory}
-use Rattle.setup.specs.FirstFault.{InForm, InDocument, BreaksFirst, broken_setup_rules}
+use Rattle.setup.specs.FirstFault.{InForm, InDocument, BreaksFirst, rows_faults}
 use Rattle.setup.specs.Rows.{RowAt}
 use Rattle.setup.specs.Says.{SaysRows, SpellsSetup, SaysDocument, IsJson, IsNotJson, SaysSetup}
 use Rattle.setup.specs.Setups.{SetupDocument, SetupShape, parts_of, setup_form, setup_view}
@@ -163,13 +163,13 @@ module _ (d : Data) (form : SetupDocument) (s : SetupShape) where
 -- ---- the first fault
 
 module _ (d : Data) (form : SetupDocument) (tables : List TableShape) where
-  pub in_procs : (f : ProcFault) → setup_form d ≡ Some form → SaysCatalogue form.catalogue tables → IsCatalogue tables → (f ≡ proc_faults.Memory) ⊎ (first (procedure_rules.broken_proc_rules tables form.procs) ≡ Some f)
+  pub in_procs : (f : ProcFault) → setup_form d ≡ Some form → SaysCatalogue form.catalogue tables → IsCatalogue tables → (f ≡ proc_faults.Memory) ⊎ (first (procedure_rules.procedures_faults tables form.procs) ≡ Some f)
       → procedures.is_memory f ≡ false → InDocument d (Procedure f)
   in_procs f e says is (inl m) known = absurd (let g = sym (ap procedures.is_memory m) ∙ known in cc)
   in_procs f e says is (inr h) known = inr (form, e, inr (inl (record { tables = tables; catalogue = says; is_catalogue = is; rule = f; is = refl; is_first = h })))
 
   pub in_rows : (procs : List ProcSyntax) (f : SetupFault) → setup_form d ≡ Some form → SaysCatalogue form.catalogue tables → IsCatalogue tables → SaysProcs tables form.procs procs
-      → (is_memory f ≡ false → first (broken_setup_rules tables form.rows) ≡ Some f) → is_memory f ≡ false → InDocument d f
+      → (is_memory f ≡ false → first (rows_faults tables form.rows) ≡ Some f) → is_memory f ≡ false → InDocument d f
   in_rows procs f e says is are h known = inr (form, e, inr (inr (record { tables = tables; catalogue = says; is_catalogue = is; procs = procs; are_procs = are; is_first = h known })))
 
   pub found_parts : (procs : List ProcSyntax) (rows : List RowAt) → setup_form d ≡ Some form → SaysCatalogue form.catalogue tables → IsCatalogue tables → SaysProcs tables form.procs procs → SaysRows tables form.rows rows
@@ -182,7 +182,7 @@ nothing_first fs f none h = absurd (let g = sym (ap first none) ∙ h in cc)
 -- a document whose parts break no rule breaks none
 pub no_break : (d : Data) (form : SetupDocument) (tables : List TableShape) → setup_form d ≡ Some form
     → ((ts : List TableShape) → IsCatalogue ts → SaysCatalogue form.catalogue ts → ◌≡◌ {A = Result (List TableShape) CatalogueFault} (Ok ts) (Ok tables))
-    → catalogue_rules.broken_catalogue_rules form.catalogue ≡ [] → procedure_rules.broken_proc_rules tables form.procs ≡ [] → broken_setup_rules tables form.rows ≡ []
+    → catalogue_rules.catalogue_faults form.catalogue ≡ [] → procedure_rules.procedures_faults tables form.procs ≡ [] → rows_faults tables form.rows ≡ []
     → (fault : SetupFault) → InDocument d fault → ⊥
 no_break d form tables e only c p r fault (inl shape) = none_is (sym shape.1 ∙ e)
 no_break d form tables e only c p r fault (inr (other, is, h)) = by (subst (λ (x : SetupDocument). InForm x fault) (same other form (sym is ∙ e)) h)
@@ -194,12 +194,12 @@ no_break d form tables e only c p r fault (inr (other, is, h)) = by (subst (λ (
     are ts is says = same_tables ts tables (only ts is says)
 
     by : InForm form fault → ⊥
-    by (inl h) = nothing_first (catalogue_rules.broken_catalogue_rules form.catalogue) h.rule c h.is_first
+    by (inl h) = nothing_first (catalogue_rules.catalogue_faults form.catalogue) h.rule c h.is_first
     by (inr (inl h)) =
-        nothing_first (procedure_rules.broken_proc_rules h.tables form.procs) h.rule
-        (ap (λ (ts : List TableShape). procedure_rules.broken_proc_rules ts form.procs) (are h.tables h.is_catalogue h.catalogue) ∙ p) h.is_first
+        nothing_first (procedure_rules.procedures_faults h.tables form.procs) h.rule
+        (ap (λ (ts : List TableShape). procedure_rules.procedures_faults ts form.procs) (are h.tables h.is_catalogue h.catalogue) ∙ p) h.is_first
     by (inr (inr h)) =
-        nothing_first (broken_setup_rules h.tables form.rows) fault (ap (λ (ts : List TableShape). broken_setup_rules ts form.rows) (are h.tables h.is_catalogue h.catalogue) ∙ r) h.is_first
+        nothing_first (rows_faults h.tables form.rows) fault (ap (λ (ts : List TableShape). rows_faults ts form.rows) (are h.tables h.is_catalogue h.catalogue) ∙ r) h.is_first
 
 -- ---- texts
 

@@ -22,7 +22,8 @@ use Rattle.setup.specs.Rows.{row_values}
 use Rattle.setup.specs.Says.{IsJson, IsNotJson}
 use Rattle.setup.specs.Setups.{SetupDocument, setup_form}
 
--- ---- rows: every rule that their document breaks, in its order
+-- ---- rows: the faults of their document, in the order in which its rules are looked at. The first is the one that is answered; a
+-- row whose table is unknown takes no values, so that its values are a fault behind it
 
 -- a table and a key
 abbrev pub Place : Type 0
@@ -62,8 +63,8 @@ abbrev pub in_rows_form : List TableShape → Option (List Data) → List SetupF
 in_rows_form tables None = Shape ∷ []
 in_rows_form tables (Some ds) = in_each (place_said tables) (in_row tables) [] ds
 
-abbrev pub broken_setup_rules : List TableShape → Data → List SetupFault
-broken_setup_rules tables d = in_rows_form tables (versioned_list (codes "rows") d)
+abbrev pub rows_faults : List TableShape → Data → List SetupFault
+rows_faults tables d = in_rows_form tables (versioned_list (codes "rows") d)
 
 -- ---- setups
 
@@ -71,7 +72,7 @@ broken_setup_rules tables d = in_rows_form tables (versioned_list (codes "rows")
 pub record InCatalogue (form : SetupDocument) (fault : SetupFault) : Type 0 where
   pub rule : CatalogueFault
   pub is : fault ≡ Catalogue rule
-  pub is_first : first (catalogues.broken_catalogue_rules form.catalogue) ≡ Some rule
+  pub is_first : first (catalogues.catalogue_faults form.catalogue) ≡ Some rule
 
 -- the catalogue says tables, and the procedures break a rule over them
 pub record InProcs (form : SetupDocument) (fault : SetupFault) : Type 0 where
@@ -80,7 +81,7 @@ pub record InProcs (form : SetupDocument) (fault : SetupFault) : Type 0 where
   pub is_catalogue : IsCatalogue tables
   pub rule : ProcFault
   pub is : fault ≡ Procedure rule
-  pub is_first : first (procedures.broken_proc_rules tables form.procs) ≡ Some rule
+  pub is_first : first (procedures.procedures_faults tables form.procs) ≡ Some rule
 
 -- the catalogue says tables, there are procedures over them, and the rows break a rule
 pub record InRows (form : SetupDocument) (fault : SetupFault) : Type 0 where
@@ -89,7 +90,7 @@ pub record InRows (form : SetupDocument) (fault : SetupFault) : Type 0 where
   pub is_catalogue : IsCatalogue tables
   pub procs : List ProcSyntax
   pub are_procs : SaysProcs tables form.procs procs
-  pub is_first : first (broken_setup_rules tables form.rows) ≡ Some fault
+  pub is_first : first (rows_faults tables form.rows) ≡ Some fault
 
 abbrev pub InForm : SetupDocument → SetupFault → Type 0
 InForm form fault = InCatalogue form fault ⊎ (InProcs form fault ⊎ InRows form fault)

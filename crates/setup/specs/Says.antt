@@ -65,3 +65,7 @@ IsNotJson text = (is_utf8 text ≡ false) ⊎ (read text ≡ None)
 
 abbrev pub SaysSetup : List ℕ → SetupShape → Type 0
 SaysSetup text s = (d : Data) × IsJson text d × SaysDocument d s
+
+-- a text says one setup, and no other
+abbrev pub OneSetupIsSaid : Type 0
+OneSetupIsSaid = (text : List ℕ) (s t : SetupShape) → SaysSetup text s → SaysSetup text t → s ≡ t

@@ -14,7 +14,7 @@ use Rattle.proclang_types.specs.Procedures.{proc_syntax}
 use Rattle.proclang.specs.Procs.{procs_at}
 use Rattle.setup.specs.declared.fault.SetupFault.{SetupFault}
 use Rattle.setup.specs.declared.fault.SetupFault.TheVariants.{NotJson, Shape, Catalogue, Procedure}
-use Rattle.setup.specs.declared.setup.Setup.{Setup}
+use Rattle.requests.specs.declared.setup.Setup.{Setup}
 use Rattle.setup.specs.Rows.{RowAt, rows_at}
 
 -- the parts of a setup document

@@ -2,11 +2,12 @@
 #![tactic(auto)]
 
 mod fault;
+pub mod laws;
 mod reading;
 mod rows;
-mod setup;
 
 pub use fault::SetupFault;
+pub use laws::one_setup_is_said;
 pub use reading::read_setup;
+pub use requests::Setup;
 pub use rows::read_rows;
-pub use setup::Setup;

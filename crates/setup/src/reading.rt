@@ -3,6 +3,7 @@
 ghost use Rattle.std.specs.Prelude.{◌≡◌, true, false, option_map, Ok, IfOk, IfErr, OnOk};
 ghost use Rattle.serde_json.specs.View.{view};
 ghost use Rattle.documents.specs.Reading.{Reads};
+ghost use Rattle.requests.specs.ProcLists.{AreOver};
 ghost use Rattle.setup.specs.Faults.{is_memory};
 ghost use Rattle.setup.specs.FirstFault.{BreaksFirst, InDocument};
 ghost use Rattle.setup.specs.Says.{SaysDocument, SaysSetup};
@@ -10,10 +11,10 @@ ghost use Rattle.setup.specs.Setups.{SetupShape, setup_form, setup_at, setup_sai
 
 use crate::fault::SetupFault;
 use crate::rows::read_rows;
-use crate::setup::Setup;
 use catalogue::Catalogue;
 use documents::five;
 use proclang::read_procs;
+use requests::Setup;
 use serde_json::Value;
 use std::alloc::Global;
 use std::str;
@@ -35,6 +36,7 @@ fn setup_form(document: &Value) -> Option<(&Value, &Value, &Value)>
 #[tactic(auto, unfolding(crate::specs::Setups::setup_at))]
 fn read_document(alloc: Global, document: &Value) -> Result<Setup, SetupFault>
     ensures found { IfOk result (λ s. SaysDocument (view document.now) (setup_view s)) }
+    ensures over { IfOk result (λ s. AreOver s.catalogue s.procs.procs) }
     ensures only { (s : SetupShape) → SaysDocument (view document.now) s → Reads is_memory setup_view result (Ok s) }
     ensures first { IfErr result (λ e. is_memory e ≡ false → InDocument (view document.now) e) }
     ensures unbroken { OnOk result ((e : SetupFault) → InDocument (view document.now) e → ⊥) }
@@ -54,6 +56,7 @@ fn read_document(alloc: Global, document: &Value) -> Result<Setup, SetupFault>
 #[tactic(auto, using(crate::proofs::Texts::said_of_text, crate::proofs::Texts::said_of_bytes))]
 fn read_text(alloc: Global, text: &[u8]) -> Result<Setup, SetupFault>
     ensures found { IfOk result (λ s. SaysSetup text.now (setup_view s)) }
+    ensures over { IfOk result (λ s. AreOver s.catalogue s.procs.procs) }
     ensures only { (s : SetupShape) → SaysSetup text.now s → Reads is_memory setup_view result (Ok s) }
     ensures first { IfErr result (λ e. is_memory e ≡ false → BreaksFirst text.now e) }
     ensures unbroken { OnOk result ((e : SetupFault) → BreaksFirst text.now e → ⊥) }
@@ -74,6 +77,8 @@ fn read_text(alloc: Global, text: &[u8]) -> Result<Setup, SetupFault>
 pub fn read_setup(alloc: Global, text: &[u8]) -> Result<Setup, SetupFault>
     // What is read is what the text says.
     ensures found { IfOk result (λ s. SaysSetup text.now (setup_view s)) }
+    // Each procedure is over the catalogue.
+    ensures over { IfOk result (λ s. AreOver s.catalogue s.procs.procs) }
     // A setup that the text says is what is read, unless memory runs out.
     ensures only { (s : SetupShape) → SaysSetup text.now s → Reads is_memory setup_view result (Ok s) }
     // The fault is that of the first rule that the text breaks.

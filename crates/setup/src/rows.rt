@@ -5,7 +5,7 @@ ghost use Rattle.serde_json.specs.View.{view};
 ghost use Rattle.documents.specs.FirstFault.{first};
 ghost use Rattle.documents.specs.Reading.{Reads};
 ghost use Rattle.setup.specs.Faults.{is_memory};
-ghost use Rattle.setup.specs.FirstFault.{broken_setup_rules};
+ghost use Rattle.setup.specs.FirstFault.{rows_faults};
 ghost use Rattle.setup.specs.Names.{HoldsNames};
 ghost use Rattle.setup.specs.Rows.{RowAt, row_at, rows_at, row_values, is_given};
 ghost use Rattle.setup.specs.Says.{SaysRows};
@@ -87,10 +87,10 @@ pub fn read_rows(
         Reads is_memory (λ v. v.items) result (Ok rows) }
     // The fault is the first rule that the document breaks.
     ensures first { IfErr result (λ e. is_memory e ≡ false →
-        first (broken_setup_rules catalogue.now (view document.now)) ≡ Some e) }
+        first (rows_faults catalogue.now (view document.now)) ≡ Some e) }
     // A document that is read breaks no rule, and one that breaks none is read, unless memory runs out.
-    ensures unbroken { OnOk result (broken_setup_rules catalogue.now (view document.now) ≡ []) }
-    ensures none { broken_setup_rules catalogue.now (view document.now) ≡ [] → IfErr result (λ e. is_memory e ≡ true) }
+    ensures unbroken { OnOk result (rows_faults catalogue.now (view document.now) ≡ []) }
+    ensures none { rows_faults catalogue.now (view document.now) ≡ [] → IfErr result (λ e. is_memory e ≡ true) }
     ensures exact { Reads is_memory (λ v. v.items) result (rows_at catalogue.now (view document.now)) }
 {
     match read_document(alloc, catalogue, document) {

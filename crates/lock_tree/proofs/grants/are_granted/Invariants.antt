@@ -5,4 +5,4 @@ use Rattle.lock_tree.proofs.grants.are_granted.Given as goal
 
 -- what is left decides
 abbrev pub invariant-loop-resource : goal.invariant-loop-resource
-invariant-loop-resource l = granted_in (line l.queues) l.number (drop l.resource-index l.plan) ≡ granted_in (line l.queues) l.number l.plan
+invariant-loop-resource l = granted_in (line l.queues) l.no (drop l.resource-index l.plan) ≡ granted_in (line l.queues) l.no l.plan

@@ -12,7 +12,7 @@ pub returns-clause-known : goal.returns-clause-known
 returns-clause-known c =
     let old = line c.args.queues.now in
     let new = line c.join_all.new.queues in
-    let k = c.args.entry.number in
+    let k = c.args.entry.no in
     let e : Enqueued = record c.args.entry { ready = c.are_granted.result } in
     let joined : (x : Resource) → new x ≡ old x ++ asks k (mode_on x c.args.entry.plan.items) [] =
     λ x. c.join_all.ensures x ∙ ap (λ (p : Requests). old x ++ asks k (mode_on x p) []) c.as_slice.ensures.value in

@@ -14,11 +14,11 @@ loop-resource-preserved c =
     drop_more c.args.plan.now i e c.loop-resource-test.true ∙ ap (λ (x : Resource × Mode). x ∷ drop (i + 1) c.args.plan.now) (sym c.loop-resource-item.is) in
     record {
       joined = λ other.
-          more_joined c.args.number other e (drop i c.args.plan.now) (drop (i + 1) c.args.plan.now) (line c.loop-resource.queues other) (line c.push.new.queues other) _
+          more_joined c.args.no other e (drop i c.args.plan.now) (drop (i + 1) c.args.plan.now) (line c.loop-resource.queues other) (line c.push.new.queues other) _
           front c.loop-resource.invariant.apart (c.push.ensures.pushed other) (c.loop-resource.invariant.joined other);
       room = still_of_later (HasRoom c.loop-resource.queues) (HasRoom c.push.new.queues) e (drop i c.args.plan.now) (drop (i + 1) c.args.plan.now) front c.loop-resource.invariant.apart c.push.ensures.room c.loop-resource.invariant.room;
-      above = still_of_later (λ r. AllUnder c.args.number (numbers_of (line c.loop-resource.queues r))) (λ r. AllUnder c.args.number (numbers_of (line c.push.new.queues r))) e (drop i c.args.plan.now) (drop (i + 1) c.args.plan.now) front c.loop-resource.invariant.apart
-          (λ other apart under. under_kept c.args.number (is_same other e.0) (line c.loop-resource.queues other) (line c.loop-resource.queues other ++ (c.args.number, e.1) ∷ []) (line c.push.new.queues other) (c.push.ensures.pushed other) apart under)
+      above = still_of_later (λ r. AllUnder c.args.no (numbers_of (line c.loop-resource.queues r))) (λ r. AllUnder c.args.no (numbers_of (line c.push.new.queues r))) e (drop i c.args.plan.now) (drop (i + 1) c.args.plan.now) front c.loop-resource.invariant.apart
+          (λ other apart under. under_kept c.args.no (is_same other e.0) (line c.loop-resource.queues other) (line c.loop-resource.queues other ++ (c.args.no, e.1) ∷ []) (line c.push.new.queues other) (c.push.ensures.pushed other) apart under)
           c.loop-resource.invariant.above;
       apart = still_apart e (drop i c.args.plan.now) (drop (i + 1) c.args.plan.now) front c.loop-resource.invariant.apart;
     }

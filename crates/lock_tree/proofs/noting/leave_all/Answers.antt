@@ -8,9 +8,9 @@ use Rattle.lock_tree.proofs.noting.leave_all.Goals as goal
 
 pub loop-resource-preserved : goal.loop-resource-preserved
 loop-resource-preserved c = record {
-  rest = λ other. rest_left c.args.number _ other (line c.loop-resource.queues other) (line c.args.queues.now other) (line c.leave_one.new.queues other) (c.leave_one.ensures.left other) (c.loop-resource.invariant.rest other);
+  rest = λ other. rest_left c.args.no _ other (line c.loop-resource.queues other) (line c.args.queues.now other) (line c.leave_one.new.queues other) (c.leave_one.ensures.left other) (c.loop-resource.invariant.rest other);
   left = λ other none.
-      more_left c.args.number other c.loop-resource-item.result (line c.loop-resource.queues other) (line c.args.queues.now other) (line c.leave_one.new.queues other)
+      more_left c.args.no other c.loop-resource-item.result (line c.loop-resource.queues other) (line c.args.queues.now other) (line c.leave_one.new.queues other)
       (drop c.loop-resource.resource-index c.args.plan.now) (drop (c.loop-resource.resource-index + 1) c.args.plan.now) (c.leave_one.ensures.left other) (c.loop-resource.invariant.rest other)
       (drop_more c.args.plan.now c.loop-resource.resource-index c.loop-resource-item.result c.loop-resource-test.true ∙ ap (λ (e : Resource × Mode). e ∷ drop (c.loop-resource.resource-index + 1) c.args.plan.now) (sym c.loop-resource-item.is)) (c.loop-resource.invariant.left other) none;
   same = c.leave_one.ensures.same ∙ c.loop-resource.invariant.same;

@@ -10,8 +10,8 @@ use Rattle.lock_tree.proofs.noting.leave_all.Given as goal
 -- the transaction has left the queues of all resources but those that are left of the plan
 abbrev pub invariant-loop-resource : goal.invariant-loop-resource
 invariant-loop-resource l = record {
-  rest : (other : Resource) → others l.number (line l.queues other) ≡ others l.number (line l.fn.queues other);
-  left : (other : Resource) → mode_on other (drop l.resource-index l.plan) ≡ None → line l.queues other ≡ others l.number (line l.fn.queues other);
+  rest : (other : Resource) → others l.no (line l.queues other) ≡ others l.no (line l.fn.queues other);
+  left : (other : Resource) → mode_on other (drop l.resource-index l.plan) ≡ None → line l.queues other ≡ others l.no (line l.fn.queues other);
   same : all_waiting l.transactions.entries.items ≡ all_waiting l.fn.transactions.entries.items;
   indexed : IsIndexed l.transactions;
   known : AreKnown (line l.queues) [] l.transactions.entries.items;

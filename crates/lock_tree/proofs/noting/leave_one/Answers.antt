@@ -9,7 +9,7 @@ pub note_granted-requires-clause-known : goal.note_granted-requires-clause-known
 note_granted-requires-clause-known c =
     let old = line c.args.queues.now in
     let new = line c.remove-stay.new.queues in
-    let k = c.args.number in
+    let k = c.args.no in
     let r = c.args.resource.now in
     let is : drop c.remove-stay.result (granted (new r)) ≡ newly k (old r) =
     ap (λ m. drop m (granted (new r))) c.remove-stay.ensures.stay

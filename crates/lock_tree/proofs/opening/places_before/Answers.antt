@@ -5,5 +5,5 @@ use Rattle.lock_tree.proofs.opening.places_before.Goals as goal
 
 pub returns-clause-exact : goal.returns-clause-exact
 returns-clause-exact c =
-    point_of_numbers c.args.number c.args.numbers.now.items c.partition_point.result (search rules)
-    (IsPartitionPoint-from_clause (λ (x : ℕ). nat_lt x c.args.number) _ _ c.partition_point.ensures.partitioned (parted_numbers c.args.number c.args.numbers.now.items c.requires) (λ a r q k. search rules))
+    point_of_numbers c.args.no c.args.numbers.now.items c.partition_point.result (search rules)
+    (IsPartitionPoint-from_clause (λ (x : ℕ). nat_lt x c.args.no) _ _ c.partition_point.ensures.partitioned (parted_numbers c.args.no c.args.numbers.now.items c.requires) (λ a r q k. search rules))

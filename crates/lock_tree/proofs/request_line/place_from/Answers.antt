@@ -6,5 +6,5 @@ use Rattle.lock_tree.proofs.request_line.place_from.Goals as goal
 
 pub returns-clause-exact : goal.returns-clause-exact
 returns-clause-exact c =
-    point_of_requests c.args.number c.args.requests.now.items c.partition_point.result (search rules)
-    (IsPartitionPoint-from_clause (λ (x : ℕ × Mode). nat_lt x.0 c.args.number) _ _ c.partition_point.ensures.partitioned (parted_requests c.args.number c.args.requests.now.items c.requires) (λ a r q k. search rules))
+    point_of_requests c.args.no c.args.requests.now.items c.partition_point.result (search rules)
+    (IsPartitionPoint-from_clause (λ (x : ℕ × Mode). nat_lt x.0 c.args.no) _ _ c.partition_point.ensures.partitioned (parted_requests c.args.no c.args.requests.now.items c.requires) (λ a r q k. search rules))

@@ -14,18 +14,18 @@ no_request = (0, IntentionShared)
 
 pub returns-then-place-front-clause-requests : goal.returns-then-place-front-clause-requests
 returns-then-place-front-clause-requests c =
-    c.in-Some.ensures.items ∙ sym (one_leaves c.args.number c.args.requests.now.items c.args.place no_request c.requires.rising c.requires.place (c.requires.number no_request))
+    c.in-Some.ensures.items ∙ sym (one_leaves c.args.no c.args.requests.now.items c.args.place no_request c.requires.rising c.requires.place (c.requires.number no_request))
 
 pub returns-then-place-front-clause-stay : goal.returns-then-place-front-clause-stay
 returns-then-place-front-clause-stay c =
     let behind = c.if-place-front.true in let front = c.requires.front in
-    front ∙ sym (ap length (stays_front c.args.number c.args.requests.now.items c.args.place no_request c.requires.rising c.requires.place (c.requires.number no_request) (omega (arith, behind, front))))
+    front ∙ sym (ap length (stays_front c.args.no c.args.requests.now.items c.args.place no_request c.requires.rising c.requires.place (c.requires.number no_request) (omega (arith, behind, front))))
 
 pub returns-then-place-front-clause-held : goal.returns-then-place-front-clause-held
 returns-then-place-front-clause-held c =
     let behind = c.if-place-front.true in let front = c.requires.front in
     subst (λ (xs : Queue). AreHeld c.args.held.now (modes_of xs))
-    (sym (stays_front c.args.number c.args.requests.now.items c.args.place no_request c.requires.rising c.requires.place (c.requires.number no_request) (omega (arith, behind, front))))
+    (sym (stays_front c.args.no c.args.requests.now.items c.args.place no_request c.requires.rising c.requires.place (c.requires.number no_request) (omega (arith, behind, front))))
     c.requires.held
 
 -- the request that is taken out was granted
@@ -46,20 +46,20 @@ module _ (k : ℕ) (q : Queue) (i front : ℕ) (x : ℕ × Mode) (rising : AreRi
 pub take-requires : goal.take-requires
 take-requires c =
     let q = c.args.requests.now.items in let x : ℕ × Mode = (c.in-Some.field-0-0, c.in-Some.mode) in
-    (modes_of (granted q), c.requires.held, is_there c.args.number q c.args.place c.args.front x c.requires.rising c.requires.place (c.requires.number x) c.if-place-front.false c.requires.front c.in-Some.ensures.value)
+    (modes_of (granted q), c.requires.held, is_there c.args.no q c.args.place c.args.front x c.requires.rising c.requires.place (c.requires.number x) c.if-place-front.false c.requires.front c.in-Some.ensures.value)
 
 pub returns-clause-held : goal.returns-clause-held
 returns-clause-held c =
     let q = c.args.requests.now.items in let x : ℕ × Mode = (c.in-Some.field-0-0, c.in-Some.mode) in
-    c.take.ensures (modes_of (granted q)) (modes_of (others c.args.number (granted q))) c.requires.held
-    (one_less c.args.number q c.args.place c.args.front x c.requires.rising c.requires.place (c.requires.number x) c.if-place-front.false c.requires.front c.in-Some.ensures.value)
+    c.take.ensures (modes_of (granted q)) (modes_of (others c.args.no (granted q))) c.requires.held
+    (one_less c.args.no q c.args.place c.args.front x c.requires.rising c.requires.place (c.requires.number x) c.if-place-front.false c.requires.front c.in-Some.ensures.value)
 
 pub returns-clause-requests : goal.returns-clause-requests
 returns-clause-requests c =
-    c.in-Some.ensures.items ∙ sym (one_leaves c.args.number c.args.requests.now.items c.args.place no_request c.requires.rising c.requires.place (c.requires.number no_request))
+    c.in-Some.ensures.items ∙ sym (one_leaves c.args.no c.args.requests.now.items c.args.place no_request c.requires.rising c.requires.place (c.requires.number no_request))
 
 pub returns-clause-stay : goal.returns-clause-stay
 returns-clause-stay c =
     let before = c.if-place-front.false in let front = c.requires.front in
-    let less = (leaves_front c.args.number c.args.requests.now.items c.args.place no_request c.requires.rising c.requires.place (c.requires.number no_request) (omega (arith, before, front))).1 in
+    let less = (leaves_front c.args.no c.args.requests.now.items c.args.place no_request c.requires.rising c.requires.place (c.requires.number no_request) (omega (arith, before, front))).1 in
     omega (arith, less, front)

@@ -6,5 +6,5 @@ use Rattle.lock_tree.proofs.transactions.place_from.Goals as goal
 
 pub returns-clause-exact : goal.returns-clause-exact
 returns-clause-exact c =
-    point c.args.number c.args.entries.now.items c.partition_point.result (search rules)
-    (IsPartitionPoint-from_clause (λ (e : Enqueued). nat_lt e.number c.args.number) _ _ c.partition_point.ensures.partitioned (parted c.args.number c.args.entries.now.items c.requires) (λ a r q k. search rules))
+    point c.args.no c.args.entries.now.items c.partition_point.result (search rules)
+    (IsPartitionPoint-from_clause (λ (e : Enqueued). nat_lt e.no c.args.no) _ _ c.partition_point.ensures.partitioned (parted c.args.no c.args.entries.now.items c.requires) (λ a r q k. search rules))

@@ -7,8 +7,8 @@ use Rattle.scheduler.proofs.job.run_on_loan.Goals as goal
 
 pub returns-clause-run : goal.returns-clause-run
 returns-clause-run c = (
-  with_rows_left c.job.inside.number c.job.inside.entry c.job.inside.loan c.apply.new.self c.apply.ensures.tables c.apply.ensures.plan
-      ∙ ap (λ (j : JobOf). record { number = j.number; entry = j.entry; loan = record { tables = j.loan.tables; plan = j.loan.plan; rows = c.apply.new.self.rows } }) c.job.view_is,
+  with_rows_left c.job.inside.no c.job.inside.entry c.job.inside.loan c.apply.new.self c.apply.ensures.tables c.apply.ensures.plan
+      ∙ ap (λ (j : JobOf). record { no = j.no; entry = j.entry; loan = record { tables = j.loan.tables; plan = j.loan.plan; rows = c.apply.new.self.rows } }) c.job.view_is,
   subst (λ (j : JobOf). IsRunOf j.loan.tables (transaction_of j) j.loan.rows (as_reply c.in_ok-outcome.field-0.outcome) c.apply.new.self.rows) c.job.view_is
-      (is_run (record { number = c.job.inside.number; entry = c.job.inside.entry; loan = c.job.inside.loan }) c.in_ok-outcome.field-0.outcome c.in_ok-outcome.field-0.writes.entries c.apply.new.self.rows c.job.invariant.1 c.in_ok-outcome.ensures.meaning (c.in_ok-apply.ensures.rows)),
+      (is_run (record { no = c.job.inside.no; entry = c.job.inside.entry; loan = c.job.inside.loan }) c.in_ok-outcome.field-0.outcome c.in_ok-outcome.field-0.writes.entries c.apply.new.self.rows c.job.invariant.1 c.in_ok-outcome.ensures.meaning (c.in_ok-apply.ensures.rows)),
 )

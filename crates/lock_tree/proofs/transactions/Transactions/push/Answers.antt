@@ -21,6 +21,6 @@ returns-clause-indexed c =
     let e = c.args.entry in
     record {
       rising = subst (λ (xs : List Enqueued). IsRising (all_waiting xs)) (sym c.push_back_reserved.ensures.items) (below_end es e c.requires.below c.requires.indexed.rising);
-      open_ones = c.push_open.ensures.items ∙ ap (λ (xs : List ℕ). xs ++ cond (is_open e) (e.number ∷ []) []) c.requires.indexed.open_ones ∙ sym (open_end es e) ∙ ap open_of (sym c.push_back_reserved.ensures.items);
+      open_ones = c.push_open.ensures.items ∙ ap (λ (xs : List ℕ). xs ++ cond (is_open e) (e.no ∷ []) []) c.requires.indexed.open_ones ∙ sym (open_end es e) ∙ ap open_of (sym c.push_back_reserved.ensures.items);
       room = (let n = end_length es e in let m = ap length c.push_back_reserved.ensures.items in let same = c.push_open.ensures.capacity in let room = c.requires.place.open_ones in omega (arith, n, m, same, room));
     }

@@ -15,8 +15,8 @@ returns-clause-indexed c =
     let es = c.args.self.now.entries.items in
     record {
       rising = subst IsRising (sym (ap all_waiting c.in-Some.ensures.items)) (removed_rising es c.args.place c.requires.indexed.rising);
-      open_ones = c.take_out.ensures.items ∙ ap (placed c.in-Some.entry.number false) c.requires.indexed.open_ones
-          ∙ sym (open_removed es c.args.place c.in-Some.entry.number c.in-Some.entry c.requires.indexed.rising c.requires.within (sym (ap (λ (e : Enqueued). e.number) c.in-Some.ensures.value)))
+      open_ones = c.take_out.ensures.items ∙ ap (placed c.in-Some.entry.no false) c.requires.indexed.open_ones
+          ∙ sym (open_removed es c.args.place c.in-Some.entry.no c.in-Some.entry c.requires.indexed.rising c.requires.within (sym (ap (λ (e : Enqueued). e.no) c.in-Some.ensures.value)))
           ∙ ap open_of (sym c.in-Some.ensures.items);
       room = let few = removed_few es c.args.place in let n = ap length c.in-Some.ensures.items in let room = c.requires.indexed.room in let more = c.take_out.ensures.capacity in omega (arith, few, n, room, more);
     }

@@ -19,9 +19,9 @@ join-requires-clause-known c =
 
 pub join-requires-clause-above : goal.join-requires-clause-above
 join-requires-clause-above c =
-    plan_under_next c.in_ok-entry.entry.number (line c.make_room_for.new.queues) (all_waiting c.self.inside.transactions.entries.items) (λ r. c.make_room_for.ensures.same r ∙ c.self.invariant.lines r)
-    (subst (AreBelow c.in_ok-entry.entry.number) (sym (ap (λ (l : Locks). l.waiting) c.self.view_is))
-    (subst (λ (n : ℕ). AreBelow n c.args.self.now.waiting) (sym (ap (λ (w : Waiting). w.number) c.in_ok-entry.ensures)) c.requires)) c.in_ok-entry.entry.plan.items
+    plan_under_next c.in_ok-entry.entry.no (line c.make_room_for.new.queues) (all_waiting c.self.inside.transactions.entries.items) (λ r. c.make_room_for.ensures.same r ∙ c.self.invariant.lines r)
+    (subst (AreBelow c.in_ok-entry.entry.no) (sym (ap (λ (l : Locks). l.waiting) c.self.view_is))
+    (subst (λ (n : ℕ). AreBelow n c.args.self.now.waiting) (sym (ap (λ (w : Waiting). w.no) c.in_ok-entry.ensures)) c.requires)) c.in_ok-entry.entry.plan.items
 
 pub invariant_of-self-2 : goal.invariant_of-self-2
 invariant_of-self-2 c =

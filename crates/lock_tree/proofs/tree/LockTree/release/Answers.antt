@@ -30,15 +30,15 @@ plan_taken k i es seen d same h is =
 
 pub overflow_add-self : goal.overflow_add-self
 overflow_add-self c =
-    let u = freed c.args.number c.in-Some.place c.self.inside.transactions.entries.items c.self.inside.transactions.entries.items c.remove-entry.result refl c.self.invariant.indexed.rising (sym c.in-Some.ensures.exact) c.remove-entry.ensures.value in
+    let u = freed c.args.no c.in-Some.place c.self.inside.transactions.entries.items c.self.inside.transactions.entries.items c.remove-entry.result refl c.self.invariant.indexed.rising (sym c.in-Some.ensures.exact) c.remove-entry.ensures.value in
     let n : c.len.result ≡ length c.remove-entry.result.plan.items = c.len.ensures ∙ c.remove-entry.result.plan.ok.0 in
     let all = c.self.invariant.room in
     omega (arith, u, n, all, c.self.ranges)
 
 pub leave_all-requires-clause-others : goal.leave_all-requires-clause-others
 leave_all-requires-clause-others c =
-    let same = left c.args.number c.in-Some.place c.self.inside.transactions.entries.items c.self.inside.transactions.entries.items c.remove-entry.new.self.entries.items refl c.self.invariant.indexed.rising (sym c.in-Some.ensures.exact) c.remove-entry.ensures.entries in
-    subst (AllByRecursion (λ (w : Waiting). (w.number == c.args.number) ≡ false)) (sym same) (others_without c.args.number (all_waiting c.self.inside.transactions.entries.items))
+    let same = left c.args.no c.in-Some.place c.self.inside.transactions.entries.items c.self.inside.transactions.entries.items c.remove-entry.new.self.entries.items refl c.self.invariant.indexed.rising (sym c.in-Some.ensures.exact) c.remove-entry.ensures.entries in
+    subst (AllByRecursion (λ (w : Waiting). (w.no == c.args.no) ≡ false)) (sym same) (others_without c.args.no (all_waiting c.self.inside.transactions.entries.items))
 
 pub leave_all-requires-clause-known : goal.leave_all-requires-clause-known
 leave_all-requires-clause-known c =
@@ -46,7 +46,7 @@ leave_all-requires-clause-known c =
 
 pub leave_all-requires-clause-elsewhere : goal.leave_all-requires-clause-elsewhere
 leave_all-requires-clause-elsewhere c = λ other none.
-    let k = c.args.number in
+    let k = c.args.no in
     let ws = all_waiting c.self.inside.transactions.entries.items in
     let plan = plan_taken k c.in-Some.place c.self.inside.transactions.entries.items c.self.inside.transactions.entries.items c.remove-entry.result refl (sym c.in-Some.ensures.exact) c.remove-entry.ensures.value in
     ap (others k) (c.self.invariant.lines other)
@@ -55,21 +55,21 @@ leave_all-requires-clause-elsewhere c = λ other none.
 
 pub invariant_of-self : goal.invariant_of-self
 invariant_of-self c =
-    let same = left c.args.number c.in-Some.place c.self.inside.transactions.entries.items c.self.inside.transactions.entries.items c.remove-entry.new.self.entries.items refl c.self.invariant.indexed.rising (sym c.in-Some.ensures.exact) c.remove-entry.ensures.entries in
-    let u = freed c.args.number c.in-Some.place c.self.inside.transactions.entries.items c.self.inside.transactions.entries.items c.remove-entry.result refl c.self.invariant.indexed.rising (sym c.in-Some.ensures.exact) c.remove-entry.ensures.value in
+    let same = left c.args.no c.in-Some.place c.self.inside.transactions.entries.items c.self.inside.transactions.entries.items c.remove-entry.new.self.entries.items refl c.self.invariant.indexed.rising (sym c.in-Some.ensures.exact) c.remove-entry.ensures.entries in
+    let u = freed c.args.no c.in-Some.place c.self.inside.transactions.entries.items c.self.inside.transactions.entries.items c.remove-entry.result refl c.self.invariant.indexed.rising (sym c.in-Some.ensures.exact) c.remove-entry.ensures.value in
     let n : c.len.result ≡ length c.remove-entry.result.plan.items = c.len.ensures ∙ c.remove-entry.result.plan.ok.0 in
-    left_tree c.self.inside.arena c.self.inside.free c.len.result c.args.number c.self.inside.transactions c.leave_all.new.transactions c.self.inside.queues c.leave_all.new.queues c.self.invariant
+    left_tree c.self.inside.arena c.self.inside.free c.len.result c.args.no c.self.inside.transactions c.leave_all.new.transactions c.self.inside.queues c.leave_all.new.queues c.self.invariant
     (omega (arith, u, n)) (c.leave_all.ensures.same ∙ same) c.leave_all.ensures.indexed c.leave_all.ensures.left c.leave_all.ensures.known
 
 pub returns-in-Some : goal.returns-in-Some
 returns-in-Some c =
     ap (λ (ws : List Waiting). record { arena = c.self.inside.arena; waiting = ws })
-    (c.leave_all.ensures.same ∙ left c.args.number c.in-Some.place c.self.inside.transactions.entries.items c.self.inside.transactions.entries.items c.remove-entry.new.self.entries.items refl c.self.invariant.indexed.rising (sym c.in-Some.ensures.exact) c.remove-entry.ensures.entries)
-    ∙ ap (λ (l : Locks). record { arena = l.arena; waiting = without c.args.number l.waiting }) c.self.view_is
+    (c.leave_all.ensures.same ∙ left c.args.no c.in-Some.place c.self.inside.transactions.entries.items c.self.inside.transactions.entries.items c.remove-entry.new.self.entries.items refl c.self.invariant.indexed.rising (sym c.in-Some.ensures.exact) c.remove-entry.ensures.entries)
+    ∙ ap (λ (l : Locks). record { arena = l.arena; waiting = without c.args.no l.waiting }) c.self.view_is
 
 pub returns-in_default : goal.returns-in_default
 returns-in_default c =
     sym c.self.view_is
     ∙ ap (λ (ws : List Waiting). record { arena = c.self.inside.arena; waiting = ws })
-    (sym (no_without c.args.number (all_waiting c.self.inside.transactions.entries.items) (sym c.place_of.ensures.exact ∙ c.in_default.is)))
-    ∙ ap (λ (l : Locks). record { arena = l.arena; waiting = without c.args.number l.waiting }) c.self.view_is
+    (sym (no_without c.args.no (all_waiting c.self.inside.transactions.entries.items) (sym c.place_of.ensures.exact ∙ c.in_default.is)))
+    ∙ ap (λ (l : Locks). record { arena = l.arena; waiting = without c.args.no l.waiting }) c.self.view_is

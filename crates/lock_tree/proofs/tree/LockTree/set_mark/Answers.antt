@@ -8,20 +8,20 @@ use Rattle.lock_tree.proofs.tree.LockTree.set_mark.Goals as goal
 
 pub invariant_of-self : goal.invariant_of-self
 invariant_of-self c =
-    marked_tree c.self.inside.arena c.self.inside.free c.args.number c.args.mark c.self.inside.transactions c.set_mark.new.self c.self.inside.queues c.self.invariant
-    (marked_seen c.args.number c.in-Some.place c.args.mark c.self.inside.transactions.entries.items c.self.inside.transactions.entries.items c.set_mark.new.self.entries.items refl c.self.invariant.indexed.rising c.in-Some.ensures.exact c.in-Some.ensures.within c.set_mark.ensures.entries)
+    marked_tree c.self.inside.arena c.self.inside.free c.args.no c.args.mark c.self.inside.transactions c.set_mark.new.self c.self.inside.queues c.self.invariant
+    (marked_seen c.args.no c.in-Some.place c.args.mark c.self.inside.transactions.entries.items c.self.inside.transactions.entries.items c.set_mark.new.self.entries.items refl c.self.invariant.indexed.rising c.in-Some.ensures.exact c.in-Some.ensures.within c.set_mark.ensures.entries)
     c.set_mark.ensures.indexed
     (marked_known (line c.self.inside.queues) c.in-Some.place c.args.mark c.self.inside.transactions.entries.items c.self.inside.transactions.entries.items c.set_mark.new.self.entries.items refl c.in-Some.ensures.within c.set_mark.ensures.entries c.self.invariant.known)
 
 pub returns-in-Some : goal.returns-in-Some
 returns-in-Some c =
     ap (λ (ws : List Waiting). record { arena = c.self.inside.arena; waiting = ws })
-    (marked_seen c.args.number c.in-Some.place c.args.mark c.self.inside.transactions.entries.items c.self.inside.transactions.entries.items c.set_mark.new.self.entries.items refl c.self.invariant.indexed.rising c.in-Some.ensures.exact c.in-Some.ensures.within c.set_mark.ensures.entries)
-    ∙ ap (λ (l : Locks). record { arena = l.arena; waiting = with_mark c.args.number c.args.mark l.waiting }) c.self.view_is
+    (marked_seen c.args.no c.in-Some.place c.args.mark c.self.inside.transactions.entries.items c.self.inside.transactions.entries.items c.set_mark.new.self.entries.items refl c.self.invariant.indexed.rising c.in-Some.ensures.exact c.in-Some.ensures.within c.set_mark.ensures.entries)
+    ∙ ap (λ (l : Locks). record { arena = l.arena; waiting = with_mark c.args.no c.args.mark l.waiting }) c.self.view_is
 
 pub returns-in_default : goal.returns-in_default
 returns-in_default c =
     sym c.self.view_is
     ∙ ap (λ (ws : List Waiting). record { arena = c.self.inside.arena; waiting = ws })
-    (sym (no_mark c.args.number c.args.mark (all_waiting c.self.inside.transactions.entries.items) (sym c.place_of.ensures.exact ∙ c.in_default.is)))
-    ∙ ap (λ (l : Locks). record { arena = l.arena; waiting = with_mark c.args.number c.args.mark l.waiting }) c.self.view_is
+    (sym (no_mark c.args.no c.args.mark (all_waiting c.self.inside.transactions.entries.items) (sym c.place_of.ensures.exact ∙ c.in_default.is)))
+    ∙ ap (λ (l : Locks). record { arena = l.arena; waiting = with_mark c.args.no c.args.mark l.waiting }) c.self.view_is

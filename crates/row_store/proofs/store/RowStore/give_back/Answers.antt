@@ -15,23 +15,23 @@ invariant_of-self c =
     let tables : c.loan.inside.catalogue ≡ c.self.inside.catalogue = ap (λ (l : Lent). l.tables) c.loan.view_is ∙ c.requires.tables ∙ sym (ap (λ (s : Stock). s.tables) c.self.view_is) in
     let plan : Requests = c.loan.inside.plan.value in
     let loan = subst (λ (t : List TableShape). IsLoan t plan c.loan.inside.held.shelves c.loan.inside.held.written_shelves.items c.loan.inside.held.written_names.items) tables c.loan.invariant in
-    let out : lent_at c.self.inside.lent c.args.number ≡ Some plan =
-    sym (get-lent_of c.self.inside.lent c.args.number) ∙ ap (λ (s : Stock). finite.get s.lent c.args.number) c.self.view_is ∙ c.requires.lent ∙ ap (λ (l : Lent). Some l.plan) (sym c.loan.view_is) in
+    let out : lent_at c.self.inside.lent c.args.no ≡ Some plan =
+    sym (get-lent_of c.self.inside.lent c.args.no) ∙ ap (λ (s : Stock). finite.get s.lent c.args.no) c.self.view_is ∙ c.requires.lent ∙ ap (λ (l : Lent). Some l.plan) (sym c.loan.view_is) in
     let back = out_and_back c.self.inside.catalogue plan c.self.inside.shelves c.put_back.new.shelves c.loan.inside.held.shelves c.loan.inside.held.written_shelves.items c.loan.inside.held.written_names.items
-    c.self.inside.lent c.args.number loan out c.self.invariant c.put_back.ensures.places in
+    c.self.inside.lent c.args.no loan out c.self.invariant c.put_back.ensures.places in
     kept_back c.self.inside.catalogue plan c.self.inside.shelves c.put_back.new.shelves c.loan.inside.held.shelves c.loan.inside.held.written_shelves.items c.loan.inside.held.written_names.items
-    c.self.inside.lent c.remove.new.self c.args.number back c.put_back.ensures.shelves loan out
-    (lent_put c.self.inside.lent c.remove.new.self c.args.number None c.remove.ensures.updates.0) c.locked_rows_conflict.ensures c.self.invariant
+    c.self.inside.lent c.remove.new.self c.args.no back c.put_back.ensures.shelves loan out
+    (lent_put c.self.inside.lent c.remove.new.self c.args.no None c.remove.ensures.updates.0) c.locked_rows_conflict.ensures c.self.invariant
 
 pub returns-clause-rows : goal.returns-clause-rows
 returns-clause-rows c = λ q.
     let tables : c.loan.inside.catalogue ≡ c.self.inside.catalogue = ap (λ (l : Lent). l.tables) c.loan.view_is ∙ c.requires.tables ∙ sym (ap (λ (s : Stock). s.tables) c.self.view_is) in
     let plan : Requests = c.loan.inside.plan.value in
     let loan = subst (λ (t : List TableShape). IsLoan t plan c.loan.inside.held.shelves c.loan.inside.held.written_shelves.items c.loan.inside.held.written_names.items) tables c.loan.invariant in
-    let out : lent_at c.self.inside.lent c.args.number ≡ Some plan =
-    sym (get-lent_of c.self.inside.lent c.args.number) ∙ ap (λ (s : Stock). finite.get s.lent c.args.number) c.self.view_is ∙ c.requires.lent ∙ ap (λ (l : Lent). Some l.plan) (sym c.loan.view_is) in
+    let out : lent_at c.self.inside.lent c.args.no ≡ Some plan =
+    sym (get-lent_of c.self.inside.lent c.args.no) ∙ ap (λ (s : Stock). finite.get s.lent c.args.no) c.self.view_is ∙ c.requires.lent ∙ ap (λ (l : Lent). Some l.plan) (sym c.loan.view_is) in
     let back = out_and_back c.self.inside.catalogue plan c.self.inside.shelves c.put_back.new.shelves c.loan.inside.held.shelves c.loan.inside.held.written_shelves.items c.loan.inside.held.written_names.items
-    c.self.inside.lent c.args.number loan out c.self.invariant c.put_back.ensures.places in
+    c.self.inside.lent c.args.no loan out c.self.invariant c.put_back.ensures.places in
     shown_back c.self.inside.catalogue plan c.self.inside.shelves c.put_back.new.shelves c.loan.inside.held.shelves c.loan.inside.held.written_shelves.items c.loan.inside.held.written_names.items back loan q
     ∙ ap (λ (t : List TableShape). if locks_row t plan q Write then finite.get (rows_of t c.loan.inside.held.shelves) q else finite.get (rows_of c.self.inside.catalogue c.self.inside.shelves) q) (sym tables)
     ∙ ap (λ (l : Lent). if locks_row l.tables l.plan q Write then finite.get l.rows q else finite.get (rows_of c.self.inside.catalogue c.self.inside.shelves) q) c.loan.view_is
@@ -39,5 +39,5 @@ returns-clause-rows c = λ q.
 
 pub returns-clause-lent : goal.returns-clause-lent
 returns-clause-lent c =
-    lent_removed c.self.inside.lent c.remove.new.self c.args.number (lent_put c.self.inside.lent c.remove.new.self c.args.number None c.remove.ensures.updates.0)
-    ∙ ap (λ (s : Stock). finite.remove s.lent c.args.number) c.self.view_is
+    lent_removed c.self.inside.lent c.remove.new.self c.args.no (lent_put c.self.inside.lent c.remove.new.self c.args.no None c.remove.ensures.updates.0)
+    ∙ ap (λ (s : Stock). finite.remove s.lent c.args.no) c.self.view_is

@@ -77,12 +77,12 @@ invariant_of-result c =
 pub invariant_of-self-2 : goal.invariant_of-self-2
 invariant_of-self-2 c =
     let over = subst (λ (t : List TableShape). IsPlanOver t c.args.plan.now) (sym (ap (λ (s : Stock). s.tables) c.self.view_is)) c.requires.over in
-    let none : lent_at c.self.inside.lent c.args.number ≡ None =
-    sym (get-lent_of c.self.inside.lent c.args.number) ∙ ap (λ (s : Stock). finite.get s.lent c.args.number) c.self.view_is ∙ c.requires.unlent in
-    let put : (i : ℕ) → lent_at c.insert.new.self i ≡ cond (is_at (nat_cmp c.args.number) i) (Some c.args.plan.now) (lent_at c.self.inside.lent i) =
-    λ i. lent_put c.self.inside.lent c.insert.new.self c.args.number (Some c.of.result) c.in_ok-insert.ensures.updates.0 i
-    ∙ ap (λ (p : Requests). cond (is_at (nat_cmp c.args.number) i) (Some p) (lent_at c.self.inside.lent i)) c.of.ensures in
-    kept_lend c.self.inside.catalogue c.self.inside.shelves c.hold.new.shelves c.empty_places.new.shelves c.self.inside.lent c.insert.new.self c.args.number c.args.plan.now
+    let none : lent_at c.self.inside.lent c.args.no ≡ None =
+    sym (get-lent_of c.self.inside.lent c.args.no) ∙ ap (λ (s : Stock). finite.get s.lent c.args.no) c.self.view_is ∙ c.requires.unlent in
+    let put : (i : ℕ) → lent_at c.insert.new.self i ≡ cond (is_at (nat_cmp c.args.no) i) (Some c.args.plan.now) (lent_at c.self.inside.lent i) =
+    λ i. lent_put c.self.inside.lent c.insert.new.self c.args.no (Some c.of.result) c.in_ok-insert.ensures.updates.0 i
+    ∙ ap (λ (p : Requests). cond (is_at (nat_cmp c.args.no) i) (Some p) (lent_at c.self.inside.lent i)) c.of.ensures in
+    kept_lend c.self.inside.catalogue c.self.inside.shelves c.hold.new.shelves c.empty_places.new.shelves c.self.inside.lent c.insert.new.self c.args.no c.args.plan.now
     c.in_ok-held.held.written_shelves.items c.in_ok-held.held.written_names.items
     c.hold.ensures.seen c.hold.ensures.kept c.hold.ensures.shelves c.in_ok-held.ensures.with_shelf c.in_ok-held.ensures.with_place
     c.in_ok-held.ensures.written_shelves c.in_ok-held.ensures.written_names
@@ -101,11 +101,11 @@ returns-clause-rows c =
 
 pub returns-clause-lent : goal.returns-clause-lent
 returns-clause-lent c =
-    let put : (i : ℕ) → lent_at c.insert.new.self i ≡ cond (is_at (nat_cmp c.args.number) i) (Some c.args.plan.now) (lent_at c.self.inside.lent i) =
-    λ i. lent_put c.self.inside.lent c.insert.new.self c.args.number (Some c.of.result) c.in_ok-insert.ensures.updates.0 i
-    ∙ ap (λ (p : Requests). cond (is_at (nat_cmp c.args.number) i) (Some p) (lent_at c.self.inside.lent i)) c.of.ensures in
-    lent_inserted c.self.inside.lent c.insert.new.self c.args.number c.args.plan.now put
-    ∙ ap (λ (s : Stock). finite.insert s.lent c.args.number c.args.plan.now) c.self.view_is
+    let put : (i : ℕ) → lent_at c.insert.new.self i ≡ cond (is_at (nat_cmp c.args.no) i) (Some c.args.plan.now) (lent_at c.self.inside.lent i) =
+    λ i. lent_put c.self.inside.lent c.insert.new.self c.args.no (Some c.of.result) c.in_ok-insert.ensures.updates.0 i
+    ∙ ap (λ (p : Requests). cond (is_at (nat_cmp c.args.no) i) (Some p) (lent_at c.self.inside.lent i)) c.of.ensures in
+    lent_inserted c.self.inside.lent c.insert.new.self c.args.no c.args.plan.now put
+    ∙ ap (λ (s : Stock). finite.insert s.lent c.args.no c.args.plan.now) c.self.view_is
 
 pub returns-clause-loan_rows : goal.returns-clause-loan_rows
 returns-clause-loan_rows c = λ q reads.

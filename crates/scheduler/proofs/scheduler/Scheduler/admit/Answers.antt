@@ -1,4 +1,4 @@
-use Rattle.std.proofs.Common.{◌≡◌, ◌<◌, ◌≤◌, ◌+◌, ◌++◌, ◌∷◌, [], List, length, true, false, Some, slice_get, refl, sym, ap, ◌∙◌, subst, arith}
+use Rattle.std.proofs.Common.{◌≡◌, ◌<◌, ◌≤◌, ◌+◌, ◌++◌, ◌∷◌, [], List, length, false, Some, slice_get, refl, sym, ap, ◌∙◌, subst, arith}
 use Rattle.std.proofs.lemmas.Option.{slice_get_read}
 use Rattle.lock_tree.specs.Locks.{Locks, used}
 use Rattle.coarsen.specs.Subtrees.{Requests}
@@ -8,24 +8,13 @@ use Rattle.scheduler.specs.declared.slot.Slot.{Slot}
 use Rattle.scheduler.specs.declared.slot.Slot.TheVariants.{Idle}
 use Rattle.scheduler.specs.Scheduled.{IsScheduled, AreSettledBefore}
 use Rattle.scheduler.specs.Schedules.{Schedule, log_of, phases_of, work_of}
-use Rattle.scheduler.proofs.Admitting.{transaction_there, enabled_where, refused_where, fits_where, full_where, none_next, below_number}
+use Rattle.scheduler.proofs.Admitting.{transaction_there, none_next, below_number}
 use Rattle.scheduler.proofs.Steps.{admitted}
 use Rattle.scheduler.proofs.Leading.{settled_pushed}
 use Rattle.scheduler.proofs.scheduler.Scheduler.admit.Goals as goal
 
-pub returns-in-Err-clause-full : goal.returns-in-Err-clause-full
-returns-in-Err-clause-full c is =
-    let w = work_of c.self.inside.catalogue c.self.inside.arena c.self.inside.first c.self.inside.entries.items c.self.inside.plans.items c.self.inside.start.value.rows in
-    let count : c.len-place.result ≡ length c.self.inside.slots.items = omega (arith, c.len-place.ensures) in
-    let less : c.len-place.result < length c.self.inside.plans.items = omega (arith, c.len.ensures) in
-    let at : slice_get c.self.inside.plans.items c.len-place.result ≡ Some c.index.result.now =
-    slice_get_read c.self.inside.plans.items (length c.self.inside.plans.items) c.len-place.result c.index.result.now refl less c.index.ensures in
-    let t = transaction_there c.self.inside.entries.items c.self.inside.plans.items c.len-place.result c.index.result.now c.self.invariant.0.plans at in
-    subst (λ (s : Schedule). enabled s.work.arena s.work.first (log_of s.work) (phases_of s) Admit ≡ false) c.self.view_is
-    (refused_where w c.self.inside.slots.items c.self.inside.store c.self.inside.locks c.self.invariant.1 c.len-place.result t.0 c.index.result.now count t.1 t.2 (full_where c.enqueue.result c.in-Err.fault c.from.result (used c.self.inside.locks.waiting + length c.index.result.now) c.self.inside.locks.arena c.self.inside.arena c.in-Err.is c.enqueue.ensures.full (ap (λ (l : Locks). l.arena) c.self.invariant.1.tree_is) c.from.ensures is))
-
-pub invariant_of-self-in_default : goal.invariant_of-self-in_default
-invariant_of-self-in_default c =
+pub invariant_of-self-in-Ok : goal.invariant_of-self-in-Ok
+invariant_of-self-in-Ok c =
     let w = work_of c.self.inside.catalogue c.self.inside.arena c.self.inside.first c.self.inside.entries.items c.self.inside.plans.items c.self.inside.start.value.rows in
     let count : c.len-place.result ≡ length c.self.inside.slots.items = omega (arith, c.len-place.ensures) in
     let less : c.len-place.result < length c.self.inside.plans.items = omega (arith, c.len.ensures) in
@@ -37,20 +26,9 @@ invariant_of-self-in_default c =
       subst (λ (slots : List Slot). IsScheduled w slots c.self.inside.store c.enqueue.new.self) (sym items)
           (admitted w (c.rows_are_serial.ensures w.tables w.first (log_of w) w.start c.self.invariant.0.planned) (c.admitted_and_unsettled_wait.ensures w.first (log_of w))
           c.self.inside.slots.items c.self.inside.store c.self.inside.locks c.enqueue.new.self t.0 (c.self.inside.first + c.len-place.result) c.self.invariant.1 (ap (slice_get (log_of w)) (sym count) ∙ t.1) (ap (λ n. c.self.inside.first + n) count)
-          (c.in_default.ensures.enqueued ∙ ap (λ (p : Requests). record (c.self.inside.locks) { waiting = c.self.inside.locks.waiting ++ record { number = c.self.inside.first + c.len-place.result; plan = p; marked = false } ∷ [] }) (sym t.2))),
+          (c.in-Ok.ensures.enqueued ∙ ap (λ (p : Requests). record (c.self.inside.locks) { waiting = c.self.inside.locks.waiting ++ record { no = c.self.inside.first + c.len-place.result; plan = p; marked = false } ∷ [] }) (sym t.2))),
       subst (λ (slots : List Slot). AreSettledBefore slots c.self.inside.settled) (sym items) (settled_pushed c.self.inside.slots.items c.self.inside.settled c.self.invariant.2),
     )
-
-pub returns-clause-enabled : goal.returns-clause-enabled
-returns-clause-enabled c =
-    let w = work_of c.self.inside.catalogue c.self.inside.arena c.self.inside.first c.self.inside.entries.items c.self.inside.plans.items c.self.inside.start.value.rows in
-    let count : c.len-place.result ≡ length c.self.inside.slots.items = omega (arith, c.len-place.ensures) in
-    let less : c.len-place.result < length c.self.inside.plans.items = omega (arith, c.len.ensures) in
-    let at : slice_get c.self.inside.plans.items c.len-place.result ≡ Some c.index.result.now =
-    slice_get_read c.self.inside.plans.items (length c.self.inside.plans.items) c.len-place.result c.index.result.now refl less c.index.ensures in
-    let t = transaction_there c.self.inside.entries.items c.self.inside.plans.items c.len-place.result c.index.result.now c.self.invariant.0.plans at in
-    subst (λ (s : Schedule). enabled s.work.arena s.work.first (log_of s.work) (phases_of s) Admit ≡ true) c.self.view_is
-    (enabled_where w c.self.inside.slots.items c.self.inside.store c.self.inside.locks c.self.invariant.1 c.len-place.result t.0 c.index.result.now count t.1 t.2 (fits_where c.enqueue.result c.in_default.field-0 (used c.self.inside.locks.waiting + length c.index.result.now) c.self.inside.locks.arena c.self.inside.arena c.in_default.is c.enqueue.ensures.full (ap (λ (l : Locks). l.arena) c.self.invariant.1.tree_is)))
 
 pub returns-then-place-len-clause-last : goal.returns-then-place-len-clause-last
 returns-then-place-len-clause-last c is =

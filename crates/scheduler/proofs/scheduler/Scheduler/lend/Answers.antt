@@ -16,21 +16,21 @@ returns-in_default-clause-least c =
 pub index-requires : goal.index-requires
 index-requires c =
     let k = known c.self.inside c.self.invariant c.rows_are_serial.ensures c.admitted_and_unsettled_wait.ensures in
-    let o = next_opening c.self.inside k c.in-Some.number c.in-Some.ensures in
+    let o = next_opening c.self.inside k c.in-Some.no c.in-Some.ensures in
     omega (arith, o.in_entries, c.self.inside.entries.ok.0)
 
 pub index-requires-2 : goal.index-requires-2
 index-requires-2 c =
     let k = known c.self.inside c.self.invariant c.rows_are_serial.ensures c.admitted_and_unsettled_wait.ensures in
-    let o = next_opening c.self.inside k c.in-Some.number c.in-Some.ensures in
+    let o = next_opening c.self.inside k c.in-Some.no c.in-Some.ensures in
     omega (arith, o.in_plans, c.self.inside.plans.ok.0)
 
 -- the transaction of this entry and this plan may be lent its rows
-offered : (c : After-index-2) → Offer c.self.inside c.in-Some.number (c.in-Some.number - c.self.inside.first) c.index.result.now c.index-2.result.now
+offered : (c : After-index-2) → Offer c.self.inside c.in-Some.no (c.in-Some.no - c.self.inside.first) c.index.result.now c.index-2.result.now
 offered c =
     let k = known c.self.inside c.self.invariant c.rows_are_serial.ensures c.admitted_and_unsettled_wait.ensures in
-    let place = c.in-Some.number - c.self.inside.first in
-    offer c.self.inside k c.in-Some.number place (next_opening c.self.inside k c.in-Some.number c.in-Some.ensures) c.clashes_are_either_way.ensures
+    let place = c.in-Some.no - c.self.inside.first in
+    offer c.self.inside k c.in-Some.no place (next_opening c.self.inside k c.in-Some.no c.in-Some.ensures) c.clashes_are_either_way.ensures
     c.index.result.now c.index-2.result.now c.index.ensures c.index-2.ensures
 
 pub lend_to-requires-clause-tables : goal.lend_to-requires-clause-tables
@@ -62,14 +62,14 @@ invariant_of-self-2 c =
 pub returns-clause-least : goal.returns-clause-least
 returns-clause-least c =
     let k = known c.self.inside c.self.invariant c.rows_are_serial.ensures c.admitted_and_unsettled_wait.ensures in
-    subst (λ (s : Schedule). IsLeastLend s.work.arena s.work.first (log_of s.work) (phases_of s) (Some c.in_ok-job.job.number)) c.self.view_is
+    subst (λ (s : Schedule). IsLeastLend s.work.arena s.work.first (log_of s.work) (phases_of s) (Some c.in_ok-job.job.no)) c.self.view_is
     (subst (λ n. IsLeastLend c.self.inside.arena c.self.inside.first (log_of (work_in c.self.inside)) (phases_of (schedule_in c.self.inside)) (Some n)) (sym c.in_ok-job.ensures.number)
-    (least c.self.inside k (Some c.in-Some.number) c.in-Some.ensures))
+    (least c.self.inside k (Some c.in-Some.no) c.in-Some.ensures))
 
 pub returns-clause-lent : goal.returns-clause-lent
 returns-clause-lent c =
     let f = offered (goal.at.returns-clause-lent c).After-index-2 in
     let e = c.in_ok-job.ensures in
     subst (λ (s : Schedule). LendsJob s c.in_ok-job.job (record { work = work_in c.self.inside; slots = c.put.new.slots.items })) c.self.view_is
-    (lends_job c.self.inside c.in-Some.number c.index.result.now c.index-2.result.now f c.in_ok-job.job c.put.new.slots.items
+    (lends_job c.self.inside c.in-Some.no c.index.result.now c.index-2.result.now f c.in_ok-job.job c.put.new.slots.items
     e.number (f.lends c.in_ok-job.job e.number e.entry e.plan e.loan_tables e.shows) e.plan c.put.ensures)

@@ -9,24 +9,24 @@ use Rattle.scheduler.proofs.scheduler.Scheduler.play_lend.Goals as goal
 pub index-requires : goal.index-requires
 index-requires c =
     let k = known c.self.inside c.self.invariant c.rows_are_serial.ensures c.admitted_and_unsettled_wait.ensures in
-    let o = opening_seen c.self.inside k c.args.self.now c.self.view_is c.args.number c.in-Some.place c.in-Some.ensures.some.0 c.deref.result.now
+    let o = opening_seen c.self.inside k c.args.self.now c.self.view_is c.args.no c.in-Some.place c.in-Some.ensures.some.0 c.deref.result.now
     c.deref.ensures.value (c.is_idle.ensures.slot c.if-not-is_idle.false) (sym c.is_ready.ensures ∙ c.if-not-is_ready.false) in
     omega (arith, o.in_entries, c.self.inside.entries.ok.0)
 
 pub index-requires-2 : goal.index-requires-2
 index-requires-2 c =
     let k = known c.self.inside c.self.invariant c.rows_are_serial.ensures c.admitted_and_unsettled_wait.ensures in
-    let o = opening_seen c.self.inside k c.args.self.now c.self.view_is c.args.number c.in-Some.place c.in-Some.ensures.some.0 c.deref.result.now
+    let o = opening_seen c.self.inside k c.args.self.now c.self.view_is c.args.no c.in-Some.place c.in-Some.ensures.some.0 c.deref.result.now
     c.deref.ensures.value (c.is_idle.ensures.slot c.if-not-is_idle.false) (sym c.is_ready.ensures ∙ c.if-not-is_ready.false) in
     omega (arith, o.in_plans, c.self.inside.plans.ok.0)
 
 -- the transaction of this entry and this plan may be lent its rows
-offered : (c : After-index-2) → Offer c.self.inside c.args.number c.in-Some.place c.index.result.now c.index-2.result.now
+offered : (c : After-index-2) → Offer c.self.inside c.args.no c.in-Some.place c.index.result.now c.index-2.result.now
 offered c =
     let k = known c.self.inside c.self.invariant c.rows_are_serial.ensures c.admitted_and_unsettled_wait.ensures in
-    let o = opening_seen c.self.inside k c.args.self.now c.self.view_is c.args.number c.in-Some.place c.in-Some.ensures.some.0 c.deref.result.now
+    let o = opening_seen c.self.inside k c.args.self.now c.self.view_is c.args.no c.in-Some.place c.in-Some.ensures.some.0 c.deref.result.now
     c.deref.ensures.value (c.is_idle.ensures.slot c.if-not-is_idle.false) (sym c.is_ready.ensures ∙ c.if-not-is_ready.false) in
-    offer c.self.inside k c.args.number c.in-Some.place o c.clashes_are_either_way.ensures c.index.result.now c.index-2.result.now c.index.ensures c.index-2.ensures
+    offer c.self.inside k c.args.no c.in-Some.place o c.clashes_are_either_way.ensures c.index.result.now c.index-2.result.now c.index.ensures c.index-2.ensures
 
 pub lend_to-requires-clause-tables : goal.lend_to-requires-clause-tables
 lend_to-requires-clause-tables c = (offered c).tables
@@ -56,7 +56,7 @@ invariant_of-self c =
 pub returns-in-Ok-clause-answer : goal.returns-in-Ok-clause-answer
 returns-in-Ok-clause-answer c =
     let k = known c.self.inside c.self.invariant c.rows_are_serial.ensures c.admitted_and_unsettled_wait.ensures in
-    answers_lend c.self.inside k c.args.self.now c.self.view_is c.events_by_places.ensures c.args.number c.in-Some.place c.in-Some.ensures.some.0 c.put.new.slots.items (Held c.in-Ok.job)
+    answers_lend c.self.inside k c.args.self.now c.self.view_is c.events_by_places.ensures c.args.no c.in-Some.place c.in-Some.ensures.some.0 c.put.new.slots.items (Held c.in-Ok.job)
     (offered (goal.at.returns-in-Ok-clause-answer c).After-index-2).opening.slot (sym c.is_ready.ensures ∙ c.if-not-is_ready.false) refl c.put.ensures
 
 pub returns-in-Ok-clause-keeps : goal.returns-in-Ok-clause-keeps

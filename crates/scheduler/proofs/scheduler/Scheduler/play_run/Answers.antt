@@ -13,7 +13,7 @@ use Rattle.scheduler.proofs.scheduler.Scheduler.play_run.Goals as goal
 pub returns-in_default-take_held-clause-answer : goal.returns-in_default-take_held-clause-answer
 returns-in_default-take_held-clause-answer c =
     let k = known c.self.inside c.self.invariant c.rows_are_serial.ensures c.admitted_and_unsettled_wait.ensures in
-    refuses_run c.self.inside k c.args.self.now c.self.view_is c.events_by_places.ensures c.args.number c.in-Some.place c.in-Some.ensures.some.0 c.take_held.new.slots.items c.requires
+    refuses_run c.self.inside k c.args.self.now c.self.view_is c.events_by_places.ensures c.args.no c.in-Some.place c.in-Some.ensures.some.0 c.take_held.new.slots.items c.requires
     (c.in_default-take_held.ensures.none refl) (c.in_default-take_held.ensures.same refl)
 
 -- what stands there afterwards: a job that was run, or one that could not be run
@@ -41,7 +41,7 @@ invariant_of-self-in-None c =
 pub returns-in-Some-outcome-clause-answer : goal.returns-in-Some-outcome-clause-answer
 returns-in-Some-outcome-clause-answer c =
     let k = known c.self.inside c.self.invariant c.rows_are_serial.ensures c.admitted_and_unsettled_wait.ensures in
-    answers_run c.self.inside k c.args.self.now c.self.view_is c.events_by_places.ensures c.args.number c.in-Some.place c.in-Some.ensures.some.0 c.put.new.slots.items
+    answers_run c.self.inside k c.args.self.now c.self.view_is c.events_by_places.ensures c.args.no c.in-Some.place c.in-Some.ensures.some.0 c.put.new.slots.items
     c.in-Some-take_held.job c.into_parts-job.result.0 c.in-Some-outcome.outcome c.in-Some-take_held.ensures.was (ran_there c)
 
 pub returns-in-Some-outcome-clause-keeps : goal.returns-in-Some-outcome-clause-keeps

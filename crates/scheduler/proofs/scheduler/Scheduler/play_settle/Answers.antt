@@ -10,11 +10,11 @@ use Rattle.scheduler.proofs.scheduler.Scheduler.play_settle.Goals.{In-Some-take_
 use Rattle.scheduler.proofs.scheduler.Scheduler.play_settle.Goals as goal
 
 -- the job that stands there gives its rows back
-returned : (c : In-Some-take_run) → Return c.self.inside c.args.number c.in-Some.place (Ran c.in-Some-take_run.job c.in-Some-take_run.outcome) c.in-Some-take_run.job
+returned : (c : In-Some-take_run) → Return c.self.inside c.args.no c.in-Some.place (Ran c.in-Some-take_run.job c.in-Some-take_run.outcome) c.in-Some-take_run.job
 returned c =
     let k = known c.self.inside c.self.invariant c.rows_are_serial.ensures c.admitted_and_unsettled_wait.ensures in
     let old = Ran c.in-Some-take_run.job c.in-Some-take_run.outcome in
-    return c.self.inside k c.args.number c.in-Some.place (number_at c.self.inside c.args.self.now c.self.view_is c.args.number c.in-Some.place c.in-Some.ensures.some.0)
+    return c.self.inside k c.args.no c.in-Some.place (number_at c.self.inside c.args.self.now c.self.view_is c.args.no c.in-Some.place c.in-Some.ensures.some.0)
     old c.in-Some-take_run.ensures.was refl refl c.in-Some-take_run.job (c.self.invariant.1.kept c.in-Some.place old c.in-Some-take_run.ensures.was).job_at
 
 -- what stands there afterwards
@@ -47,7 +47,7 @@ invariant_of-self-2 c = (
 pub returns-clause-answer : goal.returns-clause-answer
 returns-clause-answer c =
     let k = known c.self.inside c.self.invariant c.rows_are_serial.ensures c.admitted_and_unsettled_wait.ensures in
-    answers_settle c.self.inside k c.args.self.now c.self.view_is c.events_by_places.ensures c.args.number c.in-Some.place c.in-Some.ensures.some.0 c.put.new.slots.items
+    answers_settle c.self.inside k c.args.self.now c.self.view_is c.events_by_places.ensures c.args.no c.in-Some.place c.in-Some.ensures.some.0 c.put.new.slots.items
     c.in-Some-take_run.job c.in-Some-take_run.outcome c.in-Some-take_run.ensures.was (settled_there (goal.at.returns-clause-answer c).After-put)
 
 pub returns-clause-keeps : goal.returns-clause-keeps

@@ -13,19 +13,19 @@ use Rattle.scheduler.proofs.scheduler.Scheduler.settle.Goals as goal
 
 -- a job that comes back run
 run : (c : In-Some)
-    → IsRunAt (work_in c.self.inside) (c.no-number.result - c.self.inside.first) c.into_parts-job.result.0 c.in-Some.outcome × Return c.self.inside c.no-number.result (c.no-number.result - c.self.inside.first) Lent c.into_parts-job.result.0
+    → IsRunAt (work_in c.self.inside) (c.no-no.result - c.self.inside.first) c.into_parts-job.result.0 c.in-Some.outcome × Return c.self.inside c.no-no.result (c.no-no.result - c.self.inside.first) Lent c.into_parts-job.result.0
 run c =
     let k = known c.self.inside c.self.invariant c.rows_are_serial.ensures c.admitted_and_unsettled_wait.ensures in
-    returns_run c.self.inside k c.args.self.now c.self.view_is c.args.done c.requires c.no-number.result c.into_parts-job.result.0 c.into_parts-job.result.1
-    c.no-number.ensures c.into_parts-job.ensures.job c.into_parts-job.ensures.outcome c.in-Some.outcome c.in-Some.is
+    returns_run c.self.inside k c.args.self.now c.self.view_is c.args.done c.requires c.no-no.result c.into_parts-job.result.0 c.into_parts-job.result.1
+    c.no-no.ensures c.into_parts-job.ensures.job c.into_parts-job.ensures.outcome c.in-Some.outcome c.in-Some.is
 
 -- and one that is given back
 given : (c : In-None)
-    → IsLentAt (work_in c.self.inside) (c.no-number.result - c.self.inside.first) c.into_parts-job.result.0 × Return c.self.inside c.no-number.result (c.no-number.result - c.self.inside.first) Lent c.into_parts-job.result.0
+    → IsLentAt (work_in c.self.inside) (c.no-no.result - c.self.inside.first) c.into_parts-job.result.0 × Return c.self.inside c.no-no.result (c.no-no.result - c.self.inside.first) Lent c.into_parts-job.result.0
 given c =
     let k = known c.self.inside c.self.invariant c.rows_are_serial.ensures c.admitted_and_unsettled_wait.ensures in
-    returns_lent c.self.inside k c.args.self.now c.self.view_is c.args.done c.requires c.no-number.result c.into_parts-job.result.0 c.into_parts-job.result.1
-    c.no-number.ensures c.into_parts-job.ensures.job c.into_parts-job.ensures.outcome c.in-None.is
+    returns_lent c.self.inside k c.args.self.now c.self.view_is c.args.done c.requires c.no-no.result c.into_parts-job.result.0 c.into_parts-job.result.1
+    c.no-no.ensures c.into_parts-job.ensures.job c.into_parts-job.ensures.outcome c.in-None.is
 
 pub give_back-requires-clause-lent : goal.give_back-requires-clause-lent
 give_back-requires-clause-lent c = (run (goal.at.give_back-requires-clause-lent c).In-Some).1.lent
@@ -68,5 +68,5 @@ invariant_of-self-in-None c =
 pub returns-in-None-clause-ready : goal.returns-in-None-clause-ready
 returns-in-None-clause-ready c = λ _.
     let r = (given (goal.at.returns-in-None-clause-ready c).In-None).1 in
-    subst (λ n. enabled c.self.inside.arena c.self.inside.first (log_of (work_in c.self.inside)) (map phase_in c.put-in-None.new.slots.items) (Lend n) ≡ true) c.no-number.ensures
+    subst (λ n. enabled c.self.inside.arena c.self.inside.first (log_of (work_in c.self.inside)) (map phase_in c.put-in-None.new.slots.items) (Lend n) ≡ true) c.no-no.ensures
     (r.lent_again c.events_by_places.ensures c.put-in-None.new.slots.items c.put-in-None.ensures)

@@ -2,8 +2,8 @@
 
 ghost use Rattle.std.specs.Prelude.{◌≡◌};
 
+use crate::procs::Procs;
 use catalogue::Catalogue;
-use requests::Procs;
 use values::{Key, Row, TableNo};
 
 /// What a run starts from.

@@ -1,0 +1,42 @@
+-- A text says one setup.
+use Rattle.std.proofs.Common.{◌≡◌, List, Option, Some, Result, Ok, sym, ◌∙◌, subst, refl}
+use Rattle.serde_json.specs.Data.{Data}
+use Rattle.catalogue.specs.Rules.{SaysCatalogue, OneCatalogueIsSaid}
+use Rattle.catalogue.specs.Shapes.{TableShape}
+use Rattle.proclang_types.specs.Syntax.{ProcSyntax}
+use Rattle.proclang.specs.Says.{SaysProcs, OneListOfProceduresIsSaid}
+use Rattle.setup.specs.declared.fault.SetupFault.{SetupFault}
+use Rattle.setup.specs.Rows.{RowAt}
+use Rattle.setup.specs.Says.{SaysRows, SaysDocument, OneSetupIsSaid}
+use Rattle.setup.specs.Setups.{SetupDocument, SetupShape}
+use Rattle.setup.proofs.SaidRows.{rows_read}
+use Rattle.setup.proofs.SaidSetups.{form_again}
+
+some_is : {X : Type 0} (x y : X) → Some x ≡ Some y → x ≡ y
+some_is x y e = cc
+
+ok_is : (x y : List RowAt) → ◌≡◌ {A = Result (List RowAt) SetupFault} (Ok x) (Ok y) → x ≡ y
+ok_is x y e = cc
+
+same_shape : (ts us : List TableShape) (ps qs : List ProcSyntax) (rows others : List RowAt) → ts ≡ us → ps ≡ qs → rows ≡ others
+    → ◌≡◌ {A = SetupShape} (record { tables = ts; procs = ps; rows = rows }) (record { tables = us; procs = qs; rows = others })
+same_shape ts us ps qs rows others e f g = rw (e, f, g) refl
+
+one_document : OneCatalogueIsSaid → OneListOfProceduresIsSaid → (d : Data) (s t : SetupShape) → SaysDocument d s → SaysDocument d t → s ≡ t
+one_document one_catalogue one_list d s t a b =
+    let forms : a.form ≡ b.form = some_is a.form b.form (sym (form_again d a.form a.is_form) ∙ form_again d b.form b.is_form) in
+    let tables : s.tables ≡ t.tables = one_catalogue a.form.catalogue s.tables t.tables a.catalogue a.is_catalogue
+    (subst (λ (f : SetupDocument). SaysCatalogue f.catalogue t.tables) (sym forms) b.catalogue) b.is_catalogue in
+    let procs : s.procs ≡ t.procs = one_list s.tables a.form.procs s.procs t.procs a.procs
+    (subst (λ (ts : List TableShape). SaysProcs ts a.form.procs t.procs) (sym tables)
+    (subst (λ (f : SetupDocument). SaysProcs t.tables f.procs t.procs) (sym forms) b.procs)) in
+    let rows : s.rows ≡ t.rows = ok_is s.rows t.rows (sym (rows_read s.tables a.form.rows s.rows a.rows) ∙ rows_read s.tables a.form.rows t.rows
+    (subst (λ (ts : List TableShape). SaysRows ts a.form.rows t.rows) (sym tables)
+    (subst (λ (f : SetupDocument). SaysRows t.tables f.rows t.rows) (sym forms) b.rows))) in
+    same_shape s.tables t.tables s.procs t.procs s.rows t.rows tables procs rows
+
+-- ... and so does a text
+pub one_setup : OneCatalogueIsSaid → OneListOfProceduresIsSaid → OneSetupIsSaid
+one_setup one_catalogue one_list text s t a b =
+    let documents : a.0 ≡ b.0 = some_is a.0 b.0 (sym a.1.json ∙ b.1.json) in
+    one_document one_catalogue one_list a.0 s t a.2 (subst (λ (d : Data). SaysDocument d t) (sym documents) b.2)
