@@ -9,14 +9,15 @@ The prover must refuse each of them. Those that are tried in one check change fu
 function that goals of it are open, or else that it has no proof since it calls one that has none. So an edit is refused
 where each function that it changes has an open goal of its own. The others are tried in the next check without those,
 and alone at last: then an open goal in one of those functions refuses the edit, and where it changes a definition, any.
-The checks are those by which `rt ci` tries an edit, on copies of the crate, so nothing in the checkout changes; what the
-crate stands on is built first where it isn't. The crates are tried side by side. It ends with how many were refused and how
+The checks are those by which `rt ci` tries an edit, on copies of the crate, so nothing in the checkout changes. They go on
+from a copy of the work that the crate's own checks kept; what the crate stands on is built first where it isn't. The crates are tried side by side. It ends with how many were refused and how
 many not, and with status 1 where an edit isn't refused.
 """
 import importlib.machinery
 import importlib.util
 import os
 import re
+import shutil
 import subprocess
 import sys
 import tempfile
@@ -154,6 +155,9 @@ def is_refused_alone(crate, edit, kept):
 def not_refused(crate, edits):
     """Tries the edits of a crate, and gives back those that aren't refused."""
     with tempfile.TemporaryDirectory(prefix="edits-") as kept:
+        own = Path(crate.folder, "out", "incremental")
+        if own.is_dir():
+            shutil.copytree(own, kept, dirs_exist_ok=True)
         together = refused_together(crate, edits, kept)
         failed = []
         for edit in edits:
