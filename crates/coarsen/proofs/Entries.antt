@@ -80,7 +80,7 @@ greatest_map test f (e ∷ es) = ap (λ n. max (cond (test (f e.0)) (rank_of e.1
 
 -- ---- members
 
-behind : (r : Resource) (es : List (Resource × Right)) (d : Resource × Right) → T (below_all resource_cmp r es) → Contains es d → resource_cmp r d.0 ≡ Less
+pub behind : (r : Resource) (es : List (Resource × Right)) (d : Resource × Right) → T (below_all resource_cmp r es) → Contains es d → resource_cmp r d.0 ≡ Less
 behind r [] d h k = absurd (let l = k.1 in omega (arith, l))
 behind r (e ∷ es) d h k = elim (first_or_later e es d k) [
   | inl same ↦ ap (resource_cmp r) (ap (λ (y : Resource × Right). y.0) (sym same)) ∙ less (resource_cmp r e.0) (first_test (is_lt (resource_cmp r e.0)) (below_all resource_cmp r es) h)

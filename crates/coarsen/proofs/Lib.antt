@@ -11,4 +11,6 @@ pub mod Clashing
 pub mod Merging
 pub mod TreeLaws
 pub mod CoarseningLaws
+pub mod Children
+pub mod Coarsened
 pub mod PlanLaws

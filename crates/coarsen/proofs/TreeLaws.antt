@@ -20,7 +20,7 @@ or_right : (a b : Bool) → b ≡ true → a || b ≡ true
 or_right true b h = refl
 or_right false b h = h
 
-any_of : (test : Resource → Bool) (rs : List Resource) (a : Resource) → Contains rs a → test a ≡ true → list_any test rs ≡ true
+pub any_of : (test : Resource → Bool) (rs : List Resource) (a : Resource) → Contains rs a → test a ≡ true → list_any test rs ≡ true
 any_of test [] a k t = absurd (let l = k.1 in omega (arith, l))
 any_of test (r ∷ rs) a (zero, l, is) t = let same : r ≡ a = is in ap (λ q. test q || list_any test rs) same ∙ ap (λ b. b || list_any test rs) t
 any_of test (r ∷ rs) a (suc n, l, is) t = or_right (test r) (list_any test rs) (any_of test rs a (n, omega (arith, l), is) t)

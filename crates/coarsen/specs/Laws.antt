@@ -1,6 +1,6 @@
 -- Claimed: what contracts promise to a reader rests on these words.
 -- Laws of the tree, of coarsening, of plans and of clashes.
-use Rattle.std.specs.Prelude.{◌≡◌, ◌↔◌, ◌⊎◌, ℕ, true, if◌then◌else◌, nat_lt, max, List, Some, None}
+use Rattle.std.specs.Prelude.{◌≡◌, ◌≤◌, ◌↔◌, ◌⊎◌, ℕ, true, false, if◌then◌else◌, nat_lt, max, List, Some, None}
 use Rattle.std.specs.List.{Contains, list_any}
 use Rattle.std.specs.FinMap.{entries, get, empty}
 use Rattle.values.specs.declared.name.RowName.{RowName}
@@ -9,14 +9,14 @@ use Rattle.proclang_types.specs.declared.right.Right.{Right}
 use Rattle.proclang_types.specs.declared.right.Right.TheVariants.{Read, Write}
 use Rattle.footprint.specs.declared.resource.Resource.{Resource}
 use Rattle.footprint.specs.Tree.{ancestors_of, row_resource}
-use Rattle.footprint.specs.Rights.{FootprintOf, is_at_least, with_right}
+use Rattle.footprint.specs.Rights.{FootprintOf, is_at_least, covers, with_right}
 use Rattle.footprint.specs.OfCatalogue.{IsRowName, IsResourceOf, IsFootprintOf}
 use Rattle.modes.specs.declared.mode.Mode.{Mode}
 use Rattle.modes.specs.Rights.{rank_of}
 use Rattle.modes.specs.Modes.{own, subtree}
 use Rattle.coarsen.specs.declared.level.Level.{Level}
 use Rattle.coarsen.specs.Subtrees.{Requests, holds, greatest, right_on, right_under}
-use Rattle.coarsen.specs.Coarsening.{needed, lifted, children, parent_at, is_parent}
+use Rattle.coarsen.specs.Coarsening.{needed, lifted, children, parent_at, is_parent, coarsened}
 use Rattle.coarsen.specs.Plans.{IsPlanOf, IsWellFormed}
 use Rattle.coarsen.specs.Clashes.{locks_row, Clash, ModesClash}
 
@@ -40,6 +40,18 @@ pub record ReplacesMany : Type 0 where
   pub parent_comes : (level : Level) (k : ℕ) (f : FootprintOf) (r : Resource) → parent_at level r ≡ None
       → right_on (lifted level k f) r
       ≡ max (right_on f r) (if nat_lt k (children level f r) then greatest rank_of (λ s. is_parent (parent_at level s) r) (entries f) else 0)
+
+-- Coarsening as a whole. What was covered is covered. No entry stands under one of at least its right. In the subtree of no
+-- resource is a right that is greater than all that were there. At most k entries of a level are the children of one resource;
+-- and where it is so once the entries that are covered are gone, nothing else is done
+pub record CoversWithoutExcess : Type 0 where
+  pub covered : (k : ℕ) (f : FootprintOf) (r : Resource) (x : Right) → covers f r x ≡ true → covers (coarsened k f) r x ≡ true
+  pub none_covered : (k : ℕ) (f : FootprintOf) (r above : Resource) (x : Right) → get (coarsened k f) r ≡ Some x → Contains (ancestors_of r) above
+      → is_at_least x (get (coarsened k f) above) ≡ false
+  pub nothing_new : (k : ℕ) (f : FootprintOf) (r : Resource) → right_under (coarsened k f) r ≤ right_under f r
+  pub few : (k : ℕ) (f : FootprintOf) (level : Level) (parent : Resource) → children level (coarsened k f) parent ≤ k
+  pub left_alone : (k : ℕ) (f : FootprintOf) → ((level : Level) (parent : Resource) → children level (needed f) parent ≤ k)
+      → (r : Resource) → right_on (coarsened k f) r ≡ right_on (needed f) r
 
 -- a plan of a footprint has a request on a resource exactly if there is a mode of the resource's rights, and then the
 -- request has it. So a footprint has one plan

@@ -1,6 +1,6 @@
 //! Laws of the definitions, as contracts of functions that do nothing.
 
-ghost use Rattle.coarsen.specs.Laws.{HoldsDescendants, DropsCovered, ReplacesMany, PlansAreExact, ClashEitherWay, LockedRowsConflict, FootprintsAreOf};
+ghost use Rattle.coarsen.specs.Laws.{HoldsDescendants, DropsCovered, ReplacesMany, CoversWithoutExcess, PlansAreExact, ClashEitherWay, LockedRowsConflict, FootprintsAreOf};
 
 /// The subtree of a resource is the resource and what has it as an ancestor.
 pub fn subtrees_are_of_ancestors()
@@ -15,6 +15,12 @@ pub fn covered_entries_go()
 /// What the second step and the third leave on each resource.
 pub fn many_entries_become_one()
     ensures { ReplacesMany }
+{}
+
+/// What coarsening keeps, and what it leaves out: all that was covered is covered, no entry stands under one of at least its
+/// right, and at most the threshold of entries of a level are the children of one resource.
+pub fn coarsened_footprints_cover()
+    ensures { CoversWithoutExcess }
 {}
 
 /// Which requests a plan has.

@@ -10,7 +10,8 @@ mod requests;
 
 pub use clashes::clash;
 pub use laws::{
-    clashes_are_either_way, covered_entries_go, footprints_are_of_catalogues, locked_rows_conflict,
-    many_entries_become_one, plans_are_exact, subtrees_are_of_ancestors,
+    clashes_are_either_way, coarsened_footprints_cover, covered_entries_go,
+    footprints_are_of_catalogues, locked_rows_conflict, many_entries_become_one, plans_are_exact,
+    subtrees_are_of_ancestors,
 };
 pub use plan::Plan;

@@ -5,3 +5,4 @@ pub mod Typed
 pub mod Totals
 pub mod StandIns
 pub mod Ranges
+pub mod Order

@@ -3,6 +3,7 @@ pub mod Turns
 pub mod Comparing
 pub mod Runs
 pub mod Meaning
+pub mod Order
 pub mod Entries
 pub mod Frame
 pub mod Serial

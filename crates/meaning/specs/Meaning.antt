@@ -27,7 +27,7 @@ text_or other (Some (values.Int z)) = other
 text_or other (Some (values.Text s)) = s
 text_or other None = other
 
--- the operands of an expression are evaluated from left to right
+-- the operands of an expression are evaluated from left to right (OperandsComeFirst)
 abbrev pub int_of : StandIn → Gate → IntSyntax → Ran ℤ
 int_of d gate (number z) = ok z
 int_of d gate (variable place) = look (λ st. number_or d.number (slice_get st.variables place))
@@ -97,13 +97,16 @@ values_of d gate (e ∷ es) = do
   vs ← values_of d gate es
   ok (v ∷ vs)
 
--- a variable gets a value
+-- ---- what each statement does. In which order its parts are looked at, and so which of them fails first, is said once for all
+-- statements in the law OperandsComeFirst: its operands come first, from left to right
+
+-- a variable gets a value: operands first, in order (OperandsComeFirst)
 abbrev pub assign_value : StandIn → Gate → ℕ → ValueSyntax → Ran (Unit {0})
 assign_value d gate place value = do
   v ← value_of d gate value
   set_variable place v
 
--- a variable gets a column of a row
+-- a variable gets a column of a row: operands first, in order (OperandsComeFirst)
 abbrev pub get_column : StandIn → Gate → ℕ → ℕ → IntSyntax → ℕ → Ran (Unit {0})
 get_column d gate place table key column = do
   k ← int_of d gate key
@@ -112,7 +115,7 @@ get_column d gate place table key column = do
   row ← present found
   set_variable place (unwrap_or (slice_get row column) (values.Int d.number))
 
--- a column of a row gets a value
+-- a column of a row gets a value: operands first, in order (OperandsComeFirst)
 abbrev pub put_column : StandIn → Gate → ℕ → IntSyntax → ℕ → ValueSyntax → Ran (Unit {0})
 put_column d gate table key column value = do
   k ← int_of d gate key
@@ -122,7 +125,7 @@ put_column d gate table key column value = do
   row ← present found
   set_row name (slice_set row column v)
 
--- a new row
+-- a new row: operands first, in order (OperandsComeFirst)
 abbrev pub insert_values : StandIn → Gate → ℕ → IntSyntax → List ValueSyntax → Ran (Unit {0})
 insert_values d gate table key es = do
   k ← int_of d gate key
@@ -132,7 +135,7 @@ insert_values d gate table key es = do
   u ← absent found
   set_row name vs
 
--- a row is no more
+-- a row is no more: operands first, in order (OperandsComeFirst)
 abbrev pub delete_key : StandIn → Gate → ℕ → IntSyntax → Ran (Unit {0})
 delete_key d gate table key = do
   k ← int_of d gate key
@@ -141,12 +144,13 @@ delete_key d gate table key = do
   row ← present found
   remove_row name
 
+-- more values of the reply: operands first, in order (OperandsComeFirst)
 abbrev pub reply_with : StandIn → Gate → List ValueSyntax → Ran (Unit {0})
 reply_with d gate es = do
   vs ← values_of d gate es
   replying vs
 
--- one of two blocks
+-- one of two blocks: operands first, in order (OperandsComeFirst)
 abbrev pub if_of : StandIn → Gate → BoolSyntax → Ran (Unit {0}) → Ran (Unit {0}) → Ran (Unit {0})
 if_of d gate test first second = do
   b ← bool_of d gate test
@@ -173,14 +177,14 @@ turns block (z ∷ zs) = do
   u ← turn_of block z
   turns block zs
 
--- a block for each number from one to another
+-- a block for each number from one to another: operands first, in order (OperandsComeFirst)
 abbrev pub for_of : StandIn → Gate → IntSyntax → IntSyntax → Ran (Unit {0}) → Ran (Unit {0})
 for_of d gate low high block = do
   first ← int_of d gate low
   last ← int_of d gate high
   turns block (numbers_between first last)
 
--- a block for each key that a partition holds when the statement begins, ascending
+-- a block for each key that a partition holds when the statement begins, ascending: operands first, in order (OperandsComeFirst)
 abbrev pub each_of : StandIn → Gate → ℕ → IntSyntax → Ran (Unit {0}) → Ran (Unit {0})
 each_of d gate table part block = do
   z ← int_of d gate part

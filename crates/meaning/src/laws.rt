@@ -5,6 +5,9 @@ ghost use Rattle.values.specs.Database.{Database};
 ghost use Rattle.proclang_types.specs.Syntax.{ProcSyntax};
 ghost use Rattle.meaning.specs.Entries.{EntryShape};
 ghost use Rattle.meaning.specs.Frame.{Agree, StaysInFootprint};
+ghost use Rattle.meaning.specs.Runs.{Gate};
+ghost use Rattle.meaning.specs.Meaning.{StandIn};
+ghost use Rattle.meaning.specs.Order.{OperandsComeFirst};
 ghost use Rattle.meaning.specs.Turns.{numbers_between};
 ghost use Rattle.meaning.specs.Fitting.{HasTypes, IsCallOf, StandInNeverShows};
 
@@ -21,6 +24,13 @@ pub fn stays_in_footprint()
 pub fn stand_in_never_shows()
     ensures { (proc : ProcSyntax) (entry : EntryShape) (db : Database) → IsCallOf proc entry →
         HasTypes entry.tables db → StandInNeverShows entry db }
+{}
+
+/// The order in which the parts of a statement fail, the same for all statements: its step, its operands from left to right as
+/// they are written, and then what is tested of them: whether the first is a key or a partition's number, whether the footprint
+/// covers the access, and whether the row is there. The first that fails ends the run.
+pub fn operands_come_first()
+    ensures { (d : StandIn) (gate : Gate) → OperandsComeFirst d gate }
 {}
 
 /// The numbers from one to another, place by place: each is one more than the one before it, the first is the lower one, and there

@@ -5,5 +5,7 @@
 mod laws;
 mod outcome;
 
-pub use laws::{numbers_go_from_low_to_high, stand_in_never_shows, stays_in_footprint};
+pub use laws::{
+    numbers_go_from_low_to_high, operands_come_first, stand_in_never_shows, stays_in_footprint,
+};
 pub use outcome::{Ending, Outcome};

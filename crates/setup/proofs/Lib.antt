@@ -2,3 +2,4 @@ pub mod Texts
 pub mod SaidRows
 pub mod SaidSetups
 pub mod OneSetup
+pub mod ToldRows

@@ -43,7 +43,7 @@ unlike_at : (y : RowAt) (ys : List RowAt) (x : RowAt) (zs : List RowAt) → AllB
 unlike_at y [] x zs h = h.0
 unlike_at y (z ∷ ys) x zs h = unlike_at y ys x zs h.1
 
-unused : (xs : List RowAt) (x : RowAt) (zs : List RowAt) → IsDistinct same_name (xs ++ x ∷ zs) → is_given x.0 x.1 xs ≡ false
+pub unused : (xs : List RowAt) (x : RowAt) (zs : List RowAt) → IsDistinct same_name (xs ++ x ∷ zs) → is_given x.0 x.1 xs ≡ false
 unfolding IsDistinct
 unused [] x zs d = refl
 unused (y ∷ ys) x zs d =
@@ -87,7 +87,7 @@ row_found tables before d row e =
     } in
     subst (λ (r : RowAt). SaysRow tables d r × (is_given r.0 r.1 before ≡ false)) is (says, not_found (is_given table.0 key.0 before) fresh.0)
 
-row_read : (tables : List TableShape) (before : List RowAt) (d : Data) (row : RowAt) → SaysRow tables d row → is_given row.0 row.1 before ≡ false → row_at tables before d ≡ Ok row
+pub row_read : (tables : List TableShape) (before : List RowAt) (d : Data) (row : RowAt) → SaysRow tables d row → is_given row.0 row.1 before ≡ false → row_at tables before d ≡ Ok row
 unfolding row_at
 row_read tables before d row h fresh =
     let form : text_number_list d ≡ Some (h.table, pos row.1, h.list) = ap text_number_list h.is_form ∙ text_number_list_again h.table h.key (pos row.1) h.list h.is_key in
@@ -127,10 +127,10 @@ rows_read tables d rows h =
 
 -- ---- the first fault
 
-abbrev place_of : RowAt → Place
+abbrev pub place_of : RowAt → Place
 place_of r = (r.0, r.1)
 
-given_taken : (table key : ℕ) (rows : List RowAt) → is_given table key rows ≡ is_taken (map place_of rows) (Some (table, key))
+pub given_taken : (table key : ℕ) (rows : List RowAt) → is_given table key rows ≡ is_taken (map place_of rows) (Some (table, key))
 given_taken table key [] = refl
 given_taken table key (r ∷ rows) = ap (λ (b : Bool). (eqb r.0 table && eqb r.1 key) || b) (given_taken table key rows)
 
@@ -138,7 +138,7 @@ found_first : {A B : Type 0} (fault : SetupFault) (o : Option A) (k : A → Resu
 found_first fault None k rest law = refl
 found_first fault (Some x) k rest law = law x refl
 
-row_first : (tables : List TableShape) (before : List RowAt) (d : Data) → IsFirst (row_at tables before d) (in_row tables (map place_of before) d)
+pub row_first : (tables : List TableShape) (before : List RowAt) (d : Data) → IsFirst (row_at tables before d) (in_row tables (map place_of before) d)
 unfolding row_at
 row_first tables before d = formed_first Shape (text_number_list d) _ (in_row_form tables (map place_of before)) refl (λ f.
     let twice = broken (not (is_taken (map place_of before) (place_of_form tables f))) RowTwice in
@@ -156,7 +156,7 @@ row_first tables before d = formed_first Shape (text_number_list d) _ (in_row_fo
         (found_first RowValue (row_values tables table f.2) (λ vs. rule (not (is_given table key before)) RowTwice >>= λ _. Ok (made table key vs)) (broken (not (is_given table key before)) RowTwice) (λ vs _.
         rule_last (not (is_given table key before)) RowTwice (made table key vs)))
 
-place_so : (tables : List TableShape) (before : List RowAt) (d : Data) (row : RowAt) → row_at tables before d ≡ Ok row → place_said tables d ≡ Some (place_of row)
+pub place_so : (tables : List TableShape) (before : List RowAt) (d : Data) (row : RowAt) → row_at tables before d ≡ Ok row → place_said tables d ≡ Some (place_of row)
 place_so tables before d row e =
     let h = (row_found tables before d row e).0 in
     let form : text_number_list d ≡ Some (h.table, pos row.1, h.list) = ap text_number_list h.is_form ∙ text_number_list_again h.table h.key (pos row.1) h.list h.is_key in

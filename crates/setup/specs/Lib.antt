@@ -4,3 +4,4 @@ pub mod Names
 pub mod Setups
 pub mod Says
 pub mod FirstFault
+pub mod RowFaults

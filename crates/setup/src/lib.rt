@@ -7,7 +7,7 @@ mod reading;
 mod rows;
 
 pub use fault::SetupFault;
-pub use laws::one_setup_is_said;
+pub use laws::{one_setup_is_said, row_faults_are_told_apart};
 pub use reading::read_setup;
 pub use requests::Setup;
 pub use rows::read_rows;
