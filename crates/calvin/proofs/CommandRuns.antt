@@ -1,14 +1,18 @@
 -- How the commands end.
-use Rattle.std.proofs.Common.{◌≡◌, ℕ, List, [], Bool, true, false, Option, Some, Result, Ok, Err, refl, sym, ap, ◌∙◌, subst, inl, inr, if◌then◌else◌}
+use Rattle.std.proofs.Common.{◌≡◌, ℕ, List, [], Bool, true, false, Option, Some, Result, Ok, Err, String, refl, sym, ap, ◌∙◌, subst, inl, inr, if◌then◌else◌}
 use Rattle.std.specs.FinMap as map_of
+use Rattle.std.specs.declared.alloc.Global.{Global}
 use Rattle.row_store.specs.Stock.{with_rows}
 use Rattle.setup.specs.declared.fault.SetupFault.{SetupFault}
 use Rattle.requests.specs.declared.setup.Setup.{Setup}
 use Rattle.setup.specs.Faults.{is_memory}
 use Rattle.setup.specs.FirstFault.{BreaksFirst}
+use Rattle.engine.specs.declared.settings.Settings.{Settings}
 use Rattle.running.specs.declared.run_fault.RunFault.{RunFault}
-use Rattle.calvin.specs.CommandEnds.{AreReplicas, IsAnswered, IsCompared, IsRunAt, IsSetupAt, IsWithoutSetup, kept_status, run_status, setup_status}
+use Rattle.calvin.specs.CommandEnds.{AreLocksAt, AreReplicas, IsAnswered, IsCompared, IsRunAt, IsSetupAt, IsTold, IsWithoutSetup, kept_status, run_status, setup_status}
+use Rattle.calvin.specs.FirstBatches.{IsFirstBatchPlanned}
 use Rattle.running.specs.Runs.{Device, IsRunOfLog}
+use Rattle.running.specs.Stops.{IsNotOfThread}
 
 -- a text that is no setup, or memory was refused
 pub without_setup : (holds : Option (List ℕ) → Type 0) (text : List ℕ) (fault : SetupFault) (status : ℕ) → holds (Some text) → (is_memory fault ≡ false → BreaksFirst text fault) → status ≡ setup_status fault →
@@ -18,9 +22,20 @@ without_setup holds text fault status held first is = elim (is_memory fault) as 
   | false ↦ λ m. inr (inl (is ∙ ap (λ b. if b then 3 else 1) m, text, held, fault, first m))
 ] refl
 
-pub run_at : (holds : Option (List ℕ) → Type 0) (source spent sink filled : Device) (status : ℕ) (setup : Setup) (result : Result ℕ RunFault) → IsSetupAt holds setup →
-    IsRunOfLog setup.procs (with_rows map_of.empty setup.rows.items) source spent sink filled result → status ≡ run_status result → IsRunAt holds source spent sink filled status
-run_at holds source spent sink filled status setup result is run ends = record { setup = setup; is_setup = is; result = result; run = run; ends = ends }
+pub run_at : (alone : Bool) (holds : Option (List ℕ) → Type 0) (source spent sink filled : Device) (status : ℕ) (setup : Setup) (result : Result ℕ RunFault) → IsSetupAt holds setup →
+    IsRunOfLog setup.procs (with_rows map_of.empty setup.rows.items) source spent sink filled result → (alone ≡ true → IsNotOfThread result) → status ≡ run_status result →
+    IsRunAt alone holds source spent sink filled status
+run_at alone holds source spent sink filled status setup result is run threadless ends = record { setup = setup; is_setup = is; result = result; run = run; threadless = threadless; ends = ends }
+
+pub locks_at : (holds : Option (List ℕ) → Type 0) (settings : Settings) (source spent sink filled : Device) (status : ℕ) (setup : Setup) (result told : Result (String Global) RunFault) → IsSetupAt holds setup →
+    IsFirstBatchPlanned setup.procs settings source spent result → result ≡ told → IsTold told sink filled status → AreLocksAt holds settings source spent sink filled status
+locks_at holds settings source spent sink filled status setup result told is planned same ends = record {
+  setup = setup;
+  is_setup = is;
+  result = result;
+  planned = planned;
+  ends = subst (λ r. IsTold r sink filled status) (sym same) ends;
+}
 
 pub compared : (result : Result ℕ RunFault) (count : ℕ) (full : Bool) (report other : List ℕ) (sink filled : Device) (status : ℕ) → result ≡ Ok count → IsAnswered report other sink filled status →
     IsCompared result full report other sink filled status

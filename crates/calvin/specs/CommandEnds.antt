@@ -1,8 +1,9 @@
 -- Claimed: what contracts promise to a reader rests on these words.
 -- How a command ends: its exit status, and what it wrote.
-use Rattle.std.specs.Prelude.{◌≡◌, ℕ, ◌⊎◌, List, [], ◌++◌, length, Bool, true, false, ◌&&◌, Option, Some, None, IfSome, OnOk, Result, Ok, Err, codes, if◌then◌else◌, string_bytes, ⊤}
+use Rattle.std.specs.Prelude.{◌≡◌, ℕ, ◌⊎◌, List, [], ◌++◌, length, Bool, true, false, ◌&&◌, Option, Some, None, IfSome, OnOk, Result, Ok, Err, codes, if◌then◌else◌, String, string_bytes, ⊤}
 use Rattle.std.specs.Fmt.{decimal}
 use Rattle.std.specs.FinMap as map_of
+use Rattle.std.specs.declared.alloc.Global.{Global}
 use Rattle.std.specs.Io.KnownBytes.{Appends}
 use Rattle.devices.specs.Devices.{AppendsFront}
 use Rattle.row_store.specs.Stock.{with_rows}
@@ -17,14 +18,16 @@ use Rattle.batch_log.specs.declared.fault.LogFaultKind.{LogFaultKind}
 use Rattle.batch_log.specs.declared.fault.LogFaultKind.TheVariants.{Io, Memory}
 use Rattle.command_line.specs.CommandLine.{IsAskedFor}
 use Rattle.command_line.specs.declared.line.Command.{Command}
-use Rattle.command_line.specs.declared.line.Command.TheVariants.{Run, Replicas, Check}
+use Rattle.command_line.specs.declared.line.Command.TheVariants.{Run, Locks, Replicas, Check}
 use Rattle.command_line.specs.declared.line.Line.{Line}
+use Rattle.engine.specs.declared.settings.Settings.{Settings}
 use Rattle.running.specs.declared.run_fault.RunFault.{RunFault}
 use Rattle.running.specs.declared.run_fault.RunFault.TheVariants as runs
 use Rattle.calvin.specs.Comparisons.{IsFirstDifference}
+use Rattle.calvin.specs.FirstBatches.{IsFirstBatchPlanned}
 use Rattle.running.specs.Reports.{report_of}
 use Rattle.running.specs.Runs.{Device, IsRunOfLog}
-use Rattle.running.specs.Stops.{is_of_device}
+use Rattle.running.specs.Stops.{is_of_device, IsNotOfThread}
 
 -- what a machine may hold at a path: a text, or nothing that can be read
 abbrev pub Holding : Type 1
@@ -68,18 +71,20 @@ pub record IsSetupAt (holds : Holding) (setup : Setup) : Type 0 where
 
 -- ---- the command `run`
 
--- The log was run on the setup at a path.
-pub record IsRunAt (holds : Holding) (source spent sink filled : Device) (status : ℕ) : Type 0 where
+-- The log was run on the setup at a path, alone on one thread or on several.
+pub record IsRunAt (alone : Bool) (holds : Holding) (source spent sink filled : Device) (status : ℕ) : Type 0 where
   pub setup : Setup
   pub is_setup : IsSetupAt holds setup
   pub result : Result ℕ RunFault
   pub run : IsRunOfLog setup.procs (with_rows map_of.empty setup.rows.items) source spent sink filled result
+  -- Alone on one thread, no thread is refused.
+  pub threadless : alone ≡ true → IsNotOfThread result
   pub ends : status ≡ run_status result
 
 -- Without a setup nothing is read of the log, and nothing is written.
-abbrev pub IsRunCommand : Holding → Device → Device → Device → Device → ℕ → Type 0
-IsRunCommand holds source spent sink filled status =
-    (IsWithoutSetup holds status × (spent ≡ source) × (filled ≡ sink)) ⊎ IsRunAt holds source spent sink filled status
+abbrev pub IsRunCommand : Bool → Holding → Device → Device → Device → Device → ℕ → Type 0
+IsRunCommand alone holds source spent sink filled status =
+    (IsWithoutSetup holds status × (spent ≡ source) × (filled ≡ sink)) ⊎ IsRunAt alone holds source spent sink filled status
 
 -- ---- the command `replicas`
 
@@ -148,12 +153,37 @@ abbrev pub IsCheckCommand : Holding → Device → Device → ℕ → Type 0
 IsCheckCommand holds sink filled status =
     (IsWithoutSetup holds status × (filled ≡ sink)) ⊎ ((setup : Setup) × IsSetupAt holds setup × IsWritten (check_text setup) sink filled 0 status)
 
+-- ---- the command `locks`
+
+-- A text that was made is written. After a fault nothing is.
+abbrev pub IsTold : Result (String Global) RunFault → Device → Device → ℕ → Type 0
+IsTold (Ok text) sink filled status = IsWritten (string_bytes text) sink filled 0 status
+IsTold (Err fault) sink filled status = (status ≡ fault_status fault) × (filled ≡ sink)
+
+-- The plans of the log's first batch were made on the setup at a path, and their text was written.
+pub record AreLocksAt (holds : Holding) (settings : Settings) (source spent sink filled : Device) (status : ℕ) : Type 0 where
+  pub setup : Setup
+  pub is_setup : IsSetupAt holds setup
+  pub result : Result (String Global) RunFault
+  pub planned : IsFirstBatchPlanned setup.procs settings source spent result
+  pub ends : IsTold result sink filled status
+
+-- Without a setup nothing is read of the log, and nothing is written.
+abbrev pub IsLocksCommand : Holding → Settings → Device → Device → Device → Device → ℕ → Type 0
+IsLocksCommand holds settings source spent sink filled status =
+    (IsWithoutSetup holds status × (spent ≡ source) × (filled ≡ sink)) ⊎ AreLocksAt holds settings source spent sink filled status
+
 -- ---- which command
 
--- what holds of the setup's path of `run`
-abbrev pub IfRun : Command → (List ℕ → Type 0) → Type 0
-IfRun (Run alone setup) P = P (string_bytes setup)
+-- what holds of the flag `--alone` and the setup's path of `run`
+abbrev pub IfRun : Command → (Bool → List ℕ → Type 0) → Type 0
+IfRun (Run alone setup) P = P alone (string_bytes setup)
 IfRun command P = ⊤
+
+-- what holds of the setup's path of `locks`
+abbrev pub IfLocks : Command → (List ℕ → Type 0) → Type 0
+IfLocks (Locks setup) P = P (string_bytes setup)
+IfLocks command P = ⊤
 
 -- what holds of the paths of the setup and of the other report of `replicas`
 abbrev pub IfReplicas : Command → (List ℕ → List ℕ → Type 0) → Type 0
@@ -166,10 +196,11 @@ IfCheck (Check setup) P = P (string_bytes setup)
 IfCheck command P = ⊤
 
 -- What comes of a command line, by its command: `run` writes the report of the log on the setup at its path, and `replicas`
--- compares that report with the text at another; `check` writes how much the setup has, and reads nothing of the log. Nothing is
--- said of `locks` here.
+-- compares that report with the text at another; `locks` writes the plans of the log's first batch; `check` writes how much the
+-- setup has, and reads nothing of the log.
 pub record Does (holds : List ℕ → Option (List ℕ) → Type 0) (line : Line) (source spent sink filled : Device) (status : ℕ) : Type 0 where
-  pub run : IfRun line.command (λ path. IsRunCommand (holds path) source spent sink filled status)
+  pub run : IfRun line.command (λ alone path. IsRunCommand alone (holds path) source spent sink filled status)
+  pub locks : IfLocks line.command (λ path. IsLocksCommand (holds path) line.settings source spent sink filled status)
   pub replicas : IfReplicas line.command (λ path report. IsReplicasCommand (holds path) (holds report) source spent sink filled status)
   pub check : IfCheck line.command (λ path. IsCheckCommand (holds path) sink filled status)
   pub unread : IfCheck line.command (λ path. spent ≡ source)

@@ -1,2 +1,3 @@
 pub mod Comparisons
+pub mod FirstBatches
 pub mod CommandEnds

@@ -1,9 +1,11 @@
 //! The commands of the program.
 
+ghost use Rattle.std.specs.Prelude.{◌≡◌, true};
 ghost use Rattle.std.specs.FinMap as map_of;
 ghost use Rattle.row_store.specs.Stock.{with_rows};
 ghost use Rattle.running.specs.Runs.{IsRunOfLog, device_with};
-ghost use Rattle.calvin.specs.CommandEnds.{Does, IsRunCommand};
+ghost use Rattle.running.specs.Stops.{IsNotOfThread};
+ghost use Rattle.calvin.specs.CommandEnds.{Does, IsLocksCommand, IsRunCommand};
 
 use crate::checking::check;
 use crate::executing::{run_log_alone, run_log_on_workers};
@@ -31,11 +33,12 @@ fn run_setup<R: Threads + Wait + Sync, S: Source, K: Sink>(
     source: &mut S,
     out: &mut K,
 ) -> Result<u64, RunFault>
-    ensures { IsRunOfLog setup.procs (with_rows map_of.empty setup.rows.items)
+    ensures run { IsRunOfLog setup.procs (with_rows map_of.empty setup.rows.items)
         (device_with (S.left source.old) (S.failed source.old))
         (device_with (S.left source.new) (S.failed source.new))
         (device_with (K.taken out.old) (K.broken out.old))
         (device_with (K.taken out.new) (K.broken out.new)) result }
+    ensures threadless { alone ≡ true → IsNotOfThread result }
 {
     if alone {
         run_log_alone(alloc, setup, settings, source, out)
@@ -56,7 +59,7 @@ fn run<R: Threads + Wait + Sync, F: Files, S: Source, K: Sink, E: Sink>(
     out: &mut K,
     err: &mut E,
 ) -> u8
-    ensures { IsRunCommand (F.holds files.now path.now)
+    ensures { IsRunCommand alone (F.holds files.now path.now)
         (device_with (S.left source.old) (S.failed source.old))
         (device_with (S.left source.new) (S.failed source.new))
         (device_with (K.taken out.old) (K.broken out.old))
@@ -81,7 +84,13 @@ fn locks<F: Files, S: Source, K: Sink, E: Sink>(
     source: &mut S,
     out: &mut K,
     err: &mut E,
-) -> u8 {
+) -> u8
+    ensures { IsLocksCommand (F.holds files.now path.now) settings
+        (device_with (S.left source.old) (S.failed source.old))
+        (device_with (S.left source.new) (S.failed source.new))
+        (device_with (K.taken out.old) (K.broken out.old))
+        (device_with (K.taken out.new) (K.broken out.new)) result }
+{
     let setup = match setup_at(alloc, files, path, err) {
         Ok(setup) => setup,
         Err(status) => return status,
@@ -97,7 +106,9 @@ fn locks<F: Files, S: Source, K: Sink, E: Sink>(
 }
 
 /// Does what a command line asks for, and gives the exit status: 0; 1 where the setup or the log is refused; 3 where memory
-/// was refused; 4 where a device failed or a file can't be read; 5 where reports differ. A fault goes to `err` in a line.
+/// was refused; 4 where a device failed, a file can't be read, or a thread was refused, as none is to `run --alone` and
+/// `locks`; 5 where reports differ. A fault goes to `err` in a line. After a fault of the setup or the log `locks` and
+/// `replicas` write nothing to `out`.
 pub fn command<R: Threads + Wait + Sync, F: Files, S: Source, K: Sink, E: Sink>(
     rt: &R,
     alloc: Global,

@@ -8,10 +8,11 @@ ghost use Rattle.row_store.specs.Stock.{with_rows};
 ghost use Rattle.sequencer.specs.Batches.{items_of, AreOver};
 ghost use Rattle.report_text.specs.Report.{all_entries};
 ghost use Rattle.engine.specs.Engines.{tables_of};
+ghost use Rattle.engine.specs.Executions.{IsSpawn};
 ghost use Rattle.running.specs.Executors.{IsExecution};
 ghost use Rattle.running.specs.Reports.{batches_in, fault_in, report_of};
 ghost use Rattle.running.specs.Runs.{IsRunOfLog, device_with};
-ghost use Rattle.running.specs.Stops.{ends_in_io, IfOfLine, IfOfMachine, IsLineOf};
+ghost use Rattle.running.specs.Stops.{ends_in_io, IfOfLine, IfOfMachine, IsLineOf, IsNotOfThread};
 
 use batch_log::{Sink, Source};
 use engine::{Batch, BatchDone, Engine, ExecFault, Gate, Settings};
@@ -29,15 +30,17 @@ pub(crate) fn run_log_alone<S: Source, K: Sink>(
     source: &mut S,
     sink: &mut K,
 ) -> Result<u64, RunFault>
-    ensures { IsRunOfLog setup.procs (with_rows map_of.empty setup.rows.items)
+    ensures run { IsRunOfLog setup.procs (with_rows map_of.empty setup.rows.items)
         (device_with (S.left source.old) (S.failed source.old))
         (device_with (S.left source.new) (S.failed source.new))
         (device_with (K.taken sink.old) (K.broken sink.old))
         (device_with (K.taken sink.new) (K.broken sink.new)) result }
+    ensures threadless { IsNotOfThread result }
 {
     let executor = move |engine: &mut Engine, batch: Batch| -> Result<BatchDone, ExecFault>
         requires { AreOver (tables_of engine.old) (items_of batch) }
-        ensures { IsExecution engine.old batch result engine.new }
+        ensures run { IsExecution engine.old batch result engine.new }
+        ensures threadless { IfErr result (λ fault. ¬ IsSpawn fault) }
     { engine.run_alone(alloc, batch, &[]) };
     run_log(alloc, &executor, setup, settings, source, sink)
 }

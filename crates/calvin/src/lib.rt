@@ -7,6 +7,7 @@ mod comparison;
 mod executing;
 mod files;
 mod inputs;
+mod laws;
 mod locks;
 mod programs;
 mod replicas;
@@ -23,6 +24,7 @@ pub use engine::{
 };
 pub use executing::run_text;
 pub use files::{FileFault, Files};
+pub use laws::plans_have_one_text;
 pub use programs::program;
 pub use running::RunFault;
 pub use setup::{Setup, SetupFault, read_setup};

@@ -1,7 +1,14 @@
 //! The plans of a log's first batch.
 
-ghost use Rattle.std.specs.Prelude.{◌≡◌, ◌≤◌, length};
+ghost use Rattle.std.specs.Prelude.{◌≡◌, ◌≤◌, ◌++◌, None, length, map, IfOk, OnOk, string_bytes};
 ghost use Rattle.std.specs.List.{AllByRecursion};
+ghost use Rattle.coarsen.specs.Subtrees.{Requests};
+ghost use Rattle.sequencer.specs.Entries.{prepared};
+ghost use Rattle.interp.specs.Entries.{entry_shape};
+ghost use Rattle.batch_log.specs.Reader.{calls_read, fault_of, position_of, source_name, source_of, unread};
+ghost use Rattle.report_text.specs.PlanTexts.{plan_lines};
+ghost use Rattle.running.specs.Runs.{device_with};
+ghost use Rattle.calvin.specs.FirstBatches.{IsFirstBatchPlanned, IsPlanOfEntry, IsPlansText};
 
 use batch_log::{LogFaultKind, LogReader, Source};
 use catalogue::Catalogue;
@@ -18,7 +25,22 @@ use setup::Setup;
 use std::alloc::Global;
 use values::NoMemory;
 
-/// Appends the lines of an entry's plan. An entry whose declaration faults has an empty plan.
+/// The plan of an entry. An entry whose declaration faults asks for nothing.
+fn plan_of(alloc: Global, settings: Settings, entry: &Entry) -> Result<Plan, NoMemory>
+    ensures { IfOk result (λ plan. IsPlanOfEntry settings (entry_shape entry.now) plan) }
+{
+    match entry.footprint() {
+        Some(footprint) => Plan::new(alloc, footprint, settings.threshold, settings.arena),
+        None => Plan::new(
+            alloc,
+            &Footprint::new(alloc),
+            settings.threshold,
+            settings.arena,
+        ),
+    }
+}
+
+/// Appends the lines of an entry's plan.
 fn push_entry(
     alloc: Global,
     text: &mut String,
@@ -26,18 +48,30 @@ fn push_entry(
     settings: Settings,
     number: u64,
     entry: &Entry,
-) -> Result<(), NoMemory> {
-    let plan = match entry.footprint() {
-        Some(footprint) => Plan::new(alloc, footprint, settings.threshold, settings.arena)?,
-        None => Plan::new(
-            alloc,
-            &Footprint::new(alloc),
-            settings.threshold,
-            settings.arena,
-        )?,
-    };
+) -> Result<(), NoMemory>
+    ensures { OnOk result ((plan : Requests) × IsPlanOfEntry settings (entry_shape entry.now) plan
+        × (string_bytes text.new ≡ string_bytes text.old ++ plan_lines catalogue.now number plan)) }
+{
+    let plan = plan_of(alloc, settings, entry)?;
     push_plan(text, catalogue, number, &plan)?;
     Ok(())
+}
+
+/// The lines of the plans of entries, which are numbered from 0.
+fn text_of(
+    alloc: Global,
+    catalogue: &Catalogue,
+    settings: Settings,
+    entries: &[Entry],
+) -> Result<String, NoMemory>
+    ensures { IfOk result (λ text.
+        IsPlansText catalogue.now settings (map entry_shape entries.now) (string_bytes text)) }
+{
+    let mut text = String::new(alloc);
+    for (place, entry) in entries.iter().enumerate() {
+        push_entry(alloc, &mut text, catalogue, settings, place as u64, entry)?;
+    }
+    Ok(text)
 }
 
 /// The lines of the plans of a batch's transactions, which are numbered from 0.
@@ -49,6 +83,8 @@ fn lines_of(
 ) -> Result<String, NoMemory>
     requires few { length requests.items ≤ 4096 }
     requires tables { AllByRecursion (λ r. r.proc.tables ≡ setup.catalogue) requests.items }
+    ensures { IfOk result (λ text.
+        IsPlansText setup.catalogue settings (map prepared requests.items) (string_bytes text)) }
 {
     let Setup {
         catalogue,
@@ -62,22 +98,23 @@ fn lines_of(
     };
     let store = RowStore::new(alloc, &catalogue, rows)?;
     let entries = prepare(alloc, &batch, &catalogue, &procs, &store)?;
-    let mut text = String::new(alloc);
-    for (place, entry) in entries.iter().enumerate() {
-        push_entry(alloc, &mut text, &catalogue, settings, place as u64, entry)?;
-    }
-    Ok(text)
+    text_of(alloc, &catalogue, settings, &entries)
 }
 
-/// The lines of the plans of a log's first batch on a setup: nothing where there is no batch. Nothing is run, and nothing
-/// is read after that batch.
-pub(crate) fn plans_of<S: Source>(
+/// The lines of the plans of the first batch, by a reader that has read nothing.
+fn first_plans<S: Source>(
     alloc: Global,
     setup: Setup,
     settings: Settings,
-    source: &mut S,
-) -> Result<String, RunFault> {
-    let mut reader = LogReader::new(source);
+    reader: &mut LogReader<'_, S>,
+) -> Result<String, RunFault>
+    requires { (position_of reader.old ≡ record { newlines = 0; begun = 0 }) × (calls_read reader.old ≡ 0) ×
+        (fault_of reader.old ≡ None) }
+    ensures same { source_name reader.new ≡ source_name reader.old }
+    ensures planned { IsFirstBatchPlanned setup.procs settings
+        (device_with (unread S.left reader.old) (S.failed (source_of reader.old)))
+        (device_with (S.left (source_of reader.new)) (S.failed (source_of reader.new))) result }
+{
     let requests = match reader.next_batch(alloc, &setup.procs) {
         Ok(Some(requests)) => requests,
         Ok(None) => return Ok(String::new(alloc)),
@@ -87,4 +124,22 @@ pub(crate) fn plans_of<S: Source>(
         Ok(lines) => Ok(lines),
         Err(NoMemory) => Err(RunFault::at(LogFaultKind::Memory, reader.last_line())),
     }
+}
+
+/// The lines of the plans of a log's first batch on a setup: nothing where there is no batch. Nothing is run, and no line
+/// after that batch is looked at.
+pub(crate) fn plans_of<S: Source>(
+    alloc: Global,
+    setup: Setup,
+    settings: Settings,
+    source: &mut S,
+) -> Result<String, RunFault>
+    ensures { IsFirstBatchPlanned setup.procs settings
+        (device_with (S.left source.old) (S.failed source.old))
+        (device_with (S.left source.new) (S.failed source.new)) result }
+{
+    let mut reader = LogReader::new(source);
+    let planned = first_plans(alloc, setup, settings, &mut reader);
+    let _source = reader.into_source();
+    planned
 }

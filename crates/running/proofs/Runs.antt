@@ -1,12 +1,17 @@
--- Batches that an engine takes.
-use Rattle.std.proofs.Common.{◌≡◌, ◌+◌, ◌≤◌, ◌^◌, length, true, false, sym, arith, ◌∙◌}
+-- Batches that an engine takes, and what its refusals are told as.
+use Rattle.std.proofs.Common.{◌≡◌, ℕ, ◌+◌, ◌≤◌, ◌^◌, length, true, false, Result, Ok, Err, IfErr, sym, arith, ◌∙◌}
+use denote.Ref.{MutBor}
+use denote.Param.Members.{Shared}
 use Rattle.sequencer.specs.declared.batch.Batch.{Batch}
 use Rattle.sequencer.specs.Batches.{items_of}
 use Rattle.engine.specs.declared.engine.ExecFault.{ExecFault}
 use Rattle.engine.specs.declared.engine.ExecFault.TheVariants.{Busy, LogFull, Spawn, NoMemory}
+use Rattle.engine.specs.declared.replies.BatchDone.{BatchDone}
 use Rattle.engine.specs.Engines.{EngineParts, is_busy}
 use Rattle.engine.specs.Executions.{IsRefusal}
-use Rattle.running.specs.Stops.{IsHeld}
+use Rattle.running.specs.declared.run_fault.RunFault.{RunFault}
+use Rattle.running.specs.Executors.{HasAnswered}
+use Rattle.running.specs.Stops.{IfOfThread, IsHeld, IsRefusedBy}
 
 -- an idle engine with room for a batch gives none back
 pub held_fault : (old new : EngineParts) (batch : Batch) (fault : ExecFault) → IsRefusal old new batch fault → is_busy old ≡ false → old.next + length (items_of batch) ≤ 2 ^ 48 → IsHeld fault
@@ -14,3 +19,17 @@ held_fault old new batch (Busy back) h idle room = let bad : true ≡ false = sy
 held_fault old new batch (LogFull back) h idle room = omega (arith, h.1, room)
 held_fault old new batch Spawn h idle room = tt
 held_fault old new batch NoMemory h idle room = tt
+
+-- a fault with which a call came back is one that it has answered
+pub has_answered : {X : Type 0} (calls : Shared X (MutBor EngineParts × (Batch × Unit {0})) (Result BatchDone ExecFault × (MutBor EngineParts × Unit {0}))) (executor : X)
+    (engine : MutBor EngineParts) (batch : Batch) (result : Result BatchDone ExecFault) (left : MutBor EngineParts) →
+    calls.post executor (engine, (batch, tt)) (result, (left, tt)) → IfErr result (HasAnswered calls executor)
+has_answered calls executor engine batch (Ok done) left p = tt
+has_answered calls executor engine batch (Err fault) left p = record { engine = engine; batch = batch; left = left; answers = p }
+
+-- a run tells of a thread only where a thread was refused to the engine
+pub told_of_thread : (fault : ExecFault) (told : RunFault) (line : ℕ) (P : ExecFault → Type 0) → IsRefusedBy line fault told → P fault → IfOfThread told (P Spawn)
+told_of_thread (Busy back) told line P h p = absurd h
+told_of_thread (LogFull back) told line P h p = absurd h
+told_of_thread Spawn told line P h p = rw h p
+told_of_thread NoMemory told line P h p = rw h tt

@@ -55,7 +55,7 @@ pub none_before : (left : Option (List ℕ)) → prepend_known [] left ≡ left
 none_before None = refl
 none_before (Some x) = refl
 
-taken_and_came : (old left : Option (List ℕ)) (taken came : List ℕ) → Consumes old (prepend_known came left) taken → Consumes old left (taken ++ came)
+pub taken_and_came : (old left : Option (List ℕ)) (taken came : List ℕ) → Consumes old (prepend_known came left) taken → Consumes old left (taken ++ came)
 taken_and_came None left taken came h = tt
 taken_and_came (Some x) None taken came h = absurd h
 taken_and_came (Some x) (Some y) taken came h = h ∙ sym (append_assoc taken came y)

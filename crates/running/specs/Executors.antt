@@ -1,6 +1,6 @@
 -- Claimed: what contracts promise to a reader rests on these words.
 -- What executes batches.
-use Rattle.std.specs.Prelude.{Result, IfOk, IfErr}
+use Rattle.std.specs.Prelude.{Result, Err, IfOk, IfErr}
 use denote.Ref.{MutBor}
 use denote.Param.Members.{Shared}
 use Rattle.sequencer.specs.declared.batch.Batch.{Batch}
@@ -21,3 +21,10 @@ pub record Executes {X : Type 0} (calls : Shared X (MutBor EngineParts × (Batch
   pub takes : (engine : MutBor EngineParts) (batch : Batch) → AreOver (tables_of engine.now) (items_of batch) → calls.pre executor (engine, (batch, tt))
   pub gives : (engine : MutBor EngineParts) (batch : Batch) (result : Result BatchDone ExecFault) (left : MutBor EngineParts) →
       calls.post executor (engine, (batch, tt)) (result, (left, tt)) → IsExecution engine.now batch result left.now
+
+-- the call has answered so, given some engine and some batch; `left` is that engine afterwards
+pub record HasAnswered {X : Type 0} (calls : Shared X (MutBor EngineParts × (Batch × Unit {0})) (Result BatchDone ExecFault × (MutBor EngineParts × Unit {0}))) (executor : X) (fault : ExecFault) : Type 0 where
+  pub engine : MutBor EngineParts
+  pub batch : Batch
+  pub left : MutBor EngineParts
+  pub answers : calls.post executor (engine, (batch, tt)) (Err fault, (left, tt))

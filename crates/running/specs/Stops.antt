@@ -1,9 +1,10 @@
 -- Claimed: what contracts promise to a reader rests on these words.
 -- How a run stops at a fault, and the line that it names.
-use Rattle.std.specs.Prelude.{◌≡◌, ℕ, List, ◌++◌, length, Bool, true, false, Option, Result, Ok, Err, ⊤}
+use Rattle.std.specs.Prelude.{◌≡◌, ℕ, List, ◌++◌, length, Bool, true, false, Option, Result, Ok, Err, IfErr, ⊤}
 use Rattle.std.specs.Io.KnownBytes.{Consumes}
 use Rattle.devices.specs.Lines.{line_number, lines_of, newlines_in, next_number}
 use Rattle.batch_log.specs.declared.fault.LogFault.{LogFault}
+use Rattle.batch_log.specs.declared.fault.LogFaultKind.TheVariants.{Memory}
 use Rattle.batch_log.specs.Faults.{is_io, IsOfLine}
 use Rattle.engine.specs.declared.engine.ExecFault.{ExecFault}
 use Rattle.engine.specs.declared.engine.ExecFault.TheVariants.{Busy, LogFull, Spawn, NoMemory}
@@ -20,6 +21,15 @@ IfOfLine (runs.Spawn line) P = ⊤
 abbrev pub IfOfMachine : RunFault → (ℕ → Type 0) → Type 0
 IfOfMachine (runs.Log fault) P = IsOfMachine fault.kind → P fault.line
 IfOfMachine (runs.Spawn line) P = P line
+
+-- what holds where a thread was refused
+abbrev pub IfOfThread : RunFault → Type 0 → Type 0
+IfOfThread (runs.Log fault) P = ⊤
+IfOfThread (runs.Spawn line) P = P
+
+-- no thread was refused
+abbrev pub IsNotOfThread : {T : Type 0} → Result T RunFault → Type 0
+IsNotOfThread result = IfErr result (λ e. IfOfThread e ⊥)
 
 -- no line of the log is at fault, and the fault is at this line
 abbrev pub IsMachineFault : ℕ → RunFault → Type 0
@@ -41,6 +51,13 @@ IsHeld (Busy batch) = ⊥
 IsHeld (LogFull batch) = ⊥
 IsHeld Spawn = ⊤
 IsHeld NoMemory = ⊤
+
+-- how a run tells, at this line, what was refused to the engine that holds its batch: a thread as a thread, and memory as memory
+abbrev pub IsRefusedBy : ℕ → ExecFault → RunFault → Type 0
+IsRefusedBy line (Busy batch) told = ⊥
+IsRefusedBy line (LogFull batch) told = ⊥
+IsRefusedBy line Spawn told = told ≡ runs.Spawn line
+IsRefusedBy line NoMemory told = told ≡ runs.Log (record { kind = Memory; line = line })
 
 -- the line that a read failed in, behind these bytes: that of their newlines, plus 1
 abbrev pub line_of_read : List ℕ → ℕ

@@ -15,11 +15,11 @@ ghost use Rattle.report_text.specs.Report.{batch_text, next_batch, reply_lines, 
 ghost use Rattle.batch_log.specs.Reader.{calls_read, fault_of, position_of, source_name, source_of, unread};
 ghost use Rattle.engine.specs.Engines.{tables_of, is_busy};
 ghost use Rattle.engine.specs.Executions.{IsRefusal, IsExecutionOf, KeepsSetting};
-ghost use Rattle.running.specs.Executors.{Executes};
+ghost use Rattle.running.specs.Executors.{Executes, HasAnswered};
 ghost use Rattle.running.specs.Hashers.{batch_of, said_of};
 ghost use Rattle.running.specs.Reports.{batches_in, fault_in, report_of};
 ghost use Rattle.running.specs.Runs.{IsRunOfLog, device_with};
-ghost use Rattle.running.specs.Stops.{ends_in_io, is_of_device, IfOfLine, IfOfMachine, IsHeld, IsLineOf, IsMachineFault};
+ghost use Rattle.running.specs.Stops.{ends_in_io, is_of_device, IfOfLine, IfOfMachine, IfOfThread, IsHeld, IsLineOf, IsMachineFault, IsNotOfThread, IsRefusedBy};
 
 use crate::run_fault::RunFault;
 use crate::transcript::Transcript;
@@ -32,6 +32,7 @@ use std::alloc::Global;
 /// The fault of a run whose batch the engine holds.
 fn exec_fault(fault: &ExecFault, line: u64) -> RunFault
     requires { IsHeld fault.now }
+    ensures names { IsRefusedBy line fault.now result }
     ensures stops { IsMachineFault line result }
     ensures works { is_of_device result ≡ false }
 {
@@ -54,6 +55,7 @@ fn execute<X: Fn(&mut Engine, Batch) -> Result<BatchDone, ExecFault>>(
     ensures done { IfOk result (IsExecutionOf engine.old engine.new batch) }
     ensures idle { OnOk result (is_busy engine.new ≡ false) }
     ensures refused { IfErr result (IsRefusal engine.old engine.new batch) }
+    ensures answered { IfErr result (HasAnswered X.Fn executor.now) }
 {
     executor(engine, batch)
 }
@@ -88,6 +90,7 @@ fn run_batch<X: Fn(&mut Engine, Batch) -> Result<BatchDone, ExecFault>, K: Sink>
         (batch_text (tables_of engine.old) (batch_of transcript.old) engine.old.next engine.old.rows
         (map prepared requests.items)) }
     ensures stops { IfErr result (IsMachineFault line) }
+    ensures threads { IfErr result (λ e. IfOfThread e (HasAnswered X.Fn executor.now ExecFault.Spawn)) }
     ensures fails { K.broken sink.new ≡ (K.broken sink.old || ends_in_io result) }
 {
     let batch = match Batch::of(alloc, requests) {
@@ -121,6 +124,7 @@ fn finish<K: Sink>(
     ensures front { (m : List ℕ) → Holds256 (said_of transcript) m → AppendsFront (K.taken sink.old) (K.taken sink.new)
         (end_line engine.now.next (digest (row_text (tables_of engine.now) engine.now.rows)) (digest m)) }
     ensures stops { IfErr result (IsMachineFault line) }
+    ensures threadless { IsNotOfThread result }
     ensures fails { K.broken sink.new ≡ (K.broken sink.old || ends_in_io result) }
 {
     let count = engine.transactions();
@@ -149,6 +153,7 @@ fn run_batches<X: Fn(&mut Engine, Batch) -> Result<BatchDone, ExecFault>, S: Sou
         (device_with (S.left (source_of reader.new)) (S.failed (source_of reader.new)))
         (device_with (K.taken sink.old) (K.broken sink.old))
         (device_with (K.taken sink.new) (K.broken sink.new)) result }
+    ensures threads { IfErr result (λ e. IfOfThread e (HasAnswered X.Fn executor.now ExecFault.Spawn)) }
 {
     let mut transcript = Transcript::new();
     'batches: for _ in 0..u64::MAX {
@@ -185,11 +190,12 @@ fn run_source<X: Fn(&mut Engine, Batch) -> Result<BatchDone, ExecFault>, S: Sour
     requires executes { Executes X.Fn executor.now }
     requires idle { is_busy engine.old ≡ false }
     requires unused { engine.old.next ≡ 0 }
-    ensures { IsRunOfLog engine.old.procs engine.old.rows
+    ensures run { IsRunOfLog engine.old.procs engine.old.rows
         (device_with (S.left source.old) (S.failed source.old))
         (device_with (S.left source.new) (S.failed source.new))
         (device_with (K.taken sink.old) (K.broken sink.old))
         (device_with (K.taken sink.new) (K.broken sink.new)) result }
+    ensures threads { IfErr result (λ e. IfOfThread e (HasAnswered X.Fn executor.now ExecFault.Spawn)) }
 {
     let mut reader = LogReader::new(source);
     let ended = run_batches(alloc, executor, engine, &mut reader, sink);
@@ -202,8 +208,8 @@ fn run_source<X: Fn(&mut Engine, Batch) -> Result<BatchDone, ExecFault>, S: Sour
 /// the number of transactions.
 ///
 /// A batch is read whole before it runs, and its report is written after it ended. A fault ends the run: one of a line of
-/// the log (31 to 35), a failed device (36), want of memory (37), or a refused thread (38). What was written then is a
-/// beginning of the report.
+/// the log (31 to 35), a failed device (36), want of memory (37), or a thread that was refused to the executor (38). What
+/// was written then is a beginning of the report.
 pub fn run_log<X: Fn(&mut Engine, Batch) -> Result<BatchDone, ExecFault>, S: Source, K: Sink>(
     alloc: Global,
     executor: &X,
@@ -213,11 +219,13 @@ pub fn run_log<X: Fn(&mut Engine, Batch) -> Result<BatchDone, ExecFault>, S: Sou
     sink: &mut K,
 ) -> Result<u64, RunFault>
     requires executes { Executes X.Fn executor.now }
-    ensures { IsRunOfLog setup.procs (with_rows map_of.empty setup.rows.items)
+    ensures run { IsRunOfLog setup.procs (with_rows map_of.empty setup.rows.items)
         (device_with (S.left source.old) (S.failed source.old))
         (device_with (S.left source.new) (S.failed source.new))
         (device_with (K.taken sink.old) (K.broken sink.old))
         (device_with (K.taken sink.new) (K.broken sink.new)) result }
+    // It ends with a refused thread only where the executor has answered so.
+    ensures threads { IfErr result (λ e. IfOfThread e (HasAnswered X.Fn executor.now ExecFault.Spawn)) }
 {
     match Engine::new(alloc, setup, settings) {
         Ok(mut engine) => run_source(alloc, executor, &mut engine, source, sink),

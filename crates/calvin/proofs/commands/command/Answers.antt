@@ -4,7 +4,17 @@ use Rattle.calvin.proofs.commands.command.Goals as goal
 pub returns-in-Check : goal.returns-in-Check
 returns-in-Check g c = record {
   run = rw c.in-Check.is tt;
+  locks = rw c.in-Check.is tt;
   replicas = rw c.in-Check.is tt;
   check = rw (c.in-Check.is, ← c.deref-in-Check.ensures) c.check.ensures;
   unread = rw c.in-Check.is refl;
+}
+
+pub returns-in-Locks : goal.returns-in-Locks
+returns-in-Locks g c = record {
+  run = rw c.in-Locks.is tt;
+  locks = rw (c.in-Locks.is, ← c.deref-in-Locks.ensures) c.locks.ensures;
+  replicas = rw c.in-Locks.is tt;
+  check = rw c.in-Locks.is tt;
+  unread = rw c.in-Locks.is tt;
 }

@@ -6,7 +6,8 @@ use Rattle.report_text.specs.Report.{batch_text, reply_lines}
 use Rattle.engine.specs.Engines.{tables_of}
 use Rattle.running.specs.Hashers.{batch_of}
 use Rattle.running.specs.Transcripts.{said_lines, with_batch_line}
-use Rattle.running.proofs.Runs.{held_fault}
+use Rattle.running.specs.Executors.{HasAnswered}
+use Rattle.running.proofs.Runs.{held_fault, told_of_thread}
 use Rattle.running.proofs.Lines.{lines_are, next_is, requests_count, rows_are, text_is}
 use Rattle.running.proofs.log.run_batch.Goals as goal
 
@@ -59,3 +60,7 @@ pub exec_fault-requires : goal.exec_fault-requires
 exec_fault-requires g c =
     held_fault c.args.engine.now c.execute.new.engine c.in-Ok.batch c.in-Err.fault c.in-Err.ensures.refused c.requires.idle
     (rw (ap length c.in-Ok.ensures.items ∙ requests_count 0 c.args.requests.items) c.requires.room)
+
+pub returns-in-Err-clause-threads : goal.returns-in-Err-clause-threads
+returns-in-Err-clause-threads g c =
+    told_of_thread c.in-Err.fault c.exec_fault.result c.args.line (HasAnswered g.X.Fn c.args.executor.now) c.exec_fault.ensures.names c.in-Err.ensures.answered

@@ -1,0 +1,74 @@
+-- Claimed: what contracts promise to a reader rests on these words.
+-- The plans of a log's first batch, and their text.
+use Rattle.std.specs.Prelude.{◌≡◌, ℕ, ◌+◌, ◌||◌, List, [], ◌∷◌, ◌++◌, false, Option, Some, None, Result, Ok, Err, String, string_bytes, IfOk, IfErr, IfSome, IsOkAnd, ⊤}
+use Rattle.std.specs.declared.alloc.Global.{Global}
+use Rattle.std.specs.Io.KnownBytes.{Consumes}
+use Rattle.catalogue.specs.Shapes.{TableShape}
+use Rattle.requests.specs.ProcLists.{ProcsParts}
+use Rattle.coarsen.specs.Subtrees.{Requests}
+use Rattle.coarsen.specs.Plans.{IsPlanFor}
+use Rattle.meaning.specs.Entries.{EntryShape, footprint_of}
+use Rattle.interp.specs.Over.{locked_for}
+use Rattle.batch_log.specs.declared.fault.LogFault.{LogFault}
+use Rattle.report_text.specs.PlanTexts.{plan_lines}
+use Rattle.engine.specs.declared.settings.Settings.{Settings}
+use Rattle.running.specs.declared.run_fault.RunFault.{RunFault}
+use Rattle.running.specs.Reports.{batches_in, fault_in}
+use Rattle.running.specs.Runs.{Device}
+use Rattle.running.specs.Stops.{ends_in_io, IfOfLine, IfOfMachine, IsLineOf, IsNotOfThread}
+
+-- ---- plans
+
+-- the plan of an entry is the one for its footprint, and for the empty footprint where its declaration faults
+abbrev pub IsPlanOfEntry : Settings → EntryShape → Requests → Type 0
+IsPlanOfEntry settings entry plan = IsPlanFor settings.threshold settings.arena (locked_for (footprint_of entry.footing)) plan
+
+-- the plan of each entry, in order
+abbrev pub ArePlansOf : Settings → List EntryShape → List Requests → Type 0
+ArePlansOf settings [] [] = ⊤
+ArePlansOf settings [] (plan ∷ plans) = ⊥
+ArePlansOf settings (entry ∷ entries) [] = ⊥
+ArePlansOf settings (entry ∷ entries) (plan ∷ plans) = IsPlanOfEntry settings entry plan × ArePlansOf settings entries plans
+
+-- the lines of plans, in order and numbered from a first one
+abbrev pub plans_text : List TableShape → ℕ → List Requests → List ℕ
+plans_text tables number [] = []
+plans_text tables number (plan ∷ plans) = plan_lines tables number plan ++ plans_text tables (number + 1) plans
+
+-- the text of the plans of entries, which are numbered from 0
+pub record IsPlansText (tables : List TableShape) (settings : Settings) (entries : List EntryShape) (text : List ℕ) : Type 0 where
+  pub plans : List Requests
+  pub of_entries : ArePlansOf settings entries plans
+  pub lines : text ≡ plans_text tables 0 plans
+
+-- Law: entries have one text.
+abbrev pub PlansHaveOneText : Type 0
+PlansHaveOneText =
+    (tables : List TableShape) (settings : Settings) (entries : List EntryShape) (a b : List ℕ)
+    → IsPlansText tables settings entries a → IsPlansText tables settings entries b → a ≡ b
+
+-- ---- the first batch of a log
+
+-- the first batch, or the fault that comes before its end; a log that ends before either has no entry
+abbrev pub first_of : List (List EntryShape) → Option LogFault → Result (List EntryShape) LogFault
+first_of (batch ∷ batches) fault = Ok batch
+first_of [] (Some fault) = Err fault
+first_of [] None = Ok []
+
+-- the entries of a log's first batch
+abbrev pub first_batch : ProcsParts → List ℕ → Result (List EntryShape) LogFault
+first_batch procs log = first_of (batches_in procs log) (fault_in procs log)
+
+-- The plans of the first batch of the log that a source has left, on procedures: the source before and after, and the plans'
+-- text or a fault.
+pub record IsFirstBatchPlanned (procs : ProcsParts) (settings : Settings) (source spent : Device) (result : Result (String Global) RunFault) : Type 0 where
+  -- The text is that of the first batch.
+  pub text : IfOk result (λ text. IfSome source.bytes (λ log. IsOkAnd (first_batch procs log) (λ entries. IsPlansText procs.tables settings entries (string_bytes text))))
+  -- A fault of a line is the log's first, and comes before the first batch ends.
+  pub fault : IfErr result (λ e. IfOfLine e (λ fault. IfSome source.bytes (λ log. first_batch procs log ≡ Err fault)))
+  -- The fault of a device comes exactly where the source has failed meanwhile. No thread is refused. Each fault names its line.
+  pub device : spent.failed ≡ (source.failed || ends_in_io result)
+  pub threadless : IsNotOfThread result
+  pub line : source.failed ≡ false → IfErr result (λ e. IfOfMachine e (IsLineOf spent.failed source.bytes spent.bytes))
+  -- What was read is a beginning of the log.
+  pub read : (taken : List ℕ) × Consumes source.bytes spent.bytes taken
