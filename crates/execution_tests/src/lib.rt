@@ -1,5 +1,4 @@
-//! Tests of what runs batches: lanes, the scheduler and the engine, by tables, beside a plain program that runs calls
-//! one by one.
+//! Tests of the engine, by tables, beside a plain program that runs calls one by one.
 #![tactic(auto)]
 
 #[cfg(test)]
@@ -7,15 +6,9 @@ mod choices;
 #[cfg(test)]
 mod gates;
 #[cfg(test)]
-mod handing_over;
-#[cfg(test)]
-mod orders;
-#[cfg(test)]
 mod plain;
 #[cfg(test)]
 mod plain_comparison;
-#[cfg(test)]
-mod plays;
 #[cfg(test)]
 mod resuming;
 #[cfg(test)]

@@ -6,16 +6,16 @@ ghost use Rattle.sequencer.specs.Batches.{items_of, AreOver};
 
 use crate::choices::{after, choices};
 use crate::plain::run_serially;
-use crate::test_world::{bank, batch_over, engine, executed, request};
+use crate::test_world::{engine, executed};
 use catalogue::Catalogue;
 use engine::{Batch, Engine, Settings};
 use meaning::Outcome;
-use proclang::{Procs, Request};
+use requests::{Procs, Request, Setup};
 use row_store::{RowStore, all_is_free_with_nothing_lent};
 use sequencer::prepare;
-use setup::Setup;
 use std::alloc::Global;
 use std::test::Fail;
+use test_bank::{CallsFault, bank, batch_over, request};
 use values::{Key, TableNo};
 use workspace::RowView;
 
@@ -30,7 +30,7 @@ const SEEDS: u32 = 64;
 
 /// The call that a number stands for: mostly a payment between the accounts 1, 2 and 4, of which the last may not be
 /// there yet.
-fn drawn(alloc: Global, procs: &Procs, number: u32) -> Result<Request, Fail>
+fn drawn(alloc: Global, procs: &Procs, number: u32) -> Result<Request, CallsFault>
     ensures { IfOk result (λ request. request.proc.tables ≡ procs.now.tables) }
 {
     let from = 1 << ((number >> 9) % 3);
@@ -54,7 +54,7 @@ fn drawn_batch(alloc: Global, procs: &Procs, batch: u32) -> Result<Batch, Fail>
         number = after(number);
         requests.push(drawn(alloc, procs, number)?)?;
     }
-    batch_over(alloc, procs, requests)
+    Ok(batch_over(alloc, procs, requests)?)
 }
 
 /// The outcomes of one batch, run call by call on the rows of a store.

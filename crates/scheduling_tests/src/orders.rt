@@ -1,10 +1,11 @@
 //! Every order of the events of three transactions, of which each waits for the one before it.
 
 use crate::plays::{play, replies};
-use crate::test_world::{Call, scheduler};
+use crate::schedulers::scheduler;
 use scheduler::Event;
 use std::alloc::Global;
 use std::test::Fail;
+use test_bank::Call;
 
 /// The steps of the transactions, one after the other.
 const STEPS: [Event; 9] = [

@@ -1,6 +1,6 @@
 use Rattle.std.proofs.Common.{◌≡◌}
 use Rattle.std.specs.List.{AllByRecursion}
-use Rattle.execution_tests.proofs.test_world.batch.Given as goal
+use Rattle.test_bank.proofs.calls.batch.Given as goal
 
 abbrev pub invariant-loop-call : goal.invariant-loop-call
 invariant-loop-call l = AllByRecursion (λ r. r.proc.tables ≡ l.procs.tables) l.requests.items

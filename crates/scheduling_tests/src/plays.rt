@@ -2,10 +2,11 @@
 
 ghost use Rattle.scheduler.specs.Schedules.{KeepsItsJobs};
 
-use crate::test_world::{Call, TWO_PAYS, push_outcome, scheduler};
+use crate::schedulers::scheduler;
 use scheduler::{AdmitFault, Event, Scheduler, StepAnswer, lent_jobs_come_back, run_job};
 use std::alloc::Global;
 use std::test::Fail;
+use test_bank::{Call, TWO_PAYS, push_outcome};
 
 /// Calls, the events that are tried in turn, which of them are made (`+`) and refused (`-`), and what has come of the
 /// calls.

@@ -3,7 +3,7 @@
 ghost use Rattle.std.specs.Prelude.{◌≡◌};
 ghost use Rattle.lanes.specs.Calls.{Claims};
 
-use crate::test_world::scheduler;
+use crate::schedulers::scheduler;
 use lanes::{LaneNo, Lanes, SchedulerSeat, WorkerSeat};
 use scheduler::{Job, run_job};
 use std::alloc::Global;

@@ -1,7 +1,7 @@
 use Rattle.std.proofs.Common.{ap, ◌∙◌, arith}
 use Rattle.std.specs.Prelude.{Some, None, slice_get}
 use Rattle.lanes.proofs.Work.{has_still}
-use Rattle.execution_tests.proofs.handing_over.deliver_in_order.Goals as goal
+use Rattle.scheduling_tests.proofs.handing_over.deliver_in_order.Goals as goal
 
 pub deliver-requires-clause-done : goal.deliver-requires-clause-done
 deliver-requires-clause-done g c = record {
