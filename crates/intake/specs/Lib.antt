@@ -1,0 +1,4 @@
+pub mod Histories
+pub mod Rule
+pub mod Passes
+pub mod Draining

@@ -1,0 +1,51 @@
+-- Claimed: what contracts promise to a reader rests on these words.
+-- The rule of the queue: what holds of its items and of all passes' views between any two steps. The log is what was drawn and then
+-- what the queue holds. Of each client it has its history. To submit for a client, and to draw, is each the right of one pass at most.
+use Rattle.std.specs.Prelude.{◌≡◌, ℕ, ◌+◌, ◌<◌, ◌≤◌, ◌==◌, ◌⊎◌, Bool, true, false, List, [], ◌∷◌, ◌++◌, cond}
+use mathlib.Core.Option.{some}
+use lib.ListN.{get_elem?}
+use Rattle.intake.specs.declared.view.Item.{Item}
+use Rattle.intake.specs.declared.view.History.{History}
+use Rattle.intake.specs.declared.view.View.{View}
+use Rattle.intake.specs.Histories.{from_client, numbered, HasAll}
+
+-- a number that no client has: clients are numbered from 1 to 4
+abbrev pub IsStranger : ℕ → Type 0
+IsStranger client = (client ≡ 0) ⊎ (4 < client)
+
+module _ {Q : Type 0} where
+  -- how often the client's history is among these
+  abbrev pub times : ℕ → List (History Q) → ℕ
+  times client [] = 0
+  times client (h ∷ hs) = cond (h.client == client) 1 0 + times client hs
+
+  -- a number of each view, added up
+  abbrev pub total : (View Q → ℕ) → List (View Q) → ℕ
+  total f [] = 0
+  total f (v ∷ vs) = f v + total f vs
+
+  abbrev pub rights : ℕ → View Q → ℕ
+  rights client v = times client v.histories
+
+  abbrev pub drawers : View Q → ℕ
+  drawers v = cond v.draws 1 0
+
+  -- the histories are of clients 1 to 4, and each is what its client sent
+  abbrev pub AreTrue : (ℕ → List Q) → List (History Q) → Type 0
+  AreTrue sent [] = Unit {0}
+  AreTrue sent (h ∷ hs) = (0 < h.client) × (h.client ≤ 4) × (h.sent ≡ sent h.client) × AreTrue sent hs
+
+  pub record IsInOrder (items : List (Item Q)) (views : List (View Q)) : Type 0 where
+    -- what each client sent, and what was drawn
+    pub sent : ℕ → List Q
+    pub drawn : List (Item Q)
+    pub logged : (client : ℕ) → from_client client (drawn ++ items) ≡ numbered client 0 (sent client)
+    pub strangers : (client : ℕ) → IsStranger client → sent client ≡ []
+    pub one_place : (client : ℕ) → total (rights client) views ≤ 1
+    pub one_drawer : total drawers views ≤ 1
+    pub histories : (pass : ℕ) (v : View Q) → get_elem? views pass ≡ some v → AreTrue sent v.histories
+    pub draws : (pass : ℕ) (v : View Q) → get_elem? views pass ≡ some v → v.draws ≡ true → v.drawn ≡ drawn
+
+  -- the queue may hold these items: behind some that were drawn they make these histories whole, and no stranger sent any
+  abbrev pub IsAccounted : List (History Q) → List (Item Q) → Type 0
+  IsAccounted hs items = (drawn : List (Item Q)) × HasAll (drawn ++ items) hs × ((client : ℕ) → IsStranger client → from_client client (drawn ++ items) ≡ [])

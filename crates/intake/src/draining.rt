@@ -1,0 +1,133 @@
+//! Draining: all that the clients have submitted is drawn.
+
+ghost use Rattle.std.specs.Prelude.{◌≡◌, ◌<◌, ◌++◌, ◌∷◌, [], List, map, vec_len, vec_capacity, OnOk};
+ghost use Rattle.crossbeam_queue.specs.Passes.{IsPassOf};
+ghost use Rattle.crossbeam_queue.specs.Passes.{view as known};
+ghost use Rattle.intake.specs.Histories.{HasAll, without_first, only_first, joined, first_of, rest_of};
+ghost use Rattle.intake.specs.Passes.{IsClientOf, IsDrawerOf, AreClientsOf, histories_of, own_history, drawn_by, held_by};
+ghost use Rattle.intake.specs.Draining.{all_items, Appends, IsLentBy, IsBackWith};
+
+use crate::intake::{Intake, MOST_DRAWN};
+use crate::passes::{ClientPass, DrawPass};
+use crate::rule::{CutFirst, TakeIn};
+use crate::view::{Item, View};
+use crossbeam_queue::Pass;
+use std::alloc::AllocError;
+use std::sync::Wait;
+
+/// A batch of items.
+pub trait Batched<Q>: Drop {
+    ghost use Rattle.std.specs.Prelude.{◌≡◌, List};
+    ghost use Rattle.intake.specs.declared.view.Item.{Item};
+
+    /// The items of a batch.
+    ghost items_of: { Self → List (Item Q) };
+
+    /// The batch of these items, of which there are at most 4,096.
+    fn of_items(items: Vec<Item<Q>>) -> Self
+        ensures { items_of result ≡ items.items };
+}
+
+impl<Q> Intake<Q> {
+    // The client's history goes to the pass that draws.
+    fn lend(&self, client: &mut ClientPass<Q>, pass: &mut DrawPass<Q>)
+        requires client { IsClientOf self.now client.old }
+        requires drawer { IsDrawerOf self.now pass.old }
+        ensures client { IsLentBy self.now client.old client.new }
+        ensures drawer { IsDrawerOf self.now pass.new × (held_by pass.new ≡ own_history client.old ∷ held_by pass.old) ×
+            (drawn_by pass.new ≡ drawn_by pass.old) }
+    {
+        self.hand(&mut client.pass, &mut pass.pass);
+    }
+
+    // The first history of the pass that draws goes back to its client.
+    fn give_back(&self, client: &mut ClientPass<Q>, pass: &mut DrawPass<Q>)
+        requires client { IsPassOf self.now.queue client.old.pass }
+        requires drawer { IsDrawerOf self.now pass.old }
+        ensures client { IsBackWith self.now (first_of (held_by pass.old)) client.old client.new }
+        ensures drawer { IsDrawerOf self.now pass.new × (held_by pass.new ≡ rest_of (held_by pass.old)) ×
+            (drawn_by pass.new ≡ drawn_by pass.old) }
+    {
+        self.hand(&mut pass.pass, &mut client.pass);
+    }
+
+    // The first history goes over.
+    fn hand(&self, from: &mut Pass<Item<Q>, View<Q>>, to: &mut Pass<Item<Q>, View<Q>>)
+        requires from { IsPassOf self.now.queue from.old }
+        requires to { IsPassOf self.now.queue to.old }
+        ensures from { IsPassOf self.now.queue from.new × (known from.new ≡ without_first (known from.old)) }
+        ensures to { IsPassOf self.now.queue to.new ×
+            (known to.new ≡ joined (known to.old) (only_first (known from.old))) }
+    {
+        let first = self.queue.another::<CutFirst>(from);
+        self.queue.absorb::<TakeIn>(to, first);
+    }
+}
+
+impl<Q: Drop> Intake<Q> {
+    // Draws until the queue is found empty.
+    fn draw_all<R: Wait, B: Batched<Q>>(
+        &self,
+        rt: &R,
+        pass: &mut DrawPass<Q>,
+        into: &mut Vec<B>,
+    ) -> Result<(), AllocError>
+        requires { IsDrawerOf self.now pass.old }
+        ensures pass { IsDrawerOf self.now pass.new × (held_by pass.new ≡ held_by pass.old) }
+        ensures drawn { Appends B.items_of into.old.items into.new.items (drawn_by pass.old) (drawn_by pass.new) }
+        ensures all { OnOk result (HasAll (drawn_by pass.new) (held_by pass.old)) }
+    {
+        for _ in rt.forever() {
+            into.reserve(1)?;
+            let items = self.draw(rt, pass, MOST_DRAWN)?;
+            let done = items.len() < MOST_DRAWN;
+            keep(into, items);
+            if done {
+                return Ok(());
+            }
+        }
+        unreachable!()
+    }
+
+    /// Draws until a step finds the queue empty, while the passes of these clients are at hand, and appends the batches
+    /// that are not empty. After `Ok` all that these clients ever submitted was drawn. Where memory is refused, what was
+    /// drawn stands in the list. It may wait.
+    pub fn drain<R: Wait, B: Batched<Q>>(
+        &self,
+        rt: &R,
+        pass: &mut DrawPass<Q>,
+        clients: &mut [ClientPass<Q>],
+        into: &mut Vec<B>,
+    ) -> Result<(), AllocError>
+        requires drawer { IsDrawerOf self.now pass.old }
+        requires clients { AreClientsOf self.now clients.old }
+        ensures drawer { IsDrawerOf self.now pass.new × (held_by pass.new ≡ held_by pass.old) }
+        ensures clients { AreClientsOf self.now clients.new ×
+            (map histories_of clients.new ≡ map histories_of clients.old) }
+        ensures drawn { Appends B.items_of into.old.items into.new.items (drawn_by pass.old) (drawn_by pass.new) }
+        ensures all { OnOk result (HasAll (drawn_by pass.new) (map own_history clients.old) ×
+            HasAll (drawn_by pass.new) (held_by pass.old)) }
+    {
+        match clients.split_first_mut() {
+            None => self.draw_all(rt, pass, into),
+            Some((first, rest)) => {
+                self.lend(first, pass);
+                let result = self.drain(rt, pass, rest, into);
+                self.give_back(first, pass);
+                result
+            }
+        }
+    }
+}
+
+// Appends the items as a batch, if there are any.
+fn keep<Q: Drop, B: Batched<Q>>(into: &mut Vec<B>, items: Vec<Item<Q>>)
+    requires { vec_len into.old < vec_capacity into.old }
+    ensures { (more : List B) × (into.new.items ≡ into.old.items ++ more) ×
+        (all_items B.items_of more ≡ items.items) }
+{
+    if items.is_empty() {
+        return;
+    }
+    into.push_reserved(B::of_items(items));
+}
