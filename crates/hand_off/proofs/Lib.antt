@@ -1,5 +1,6 @@
 pub mod Phases
 pub mod Lists
+pub mod Stands
 pub mod Keeps
 pub mod Steps
 pub mod Starts

@@ -4,6 +4,7 @@ ghost use Rattle.std.specs.Prelude.{◌≡◌, ℕ, ◌<◌, [], IfOk, IfErr, sl
 ghost use Rattle.hand_off.specs.declared.view.Known.TheVariants as known;
 ghost use Rattle.hand_off.specs.Views.{putting};
 ghost use Rattle.hand_off.specs.Seats.{IsPut, Schedules};
+ghost use Rattle.hand_off.specs.Stands.{Stands};
 
 use crate::view::{LaneSeat, Lanes, Work};
 use std::alloc::Allocator;
@@ -21,6 +22,7 @@ impl<J, D, W: Work<J, D>, A: Allocator> Lanes<J, D, W, A> {
             IsPut (slice_index_or seat.old.me.0.known k known.Idle)) }
         ensures err { IfErr result (λ back. (back ≡ job) × (seat.new.me ≡ seat.old.me) ×
             ((k : ℕ) → k < self.now.count → IsPut (slice_index_or seat.old.me.0.known k known.Idle))) }
+        ensures stands { IfOk result (λ _. Stands W.comes_of seat.new.me.0) }
     {
         let mut job = job;
         for lane in 0..self.count {

@@ -6,6 +6,7 @@ ghost use Rattle.hand_off.specs.declared.state.Note.{Note};
 ghost use Rattle.hand_off.specs.Notes.{Misses};
 ghost use Rattle.hand_off.specs.Views.{looked, claiming};
 ghost use Rattle.hand_off.specs.Seats.{Works};
+ghost use Rattle.hand_off.specs.Stands.{AllShown, Stands};
 
 use crate::view::{LaneSeat, Lanes, Work};
 use std::alloc::Allocator;
@@ -13,6 +14,7 @@ use std::alloc::Allocator;
 impl<J, D, W: Work<J, D>, A: Allocator> Lanes<J, D, W, A> {
     /// A job that waits, from the lowest lane where one was found. From now on it is this worker's, and the lane's slot is
     /// with its seat, empty, in front. `None` comes only where each lane was found without a waiting job when it was tried.
+    /// The notes say what each lane that was tried was doing at a moment of its try.
     pub fn claim(&self, seat: &mut LaneSeat<J, D>) -> Option<(usize, J)>
         requires { Works self.now seat.old }
         ensures seat { Works self.now seat.new }
@@ -23,6 +25,8 @@ impl<J, D, W: Work<J, D>, A: Allocator> Lanes<J, D, W, A> {
             (seat.new.me ≡ (claiming (looked seat.old.me.0 notes) r.0 put r.1, (r.0, None) ∷ seat.old.me.1))) }
         ensures none { IfNone result (Misses Waiting self.now.count seat.old.me.0.notes seat.new.me.0.notes ×
             (seat.new.me ≡ (looked seat.old.me.0 seat.new.me.0.notes, seat.old.me.1))) }
+        ensures shown { AllShown W.comes_of seat.old.me.0 seat.new.me.0.notes }
+        ensures stands { IfSome result (λ _. Stands W.comes_of seat.new.me.0) }
     {
         for lane in 0..self.count {
             if let Some(job) = self.claim_from(seat, lane) {

@@ -14,10 +14,12 @@ impl<J, D> Play<Option<Load<J, D>>, View<J>> for Fill {
 }
 
 /// The scheduler gives a lane home with a job.
-pub struct Post;
+pub struct Post<W> {
+    work: PhantomData<W>,
+}
 
-impl<J, D> Play<Option<Load<J, D>>, View<J>> for Post {
-    ghost then = { λ s m _ n. posts s m n };
+impl<J, D, W: Work<J, D>> Play<Option<Load<J, D>>, View<J>> for Post<W> {
+    ghost then = { λ s m _ n. posts W.comes_of s m n };
 }
 
 /// The scheduler tries a lane for a result.
@@ -30,24 +32,30 @@ impl<J, D, W: Work<J, D>> Play<Option<Load<J, D>>, View<J>> for Drain<W> {
 }
 
 /// The scheduler gives a lane home, idle.
-pub struct Clear;
+pub struct Clear<W> {
+    work: PhantomData<W>,
+}
 
-impl<J, D> Play<Option<Load<J, D>>, View<J>> for Clear {
-    ghost then = { λ s m _ n. clears s m n };
+impl<J, D, W: Work<J, D>> Play<Option<Load<J, D>>, View<J>> for Clear<W> {
+    ghost then = { λ s m _ n. clears W.comes_of s m n };
 }
 
 /// A worker tries a lane for a job.
-pub struct Claiming;
+pub struct Claiming<W> {
+    work: PhantomData<W>,
+}
 
-impl<J, D> Play<Option<Load<J, D>>, View<J>> for Claiming {
-    ghost then = { claims };
+impl<J, D, W: Work<J, D>> Play<Option<Load<J, D>>, View<J>> for Claiming<W> {
+    ghost then = { claims W.comes_of };
 }
 
 /// A worker gives a lane home with what came of its job.
-pub struct Deliver;
+pub struct Deliver<W> {
+    work: PhantomData<W>,
+}
 
-impl<J, D> Play<Option<Load<J, D>>, View<J>> for Deliver {
-    ghost then = { λ s m _ n. delivers s m n };
+impl<J, D, W: Work<J, D>> Play<Option<Load<J, D>>, View<J>> for Deliver<W> {
+    ghost then = { λ s m _ n. delivers W.comes_of s m n };
 }
 
 /// A worker's seat is cut from the scheduler's, which keeps all that it knows.

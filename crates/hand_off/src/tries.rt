@@ -7,6 +7,7 @@ ghost use Rattle.hand_off.specs.declared.state.LaneState.TheVariants.{Waiting, F
 ghost use Rattle.hand_off.specs.declared.view.Known.TheVariants as known;
 ghost use Rattle.hand_off.specs.Views.{noting, putting, collecting, claiming, delivering, knowing, opened, newcomer};
 ghost use Rattle.hand_off.specs.Seats.{IsPut, Schedules, Works};
+ghost use Rattle.hand_off.specs.Stands.{ShownAt, Stands};
 
 use crate::plays::{Claiming, Clear, Deliver, Drain, Fill, Hire, Post};
 use crate::state::{DRAINING, FILLING, FINISHED, IDLE, TAKEN, WAITING};
@@ -45,6 +46,7 @@ impl<J, D, W: Work<J, D>, A: Allocator> Lanes<J, D, W, A> {
             (seat.new.me ≡ (putting seat.old.me.0 lane job, []))) }
         ensures err { IfErr result (λ back. (back ≡ job) × (seat.new.me ≡ seat.old.me) ×
             IsPut (slice_index_or seat.old.me.0.known lane known.Idle)) }
+        ensures stands { IfOk result (λ _. Stands W.comes_of seat.new.me.0) }
     {
         let found = self
             .table
@@ -57,20 +59,22 @@ impl<J, D, W: Work<J, D>, A: Allocator> Lanes<J, D, W, A> {
             None => {}
             Some(_) => unreachable!(),
         }
-        self.table.shared.store::<Post>(seat, lane, WAITING);
+        self.table.shared.store::<Post<W>>(seat, lane, WAITING);
         Ok(())
     }
 
     /// What a worker delivered at the lane, if it was found there. It came of the job that was put there, and the lane is
-    /// idle again.
+    /// idle again. The note of the lane says what its word said at a moment of the try.
     pub fn collect_from(&self, seat: &mut LaneSeat<J, D>, lane: usize) -> Option<D>
         requires { Schedules self.now seat.old × (lane < self.now.count) }
         ensures seat { Schedules self.now seat.new }
         ensures some { IfSome result (λ done. (job : J) ×
             (slice_index_or seat.old.me.0.known lane known.Idle ≡ known.Put job) × W.comes_of job done ×
             (seat.new.me ≡ (collecting seat.old.me.0 lane, []))) }
+        ensures shown { IfSome result (λ _. ShownAt W.comes_of lane Finished seat.old.me.0) }
+        ensures stands { IfSome result (λ _. Stands W.comes_of seat.new.me.0) }
         ensures none { IfNone result ((found : LaneState) × (found ≢ Finished) ×
-            (seat.new.me ≡ (noting seat.old.me.0 lane found, []))) }
+            (seat.new.me ≡ (noting seat.old.me.0 lane found, [])) × ShownAt W.comes_of lane found seat.old.me.0) }
     {
         let found = self
             .table
@@ -80,7 +84,7 @@ impl<J, D, W: Work<J, D>, A: Allocator> Lanes<J, D, W, A> {
             return None;
         }
         let load = self.table.shared.exchange(seat, lane, None);
-        self.table.shared.store::<Clear>(seat, lane, IDLE);
+        self.table.shared.store::<Clear<W>>(seat, lane, IDLE);
         match load {
             Some(Load::Done(done)) => Some(done),
             _ => unreachable!(),
@@ -88,19 +92,22 @@ impl<J, D, W: Work<J, D>, A: Allocator> Lanes<J, D, W, A> {
     }
 
     /// The job that waits at the lane, if one was found there. From now on it is this worker's, and the lane's slot is with
-    /// its seat, empty.
+    /// its seat, empty. The note of the lane says what its word said at a moment of the try.
     pub fn claim_from(&self, seat: &mut LaneSeat<J, D>, lane: usize) -> Option<J>
         requires { Works self.now seat.old × (lane < self.now.count) }
         ensures seat { Works self.now seat.new }
         ensures some { IfSome result (λ job. (put : ℕ) × (slice_index_or seat.old.me.0.claimed lane None ≡ None) ×
             (seat.new.me ≡ (claiming seat.old.me.0 lane put job, (lane, None) ∷ seat.old.me.1))) }
+        ensures shown { IfSome result (λ _. ShownAt W.comes_of lane Waiting seat.old.me.0) }
+        ensures stands { IfSome result (λ _. Stands W.comes_of seat.new.me.0) }
         ensures none { IfNone result ((found : LaneState) × (found ≢ Waiting) ×
-            (seat.new.me ≡ (noting seat.old.me.0 lane found, seat.old.me.1))) }
+            (seat.new.me ≡ (noting seat.old.me.0 lane found, seat.old.me.1)) ×
+            ShownAt W.comes_of lane found seat.old.me.0) }
     {
         let found = self
             .table
             .shared
-            .compare_exchange::<Claiming>(seat, lane, WAITING, TAKEN);
+            .compare_exchange::<Claiming<W>>(seat, lane, WAITING, TAKEN);
         if found != WAITING {
             return None;
         }
@@ -115,7 +122,8 @@ impl<J, D, W: Work<J, D>, A: Allocator> Lanes<J, D, W, A> {
         requires seat { Works self.now seat.old × (lane < self.now.count) }
         requires slot { seat.old.me.1 ≡ (lane, None) ∷ rest seat.old.me.1 }
         requires done { (job : J) × (slice_index_or seat.old.me.0.claimed lane None ≡ Some job) × W.comes_of job done }
-        ensures { Works self.now seat.new × (seat.new.me ≡ (delivering seat.old.me.0 lane, rest seat.old.me.1)) }
+        ensures seat { Works self.now seat.new × (seat.new.me ≡ (delivering seat.old.me.0 lane, rest seat.old.me.1)) }
+        ensures stands { Stands W.comes_of seat.new.me.0 }
     {
         match self
             .table
@@ -125,6 +133,6 @@ impl<J, D, W: Work<J, D>, A: Allocator> Lanes<J, D, W, A> {
             None => {}
             Some(_) => unreachable!(),
         }
-        self.table.shared.store::<Deliver>(seat, lane, FINISHED);
+        self.table.shared.store::<Deliver<W>>(seat, lane, FINISHED);
     }
 }

@@ -1,4 +1,5 @@
 pub mod Places
 pub mod Counts
+pub mod Stands
 pub mod Put
 pub mod Work

@@ -1,6 +1,6 @@
 -- What the scheduler's calls come to, as its seat is seen.
-use Rattle.std.proofs.Common.{◌≡◌, ℕ, zero, suc, ◌+◌, ◌<◌, ◌↔◌, Bool, List, [], ◌∷◌, ◌++◌, length, map, get_or, set, replicate, sym, refl, ap, ◌∙◌, arith, true, false}
-use Rattle.std.specs.Prelude.{Option, Some, None, Result, Ok, Err, IfOk, IfErr, IfSome, IsErr}
+use Rattle.std.proofs.Common.{◌≡◌, ℕ, zero, suc, ◌+◌, ◌<◌, ◌↔◌, Bool, List, [], ◌∷◌, ◌++◌, length, map, get_or, set, replicate, sym, refl, ap, ◌∙◌, subst, arith, true, false}
+use Rattle.std.specs.Prelude.{Option, Some, None, Result, Ok, Err, IfOk, IfErr, IfSome, IfNone, IsErr}
 use Rattle.std.proofs.lemmas.List.{map-set}
 use lib.ListN.{length-map}
 use Rattle.atomic_table.specs.Seated.{TableId}
@@ -12,12 +12,14 @@ use Rattle.hand_off.specs.declared.view.Load.{Load}
 use Rattle.hand_off.specs.declared.view.View.{View}
 use Rattle.hand_off.specs.Notes.{Misses}
 use Rattle.hand_off.specs.Views.{looked, putting, collecting, opened as at_first}
+use Rattle.hand_off.specs.Stands.{Stands, AllShown}
 use Rattle.hand_off.specs.Seats.{IsPut}
 use Rattle.scheduler.specs.JobRuns.{JobOf, DoneOf, IsDoneOf}
 use Rattle.lanes.specs.Seats.{LanesOf, SchedulerSeatOf, jobs_in, opened, puts_in}
-use Rattle.lanes.specs.Calls.{IsLowestFree, Collects}
+use Rattle.lanes.specs.Calls.{IsLowestFree, Collects, CollectsNothing}
 use Rattle.lanes.specs.Kept.{job_of, seen_by_scheduler}
 use Rattle.lanes.proofs.Counts.{one_more, one_less, with_room, all_full, at_map, or_map, put_there}
+use Rattle.lanes.proofs.Stands.{scheduler_stands, shown_to_scheduler}
 
 abbrev pub Raw : Type 0
 Raw = Me (Option (Load JobOf DoneOf)) (View JobOf)
@@ -70,8 +72,8 @@ put_full v n (Err back) wide some all = ((λ _. all_full v.known (λ k near. all
 -- what was found and collected
 pub collects : (t t' : TableId) (v : View JobOf) (n : ℕ) (me : Raw) (lane : ℕ) (done : DoneOf) → t' ≡ t → length v.known ≡ n → t.words ≡ n
     → (lane < n) × ((job : JobOf) × (get_or v.known lane Idle ≡ Put job) × IsDoneOf job done) → (notes : List Note) × Misses Finished lane v.notes notes × (me ≡ (collecting (looked v notes) lane, []))
-    → Collects (seen_by_scheduler t v) lane done (seen_by_scheduler t' me.0)
-collects t t' v n me lane done same wide words some found = let job = some.1.0 in let there = some.1.1 in let near = some.0 in let is = found.2 in let long : length (map job_of v.known) ≡ length v.known = length-map v.known job_of in
+    → v.schedules ≡ true → AllShown IsDoneOf v me.0.notes → Stands IsDoneOf me.0 → Collects (seen_by_scheduler t v) lane done (seen_by_scheduler t' me.0)
+collects t t' v n me lane done same wide words some found sch shown stands = let job = some.1.0 in let there = some.1.1 in let near = some.0 in let is = found.2 in let long : length (map job_of v.known) ≡ length v.known = length-map v.known job_of in
     let jobs_is = ap (λ m. map job_of m.0.known) is ∙ map-set job_of v.known lane Idle in record {
       near = omega arith;
       job = job;
@@ -80,12 +82,31 @@ collects t t' v n me lane done same wide words some found = let job = some.1.0 i
       notes = record { below = found.0; misses = found.1; found = ap (λ m. m.0.notes) is };
       new_is = λ i. record { lanes = record { table = same i; count = (same i).words }; jobs = jobs_is i; puts = (is i).0.puts; notes = me.0.notes };
       fewer = ap (λ js. jobs_in js + 1) jobs_is ∙ one_less (map job_of v.known) lane job (omega arith) (or_map v.known lane ∙ ap job_of there);
+      shown = shown_to_scheduler t v me.0.notes sch shown;
+      stands = scheduler_stands t' me.0 (ap (λ m. m.0.schedules) is ∙ sch) stands;
     }
 
--- of what a call may give, two facts are one
-pub both_some : {A : Type 0} {P Q R : A → Type 0} (o : Option A) → ((x : A) → P x → Q x → R x) → IfSome o P → IfSome o Q → IfSome o R
-both_some (Some x) f p q = f x p q
-both_some None f p q = tt
+-- no lane was found with a result
+pub collects_nothing : (t t' : TableId) (v : View JobOf) (me : Raw) (count : ℕ) → t' ≡ t → t.words ≡ count → Misses Finished count v.notes me.0.notes × (me ≡ (looked v me.0.notes, [])) → v.schedules ≡ true
+    → AllShown IsDoneOf v me.0.notes → CollectsNothing (seen_by_scheduler t v) (seen_by_scheduler t' me.0)
+collects_nothing t t' v me count same words found sch shown = let is = found.1 in record {
+  notes = subst (λ (n : ℕ). Misses Finished n v.notes me.0.notes) (sym words) found.0;
+  new_is = λ i. record { lanes = record { table = same i; count = (same i).words }; jobs = map job_of (is i).0.known; puts = (is i).0.puts; notes = me.0.notes };
+  shown = shown_to_scheduler t v me.0.notes sch shown;
+}
+
+-- of what a call may give, several facts are one
+pub all_some : {A : Type 0} {P Q R T : A → Type 0} (o : Option A) → ((x : A) → P x → Q x → R x → T x) → IfSome o P → IfSome o Q → IfSome o R → IfSome o T
+all_some (Some x) f p q r = f x p q r
+all_some None f p q r = tt
+
+pub at_none : {A P : Type 0} (o : Option A) → P → IfNone o P
+at_none (Some x) p = tt
+at_none None p = p
+
+pub of_none : {A P Q : Type 0} (o : Option A) → (P → Q) → IfNone o P → IfNone o Q
+of_none (Some x) f p = tt
+of_none None f p = f p
 
 pub both_ok : {A B : Type 0} {P Q R : A → Type 0} (r : Result A B) → ((x : A) → P x → Q x → R x) → IfOk r P → IfOk r Q → IfOk r R
 both_ok (Ok x) f p q = f x p q

@@ -10,12 +10,14 @@ use Rattle.hand_off.specs.declared.state.Note.{Note}
 use Rattle.hand_off.specs.declared.view.View.{View}
 use Rattle.hand_off.specs.Notes.{Misses}
 use Rattle.hand_off.specs.Views.{looked, claiming}
-use Rattle.scheduler.specs.JobRuns.{JobOf}
-use Rattle.lanes.specs.Calls.{Claims}
+use Rattle.hand_off.specs.Stands.{Stands, AllShown}
+use Rattle.scheduler.specs.JobRuns.{JobOf, IsDoneOf}
+use Rattle.lanes.specs.Calls.{Claims, ClaimsNothing}
 use Rattle.lanes.specs.Kept.{seen_by_worker}
 use Rattle.lanes.proofs.Counts.{with_room}
 use Rattle.lanes.proofs.Places.{rest_holds}
 use Rattle.lanes.proofs.Put.{Raw}
+use Rattle.lanes.proofs.Stands.{worker_stands, shown_to_worker}
 
 abbrev pub Lanes : Type 0
 Lanes = List (Option JobOf)
@@ -39,14 +41,26 @@ has_room jobs n lane held room wide near free count le = let lt = with_room jobs
 
 -- what was found and claimed
 pub claims : (t t' : TableId) (v : View JobOf) (me : Raw) (lane : ℕ) (job : JobOf) (more : List (ℕ × _)) → t' ≡ t → length v.claimed ≡ t.words → (lane < t.words) × (get_or v.claimed lane None ≡ None)
-    → (notes : List Note) × (put : ℕ) × Misses Waiting lane v.notes notes × (me ≡ (claiming (looked v notes) lane put job, more)) → Claims (seen_by_worker t v) lane job (seen_by_worker t' me.0)
-claims t t' v me lane job more same wide some found = let is = found.3 in let near = some.0 in let within : lane < length v.claimed = omega arith in record {
+    → (notes : List Note) × (put : ℕ) × Misses Waiting lane v.notes notes × (me ≡ (claiming (looked v notes) lane put job, more)) → AllShown IsDoneOf v me.0.notes → Stands IsDoneOf me.0
+    → Claims (seen_by_worker t v) lane job (seen_by_worker t' me.0)
+claims t t' v me lane job more same wide some found shown stands = let is = found.3 in let near = some.0 in let within : lane < length v.claimed = omega arith in record {
   near = near;
   free = slice_get-get_or v.claimed lane None within ∙ ap (λ (x : Option JobOf). Some x) some.1;
   has = ap (λ m. slice_get m.0.claimed lane) is ∙ slice_get-get_or (set v.claimed lane (Some job)) lane None (omega (arith, within, length-set v.claimed lane (Some job))) ∙ ap (λ (x : Option JobOf). Some x) (get_or-set_same v.claimed lane (Some job) None within);
   put = found.1;
   notes = record { below = found.0; misses = found.2; found = ap (λ m. m.0.notes) is };
   new_is = λ i. record { lanes = record { table = same i; count = (same i).words }; jobs = (is i).0.claimed; claims = (is i).0.claims; notes = me.0.notes };
+  shown = shown_to_worker t v me.0.notes shown;
+  stands = worker_stands t' me.0 stands;
+}
+
+-- no lane was found with a job that waits
+pub claims_nothing : (t t' : TableId) (v : View JobOf) (me : Raw) (count : ℕ) (more : List (ℕ × _)) → t' ≡ t → t.words ≡ count → Misses Waiting count v.notes me.0.notes × (me ≡ (looked v me.0.notes, more)) → AllShown IsDoneOf v me.0.notes
+    → ClaimsNothing (seen_by_worker t v) (seen_by_worker t' me.0)
+claims_nothing t t' v me count more same words found shown = let is = found.1 in record {
+  notes = subst (λ (n : ℕ). Misses Waiting n v.notes me.0.notes) (sym words) found.0;
+  new_is = λ i. record { lanes = record { table = same i; count = (same i).words }; jobs = (is i).0.claimed; claims = (is i).0.claims; notes = me.0.notes };
+  shown = shown_to_worker t v me.0.notes shown;
 }
 
 -- one is taken out of a queue that isn't empty

@@ -1,35 +1,16 @@
 -- Claimed: what contracts promise to a reader rests on these words.
--- Laws of lanes: what their rule says of the seats that stand together in one state of theirs.
-use Rattle.std.specs.Prelude.{◌≡◌, ◌<◌, ℕ, true, map, length, Option, Some, slice_get}
-use mathlib.Core.Option.{some}
-use lib.ListN.{get_elem?}
-use Rattle.atomic_table.specs.Table.{State}
+-- Laws of lanes: what their rule says of the seats that stand together at one moment of theirs.
+-- `claim` tells of the moment right after it, at which the rule holds and the worker's seat stands there with its new
+-- claim. So the laws are of that moment: whichever other seats stand there have no claim of that put, and the scheduler,
+-- as it stands there, has put that job into that lane. That a seat stands there, at every moment between two steps of its
+-- own, with the value that the first of them left it, is the promise of the table of words and not of these laws.
+use Rattle.std.specs.Prelude.{◌≡◌, ℕ, length, Some, slice_get}
 use Rattle.hand_off.specs.declared.view.Claim.{Claim}
-use Rattle.hand_off.specs.declared.view.Load.{Load}
-use Rattle.hand_off.specs.declared.view.View.{View}
 use Rattle.hand_off.specs.Rule.{Laned}
-use Rattle.scheduler.specs.JobRuns.{JobOf, DoneOf, IsDoneOf}
+use Rattle.scheduler.specs.JobRuns.{JobOf, IsDoneOf}
 use Rattle.lanes.specs.Seats.{SchedulerSeatOf, WorkerSeatOf}
-use Rattle.lanes.specs.Kept.{job_of}
-
--- the lanes between two steps: their words, their slots and all views
-abbrev pub Moment : Type 0
-Moment = State (Option (Load JobOf DoneOf)) (View JobOf)
-
--- the seat of this number is a worker's, with this value
-pub record HasWorker (moment : Moment) (number : ℕ) (seat : WorkerSeatOf) : Type 0 where
-  pub view : View JobOf
-  pub there : get_elem? moment.views number ≡ some view
-  pub jobs : seat.jobs ≡ view.claimed
-  pub claims : seat.claims ≡ view.claims
-
--- the seat of this number is the scheduler's, with this value
-pub record HasScheduler (moment : Moment) (number : ℕ) (seat : SchedulerSeatOf) : Type 0 where
-  pub view : View JobOf
-  pub there : get_elem? moment.views number ≡ some view
-  pub schedules : view.schedules ≡ true
-  pub jobs : seat.jobs ≡ map job_of view.known
-  pub puts : seat.puts ≡ view.puts
+use Rattle.lanes.specs.Stands.{Moment, HasWorker, HasScheduler}
+use Rattle.lanes.specs.Calls.{Claims}
 
 -- two claims of one put are one claim, by one worker
 abbrev pub ClaimedAtMostOnce : Type 0
@@ -44,4 +25,14 @@ ClaimedAsPut = (moment : Moment) → Laned IsDoneOf moment → (a b k : ℕ) (wo
 -- the job that a worker has at a lane is the one that the scheduler's seat has there
 abbrev pub HeldAsPut : Type 0
 HeldAsPut = (moment : Moment) → Laned IsDoneOf moment → (a b lane : ℕ) (worker : WorkerSeatOf) (scheduler : SchedulerSeatOf) (job : JobOf) → HasWorker moment a worker → HasScheduler moment b scheduler
-    → lane < length moment.homes → slice_get worker.jobs lane ≡ Some (Some job) → slice_get scheduler.jobs lane ≡ Some (Some job)
+    → slice_get worker.jobs lane ≡ Some (Some job) → slice_get scheduler.jobs lane ≡ Some (Some job)
+
+-- once a worker has claimed a job, a claim of the same put by whichever seat is this claim
+abbrev pub ClaimIsTheOnlyOne : Type 0
+ClaimIsTheOnlyOne = (old new : WorkerSeatOf) (lane : ℕ) (job : JobOf) (claimed : Claims old lane job new) (b l : ℕ) (other : WorkerSeatOf) (d : Claim JobOf) → HasWorker claimed.stands.moment b other
+    → slice_get other.claims l ≡ Some d → claimed.put ≡ d.put → (claimed.stands.number ≡ b) × (length old.claims ≡ l)
+
+-- and that put of the scheduler's put that job into that lane, where it still is
+abbrev pub ClaimIsAsPut : Type 0
+ClaimIsAsPut = (old new : WorkerSeatOf) (lane : ℕ) (job : JobOf) (claimed : Claims old lane job new) (b : ℕ) (scheduler : SchedulerSeatOf) → HasScheduler claimed.stands.moment b scheduler
+    → (slice_get scheduler.puts claimed.put ≡ Some (lane, job)) × (slice_get scheduler.jobs lane ≡ Some (Some job))

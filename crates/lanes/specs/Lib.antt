@@ -1,4 +1,5 @@
 pub mod Seats
-pub mod Calls
 pub mod Kept
+pub mod Stands
+pub mod Calls
 pub mod Laws

@@ -3,6 +3,7 @@
 ghost use Rattle.std.specs.Prelude.{◌≡◌, ◌+◌, ◌<◌, ◌≤◌, ◌↔◌, IfOk, IfErr, IfSome, IfNone, IsErr};
 ghost use Rattle.lanes.specs.Seats.{jobs_in, opened, newcomer, puts_in};
 ghost use Rattle.lanes.specs.Calls.{IsLowestFree, Collects, CollectsNothing};
+ghost use Rattle.lanes.specs.Stands.{SchedulerStands};
 
 use crate::seats::{LaneNo, SchedulerSeat, WorkerSeat};
 use crate::table::Lanes;
@@ -43,13 +44,15 @@ impl Lanes {
         ensures more { IfOk result (λ _. jobs_in seat.new.jobs ≡ jobs_in seat.old.jobs + 1) }
         ensures err { IfErr result (λ back. (back ≡ job) × (seat.new ≡ seat.old)) }
         ensures full { IsErr result ↔ (jobs_in seat.old.jobs ≡ self.now.count) }
+        ensures stands { IfOk result (λ _. SchedulerStands seat.new) }
     {
         self.table.put(&mut seat.seat, job)
     }
 
     /// What a worker delivered, from the lowest lane where a result was found. It comes of the job that was put into that
     /// lane, which has no job afterwards. It tries one lane after another, from 0; `None` comes only where each
-    /// lane was found without a result when it was tried.
+    /// lane was found without a result when it was tried. The seat's notes say what each lane that it tried was doing at
+    /// a moment of the try.
     pub fn collect(&self, seat: &mut SchedulerSeat) -> Option<(LaneNo, Done)>
         requires { seat.old.lanes ≡ self.now }
         ensures some { IfSome result (λ r. Collects seat.old r.0 r.1 seat.new) }

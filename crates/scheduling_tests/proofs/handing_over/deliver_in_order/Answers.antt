@@ -13,6 +13,6 @@ deliver-requires-clause-done g c = record {
 pub deliver-requires-2-clause-done : goal.deliver-requires-2-clause-done
 deliver-requires-2-clause-done g c = record {
   job = c.claimed-second.result;
-  has = ap (λ s. slice_get s.jobs 1) c.deliver.ensures ∙ has_still c.claimed-second.new.seat.jobs 0 1 None (Some c.claimed-second.result) (λ e. absurd (omega arith)) c.claimed-second.ensures.has;
+  has = ap (λ s. slice_get s.jobs 1) c.deliver.ensures.seat ∙ has_still c.claimed-second.new.seat.jobs 0 1 None (Some c.claimed-second.result) (λ e. absurd (omega arith)) c.claimed-second.ensures.has;
   comes = c.run_job-2.ensures;
 }

@@ -20,7 +20,7 @@ store-requires g c = let did = c.compare_exchange-found.ensures.2.0 c.if-found-n
 
 pub returns-clause-seat : goal.returns-clause-seat
 returns-clause-seat g c = let did = c.compare_exchange-found.ensures.2.0 c.if-found-ne-IDLE.false in let now = c.exchange.ensures.3 in let lane : ℕ = c.args.lane in let job = c.args.job in let v = c.args.seat.now.me.0 in
-    let whole = c.store.ensures.2 job _ (ap (λ m. m.1) now) ∙ ap (λ m. (putting m.0 lane job, rest c.compare_exchange-found.new.seat.me.1)) now ∙ ap (λ m. (putting m.0 lane job, rest m.1)) did.1 in record {
+    let whole = c.store.ensures.2.0 job _ (ap (λ m. m.1) now) ∙ ap (λ m. (putting m.0 lane job, rest c.compare_exchange-found.new.seat.me.1)) now ∙ ap (λ m. (putting m.0 lane job, rest m.1)) did.1 in record {
       lanes = search rules;
       no_slot = ap (λ m. m.1) whole ∙ c.requires.0.no_slot;
       at_rest = still_rests _ v _ lane (Put job) tt (ap (λ m. m.0.schedules) whole) (ap (λ m. m.0.known) whole ∙ ap (λ w. w.known) (put_after_filling v lane job)) c.requires.0.at_rest;
@@ -28,5 +28,8 @@ returns-clause-seat g c = let did = c.compare_exchange-found.ensures.2.0 c.if-fo
 
 pub returns-clause-ok : goal.returns-clause-ok
 returns-clause-ok g c = let did = c.compare_exchange-found.ensures.2.0 c.if-found-ne-IDLE.false in let now = c.exchange.ensures.3 in let lane : ℕ = c.args.lane in let job = c.args.job in let v = c.args.seat.now.me.0 in
-    let whole = c.store.ensures.2 job _ (ap (λ m. m.1) now) ∙ ap (λ m. (putting m.0 lane job, rest c.compare_exchange-found.new.seat.me.1)) now ∙ ap (λ m. (putting m.0 lane job, rest m.1)) did.1 in
+    let whole = c.store.ensures.2.0 job _ (ap (λ m. m.1) now) ∙ ap (λ m. (putting m.0 lane job, rest c.compare_exchange-found.new.seat.me.1)) now ∙ ap (λ m. (putting m.0 lane job, rest m.1)) did.1 in
     (did.0, whole ∙ (λ i. (put_after_filling v lane job i, c.requires.0.no_slot i)))
+
+pub returns-clause-stands : goal.returns-clause-stands
+returns-clause-stands g c = c.store.ensures.2.1

@@ -1,10 +1,11 @@
 use Rattle.std.proofs.Common.{◌≡◌, ℕ, ◌+◌, ◌<◌, ◌∷◌, sym, ap, ◌∙◌, subst, arith, length, get_or, length-set}
 use Rattle.std.specs.Prelude.{Some, None, is_some, count_by, Contains}
 use Rattle.std.specs.VecDeque.{deque_len, deque_capacity}
-use Rattle.lanes.specs.Calls.{Claims}
+use Rattle.lanes.specs.Calls.{Claims, ClaimsNothing}
 use Rattle.lanes.specs.Kept.{seen_by_worker, empties}
 use Rattle.lanes.proofs.Counts.{one_more}
-use Rattle.lanes.proofs.Work.{one_more_held, has_room, claims}
+use Rattle.lanes.proofs.Put.{at_none}
+use Rattle.lanes.proofs.Work.{one_more_held, has_room, claims, claims_nothing}
 use Rattle.lanes.proofs.table.Lanes.claim.Goals as goal
 
 pub push_front_reserved-requires : goal.push_front_reserved-requires
@@ -28,4 +29,10 @@ pub returns-clause-some : goal.returns-clause-some
 returns-clause-some c = let is = ap (λ s. s.lanes) c.seat.view_is ∙ c.requires ∙ sym c.self.view_is in let inv = c.seat.invariant in let some = c.in_ok-lane.ensures.some in
     let words : c.seat.inside.seat.table_id.words ≡ c.self.inside.table.count = ap (λ l. l.count) is in let near = some.0 in
     subst (λ old. Claims old c.in_ok-lane.lane c.in_ok-lane.job (seen_by_worker c.claim.new.seat.table_id c.claim.new.seat.me.0)) c.seat.view_is
-    (claims c.seat.inside.seat.table_id c.claim.new.seat.table_id c.seat.inside.seat.me.0 c.claim.new.seat.me c.in_ok-lane.lane c.in_ok-lane.job _ (c.in_ok-lane.ensures.seat.lanes ∙ sym (ap (λ l. l.table) is)) inv.wide (omega arith, some.1) c.in_ok-lane.ensures.looked)
+    (claims c.seat.inside.seat.table_id c.claim.new.seat.table_id c.seat.inside.seat.me.0 c.claim.new.seat.me c.in_ok-lane.lane c.in_ok-lane.job _ (c.in_ok-lane.ensures.seat.lanes ∙ sym (ap (λ l. l.table) is)) inv.wide (omega arith, some.1) c.in_ok-lane.ensures.looked
+    c.in_ok-lane.ensures.shown c.in_ok-lane.ensures.stands)
+
+pub returns-in_err-lane-clause-none : goal.returns-in_err-lane-clause-none
+returns-in_err-lane-clause-none c = let is = ap (λ s. s.lanes) c.seat.view_is ∙ c.requires ∙ sym c.self.view_is in let nothing = c.in_err-lane.ensures in
+    at_none c.from_residual.result (subst (λ old. ClaimsNothing old (seen_by_worker c.claim.new.seat.table_id c.claim.new.seat.me.0)) c.seat.view_is
+    (claims_nothing c.seat.inside.seat.table_id c.claim.new.seat.table_id c.seat.inside.seat.me.0 c.claim.new.seat.me c.self.inside.table.count _ (nothing.seat.lanes ∙ sym (ap (λ l. l.table) is)) (ap (λ l. l.count) is) nothing.none nothing.shown))

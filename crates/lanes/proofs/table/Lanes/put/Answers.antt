@@ -4,6 +4,7 @@ use Rattle.lanes.specs.Seats.{jobs_in, puts_in}
 use Rattle.lanes.specs.Calls.{IsLowestFree}
 use Rattle.lanes.specs.Kept.{job_of}
 use Rattle.lanes.proofs.Put.{put_seen, lowest_free, put_more, put_full, both_ok, of_ok, of_err}
+use Rattle.lanes.proofs.Stands.{scheduler_stands}
 use Rattle.lanes.proofs.table.Lanes.put.Goals as goal
 
 pub returns-clause-ok : goal.returns-clause-ok
@@ -24,3 +25,6 @@ returns-clause-full c = let is = ap (λ s. s.lanes) c.seat.view_is ∙ c.require
     subst (λ s. IsErr c.put.result ↔ (jobs_in s.jobs ≡ c.args.self.now.count)) c.seat.view_is
     (subst (λ (m : ℕ). IsErr c.put.result ↔ (jobs_in (map job_of v.known) ≡ m)) (ap (λ l. l.count) c.self.view_is)
     (put_full v c.self.inside.table.count c.put.result (c.seat.invariant.at_rest.wide ∙ ap (λ l. l.count) is) (of_ok c.put.result (λ lane p. (p.0, p.1)) c.put.ensures.ok) (of_err c.put.result (λ back p. p.2) c.put.ensures.err)))
+
+pub returns-clause-stands : goal.returns-clause-stands
+returns-clause-stands c = of_ok c.put.result (λ lane s. scheduler_stands c.put.new.seat.table_id c.put.new.seat.me.0 c.put.ensures.seat.at_rest.schedules s) c.put.ensures.stands
