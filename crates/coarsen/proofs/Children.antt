@@ -1,7 +1,7 @@
 -- How many children of a level a resource has, in footprints of which one has the other's entries.
 use Rattle.std.proofs.Common.{◌≡◌, T, ℕ, ◌+◌, ◌<◌, ◌≤◌, suc, zero, Bool, true, false, cond, List, [], ◌∷◌, length, refl, sym, ap, ◌∙◌, arith, Option, Some, None, ◌⊎◌, inl, inr}
 use Rattle.std.specs.List.{filter, Contains}
-use Rattle.std.specs.FinMap.{entries, entries_sorted, get}
+use Rattle.std.specs.FinMap.{entries, entries_sorted}
 use Rattle.std.specs.FinMap.Entries.{is_sorted, below_all}
 use Rattle.proclang_types.specs.declared.right.Right.{Right}
 use Rattle.footprint.specs.declared.resource.Resource.{Resource}

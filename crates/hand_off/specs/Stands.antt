@@ -1,6 +1,6 @@
 -- Claimed: what contracts promise to a reader rests on these words.
--- What a step tells of the moments right before it and right after it. A moment is the lanes between two steps: their
--- words, their slots and the views of all seats. The laws speak of moments.
+-- Moments that calls tell of. A moment is the lanes between two steps: their words, their slots and the views of all
+-- seats. The laws speak of moments.
 use Rattle.std.specs.Prelude.{◌≡◌, ◌<◌, ◌≤◌, ℕ, List, length, take, Option, Some, slice_get, slice_index_or}
 use mathlib.Core.Option.{some}
 use lib.ListN.{get_elem?}
@@ -22,20 +22,20 @@ module _ {J D : Type 0} (comes_of : J → D → Type 0) where
     pub rule : Laned comes_of moment
     pub seat : get_elem? moment.views number ≡ some view
 
-  -- there was such a moment. The number of the seat is not said: a step tells nothing of it
+  -- there was such a moment, whatever the number of the seat: a step doesn't tell it
   pub record Stands (view : View J) : Type 0 where
     pub moment : Moment J D
     pub number : ℕ
     pub at : StandsAt moment number view
 
-  -- at a moment at which the seat had this view, the lane's word said that it was doing this
+  -- at a moment at which a seat had this view, the lane's word said that it was doing this
   pub record ShownAt (lane : ℕ) (found : LaneState) (view : View J) : Type 0 where
     pub stands : Stands view
     pub near : lane < length stands.moment.words
     pub shows : slice_index_or stands.moment.words lane 0 ≡ word_of found
 
-  -- of all notes, each that was added since the seat had this view says what was so at a moment of its look: the seat
-  -- then had the same view with the notes before that one
+  -- of all notes, each that was added since a seat had this view says what the lane was doing at a moment of its look: at
+  -- which the seat had the same view with the notes before that one
   pub record AllShown (first : View J) (notes : List Note) : Type 0 where
     pub each : (i : ℕ) (note : Note) → length first.notes ≤ i → slice_get notes i ≡ Some note
         → ShownAt note.lane note.found (looked first (take i notes))

@@ -12,8 +12,8 @@ pub record IsLowestFree (jobs : List (Option JobOf)) (lane : ℕ) : Type 0 where
   pub free : slice_get jobs lane ≡ Some None
   pub lowest : (k : ℕ) → k < lane → (job : JobOf) × (slice_get jobs k ≡ Some (Some job))
 
--- the scheduler has collected what came of the job that is in a lane, and the lane has no job any more. At a moment after
--- that its seat stands there with its new value
+-- the scheduler has collected what came of the job that is in a lane, and the lane has no job any more. There was a
+-- moment at which its seat stood in the lanes with its new value
 pub record Collects (old : SchedulerSeatOf) (lane : ℕ) (done : DoneOf) (new : SchedulerSeatOf) : Type 0 where
   pub near : lane < old.lanes.count
   pub job : JobOf
@@ -25,14 +25,14 @@ pub record Collects (old : SchedulerSeatOf) (lane : ℕ) (done : DoneOf) (new : 
   pub shown : AllShownToScheduler old new.notes
   pub stands : SchedulerStands new
 
--- the scheduler has looked at each lane, and found none with a result: each was doing what its note says at a moment of
--- that look
+-- the scheduler has looked at each lane, and found none with a result: each was doing what its note says, at a moment of
+-- its look
 pub record CollectsNothing (old new : SchedulerSeatOf) : Type 0 where
   pub notes : Misses Finished old.lanes.count old.notes new.notes
   pub new_is : new ≡ record old { notes = new.notes }
   pub shown : AllShownToScheduler old new.notes
 
--- a worker has claimed the job of a lane. At the moment after that its seat stands there with its new value
+-- a worker has claimed the job of a lane. There was a moment at which its seat stood in the lanes with its new value
 pub record Claims (old : WorkerSeatOf) (lane : ℕ) (job : JobOf) (new : WorkerSeatOf) : Type 0 where
   pub near : lane < old.lanes.count
   pub free : slice_get old.jobs lane ≡ Some None
@@ -43,7 +43,7 @@ pub record Claims (old : WorkerSeatOf) (lane : ℕ) (job : JobOf) (new : WorkerS
   pub shown : AllShownToWorker old new.notes
   pub stands : WorkerStands new
 
--- a worker has looked at each lane, and found none whose job waits: each was doing what its note says at a moment of that
+-- a worker has looked at each lane, and found none whose job waits: each was doing what its note says, at a moment of its
 -- look
 pub record ClaimsNothing (old new : WorkerSeatOf) : Type 0 where
   pub notes : Misses Waiting old.lanes.count old.notes new.notes

@@ -51,8 +51,8 @@ impl Lanes {
 
     /// What a worker delivered, from the lowest lane where a result was found. It comes of the job that was put into that
     /// lane, which has no job afterwards. It tries one lane after another, from 0; `None` comes only where each
-    /// lane was found without a result when it was tried. The seat's notes say what each lane that it tried was doing at
-    /// a moment of the try.
+    /// lane was found without a result when it was tried. The seat's notes say what each lane that it tried was doing
+    /// at a moment of the try.
     pub fn collect(&self, seat: &mut SchedulerSeat) -> Option<(LaneNo, Done)>
         requires { seat.old.lanes ≡ self.now }
         ensures some { IfSome result (λ r. Collects seat.old r.0 r.1 seat.new) }

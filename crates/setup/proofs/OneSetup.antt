@@ -1,5 +1,5 @@
 -- A text says one setup.
-use Rattle.std.proofs.Common.{◌≡◌, List, Option, Some, Result, Ok, sym, ◌∙◌, subst, refl}
+use Rattle.std.proofs.Common.{◌≡◌, List, Some, Result, Ok, sym, ◌∙◌, subst, refl}
 use Rattle.serde_json.specs.Data.{Data}
 use Rattle.catalogue.specs.Rules.{SaysCatalogue, OneCatalogueIsSaid}
 use Rattle.catalogue.specs.Shapes.{TableShape}

@@ -32,7 +32,7 @@ use Rattle.requests.specs.declared.setup.Setup.{Setup}
 use Rattle.setup.specs.Faults.{is_memory}
 use Rattle.setup.specs.FirstFault.{InForm, InDocument, BreaksFirst, rows_faults}
 use Rattle.setup.specs.Rows.{RowAt}
-use Rattle.setup.specs.Says.{SaysRows, SpellsSetup, SaysDocument, IsJson, IsNotJson, SaysSetup}
+use Rattle.setup.specs.Says.{SaysRows, SpellsSetup, SaysDocument, IsJson, SaysSetup}
 use Rattle.setup.specs.Setups.{SetupDocument, SetupShape, parts_of, setup_form, setup_view}
 
 -- ---- the outer form
