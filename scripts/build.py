@@ -114,6 +114,7 @@ def main(name, *words):
             status = 1
         else:
             say(f"proving and compiling {name}, the last crate")
+            os.makedirs("out", exist_ok=True)
             with open(os.path.join("out", "build.log"), "w") as crate.out:
                 status = crate.run([], words)
     except KeyboardInterrupt:

@@ -9,9 +9,10 @@ The prover must refuse each of them. Those that are tried in one check change fu
 function that goals of it are open, or else that it has no proof since it calls one that has none. So an edit is refused
 where each function that it changes has an open goal of its own. The others are tried in the next check without those,
 and alone at last: then an open goal in one of those functions refuses the edit, and where it changes a definition, any.
-The checks are those by which `rt ci` tries an edit, on copies of the crate, so nothing in the checkout changes. They go on
-from a copy of the work that the crate's own checks kept; what the crate stands on is built first where it isn't. The crates are tried side by side. It ends with how many were refused and how
-many not, and with status 1 where an edit isn't refused.
+The checks are those by which `rt ci` tries an edit, on copies of the crate, so nothing in the checkout changes; but where
+edits change bodies alone, the functions that they change are checked, with those that these call, and no others. They go on
+from a copy of the work that the crate's own checks kept; what the crate stands on is built first where it isn't. The crates
+are tried side by side. It ends with how many were refused and how many not, and with status 1 where an edit isn't refused.
 """
 import importlib.machinery
 import importlib.util
@@ -28,6 +29,7 @@ from pathlib import Path
 IMPL = re.compile(r"impl\b(.*)")
 HEAD = re.compile(r"( *)(?:pub(?:\(\w+\))? )?(?:const )?fn (\w+)")
 OPEN = re.compile(r"^fn (\S+): (?:not proved|no proof: expected answers)", re.MULTILINE)
+VERDICT = re.compile(r"logic=not-proved|only=\d+ proved=\d+$")
 
 
 @cache
@@ -115,13 +117,27 @@ class Edit:
         return None if None in found else found
 
 
-def check(crate, texts, kept):
+def checked(crate, texts, kept, functions):
+    """A check of the crate with these texts, of these functions alone where they are given and each name fits one function."""
+    rt = toolchain()
+    only = [word for name in sorted(functions or ()) for word in ("--only", name)]
+    ran = rt.checked(crate, texts, ["--jobs", "1", *only], kept)
+    return rt.checked(crate, texts, ["--jobs", "1"], kept) if only and ran.returncode == 2 else ran
+
+
+def check(crate, texts, kept, functions):
     """Checks the crate with these texts: whether the prover refuses it, and the functions with an open goal."""
     rt = toolchain()
-    ran = rt.checked(crate, texts, ["--jobs", "1"], kept)
+    ran = checked(crate, texts, kept, functions)
     lines = ran.stdout.rstrip("\n").split("\n")
     is_read = not any(rt.unread(line, texts) for line in lines) and not rt.rtlib.STALE.search(ran.stdout)
-    return is_read and ran.returncode == 1 and lines[-1].startswith("logic=not-proved"), open_in(ran.stdout)
+    return is_read and ran.returncode == 1 and bool(VERDICT.match(lines[-1])), open_in(ran.stdout)
+
+
+def functions_in(edits):
+    """The functions that the edits change, `None` where one of them changes something else, too."""
+    changed = [edit.functions() for edit in edits]
+    return None if None in changed else set().union(*changed)
 
 
 def group_of(edits):
@@ -140,7 +156,7 @@ def refused_together(crate, edits, kept):
     left, refused = edits, []
     while left:
         group, texts = group_of(left)
-        is_refused, opened = check(crate, texts, kept) if len(group) > 1 else (False, set())
+        is_refused, opened = check(crate, texts, kept, functions_in(group)) if len(group) > 1 else (False, set())
         done = [edit for edit in group if is_refused and edit.functions() <= opened]
         refused += done
         left = [edit for edit in left if edit not in (done or group or left)]
@@ -148,8 +164,9 @@ def refused_together(crate, edits, kept):
 
 
 def is_refused_alone(crate, edit, kept):
-    is_refused, opened = check(crate, edit.made_on({}), kept)
-    return is_refused and (edit.functions() is None or bool(edit.functions() & opened))
+    functions = edit.functions()
+    is_refused, opened = check(crate, edit.made_on({}), kept, functions)
+    return is_refused and (functions is None or bool(functions & opened))
 
 
 def not_refused(crate, edits):
@@ -164,8 +181,8 @@ def not_refused(crate, edits):
             alone = edit not in together and is_refused_alone(crate, edit, kept)
             print(f"{edit}: {'refused' if edit in together else 'refused, alone' if alone else 'NOT REFUSED'}", flush=True)
             failed += [] if alone or edit in together else [edit]
-        # What the checks kept is to be sound: where the crate itself isn't proved over it, each edit is tried from nothing.
-        if toolchain().checked(crate, {}, ["--jobs", "1"], kept).returncode:
+        # What the checks kept is to be sound: where what they changed isn't proved over it, each edit is tried from nothing.
+        if checked(crate, {}, kept, functions_in(edits)).returncode:
             failed = [edit for edit in edits if not is_refused_alone(crate, edit, None)]
         return failed
 

@@ -9,11 +9,11 @@ use Rattle.proclang_types.specs.declared.right.Right.{Right}
 use Rattle.proclang_types.specs.declared.right.Right.TheVariants.{Read, Write}
 use Rattle.footprint.specs.declared.resource.Resource.{Resource}
 use Rattle.footprint.specs.Tree.{resource_cmp}
-use Rattle.footprint.specs.Rights.{FootprintOf, greater, with_right, is_at_least}
+use Rattle.footprint.specs.Rights.{FootprintOf, greater, with_right, is_at_least, with_rights}
 use Rattle.modes.specs.Rights.{rank_of, rank}
 use Rattle.coarsen.specs.Subtrees.{greatest, is_same, right_on}
 use Rattle.coarsen.specs.Requests.{number_or_none}
-use Rattle.coarsen.specs.Coarsening.{with_rights, gathered}
+use Rattle.coarsen.specs.Coarsening.{gathered}
 use Rattle.footprint.proofs.Resources.{resources_total}
 use Rattle.coarsen.proofs.Greatest.{found, greatest-put, first_test, second_test, less, first_or_later}
 

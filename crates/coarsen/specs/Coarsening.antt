@@ -1,6 +1,6 @@
 -- Claimed: what contracts promise to a reader rests on these words.
 -- The coarsening of a footprint: fewer and greater entries, which cover all that it covers. (This project's own.)
-use Rattle.std.specs.Prelude.{ℕ, Bool, false, not, if◌then◌else◌, nat_lt, Option, Some, None, List, [], ◌∷◌, map, length}
+use Rattle.std.specs.Prelude.{ℕ, Bool, false, not, if◌then◌else◌, nat_lt, Option, Some, None, List, map, length}
 use Rattle.std.specs.List.{filter, list_any}
 use Rattle.std.specs.FinMap.{entries, get, empty}
 use Rattle.proclang_types.specs.declared.right.Right.{Right}
@@ -9,15 +9,10 @@ use Rattle.footprint.specs.declared.resource.InTable.TheVariants.{WholeTable, Pa
 use Rattle.footprint.specs.declared.resource.Resource.{Resource}
 use Rattle.footprint.specs.declared.resource.Resource.TheVariants.{Db, Table}
 use Rattle.footprint.specs.Tree.{ancestors_of}
-use Rattle.footprint.specs.Rights.{FootprintOf, is_at_least, with_right}
+use Rattle.footprint.specs.Rights.{FootprintOf, is_at_least, with_rights}
 use Rattle.coarsen.specs.declared.level.Level.{Level}
 use Rattle.coarsen.specs.declared.level.Level.TheVariants.{Rows, Partitions}
 use Rattle.coarsen.specs.Subtrees.{is_same}
-
--- the footprint with more rights: of two rights on one resource the greater counts
-abbrev pub with_rights : FootprintOf → List (Resource × Right) → FootprintOf
-with_rights footprint [] = footprint
-with_rights footprint (e ∷ es) = with_rights (with_right footprint e.0 e.1) es
 
 abbrev pub gathered : List (Resource × Right) → FootprintOf
 gathered es = with_rights empty es

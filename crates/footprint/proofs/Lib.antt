@@ -3,5 +3,7 @@ pub mod Rights
 pub mod InOrder
 pub mod OfCatalogue
 pub mod StandIns
+pub mod Ranges
+pub mod Entries
 pub mod Divisions
 pub mod TreeOrder

@@ -1,6 +1,7 @@
 -- Footprints that are of a catalogue.
-use Rattle.std.proofs.Common.{◌≡◌, true, false, cond, List, Some, is_some, refl, sym, ap, ◌∙◌, subst, Ordering, Less, Equal, Greater}
+use Rattle.std.proofs.Common.{◌≡◌, true, false, cond, List, Some, is_some, Result, Ok, Err, refl, sym, ap, ◌∙◌, subst, Ordering, Less, Equal, Greater}
 use Rattle.std.specs.FinMap.{empty, get, get-empty, get-insert}
+use Rattle.std.specs.Prelude.{OnOk}
 use Rattle.std.specs.Ordering.{eq_by_cmp, is_eq}
 use Rattle.catalogue.specs.Shapes.{TableShape}
 use Rattle.proclang_types.specs.declared.right.Right.{Right}
@@ -27,3 +28,9 @@ more_of_catalogue tables f r x of is = λ q there.
       | true ↦ λ e g. subst (IsResourceOf tables) (sym (exact_resources q r (tied (resource_cmp q r) e))) is
       | false ↦ λ e g. of q (sym (ap is_some g) ∙ there)
     ] refl got
+
+-- what an addition leaves is of the catalogue, where it was made
+pub on_one_more : {X Y : Type 0} (tables : List TableShape) (f : FootprintOf) (r : Resource) (x : Right) (result : Result X Y) (left : FootprintOf) → IsFootprintOf tables f → IsResourceOf tables r
+    → OnOk result (left ≡ with_right f r x) → OnOk result (IsFootprintOf tables left)
+on_one_more tables f r x (Ok u) left of is added = subst (IsFootprintOf tables) (sym added) (more_of_catalogue tables f r x of is)
+on_one_more tables f r x (Err e) left of is added = tt

@@ -5,5 +5,6 @@ pub mod Arithmetic
 pub mod Declaration
 pub mod Stops
 pub mod Tables
+pub mod Grants
 pub mod OfCatalogue
 pub mod TreeOrder

@@ -1,6 +1,6 @@
 -- Claimed: what contracts promise to a reader rests on these words.
 -- Rights, footprints, and what a footprint covers.
-use Rattle.std.specs.Prelude.{Bool, true, false, List, ◌∷◌, Option, Some, None}
+use Rattle.std.specs.Prelude.{Bool, true, false, List, [], ◌∷◌, Option, Some, None}
 use Rattle.std.specs.List.{list_any}
 use Rattle.std.specs.FinMap.{FinMap, get, insert}
 use Rattle.values.specs.declared.name.RowName.{RowName}
@@ -34,6 +34,11 @@ covers footprint resource right = list_any (λ r. is_at_least right (get footpri
 -- the footprint with one more right on a resource: the greater one counts
 abbrev pub with_right : FootprintOf → Resource → Right → FootprintOf
 with_right footprint resource right = insert footprint resource (greater (get footprint resource) right)
+
+-- the footprint with more rights, one after another
+abbrev pub with_rights : FootprintOf → List (Resource × Right) → FootprintOf
+with_rights footprint [] = footprint
+with_rights footprint (grant ∷ grants) = with_rights (with_right footprint grant.0 grant.1) grants
 
 -- the footprint covers a right on a row name of these tables
 abbrev pub covers_row : List TableShape → FootprintOf → RowName → Right → Bool

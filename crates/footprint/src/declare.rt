@@ -4,17 +4,19 @@ ghost use Rattle.std.specs.Prelude.{◌≡◌, pos, IfOk, map, slice_get};
 ghost use Rattle.std.specs.List.{AllByRecursion};
 ghost use Rattle.proclang_types.specs.Views.{int_view, entry_view};
 ghost use Rattle.proclang_types.specs.Procedures.{proc_syntax};
-ghost use Rattle.footprint.specs.Declaration.{declared_number, number_or, grant_of, declared_footprint};
+ghost use Rattle.footprint.specs.Declaration.{declared_number, number_or, grants_of, declared_footprint};
+ghost use Rattle.footprint.specs.Grants.{GrantsAs, IsGrantOf};
 ghost use Rattle.footprint.specs.Tables.{HasTable};
-ghost use Rattle.footprint.specs.OfCatalogue.{IsResourceOf, IsFootprintOf};
+ghost use Rattle.footprint.specs.OfCatalogue.{IsFootprintOf};
 ghost use Rattle.footprint.specs.Stops.{EvaluatesTo};
 
 use crate::abort_code::AbortCode;
 use crate::arithmetic::compute;
 use crate::footprint::Footprint;
+use crate::grant::Grant;
 use crate::resource::{InPart, InTable, Resource};
 use catalogue::Catalogue;
-use proclang_types::{FootprintEntry, IntExpr, Proc, Right};
+use proclang_types::{FootprintEntry, IntExpr, Proc};
 use std::alloc::Global;
 use values::{Key, NoMemory, RowName, Value};
 
@@ -72,38 +74,46 @@ fn int_value(arguments: &[Value], expression: &IntExpr) -> Result<i64, AbortCode
     }
 }
 
-/// The resource that an entry adds and the right on it, or the abort of its first fault.
+/// What an entry adds, or the abort of its first fault.
 fn grant_of(
     catalogue: &Catalogue,
     arguments: &[Value],
     entry: &FootprintEntry,
-) -> Result<(Resource, Right), AbortCode>
+) -> Result<Grant, AbortCode>
     requires { HasTable catalogue.now (entry_view entry.now) }
-    ensures exact { result ≡ grant_of (pos 0) catalogue.now arguments.now (entry_view entry.now) }
-    ensures of_catalogue { IfOk result (λ grant. IsResourceOf catalogue.now grant.0) }
+    ensures exact { GrantsAs catalogue.now result
+        (grants_of (pos 0) catalogue.now arguments.now (entry_view entry.now)) }
+    ensures of_catalogue { IfOk result (λ grant. IsGrantOf catalogue.now grant) }
 {
     match entry {
         FootprintEntry::Row { right, table, key } => {
             let number = int_value(arguments, key)?;
-            match Key::new(number) {
-                Some(key) => Ok((Resource::row(catalogue, RowName::new(*table, key)), *right)),
-                None => Err(AbortCode::BadKey),
-            }
+            let key = Key::new(number).ok_or(AbortCode::BadKey)?;
+            let resource = Resource::row(catalogue, RowName::new(*table, key));
+            Ok(Grant::on_one(*right, resource))
+        }
+        FootprintEntry::Rows {
+            right,
+            table,
+            low,
+            high,
+        } => {
+            let low = int_value(arguments, low)?;
+            let high = int_value(arguments, high)?;
+            let first = Key::new(low).ok_or(AbortCode::BadKey)?;
+            Ok(Grant::on_rows(*right, *table, first, high))
         }
         FootprintEntry::Part { right, table, part } => {
             let number = int_value(arguments, part)?;
-            match catalogue.part(*table, number) {
-                Some(part) => {
-                    let whole = InTable::Part(part, InPart::WholePart);
-                    Ok((Resource::Table(*table, whole), *right))
-                }
-                None => Err(AbortCode::BadPart),
-            }
+            let part = catalogue.part(*table, number).ok_or(AbortCode::BadPart)?;
+            let resource = Resource::Table(*table, InTable::Part(part, InPart::WholePart));
+            Ok(Grant::on_one(*right, resource))
         }
         FootprintEntry::Table { right, table } => {
-            Ok((Resource::Table(*table, InTable::WholeTable), *right))
+            let resource = Resource::Table(*table, InTable::WholeTable);
+            Ok(Grant::on_one(*right, resource))
         }
-        FootprintEntry::Db { right } => Ok((Resource::Db, *right)),
+        FootprintEntry::Db { right } => Ok(Grant::on_one(*right, Resource::Db)),
     }
 }
 
@@ -121,21 +131,22 @@ fn with_entries(
     ensures of_catalogue { IfOk result (λ footprint. IsFootprintOf catalogue.now footprint) }
 {
     let mut footprint = Footprint::new(alloc);
-    let mut count = 0u32;
+    let mut count = 0;
     for entry in entries {
-        let (resource, right) = grant_of(catalogue, arguments, entry)?;
-        if count >= 65_536 {
+        let grant = grant_of(catalogue, arguments, entry)?;
+        count += grant.size();
+        if count > 65_536 {
             return Err(DeclarationFault::Abort(AbortCode::TooLong));
         }
-        footprint.add(resource, right)?;
-        count += 1;
+        grant.add_to(catalogue, &mut footprint)?;
     }
     Ok(footprint)
 }
 
 /// The footprint that a procedure declares for these arguments, or the abort of the first fault: entries are evaluated in
 /// order, a result outside the signed 64-bit range is an overflow, a negative key a bad key, a number that is no
-/// partition of its table a bad partition, and more than 65,536 resources, repeats included, are too long.
+/// partition of its table a bad partition, and more than 65,536 resources, repeats included, are too long. How many an entry
+/// adds is found before any of them is listed.
 pub fn declared(
     alloc: Global,
     catalogue: &Catalogue,

@@ -1,13 +1,13 @@
 //! Laws of declarations.
 
-ghost use Rattle.std.specs.Prelude.{◌≡◌, ℤ, pos, int_div, int_rem, List, map};
+ghost use Rattle.std.specs.Prelude.{◌≡◌, ℕ, ◌+◌, ℤ, pos, int_le, int_div, int_rem, List, map, slice_get, Some, None, if◌then◌else◌};
 ghost use Rattle.values.specs.declared.value.Value.{Value};
 ghost use Rattle.catalogue.specs.Shapes.{TableShape};
 ghost use Rattle.values.specs.Rows.{type_of};
 ghost use Rattle.proclang_types.specs.Syntax.{ProcSyntax};
 ghost use Rattle.proclang_types.specs.Typing.{kinds_of, ProcFits};
 ghost use Rattle.footprint.specs.Arithmetic.{IsDivision};
-ghost use Rattle.footprint.specs.Declaration.{declared_with, declared_footprint};
+ghost use Rattle.footprint.specs.Declaration.{declared_with, declared_footprint, keys_between};
 ghost use Rattle.footprint.specs.TreeOrder.{StandsInTreeOrder};
 
 /// What stands for a parameter that is not there, or is a text, and for a count or a sum, never shows: a procedure that fits its tables declares the
@@ -17,6 +17,14 @@ pub fn stand_in_never_shows()
     ensures { (tables : List TableShape) (proc : ProcSyntax) (arguments : List Value) (other : ℤ) →
         ProcFits tables proc → map type_of arguments ≡ kinds_of proc.params
         → declared_with other tables arguments proc.footprint ≡ declared_footprint tables arguments proc.footprint }
+{}
+
+/// The keys from one to a number, place by place: each is one more than the one before it, the first is the lower one, and there
+/// are those that are not above the number.
+#[tactic(auto, using(crate::proofs::Ranges::keys_at))]
+pub fn keys_go_from_low_to_high()
+    ensures { (low place : ℕ) (high : ℤ) → slice_get (keys_between low high) place ≡
+        (if int_le (pos (low + place)) high then Some (low + place) else None) }
 {}
 
 /// A quotient is rounded towards 0, and a remainder is what it leaves: it is less than the divisor, signs aside, and is 0 or has

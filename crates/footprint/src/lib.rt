@@ -5,6 +5,7 @@ mod abort_code;
 mod arithmetic;
 mod declare;
 mod footprint;
+mod grant;
 mod iter;
 mod laws;
 mod resource;
@@ -13,6 +14,9 @@ pub use abort_code::AbortCode;
 pub use arithmetic::compute;
 pub use declare::declared;
 pub use footprint::Footprint;
-pub use laws::{quotients_are_rounded_towards_zero, stand_in_never_shows, stands_in_tree_order};
+pub use laws::{
+    keys_go_from_low_to_high, quotients_are_rounded_towards_zero, stand_in_never_shows,
+    stands_in_tree_order,
+};
 pub use proclang_types::Right;
 pub use resource::{InPart, InTable, Resource};

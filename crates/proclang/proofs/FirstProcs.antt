@@ -16,7 +16,7 @@ use Rattle.values.specs.Names.{is_name}
 use Rattle.catalogue.specs.Reading.{column_form, is_used}
 use Rattle.catalogue.specs.Shapes.{TableShape}
 use Rattle.catalogue.specs.Places.{table_named}
-use Rattle.proclang_types.specs.Syntax.{row_entry, part_entry, table_entry, ParamShape, ProcSyntax}
+use Rattle.proclang_types.specs.Syntax.{row_entry, rows_entry, part_entry, table_entry, ParamShape, ProcSyntax}
 use Rattle.proclang.specs.declared.fault.FaultKind.TheVariants.{Shape, UnknownTable, DuplicateName, Limit}
 use Rattle.proclang.specs.declared.fault.ProcFault.{ProcFault}
 use Rattle.proclang.specs.declared.fault.ProcFault.TheVariants.{Memory, At}
@@ -26,7 +26,7 @@ use Rattle.proclang.specs.Walk.{each_from, behind, at_most}
 use Rattle.proclang.specs.Lookups.{table_at}
 use Rattle.proclang.specs.Expressions.{deepest, as_int, expr_at}
 use Rattle.proclang.specs.Statements.{block_at}
-use Rattle.proclang.specs.ProcForms.{ProcDocument, proc_form, declared_form, EntryDocument, row_parts, part_parts, table_parts, db_parts, entry_form}
+use Rattle.proclang.specs.ProcForms.{ProcDocument, proc_form, declared_form, EntryDocument, row_parts, rows_parts, part_parts, table_parts, db_parts, entry_form}
 use Rattle.proclang.specs.Procs.{fresh_at, param_at, each_param, params_at, int_at, entry_of, entry_at, each_entry, footprint_at, PartsSyntax, parts_at, proc_at, each_proc, procs_at}
 use Rattle.proclang.specs.BrokenExpressions.{not_int, in_expr}
 use Rattle.proclang.specs.declared.expr_form.Section.TheVariants as sections
@@ -134,6 +134,12 @@ unfolding entry_of
 entry_of_first tables path scope (row_parts right table key) =
     bind_first (table_at (path ++ 2 ∷ []) tables table) _ (in_table (path ++ 2 ∷ []) tables table) (in_int tables (path ++ 3 ∷ []) scope key) (found_first (At UnknownTable (path ++ 2 ∷ [])) (table_named tables table)) (λ t _.
     ok_first (int_at tables (path ++ 3 ∷ []) scope key) (λ k. row_entry right t k) (in_int tables (path ++ 3 ∷ []) scope key) (int_expr_first tables (path ++ 3 ∷ []) scope key))
+entry_of_first tables path scope (rows_parts right table low high) =
+    let lows = in_int tables (path ++ 3 ∷ []) scope low in
+    let highs = in_int tables (path ++ 4 ∷ []) scope high in
+    bind_first (table_at (path ++ 2 ∷ []) tables table) _ (in_table (path ++ 2 ∷ []) tables table) (lows ++ highs) (found_first (At UnknownTable (path ++ 2 ∷ [])) (table_named tables table)) (λ t _.
+    bind_first (int_at tables (path ++ 3 ∷ []) scope low) _ lows highs (int_expr_first tables (path ++ 3 ∷ []) scope low) (λ l _.
+    ok_first (int_at tables (path ++ 4 ∷ []) scope high) (λ h. rows_entry right t l h) highs (int_expr_first tables (path ++ 4 ∷ []) scope high)))
 entry_of_first tables path scope (part_parts right table part) =
     bind_first (table_at (path ++ 2 ∷ []) tables table) _ (in_table (path ++ 2 ∷ []) tables table) (in_int tables (path ++ 3 ∷ []) scope part) (found_first (At UnknownTable (path ++ 2 ∷ [])) (table_named tables table)) (λ t _.
     ok_first (int_at tables (path ++ 3 ∷ []) scope part) (λ p. part_entry right t p) (in_int tables (path ++ 3 ∷ []) scope part) (int_expr_first tables (path ++ 3 ∷ []) scope part))

@@ -16,7 +16,7 @@ use Rattle.catalogue.specs.Rules.{Says}
 use Rattle.catalogue.specs.Shapes.{TableShape}
 use Rattle.catalogue.proofs.Forms.{column_said, column_again}
 use Rattle.catalogue.proofs.Named.{distinct_push, unused}
-use Rattle.proclang_types.specs.Syntax.{IntSyntax, int, EntrySyntax, row_entry, part_entry, table_entry, db_entry, ParamShape, StmtSyntax, ProcSyntax}
+use Rattle.proclang_types.specs.Syntax.{IntSyntax, int, EntrySyntax, row_entry, rows_entry, part_entry, table_entry, db_entry, ParamShape, StmtSyntax, ProcSyntax}
 use Rattle.proclang.specs.declared.fault.FaultKind.TheVariants.{Shape, UnknownTable, DuplicateName}
 use Rattle.proclang.specs.declared.fault.ProcFault.{ProcFault}
 use Rattle.proclang.specs.declared.fault.ProcFault.TheVariants.{At}
@@ -26,7 +26,7 @@ use Rattle.proclang.specs.Walk.{each_from, behind, at_most}
 use Rattle.proclang.specs.Lookups.{table_at}
 use Rattle.proclang.specs.Expressions.{deepest, expr_at}
 use Rattle.proclang.specs.Statements.{block_at}
-use Rattle.proclang.specs.ProcForms.{ProcDocument, proc_form, declared_form, EntryDocument, row_parts, part_parts, table_parts, db_parts, entry_form}
+use Rattle.proclang.specs.ProcForms.{ProcDocument, proc_form, declared_form, EntryDocument, row_parts, rows_parts, part_parts, table_parts, db_parts, entry_form}
 use Rattle.proclang.specs.Procs.{fresh_at, param_at, params_at, int_at, entry_of, entry_at, footprint_at, PartsSyntax, parts_at, proc_at, procs_at}
 use Rattle.proclang.specs.SaysExpressions.{SaysExpr, SaysFootprintInt}
 use Rattle.proclang.specs.SaysStatements.{SaysBlock}
@@ -157,6 +157,11 @@ entry_form_found tables path scope (row_parts right table key) e h =
     let t = bind_ok (table_at (path ++ 2 ∷ []) tables table) _ e h in
     let k = bind_ok (int_at tables (path ++ 3 ∷ []) scope key) _ e t.2 in
     (t.0, k.0, table_found (path ++ 2 ∷ []) tables table t.0 t.1, int_expr_found tables (path ++ 3 ∷ []) scope key k.0 k.1, sym (ok_is (row_entry right t.0 k.0) e k.2))
+entry_form_found tables path scope (rows_parts right table low high) e h =
+    let t = bind_ok (table_at (path ++ 2 ∷ []) tables table) _ e h in
+    let l = bind_ok (int_at tables (path ++ 3 ∷ []) scope low) _ e t.2 in
+    let k = bind_ok (int_at tables (path ++ 4 ∷ []) scope high) _ e l.2 in
+    (t.0, l.0, k.0, table_found (path ++ 2 ∷ []) tables table t.0 t.1, int_expr_found tables (path ++ 3 ∷ []) scope low l.0 l.1, int_expr_found tables (path ++ 4 ∷ []) scope high k.0 k.1, sym (ok_is (rows_entry right t.0 l.0 k.0) e k.2))
 entry_form_found tables path scope (part_parts right table part) e h =
     let t = bind_ok (table_at (path ++ 2 ∷ []) tables table) _ e h in
     let p = bind_ok (int_at tables (path ++ 3 ∷ []) scope part) _ e t.2 in
@@ -169,6 +174,7 @@ entry_form_found tables path scope (db_parts right) e h = sym (ok_is (db_entry r
 entry_form_read : (tables : List TableShape) (path : List ℕ) (scope : List Seen) (form : EntryDocument) (e : EntrySyntax) → SaysEntryForm tables scope form e → entry_of tables path scope form ≡ Ok e
 unfolding entry_of
 entry_form_read tables path scope (row_parts right table key) e h = rw (h.2, int_expr_read tables (path ++ 3 ∷ []) scope key h.1 h.3) (ap (λ (x : EntrySyntax). Ok x) (sym h.4))
+entry_form_read tables path scope (rows_parts right table low high) e h = rw (h.3, int_expr_read tables (path ++ 3 ∷ []) scope low h.1 h.4, int_expr_read tables (path ++ 4 ∷ []) scope high h.2 h.5) (ap (λ (x : EntrySyntax). Ok x) (sym h.6))
 entry_form_read tables path scope (part_parts right table part) e h = rw (h.2, int_expr_read tables (path ++ 3 ∷ []) scope part h.1 h.3) (ap (λ (x : EntrySyntax). Ok x) (sym h.4))
 entry_form_read tables path scope (table_parts right table) e h = rw h.1 (ap (λ (x : EntrySyntax). Ok x) (sym h.2))
 entry_form_read tables path scope (db_parts right) e h = ap (λ (x : EntrySyntax). Ok x) (sym h)

@@ -10,7 +10,7 @@ use Rattle.documents.proofs.Said.{string_said, elements_said, elements_again}
 use Rattle.documents.proofs.Steps.{and_then_ok, map_ok}
 use Rattle.proclang_types.specs.declared.right.Right.{Right}
 use Rattle.proclang_types.specs.declared.right.Right.TheVariants.{Read, Write}
-use Rattle.proclang.specs.ProcForms.{ProcDocument, proc_form, declared_entries, declared_form, EntryDocument, row_parts, part_parts, table_parts, db_parts, right_of, row_form, part_form, table_form, db_form, entry_word, entry_words, entry_form}
+use Rattle.proclang.specs.ProcForms.{ProcDocument, proc_form, declared_entries, declared_form, EntryDocument, row_parts, rows_parts, part_parts, table_parts, db_parts, right_of, row_form, rows_form, part_form, table_form, db_form, entry_word, entry_words, entry_form}
 use Rattle.proclang.specs.Spells.{words, right_word, SpellsEntry, SpellsProc}
 use Rattle.proclang.proofs.Words.{word_or, none_is}
 
@@ -41,6 +41,9 @@ row_texts word a b k right t p q = rw (p, q) refl
 table_texts : (word : List ℕ) (a b : Data) (right : Right) (t : List ℕ) → a ≡ string (right_word right) → b ≡ string t → words word (a ∷ b ∷ []) ≡ words word (string (right_word right) ∷ string t ∷ [])
 table_texts word a b right t p q = rw (p, q) refl
 
+range_texts : (word : List ℕ) (a b l k : Data) (right : Right) (t : List ℕ) → a ≡ string (right_word right) → b ≡ string t → words word (a ∷ b ∷ l ∷ k ∷ []) ≡ words word (string (right_word right) ∷ string t ∷ l ∷ k ∷ [])
+range_texts word a b l k right t p q = rw (p, q) refl
+
 row_said : (parts : List Data) (f : EntryDocument) → row_form parts ≡ Some f → SpellsEntry (words (codes "row") parts) f
 unfolding row_form
 row_said (right ∷ table ∷ key ∷ []) f e =
@@ -62,6 +65,18 @@ part_said [] f e = none_is f e
 part_said (a ∷ []) f e = none_is f e
 part_said (a ∷ b ∷ []) f e = none_is f e
 part_said (a ∷ b ∷ c ∷ d ∷ ds) f e = none_is f e
+
+rows_said : (parts : List Data) (f : EntryDocument) → rows_form parts ≡ Some f → SpellsEntry (words (codes "rows") parts) f
+unfolding rows_form
+rows_said (right ∷ table ∷ low ∷ high ∷ []) f e =
+    let r = and_then_ok _ (option_and_then right_of (as_str right)) f e in
+    let t = map_ok _ (as_str table) f r.2 in
+    subst (SpellsEntry (words (codes "rows") (right ∷ table ∷ low ∷ high ∷ []))) t.2 (range_texts (codes "rows") right table low high r.0 t.0 (right_is right r.0 r.1) (string_said table t.0 t.1))
+rows_said [] f e = none_is f e
+rows_said (a ∷ []) f e = none_is f e
+rows_said (a ∷ b ∷ []) f e = none_is f e
+rows_said (a ∷ b ∷ c ∷ []) f e = none_is f e
+rows_said (a ∷ b ∷ c ∷ d ∷ x ∷ ds) f e = none_is f e
 
 table_said : (parts : List Data) (f : EntryDocument) → table_form parts ≡ Some f → SpellsEntry (words (codes "table") parts) f
 unfolding table_form
@@ -85,13 +100,16 @@ entry_word_said : (word : List ℕ) (parts : List Data) (f : EntryDocument) → 
 unfolding entry_word
 entry_word_said word parts f e = elim (word_or word (codes "row") (row_form parts) _ f e) [
   | inl h ↦ rw h.0 (row_said parts f h.1)
-  | inr a ↦ elim (word_or word (codes "part") (part_form parts) _ f a) [
-    | inl h ↦ rw h.0 (part_said parts f h.1)
-    | inr b ↦ elim (word_or word (codes "table") (table_form parts) _ f b) [
-      | inl h ↦ rw h.0 (table_said parts f h.1)
-      | inr c ↦ elim (word_or word (codes "db") (db_form parts) None f c) [
-        | inl h ↦ rw h.0 (db_said parts f h.1)
-        | inr none ↦ none_is f none
+  | inr a ↦ elim (word_or word (codes "rows") (rows_form parts) _ f a) [
+    | inl h ↦ rw h.0 (rows_said parts f h.1)
+    | inr b ↦ elim (word_or word (codes "part") (part_form parts) _ f b) [
+      | inl h ↦ rw h.0 (part_said parts f h.1)
+      | inr c ↦ elim (word_or word (codes "table") (table_form parts) _ f c) [
+        | inl h ↦ rw h.0 (table_said parts f h.1)
+        | inr d ↦ elim (word_or word (codes "db") (db_form parts) None f d) [
+          | inl h ↦ rw h.0 (db_said parts f h.1)
+          | inr none ↦ none_is f none
+        ]
       ]
     ]
   ]
@@ -114,8 +132,9 @@ unfolding entry_form
 entry_words_again word parts = ap (option_and_then entry_words) (elements_again (string word ∷ parts))
 
 pub entry_again : (d : Data) (f : EntryDocument) → SpellsEntry d f → entry_form d ≡ Some f
-unfolding entry_word row_form part_form table_form db_form
+unfolding entry_word row_form rows_form part_form table_form db_form
 entry_again d (row_parts right table key) h = ap entry_form h ∙ entry_words_again (codes "row") (string (right_word right) ∷ string table ∷ key ∷ []) ∙ ap (option_and_then (λ r. Some (row_parts r table key))) (right_again right)
+entry_again d (rows_parts right table low high) h = ap entry_form h ∙ entry_words_again (codes "rows") (string (right_word right) ∷ string table ∷ low ∷ high ∷ []) ∙ ap (option_and_then (λ r. Some (rows_parts r table low high))) (right_again right)
 entry_again d (part_parts right table part) h = ap entry_form h ∙ entry_words_again (codes "part") (string (right_word right) ∷ string table ∷ part ∷ []) ∙ ap (option_and_then (λ r. Some (part_parts r table part))) (right_again right)
 entry_again d (table_parts right table) h = ap entry_form h ∙ entry_words_again (codes "table") (string (right_word right) ∷ string table ∷ []) ∙ ap (option_and_then (λ r. Some (table_parts r table))) (right_again right)
 entry_again d (db_parts right) h = ap entry_form h ∙ entry_words_again (codes "db") (string (right_word right) ∷ []) ∙ ap (option_map db_parts) (right_again right)

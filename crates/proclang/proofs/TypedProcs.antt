@@ -10,7 +10,7 @@ use Rattle.catalogue.specs.Shapes.{TableShape}
 use Rattle.values.specs.Names.{is_name}
 use Rattle.catalogue.specs.Reading.{is_used}
 use Rattle.catalogue.proofs.Named.{distinct_push}
-use Rattle.proclang_types.specs.Syntax.{IntSyntax, EntrySyntax, row_entry, part_entry, table_entry, db_entry, ParamShape, ProcSyntax, block_of}
+use Rattle.proclang_types.specs.Syntax.{IntSyntax, EntrySyntax, row_entry, rows_entry, part_entry, table_entry, db_entry, ParamShape, ProcSyntax, block_of}
 use Rattle.proclang_types.specs.Procedures.{ProcParts, proc_syntax}
 use Rattle.proclang_types.specs.Typing.{IntFits, AsksNoRows, EntryFits, BlockFits, kinds_of, ProcFits}
 use Rattle.proclang.specs.declared.fault.FaultKind.TheVariants.{Shape, DuplicateName}
@@ -22,7 +22,7 @@ use Rattle.proclang.specs.Walk.{each_from, behind, at_most}
 use Rattle.proclang.specs.Lookups.{declared_at, table_at}
 use Rattle.proclang.specs.Expressions.{deepest, expr_at}
 use Rattle.proclang.specs.Statements.{block_at}
-use Rattle.proclang.specs.ProcForms.{ProcDocument, proc_form, declared_form, EntryDocument, row_parts, part_parts, table_parts, db_parts, entry_form}
+use Rattle.proclang.specs.ProcForms.{ProcDocument, proc_form, declared_form, EntryDocument, row_parts, rows_parts, part_parts, table_parts, db_parts, entry_form}
 use Rattle.proclang.specs.Procs.{fresh_at, params_at, int_at, entry_of, entry_at, footprint_at, PartsSyntax, parts_at, proc_at, each_proc}
 use Rattle.requests.specs.ProcLists.{AreOver, AreProcs, proc_named}
 use Rattle.requests.proofs.ProcLists.{named_used}
@@ -51,6 +51,14 @@ entry_fits tables path scope (row_parts right table key) e r =
     let is : row_entry right t.0 k.0 ≡ e = (let h = k.2 in cc) in
     let fits = number_fits tables (path ++ 3 ∷ []) scope key k.0 k.1 in
     subst (EntryFits tables (seen_kinds scope)) is (table_there tables (path ++ 2 ∷ []) table t.0 t.1, fits.0, fits.1)
+entry_fits tables path scope (rows_parts right table low high) e r =
+    let t = bind_ok (table_at (path ++ 2 ∷ []) tables table) _ e r in
+    let l = bind_ok (int_at tables (path ++ 3 ∷ []) scope low) _ e t.2 in
+    let k = bind_ok (int_at tables (path ++ 4 ∷ []) scope high) _ e l.2 in
+    let is : rows_entry right t.0 l.0 k.0 ≡ e = (let h = k.2 in cc) in
+    let first = number_fits tables (path ++ 3 ∷ []) scope low l.0 l.1 in
+    let last = number_fits tables (path ++ 4 ∷ []) scope high k.0 k.1 in
+    subst (EntryFits tables (seen_kinds scope)) is (table_there tables (path ++ 2 ∷ []) table t.0 t.1, first.0, first.1, last.0, last.1)
 entry_fits tables path scope (part_parts right table part) e r =
     let t = bind_ok (table_at (path ++ 2 ∷ []) tables table) _ e r in
     let p = bind_ok (int_at tables (path ++ 3 ∷ []) scope part) _ e t.2 in

@@ -19,7 +19,7 @@ use Rattle.proclang.specs.BrokenExpressions.{not_int, in_expr}
 use Rattle.proclang.specs.BrokenNames.{in_table}
 use Rattle.proclang.specs.BrokenStatements.{in_parts, too_many, in_block}
 use Rattle.proclang.specs.Expressions.{deepest}
-use Rattle.proclang.specs.ProcForms.{ProcDocument, proc_form, declared_form, EntryDocument, row_parts, part_parts, table_parts, db_parts, entry_form}
+use Rattle.proclang.specs.ProcForms.{ProcDocument, proc_form, declared_form, EntryDocument, row_parts, rows_parts, part_parts, table_parts, db_parts, entry_form}
 use Rattle.proclang.specs.Seen.{Seen, seen_of}
 
 -- those of each part in turn, the first at the place that is given, behind the names that the parts before it give
@@ -65,6 +65,8 @@ in_int tables path scope d = in_expr sections.Footprint tables deepest path scop
 abbrev pub in_entry_form : List TableShape → List ℕ → List Seen → Option EntryDocument → List ProcFault
 in_entry_form tables path scope None = At Shape path ∷ []
 in_entry_form tables path scope (Some (row_parts right table key)) = in_table (path ++ 2 ∷ []) tables table ++ in_int tables (path ++ 3 ∷ []) scope key
+in_entry_form tables path scope (Some (rows_parts right table low high)) =
+    in_table (path ++ 2 ∷ []) tables table ++ (in_int tables (path ++ 3 ∷ []) scope low ++ in_int tables (path ++ 4 ∷ []) scope high)
 in_entry_form tables path scope (Some (part_parts right table part)) = in_table (path ++ 2 ∷ []) tables table ++ in_int tables (path ++ 3 ∷ []) scope part
 in_entry_form tables path scope (Some (table_parts right table)) = in_table (path ++ 2 ∷ []) tables table
 in_entry_form tables path scope (Some (db_parts right)) = []

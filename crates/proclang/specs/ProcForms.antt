@@ -43,6 +43,8 @@ declared_form d = option_and_then declared_entries (elements d)
 pub data EntryDocument : Type 0 where
   -- right, table, KEY
   row_parts : Right → List ℕ → Data → EntryDocument
+  -- right, table, LOW, HIGH
+  rows_parts : Right → List ℕ → Data → Data → EntryDocument
   -- right, table, PART
   part_parts : Right → List ℕ → Data → EntryDocument
   table_parts : Right → List ℕ → EntryDocument
@@ -50,6 +52,7 @@ pub data EntryDocument : Type 0 where
 
 abbrev pub entry_form_view : EntryForm → EntryDocument
 entry_form_view (forms.Row right table key) = row_parts right table.now (view key.now)
+entry_form_view (forms.Rows right table low high) = rows_parts right table.now (view low.now) (view high.now)
 entry_form_view (forms.Part right table part) = part_parts right table.now (view part.now)
 entry_form_view (forms.Table right table) = table_parts right table.now
 entry_form_view (forms.Db right) = db_parts right
@@ -66,6 +69,13 @@ row_form (right ∷ table ∷ key ∷ []) =
     option_map (λ (t : List ℕ). row_parts r t key) (as_str table))
     (option_and_then right_of (as_str right))
 row_form parts = None
+
+unfoldable pub rows_form : List Data → Option EntryDocument
+rows_form (right ∷ table ∷ low ∷ high ∷ []) =
+    option_and_then (λ (r : Right).
+    option_map (λ (t : List ℕ). rows_parts r t low high) (as_str table))
+    (option_and_then right_of (as_str right))
+rows_form parts = None
 
 unfoldable pub part_form : List Data → Option EntryDocument
 part_form (right ∷ table ∷ part ∷ []) =
@@ -89,9 +99,10 @@ db_form parts = None
 unfoldable pub entry_word : List ℕ → List Data → Option EntryDocument
 entry_word word parts =
     if bytes_eq word (codes "row") then row_form parts else
+    (if bytes_eq word (codes "rows") then rows_form parts else
     (if bytes_eq word (codes "part") then part_form parts else
     (if bytes_eq word (codes "table") then table_form parts else
-    (if bytes_eq word (codes "db") then db_form parts else None)))
+    (if bytes_eq word (codes "db") then db_form parts else None))))
 
 abbrev pub entry_words : List Data → Option EntryDocument
 entry_words [] = None

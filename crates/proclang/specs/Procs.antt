@@ -6,7 +6,7 @@ use Rattle.documents.specs.Json.{versioned_list}
 use Rattle.documents.specs.Reading.{◌>>=◌, formed, rule}
 use Rattle.catalogue.specs.Shapes.{TableShape}
 use Rattle.catalogue.specs.Reading.{column_form, is_used}
-use Rattle.proclang_types.specs.Syntax.{IntSyntax, EntrySyntax, row_entry, part_entry, table_entry, db_entry, ParamShape, StmtSyntax, ProcSyntax}
+use Rattle.proclang_types.specs.Syntax.{IntSyntax, EntrySyntax, row_entry, rows_entry, part_entry, table_entry, db_entry, ParamShape, StmtSyntax, ProcSyntax}
 use Rattle.proclang_types.specs.Procedures.{param_shape}
 use Rattle.proclang_types.specs.Views.{entry_view, stmts_view}
 use Rattle.proclang.specs.declared.read_proc.Parts.{Parts}
@@ -19,7 +19,7 @@ use Rattle.proclang.specs.Walk.{each_from, behind, at_most}
 use Rattle.proclang.specs.Lookups.{declared_at, table_at}
 use Rattle.proclang.specs.Expressions.{deepest, as_int, expr_at}
 use Rattle.proclang.specs.Statements.{block_at}
-use Rattle.proclang.specs.ProcForms.{ProcDocument, proc_form, declared_form, EntryDocument, row_parts, part_parts, table_parts, db_parts, entry_form}
+use Rattle.proclang.specs.ProcForms.{ProcDocument, proc_form, declared_form, EntryDocument, row_parts, rows_parts, part_parts, table_parts, db_parts, entry_form}
 
 -- ---- parameters
 
@@ -56,6 +56,11 @@ entry_of tables path scope (row_parts right table key) = do
   t ← table_at (path ++ 2 ∷ []) tables table
   k ← int_at tables (path ++ 3 ∷ []) scope key
   Ok (row_entry right t k)
+entry_of tables path scope (rows_parts right table low high) = do
+  t ← table_at (path ++ 2 ∷ []) tables table
+  l ← int_at tables (path ++ 3 ∷ []) scope low
+  h ← int_at tables (path ++ 4 ∷ []) scope high
+  Ok (rows_entry right t l h)
 entry_of tables path scope (part_parts right table part) = do
   t ← table_at (path ++ 2 ∷ []) tables table
   p ← int_at tables (path ++ 3 ∷ []) scope part

@@ -9,9 +9,9 @@ use Rattle.documents.specs.Json.{integer}
 use Rattle.values.specs.Names.{is_name}
 use Rattle.catalogue.specs.Rules.{Says, SaysColumn}
 use Rattle.catalogue.specs.Shapes.{TableShape}
-use Rattle.proclang_types.specs.Syntax.{IntSyntax, EntrySyntax, row_entry, part_entry, table_entry, db_entry, ParamShape, ProcSyntax}
+use Rattle.proclang_types.specs.Syntax.{IntSyntax, EntrySyntax, row_entry, rows_entry, part_entry, table_entry, db_entry, ParamShape, ProcSyntax}
 use Rattle.proclang.specs.Expressions.{deepest}
-use Rattle.proclang.specs.ProcForms.{ProcDocument, EntryDocument, row_parts, part_parts, table_parts, db_parts}
+use Rattle.proclang.specs.ProcForms.{ProcDocument, EntryDocument, row_parts, rows_parts, part_parts, table_parts, db_parts}
 use Rattle.proclang.specs.SaysExpressions.{IsTable, SaysFootprintInt}
 use Rattle.proclang.specs.SaysStatements.{SaysBlock}
 use Rattle.proclang.specs.Seen.{Seen, seen_of}
@@ -33,6 +33,8 @@ pub record SaysParams (ds : List Data) (params : List ParamShape) : Type 0 where
 
 abbrev pub SaysEntryForm : List TableShape → List Seen → EntryDocument → EntrySyntax → Type 0
 SaysEntryForm tables scope (row_parts right table key) e = (t : ℕ) × (k : IntSyntax) × IsTable tables table t × SaysFootprintInt tables scope key k × (e ≡ row_entry right t k)
+SaysEntryForm tables scope (rows_parts right table low high) e =
+    (t : ℕ) × (l : IntSyntax) × (h : IntSyntax) × IsTable tables table t × SaysFootprintInt tables scope low l × SaysFootprintInt tables scope high h × (e ≡ rows_entry right t l h)
 SaysEntryForm tables scope (part_parts right table part) e = (t : ℕ) × (p : IntSyntax) × IsTable tables table t × SaysFootprintInt tables scope part p × (e ≡ part_entry right t p)
 SaysEntryForm tables scope (table_parts right table) e = (t : ℕ) × IsTable tables table t × (e ≡ table_entry right t)
 SaysEntryForm tables scope (db_parts right) e = e ≡ db_entry right

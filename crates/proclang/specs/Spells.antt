@@ -8,7 +8,7 @@ use Rattle.proclang_types.specs.declared.right.Right.{Right}
 use Rattle.proclang_types.specs.declared.right.Right.TheVariants.{Read, Write}
 use Rattle.proclang.specs.Operators.{word_of}
 use Rattle.proclang.specs.ExprForms.{Form, number_form, literal_form, variable_form, not_form, binary_form, exists_form, count_form, sum_form}
-use Rattle.proclang.specs.ProcForms.{ProcDocument, EntryDocument, row_parts, part_parts, table_parts, db_parts}
+use Rattle.proclang.specs.ProcForms.{ProcDocument, EntryDocument, row_parts, rows_parts, part_parts, table_parts, db_parts}
 use Rattle.proclang.specs.StmtForms.{StatementForm, let_parts, get_parts, put_parts, insert_parts, delete_parts, if_parts, for_parts, each_parts, abort_code, reply_values}
 
 -- [WORD, PART ..]
@@ -47,9 +47,10 @@ abbrev pub right_word : Right → List ℕ
 right_word Read = codes "r"
 right_word Write = codes "w"
 
--- ["row", right, table, KEY], ["part", right, table, PART], ["table", right, table], ["db", right]
+-- ["row", right, table, KEY], ["rows", right, table, LOW, HIGH], ["part", right, table, PART], ["table", right, table], ["db", right]
 abbrev pub SpellsEntry : Data → EntryDocument → Type 0
 SpellsEntry d (row_parts right table key) = d ≡ words (codes "row") (string (right_word right) ∷ string table ∷ key ∷ [])
+SpellsEntry d (rows_parts right table low high) = d ≡ words (codes "rows") (string (right_word right) ∷ string table ∷ low ∷ high ∷ [])
 SpellsEntry d (part_parts right table part) = d ≡ words (codes "part") (string (right_word right) ∷ string table ∷ part ∷ [])
 SpellsEntry d (table_parts right table) = d ≡ words (codes "table") (string (right_word right) ∷ string table ∷ [])
 SpellsEntry d (db_parts right) = d ≡ words (codes "db") (string (right_word right) ∷ [])

@@ -2,7 +2,7 @@
 
 ghost use Rattle.std.specs.Prelude.{◌≡◌, option_map, map};
 ghost use Rattle.serde_json.specs.View.{view};
-ghost use Rattle.proclang.specs.ProcForms.{proc_parts_of, proc_form, declared_entries, declared_form, right_of, entry_form_view, row_form, part_form, table_form, db_form, entry_word, entry_words, entry_form};
+ghost use Rattle.proclang.specs.ProcForms.{proc_parts_of, proc_form, declared_entries, declared_form, right_of, entry_form_view, row_form, rows_form, part_form, table_form, db_form, entry_word, entry_words, entry_form};
 
 use documents::{elements, four};
 use proclang_types::Right;
@@ -52,6 +52,7 @@ pub(crate) fn declared_form(value: &Value) -> Option<&[Value]>
 #[derive(Clone, Copy)]
 pub(crate) enum EntryForm<'a> {
     Row(Right, &'a str, &'a Value),
+    Rows(Right, &'a str, &'a Value, &'a Value),
     Part(Right, &'a str, &'a Value),
     Table(Right, &'a str),
     Db(Right),
@@ -75,6 +76,19 @@ fn row_form(parts: &[Value]) -> Option<EntryForm<'_>>
         [right, table, key] => {
             let right = right_of(right.as_str()?)?;
             Some(EntryForm::Row(right, table.as_str()?, key))
+        }
+        _ => None,
+    }
+}
+
+#[tactic(auto, unfolding(crate::specs::ProcForms::rows_form))]
+fn rows_form(parts: &[Value]) -> Option<EntryForm<'_>>
+    ensures { option_map entry_form_view result ≡ rows_form (map view parts.now) }
+{
+    match parts {
+        [right, table, low, high] => {
+            let right = right_of(right.as_str()?)?;
+            Some(EntryForm::Rows(right, table.as_str()?, low, high))
         }
         _ => None,
     }
@@ -122,6 +136,7 @@ fn entry_word<'a>(word: &str, parts: &'a [Value]) -> Option<EntryForm<'a>>
 {
     match word {
         "row" => row_form(parts),
+        "rows" => rows_form(parts),
         "part" => part_form(parts),
         "table" => table_form(parts),
         "db" => db_form(parts),

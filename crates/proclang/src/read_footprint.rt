@@ -6,7 +6,7 @@ ghost use Rattle.documents.specs.Reading.{Reads};
 ghost use Rattle.proclang_types.specs.Views.{int_view, entry_view};
 ghost use Rattle.proclang.specs.Paths.{places};
 ghost use Rattle.proclang.specs.Faults.{is_memory};
-ghost use Rattle.proclang.specs.ProcForms.{row_parts, part_parts, entry_form_view};
+ghost use Rattle.proclang.specs.ProcForms.{row_parts, rows_parts, part_parts, entry_form_view};
 ghost use Rattle.proclang.specs.Procs.{int_at, entry_of, entry_at, each_entry, footprint_at};
 
 use crate::expr_context::{DEEPEST, ExprContext};
@@ -64,6 +64,32 @@ fn read_row(
     Ok(FootprintEntry::Row { right, table, key })
 }
 
+/// An entry for the rows of the keys from one to another.
+#[tactic(auto, unfolding(crate::specs::Procs::entry_of))]
+fn read_rows(
+    alloc: Global,
+    catalogue: &Catalogue,
+    scope: &Scope,
+    path: &Path<'_>,
+    right: Right,
+    table: &str,
+    low: &Value,
+    high: &Value,
+) -> Result<FootprintEntry, ProcFault>
+    ensures { Reads is_memory entry_view result (entry_of catalogue.now (places path.now) scope.now
+        (rows_parts right table.now (view low.now) (view high.now))) }
+{
+    let table = read_table(alloc, &Path::Element(&*path, 2), catalogue, table)?;
+    let low = read_int(alloc, catalogue, scope, &Path::Element(&*path, 3), low)?;
+    let high = read_int(alloc, catalogue, scope, &Path::Element(&*path, 4), high)?;
+    Ok(FootprintEntry::Rows {
+        right,
+        table,
+        low,
+        high,
+    })
+}
+
 /// An entry for the rows of a partition.
 #[tactic(auto, unfolding(crate::specs::Procs::entry_of))]
 fn read_part(
@@ -97,6 +123,9 @@ fn read_parts(
     match form {
         EntryForm::Row(right, table, key) => {
             read_row(alloc, catalogue, scope, path, right, table, key)
+        }
+        EntryForm::Rows(right, table, low, high) => {
+            read_rows(alloc, catalogue, scope, path, right, table, low, high)
         }
         EntryForm::Part(right, table, part) => {
             read_part(alloc, catalogue, scope, path, right, table, part)

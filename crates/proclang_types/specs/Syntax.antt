@@ -69,6 +69,8 @@ block_of (s ∷ ss) = followed s (block_of ss)
 pub data EntrySyntax : Type 0 where
   -- right, table, key
   row_entry : Right → ℕ → IntSyntax → EntrySyntax
+  -- right, table, least key, greatest key
+  rows_entry : Right → ℕ → IntSyntax → IntSyntax → EntrySyntax
   -- right, table, number of the partition
   part_entry : Right → ℕ → IntSyntax → EntrySyntax
   table_entry : Right → ℕ → EntrySyntax

@@ -5,7 +5,7 @@ use Rattle.std.specs.List.{AllByRecursion}
 use Rattle.values.specs.declared.value.ColType.{ColType}
 use Rattle.values.specs.declared.value.ColType.TheVariants as types
 use Rattle.catalogue.specs.Shapes.{TableShape}
-use Rattle.proclang_types.specs.Syntax.{IntSyntax, number, variable, binary, count_rows, sum_column, TextSyntax, literal, text_variable, BoolSyntax, compare_ints, compare_texts, both, either, negated, row_exists, ValueSyntax, int_value, text_value, ExprSyntax, int, text, bool, StmtSyntax, assign, get, put, insert_row, delete_row, choose, for_numbers, for_keys, abort, reply, BlockSyntax, no_statements, followed, block_of, EntrySyntax, row_entry, part_entry, table_entry, db_entry, ParamShape, ProcSyntax}
+use Rattle.proclang_types.specs.Syntax.{IntSyntax, number, variable, binary, count_rows, sum_column, TextSyntax, literal, text_variable, BoolSyntax, compare_ints, compare_texts, both, either, negated, row_exists, ValueSyntax, int_value, text_value, ExprSyntax, int, text, bool, StmtSyntax, assign, get, put, insert_row, delete_row, choose, for_numbers, for_keys, abort, reply, BlockSyntax, no_statements, followed, block_of, EntrySyntax, row_entry, rows_entry, part_entry, table_entry, db_entry, ParamShape, ProcSyntax}
 
 -- the type of a column of a table
 abbrev pub column_kind : List TableShape → ℕ → ℕ → Option ColType
@@ -104,6 +104,7 @@ AsksNoRows (sum_column table part column) = ⊥
 
 abbrev pub EntryFits : List TableShape → List ColType → EntrySyntax → Type 0
 EntryFits tables kinds (row_entry right table key) = (table < length tables) × IntFits tables kinds key × AsksNoRows key
+EntryFits tables kinds (rows_entry right table low high) = (table < length tables) × IntFits tables kinds low × AsksNoRows low × IntFits tables kinds high × AsksNoRows high
 EntryFits tables kinds (part_entry right table part) = (table < length tables) × IntFits tables kinds part × AsksNoRows part
 EntryFits tables kinds (table_entry right table) = table < length tables
 EntryFits tables kinds (db_entry right) = ⊤

@@ -15,7 +15,7 @@ use Rattle.proclang_types.specs.declared.statement.Stmt.{Stmt, fold-Stmt}
 use Rattle.proclang_types.specs.declared.statement.Stmt.TheOpen.{Stmt-F}
 use Rattle.proclang_types.specs.declared.statement.FootprintEntry.{FootprintEntry}
 use Rattle.proclang_types.specs.declared.statement.FootprintEntry.TheVariants as entries
-use Rattle.proclang_types.specs.Syntax.{IntSyntax, number, variable, binary, count_rows, sum_column, TextSyntax, literal, text_variable, BoolSyntax, compare_ints, compare_texts, both, either, negated, row_exists, ValueSyntax, int_value, text_value, ExprSyntax, int, text, bool, StmtSyntax, assign, get, put, insert_row, delete_row, choose, for_numbers, for_keys, abort, reply, block_of, EntrySyntax, row_entry, part_entry, table_entry, db_entry}
+use Rattle.proclang_types.specs.Syntax.{IntSyntax, number, variable, binary, count_rows, sum_column, TextSyntax, literal, text_variable, BoolSyntax, compare_ints, compare_texts, both, either, negated, row_exists, ValueSyntax, int_value, text_value, ExprSyntax, int, text, bool, StmtSyntax, assign, get, put, insert_row, delete_row, choose, for_numbers, for_keys, abort, reply, block_of, EntrySyntax, row_entry, rows_entry, part_entry, table_entry, db_entry}
 
 abbrev pub int_view : IntExpr → IntSyntax
 int_view (Number z) = number z
@@ -66,6 +66,7 @@ stmts_view ss = map stmt_view ss
 
 abbrev pub entry_view : FootprintEntry → EntrySyntax
 entry_view (entries.Row right table key) = row_entry right table (int_view key)
+entry_view (entries.Rows right table low high) = rows_entry right table (int_view low) (int_view high)
 entry_view (entries.Part right table part) = part_entry right table (int_view part)
 entry_view (entries.Table right table) = table_entry right table
 entry_view (entries.Db right) = db_entry right

@@ -72,6 +72,13 @@ pub enum FootprintEntry {
         table: TableNo,
         key: IntExpr,
     },
+    /// The names of the rows with each key from `low` to `high`, both included: none where `high` is less.
+    Rows {
+        right: Right,
+        table: TableNo,
+        low: IntExpr,
+        high: IntExpr,
+    },
     /// A partition, by its number from 0.
     Part {
         right: Right,

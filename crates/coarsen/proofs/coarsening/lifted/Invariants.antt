@@ -1,7 +1,8 @@
 use Rattle.std.proofs.Common.{◌≡◌, map}
 use Rattle.proclang_types.specs.declared.right.Right.{Right}
 use Rattle.footprint.specs.declared.resource.Resource.{Resource}
-use Rattle.coarsen.specs.Coarsening.{with_rights, place, parent_at, children, lifted}
+use Rattle.footprint.specs.Rights.{with_rights}
+use Rattle.coarsen.specs.Coarsening.{place, parent_at, children, lifted}
 use Rattle.coarsen.proofs.coarsening.lifted.Given as goal
 
 -- with the entries that are left, it becomes the footprint with all of them in their places

@@ -1,6 +1,7 @@
 use Rattle.std.proofs.Common.{◌≡◌}
 use Rattle.std.specs.List.{filter}
-use Rattle.coarsen.specs.Coarsening.{with_rights, is_needed, needed}
+use Rattle.footprint.specs.Rights.{with_rights}
+use Rattle.coarsen.specs.Coarsening.{is_needed, needed}
 use Rattle.coarsen.proofs.coarsening.needed.Given as goal
 
 -- with the entries that are left, it becomes the footprint of those needed
