@@ -82,11 +82,11 @@ const MEETINGS: [Met<'static>; 9] = [
     ),
     (&FOUR, (2, 8), (3, 1_000_000), FOUR_READ, true),
     (&FOUR, (2, 2), (3, 1_000_000), FOUR_READ, true),
-    (&FOUR, (2, 1), (3, 1_000_000), FOUR_READ, false),
+    (&FOUR, (2, 1), (3, 1_000), FOUR_READ, false),
     (
         &[PEEK, ("peek", &[2])],
         (1, 8),
-        (1, 1_000_000),
+        (1, 1_000),
         "commit 100;commit 100;",
         false,
     ),
