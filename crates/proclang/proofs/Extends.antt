@@ -16,7 +16,7 @@ use Rattle.proclang.specs.declared.scope.Found.{Found}
 use Rattle.proclang.specs.Seen.{Seen}
 use Rattle.proclang.specs.Lookups.{same_type, table_at, column_at}
 use Rattle.proclang.specs.Expressions.{as_int, as_value, statement_expr}
-use Rattle.proclang.specs.StmtForms.{LetParts, GetParts, StatementForm, let_parts, get_parts, put_parts, insert_parts, delete_parts, if_parts, for_parts, each_parts, abort_code, reply_values, statement_form}
+use Rattle.proclang_forms.specs.StmtForms.{LetParts, GetParts, StatementForm, let_parts, get_parts, put_parts, insert_parts, delete_parts, if_parts, for_parts, each_parts, abort_code, reply_values, statement_form}
 use Rattle.proclang.specs.Targets.{target_at, bound}
 use Rattle.proclang.specs.Statements.{let_at, get_at, put_at, insert_at, delete_at, BlockReader, if_at, for_at, each_at, abort_at, reply_at, in_scope, form_at, statement_at}
 

@@ -13,14 +13,14 @@ use Rattle.proclang_types.specs.declared.operator.Comparison.TheVariants as comp
 use Rattle.proclang_types.specs.Syntax.{IntSyntax, binary, count_rows, sum_column, literal, BoolSyntax, compare_ints, both, either, negated, row_exists, ExprSyntax, int, text, bool}
 use Rattle.proclang.specs.declared.fault.FaultKind.TheVariants.{Shape, UnknownTable, UnknownName, TypeMismatch, Limit}
 use Rattle.proclang.specs.declared.fault.ProcFault.TheVariants.{At}
-use Rattle.proclang.specs.declared.operator.Operator.{Operator}
-use Rattle.proclang.specs.declared.operator.Operator.TheVariants.{Arithmetic, Less, AtMost, Same, And, Or}
-use Rattle.proclang.specs.declared.expr_form.Section.{Section}
+use Rattle.proclang_forms.specs.declared.operator.Operator.{Operator}
+use Rattle.proclang_forms.specs.declared.operator.Operator.TheVariants.{Arithmetic, Less, AtMost, Same, And, Or}
+use Rattle.proclang_forms.specs.declared.expr_forms.Section.{Section}
 use Rattle.proclang.specs.declared.scope.Found.{Found}
 use Rattle.proclang.specs.Faults.{refuse}
 use Rattle.proclang.specs.Seen.{Seen, found_in}
 use Rattle.proclang.specs.Lookups.{same_type, table_at, column_at}
-use Rattle.proclang.specs.ExprForms.{Form, number_form, literal_form, variable_form, not_form, binary_form, exists_form, count_form, sum_form, form_in}
+use Rattle.proclang_forms.specs.ExprForms.{Form, number_form, literal_form, variable_form, not_form, binary_form, exists_form, count_form, sum_form, form_in}
 use Rattle.proclang.specs.Expressions.{named, as_int, as_bool, two_ints, two_bools, two_alike, calculate, compare, combine, PartReader, not_at, binary_at, exists_at, count_at, sum_at, node_at, expr_at}
 use Rattle.proclang.specs.ExprTypes.{type_said, is_value, are_alike}
 use Rattle.proclang.specs.BrokenNames.{in_table, column_type_said, in_column}

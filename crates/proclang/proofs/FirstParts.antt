@@ -13,7 +13,7 @@ use Rattle.proclang_types.specs.Syntax.{ExprSyntax, StmtSyntax}
 use Rattle.proclang.specs.declared.fault.FaultKind.TheVariants.{Shape, TypeMismatch, DuplicateName}
 use Rattle.proclang.specs.declared.fault.ProcFault.{ProcFault}
 use Rattle.proclang.specs.declared.fault.ProcFault.TheVariants.{At}
-use Rattle.proclang.specs.declared.expr_form.Section.TheVariants as sections
+use Rattle.proclang_forms.specs.declared.expr_forms.Section.TheVariants as sections
 use Rattle.proclang.specs.declared.scope.Declaration.TheVariants.{Statement}
 use Rattle.proclang.specs.declared.scope.Found.{Found}
 use Rattle.proclang.specs.Seen.{Seen}

@@ -19,7 +19,7 @@ use Rattle.proclang.specs.Walk.{each_from, behind}
 use Rattle.proclang.specs.Lookups.{same_type, table_at, column_at}
 use Rattle.proclang.specs.Targets.{target_at, bound}
 use Rattle.proclang.specs.Expressions.{as_int, as_value, statement_expr}
-use Rattle.proclang.specs.StmtForms.{LetParts, GetParts, PutParts, InsertParts, DeleteParts}
+use Rattle.proclang_forms.specs.StmtForms.{LetParts, GetParts, PutParts, InsertParts, DeleteParts}
 use Rattle.proclang.specs.Statements.{of_type, let_at, get_at, put_at, exprs_at, stored_at, row_at, kinds_in, insert_at, delete_at, abort_at, values_at, reply_at}
 use Rattle.proclang.specs.ExprTypes.{type_said, kind_said}
 use Rattle.proclang.specs.BrokenNames.{in_table, column_type_said, in_column}

@@ -13,13 +13,13 @@ use Rattle.proclang_types.specs.Syntax.{IntSyntax, number, binary, count_rows, s
 use Rattle.proclang_types.specs.Typing.{kind_of}
 use Rattle.proclang.specs.declared.fault.FaultKind.TheVariants.{Shape, TypeMismatch}
 use Rattle.proclang.specs.declared.fault.ProcFault.TheVariants.{At}
-use Rattle.proclang.specs.declared.operator.Operator.{Operator}
-use Rattle.proclang.specs.declared.operator.Operator.TheVariants.{Arithmetic, Less, AtMost, Same, And, Or}
-use Rattle.proclang.specs.declared.expr_form.Section.{Section}
+use Rattle.proclang_forms.specs.declared.operator.Operator.{Operator}
+use Rattle.proclang_forms.specs.declared.operator.Operator.TheVariants.{Arithmetic, Less, AtMost, Same, And, Or}
+use Rattle.proclang_forms.specs.declared.expr_forms.Section.{Section}
 use Rattle.proclang.specs.declared.scope.Found.{Found}
 use Rattle.proclang.specs.Seen.{Seen, found_in}
 use Rattle.proclang.specs.Lookups.{same_type, table_at, column_at}
-use Rattle.proclang.specs.ExprForms.{Form, number_form, literal_form, variable_form, not_form, binary_form, exists_form, count_form, sum_form, form_in}
+use Rattle.proclang_forms.specs.ExprForms.{Form, number_form, literal_form, variable_form, not_form, binary_form, exists_form, count_form, sum_form, form_in}
 use Rattle.proclang.specs.Expressions.{variable_syntax, named, literal_at, as_int, as_text, as_bool, as_value, two_ints, two_bools, of_ints, two_alike, calculate, compare, combine, PartReader, not_at, binary_at, exists_at, count_at, sum_at, node_at, expr_at}
 use Rattle.proclang.specs.ExprTypes.{ExprType, int_type, text_type, bool_type, variable_type, result_type, type_of_form, type_said, is_int, is_bool, is_value, value_kind, kind_said}
 use Rattle.proclang.specs.BrokenExpressions.{not_int, not_bool, not_value}

@@ -13,13 +13,13 @@ use Rattle.proclang_types.specs.Syntax.{IntSyntax, number, binary, literal, Bool
 use Rattle.proclang_types.specs.Typing.{AsksNoRows}
 use Rattle.proclang.specs.declared.fault.FaultKind.TheVariants.{Shape}
 use Rattle.proclang.specs.declared.fault.ProcFault.TheVariants.{At}
-use Rattle.proclang.specs.declared.operator.Operator.{Operator}
-use Rattle.proclang.specs.declared.operator.Operator.TheVariants.{Arithmetic, Less, AtMost, Same, And, Or}
-use Rattle.proclang.specs.declared.expr_form.Section.{Section}
-use Rattle.proclang.specs.declared.expr_form.Section.TheVariants as sections
+use Rattle.proclang_forms.specs.declared.operator.Operator.{Operator}
+use Rattle.proclang_forms.specs.declared.operator.Operator.TheVariants.{Arithmetic, Less, AtMost, Same, And, Or}
+use Rattle.proclang_forms.specs.declared.expr_forms.Section.{Section}
+use Rattle.proclang_forms.specs.declared.expr_forms.Section.TheVariants as sections
 use Rattle.proclang.specs.declared.scope.Found.{Found}
 use Rattle.proclang.specs.Seen.{Seen, found_in}
-use Rattle.proclang.specs.ExprForms.{Form, number_form, literal_form, variable_form, not_form, binary_form, exists_form, count_form, sum_form, is_allowed, expr_form, form_in}
+use Rattle.proclang_forms.specs.ExprForms.{Form, number_form, literal_form, variable_form, not_form, binary_form, exists_form, count_form, sum_form, is_allowed, expr_form, form_in}
 use Rattle.proclang.specs.Expressions.{variable_syntax, named, literal_at, as_int, as_text, as_bool, two_ints, two_bools, of_ints, two_alike, calculate, compare, combine, PartReader, not_at, binary_at, node_at, expr_at}
 
 -- the form of an expression in a section is a form, and may stand there

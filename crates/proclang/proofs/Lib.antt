@@ -1,4 +1,3 @@
-pub mod Arrays
 pub mod Columns
 pub mod Seen
 pub mod Extends

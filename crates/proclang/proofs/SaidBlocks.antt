@@ -17,7 +17,7 @@ use Rattle.proclang.specs.Walk.{each_from, at_most}
 use Rattle.proclang.specs.Lookups.{table_at}
 use Rattle.proclang.specs.Targets.{loop_name_at}
 use Rattle.proclang.specs.Expressions.{as_int, as_bool, statement_expr}
-use Rattle.proclang.specs.StmtForms.{IfParts, ForParts, EachParts, StatementForm, let_parts, get_parts, put_parts, insert_parts, delete_parts, if_parts, for_parts, each_parts, abort_code, reply_values, statement_form}
+use Rattle.proclang_forms.specs.StmtForms.{IfParts, ForParts, EachParts, StatementForm, let_parts, get_parts, put_parts, insert_parts, delete_parts, if_parts, for_parts, each_parts, abort_code, reply_values, statement_form}
 use Rattle.proclang.specs.Statements.{put_at, insert_at, delete_at, abort_at, reply_at, BlockReader, if_at, for_at, each_at, in_scope, form_at, statement_at, next_statement, block_at}
 use Rattle.proclang.specs.SaysStatements.{SaysIf, SaysFor, SaysEach, SaysStatementForm, SaysStatements, SaysBlock}
 use Rattle.proclang.proofs.SaidParts.{few_found, few_again, int_said, bool_said, int_read, bool_read, new_found, new_again}

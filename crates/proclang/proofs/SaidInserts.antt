@@ -12,12 +12,12 @@ use Rattle.proclang_types.specs.Syntax.{ExprSyntax, ValueSyntax, StmtSyntax, ins
 use Rattle.proclang_types.specs.Typing.{kind_of}
 use Rattle.proclang.specs.declared.fault.FaultKind.TheVariants.{Shape, UnknownTable}
 use Rattle.proclang.specs.declared.fault.ProcFault.TheVariants.{At}
-use Rattle.proclang.specs.declared.expr_form.Section.TheVariants as sections
+use Rattle.proclang_forms.specs.declared.expr_forms.Section.TheVariants as sections
 use Rattle.proclang.specs.Seen.{Seen}
 use Rattle.proclang.specs.Walk.{each_from, behind}
 use Rattle.proclang.specs.Lookups.{table_at}
 use Rattle.proclang.specs.Expressions.{deepest, as_int, as_value, statement_expr}
-use Rattle.proclang.specs.StmtForms.{InsertParts}
+use Rattle.proclang_forms.specs.StmtForms.{InsertParts}
 use Rattle.proclang.specs.Statements.{exprs_at, stored_at, row_at, kinds_in, insert_at}
 use Rattle.proclang.specs.SaysExpressions.{SaysExpr, as_expr, SaysValue}
 use Rattle.proclang.specs.SaysStatements.{SaysInsert}

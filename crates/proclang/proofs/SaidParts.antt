@@ -14,7 +14,7 @@ use Rattle.proclang_types.specs.Syntax.{IntSyntax, BoolSyntax, ExprSyntax, int, 
 use Rattle.proclang.specs.declared.fault.FaultKind.TheVariants.{DuplicateName}
 use Rattle.proclang.specs.declared.fault.ProcFault.{ProcFault}
 use Rattle.proclang.specs.declared.fault.ProcFault.TheVariants.{At}
-use Rattle.proclang.specs.declared.expr_form.Section.TheVariants as sections
+use Rattle.proclang_forms.specs.declared.expr_forms.Section.TheVariants as sections
 use Rattle.proclang.specs.declared.scope.Declaration.{Declaration}
 use Rattle.proclang.specs.declared.scope.Declaration.TheVariants.{Parameter, Statement, Loop}
 use Rattle.proclang.specs.declared.scope.Found.{Found}

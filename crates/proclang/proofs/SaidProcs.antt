@@ -20,13 +20,13 @@ use Rattle.proclang_types.specs.Syntax.{IntSyntax, int, EntrySyntax, row_entry, 
 use Rattle.proclang.specs.declared.fault.FaultKind.TheVariants.{Shape, UnknownTable, DuplicateName}
 use Rattle.proclang.specs.declared.fault.ProcFault.{ProcFault}
 use Rattle.proclang.specs.declared.fault.ProcFault.TheVariants.{At}
-use Rattle.proclang.specs.declared.expr_form.Section.TheVariants as sections
+use Rattle.proclang_forms.specs.declared.expr_forms.Section.TheVariants as sections
 use Rattle.proclang.specs.Seen.{Seen, seen_of}
 use Rattle.proclang.specs.Walk.{each_from, behind, at_most}
 use Rattle.proclang.specs.Lookups.{table_at}
 use Rattle.proclang.specs.Expressions.{deepest, expr_at}
 use Rattle.proclang.specs.Statements.{block_at}
-use Rattle.proclang.specs.ProcForms.{ProcDocument, proc_form, declared_form, EntryDocument, row_parts, rows_parts, part_parts, table_parts, db_parts, entry_form}
+use Rattle.proclang_forms.specs.ProcForms.{ProcDocument, proc_form, declared_form, EntryDocument, row_parts, rows_parts, part_parts, table_parts, db_parts, entry_form}
 use Rattle.proclang.specs.Procs.{fresh_at, param_at, params_at, int_at, entry_of, entry_at, footprint_at, PartsSyntax, parts_at, proc_at, procs_at}
 use Rattle.proclang.specs.SaysExpressions.{SaysExpr, SaysFootprintInt}
 use Rattle.proclang.specs.SaysStatements.{SaysBlock}

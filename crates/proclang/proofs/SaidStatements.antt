@@ -12,13 +12,13 @@ use Rattle.proclang_types.specs.Syntax.{ExprSyntax, ValueSyntax, StmtSyntax, ass
 use Rattle.proclang_types.specs.Typing.{kind_of}
 use Rattle.proclang.specs.declared.fault.FaultKind.TheVariants.{UnknownTable, UnknownColumn}
 use Rattle.proclang.specs.declared.fault.ProcFault.TheVariants.{At}
-use Rattle.proclang.specs.declared.expr_form.Section.TheVariants as sections
+use Rattle.proclang_forms.specs.declared.expr_forms.Section.TheVariants as sections
 use Rattle.proclang.specs.Seen.{Seen, found_in}
 use Rattle.proclang.specs.Walk.{each_from, behind, at_most}
 use Rattle.proclang.specs.Lookups.{table_at, column_in, column_at}
 use Rattle.proclang.specs.Targets.{target_at, bound}
 use Rattle.proclang.specs.Expressions.{deepest, as_int, as_value, statement_expr}
-use Rattle.proclang.specs.StmtForms.{LetParts, GetParts, PutParts, DeleteParts}
+use Rattle.proclang_forms.specs.StmtForms.{LetParts, GetParts, PutParts, DeleteParts}
 use Rattle.proclang.specs.Statements.{of_type, let_at, get_at, put_at, exprs_at, delete_at, abort_at, values_at, reply_at}
 use Rattle.proclang.specs.SaysExpressions.{SaysExpr, as_expr, SaysValue}
 use Rattle.proclang.specs.SaysStatements.{Gets, SaysLet, SaysGet, SaysPut, SaysDelete}

@@ -10,7 +10,7 @@ use Rattle.documents.proofs.Said.{string_said, elements_said, elements_again}
 use Rattle.documents.proofs.Steps.{and_then_ok, map_ok}
 use Rattle.proclang_types.specs.declared.right.Right.{Right}
 use Rattle.proclang_types.specs.declared.right.Right.TheVariants.{Read, Write}
-use Rattle.proclang.specs.ProcForms.{ProcDocument, proc_form, declared_entries, declared_form, EntryDocument, row_parts, rows_parts, part_parts, table_parts, db_parts, right_of, row_form, rows_form, part_form, table_form, db_form, entry_word, entry_words, entry_form}
+use Rattle.proclang_forms.specs.ProcForms.{ProcDocument, proc_form, declared_entries, declared_form, EntryDocument, row_parts, rows_parts, part_parts, table_parts, db_parts, right_of, row_form, rows_form, part_form, table_form, db_form, entry_word, entry_words, entry_form}
 use Rattle.proclang.specs.Spells.{words, right_word, SpellsEntry, SpellsProc}
 use Rattle.proclang.proofs.Words.{word_or, none_is}
 

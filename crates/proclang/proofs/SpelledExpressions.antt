@@ -10,10 +10,10 @@ use Rattle.documents.proofs.Said.{string_said}
 use Rattle.documents.proofs.Steps.{and_then_ok, map_ok}
 use Rattle.proclang_types.specs.declared.operator.IntOperator.TheVariants.{Add, Subtract, Multiply, Divide, Remainder}
 use Rattle.proclang_types.specs.declared.operator.Equality.TheVariants.{Equal, Unequal}
-use Rattle.proclang.specs.declared.operator.Operator.{Operator}
-use Rattle.proclang.specs.declared.operator.Operator.TheVariants.{Arithmetic, Less, AtMost, Same, And, Or}
-use Rattle.proclang.specs.Operators.{operator_of, word_of}
-use Rattle.proclang.specs.ExprForms.{Form, number_form, literal_form, variable_form, not_form, binary_form, exists_form, count_form, sum_form, literal_form_of, not_form_of, exists_form_of, count_form_of, sum_form_of, operands_form, call_form, calls_form, expr_form}
+use Rattle.proclang_forms.specs.declared.operator.Operator.{Operator}
+use Rattle.proclang_forms.specs.declared.operator.Operator.TheVariants.{Arithmetic, Less, AtMost, Same, And, Or}
+use Rattle.proclang_forms.specs.Operators.{operator_of, word_of}
+use Rattle.proclang_forms.specs.ExprForms.{Form, number_form, literal_form, variable_form, not_form, binary_form, exists_form, count_form, sum_form, literal_form_of, not_form_of, exists_form_of, count_form_of, sum_form_of, operands_form, call_form, calls_form, expr_form}
 use Rattle.proclang.specs.Spells.{words, SpellsExpr}
 use Rattle.proclang.proofs.Words.{none_is, operator_or, spelled_or}
 

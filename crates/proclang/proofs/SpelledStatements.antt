@@ -8,7 +8,7 @@ use Rattle.documents.specs.Json.{elements, integer}
 use Rattle.documents.proofs.Said.{string_said, elements_said, elements_again}
 use Rattle.documents.proofs.Steps.{and_then_ok, map_ok}
 use Rattle.proclang.specs.Spells.{words, list, SpellsStatement}
-use Rattle.proclang.specs.StmtForms.{StatementForm, let_parts, get_parts, put_parts, insert_parts, delete_parts, if_parts, for_parts, each_parts, abort_code, reply_values, let_form, get_form, put_form, insert_form, delete_form, if_form, for_form, each_form, abort_form, word_form, words_form, statement_form}
+use Rattle.proclang_forms.specs.StmtForms.{StatementForm, let_parts, get_parts, put_parts, insert_parts, delete_parts, if_parts, for_parts, each_parts, abort_code, reply_values, let_form, get_form, put_form, insert_form, delete_form, if_form, for_form, each_form, abort_form, word_form, words_form, statement_form}
 use Rattle.proclang.proofs.Words.{none_is, spelled_or}
 
 -- parts that are texts

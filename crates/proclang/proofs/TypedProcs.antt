@@ -16,13 +16,13 @@ use Rattle.proclang_types.specs.Typing.{IntFits, AsksNoRows, EntryFits, BlockFit
 use Rattle.proclang.specs.declared.fault.FaultKind.TheVariants.{Shape, DuplicateName}
 use Rattle.proclang.specs.declared.fault.ProcFault.{ProcFault}
 use Rattle.proclang.specs.declared.fault.ProcFault.TheVariants.{At}
-use Rattle.proclang.specs.declared.expr_form.Section.TheVariants as sections
+use Rattle.proclang_forms.specs.declared.expr_forms.Section.TheVariants as sections
 use Rattle.proclang.specs.Seen.{Seen, seen_of, seen_kinds}
 use Rattle.proclang.specs.Walk.{each_from, behind, at_most}
 use Rattle.proclang.specs.Lookups.{declared_at, table_at}
 use Rattle.proclang.specs.Expressions.{deepest, expr_at}
 use Rattle.proclang.specs.Statements.{block_at}
-use Rattle.proclang.specs.ProcForms.{ProcDocument, proc_form, declared_form, EntryDocument, row_parts, rows_parts, part_parts, table_parts, db_parts, entry_form}
+use Rattle.proclang_forms.specs.ProcForms.{ProcDocument, proc_form, declared_form, EntryDocument, row_parts, rows_parts, part_parts, table_parts, db_parts, entry_form}
 use Rattle.proclang.specs.Procs.{fresh_at, params_at, int_at, entry_of, entry_at, footprint_at, PartsSyntax, parts_at, proc_at, each_proc}
 use Rattle.requests.specs.ProcLists.{AreOver, AreProcs, proc_named}
 use Rattle.requests.proofs.ProcLists.{named_used}

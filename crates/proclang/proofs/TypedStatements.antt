@@ -18,7 +18,7 @@ use Rattle.proclang.specs.Walk.{each_from, behind, at_most}
 use Rattle.proclang.specs.Lookups.{table_at, column_in, column_at}
 use Rattle.proclang.specs.Targets.{target_at, bound}
 use Rattle.proclang.specs.Expressions.{as_int, as_value, statement_expr}
-use Rattle.proclang.specs.StmtForms.{LetParts, GetParts, PutParts, InsertParts, DeleteParts}
+use Rattle.proclang_forms.specs.StmtForms.{LetParts, GetParts, PutParts, InsertParts, DeleteParts}
 use Rattle.proclang.specs.Statements.{of_type, let_at, get_at, put_at, exprs_at, stored_at, row_at, kinds_in, insert_at, delete_at, abort_at, values_at, reply_at}
 use Rattle.proclang.proofs.TypedExpressions.{table_there, column_fits, value_fits}
 use Rattle.proclang.proofs.TypedParts.{statement_expr_fits, key_fits, target_is, IsBound, bound_fits, all_push, exprs_fit, typed_is}

@@ -2,8 +2,8 @@
 use Rattle.std.proofs.Common.{◌≡◌, ◌⊎◌, ℕ, Bool, true, false, if◌then◌else◌, List, Option, Some, None, refl, sym, ap, ◌∙◌, subst, inl, inr}
 use Rattle.std.specs.Str.{bytes_eq}
 use Rattle.std.proofs.lemmas.Slice.Eq.{bytes_eq-Decides}
-use Rattle.proclang.specs.declared.operator.Operator.{Operator}
-use Rattle.proclang.specs.Operators.{word_of}
+use Rattle.proclang_forms.specs.declared.operator.Operator.{Operator}
+use Rattle.proclang_forms.specs.Operators.{word_of}
 
 pub word_or : {A : Type 0} (a b : List ℕ) (x y : Option A) (f : A) → (if bytes_eq a b then x else y) ≡ Some f → ((a ≡ b) × (x ≡ Some f)) ⊎ (y ≡ Some f)
 word_or a b x y f e = by (bytes_eq a b) refl

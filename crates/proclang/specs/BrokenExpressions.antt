@@ -9,13 +9,13 @@ use Rattle.catalogue.specs.Shapes.{TableShape}
 use Rattle.proclang.specs.declared.fault.FaultKind.TheVariants.{Shape, UnknownName, TypeMismatch, Limit}
 use Rattle.proclang.specs.declared.fault.ProcFault.{ProcFault}
 use Rattle.proclang.specs.declared.fault.ProcFault.TheVariants.{At}
-use Rattle.proclang.specs.declared.operator.Operator.{Operator}
-use Rattle.proclang.specs.declared.operator.Operator.TheVariants.{Arithmetic, Less, AtMost, Same, And, Or}
-use Rattle.proclang.specs.declared.expr_form.Section.{Section}
-use Rattle.proclang.specs.declared.expr_form.Section.TheVariants as sections
+use Rattle.proclang_forms.specs.declared.operator.Operator.{Operator}
+use Rattle.proclang_forms.specs.declared.operator.Operator.TheVariants.{Arithmetic, Less, AtMost, Same, And, Or}
+use Rattle.proclang_forms.specs.declared.expr_forms.Section.{Section}
+use Rattle.proclang_forms.specs.declared.expr_forms.Section.TheVariants as sections
 use Rattle.proclang.specs.Seen.{Seen, found_in}
 use Rattle.proclang.specs.Expressions.{deepest}
-use Rattle.proclang.specs.ExprForms.{Form, number_form, literal_form, variable_form, not_form, binary_form, exists_form, count_form, sum_form, form_in}
+use Rattle.proclang_forms.specs.ExprForms.{Form, number_form, literal_form, variable_form, not_form, binary_form, exists_form, count_form, sum_form, form_in}
 use Rattle.proclang.specs.ExprTypes.{type_said, is_int, is_bool, is_value, are_alike}
 use Rattle.proclang.specs.BrokenNames.{in_table, column_type_said, in_column}
 

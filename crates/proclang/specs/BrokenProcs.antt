@@ -14,12 +14,12 @@ use Rattle.proclang_types.specs.Syntax.{ParamShape}
 use Rattle.proclang.specs.declared.fault.FaultKind.TheVariants.{Shape, DuplicateName}
 use Rattle.proclang.specs.declared.fault.ProcFault.{ProcFault}
 use Rattle.proclang.specs.declared.fault.ProcFault.TheVariants.{At}
-use Rattle.proclang.specs.declared.expr_form.Section.TheVariants as sections
+use Rattle.proclang_forms.specs.declared.expr_forms.Section.TheVariants as sections
 use Rattle.proclang.specs.BrokenExpressions.{not_int, in_expr}
 use Rattle.proclang.specs.BrokenNames.{in_table}
 use Rattle.proclang.specs.BrokenStatements.{in_parts, too_many, in_block}
 use Rattle.proclang.specs.Expressions.{deepest}
-use Rattle.proclang.specs.ProcForms.{ProcDocument, proc_form, declared_form, EntryDocument, row_parts, rows_parts, part_parts, table_parts, db_parts, entry_form}
+use Rattle.proclang_forms.specs.ProcForms.{ProcDocument, proc_form, declared_form, EntryDocument, row_parts, rows_parts, part_parts, table_parts, db_parts, entry_form}
 use Rattle.proclang.specs.Seen.{Seen, seen_of}
 
 -- those of each part in turn, the first at the place that is given, behind the names that the parts before it give

@@ -20,7 +20,7 @@ use Rattle.proclang.specs.BrokenExpressions.{not_int, not_bool, not_value, in_st
 use Rattle.proclang.specs.ExprTypes.{kind_said}
 use Rattle.proclang.specs.Lookups.{same_type}
 use Rattle.proclang.specs.Seen.{Seen, found_in, seen_in_loop}
-use Rattle.proclang.specs.StmtForms.{LetParts, GetParts, PutParts, InsertParts, DeleteParts, IfParts, ForParts, EachParts, StatementForm, let_parts, get_parts, put_parts, insert_parts, delete_parts, if_parts, for_parts, each_parts, abort_code, reply_values, statement_form}
+use Rattle.proclang_forms.specs.StmtForms.{LetParts, GetParts, PutParts, InsertParts, DeleteParts, IfParts, ForParts, EachParts, StatementForm, let_parts, get_parts, put_parts, insert_parts, delete_parts, if_parts, for_parts, each_parts, abort_code, reply_values, statement_form}
 use Rattle.proclang.specs.Targets.{is_fixed}
 
 -- ---- names and types

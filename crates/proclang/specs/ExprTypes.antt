@@ -4,10 +4,10 @@ use Rattle.std.specs.Prelude.{Bool, true, false, List, Option, Some, None, optio
 use Rattle.serde_json.specs.Data.{Data}
 use Rattle.values.specs.declared.value.ColType.{ColType}
 use Rattle.values.specs.declared.value.ColType.TheVariants as types
-use Rattle.proclang.specs.declared.operator.Operator.{Operator}
-use Rattle.proclang.specs.declared.operator.Operator.TheVariants.{Arithmetic, Less, AtMost, Same, And, Or}
+use Rattle.proclang_forms.specs.declared.operator.Operator.{Operator}
+use Rattle.proclang_forms.specs.declared.operator.Operator.TheVariants.{Arithmetic, Less, AtMost, Same, And, Or}
 use Rattle.proclang.specs.Seen.{Seen, found_in}
-use Rattle.proclang.specs.ExprForms.{Form, number_form, literal_form, variable_form, not_form, binary_form, exists_form, count_form, sum_form, expr_form}
+use Rattle.proclang_forms.specs.ExprForms.{Form, number_form, literal_form, variable_form, not_form, binary_form, exists_form, count_form, sum_form, expr_form}
 
 -- Int, Text and Bool. No variable, column or reply is Bool.
 pub data ExprType : Type 0 where

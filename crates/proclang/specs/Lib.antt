@@ -1,16 +1,12 @@
 pub mod Paths
 pub mod Faults
 pub mod Seen
-pub mod Operators
-pub mod ExprForms
 pub mod Expressions
 pub mod Lookups
-pub mod StmtForms
 pub mod Walk
 pub mod Targets
 pub mod StatementTypes
 pub mod Statements
-pub mod ProcForms
 pub mod Procs
 pub mod ExprTypes
 pub mod BrokenNames

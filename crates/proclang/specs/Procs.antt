@@ -13,13 +13,13 @@ use Rattle.proclang.specs.declared.read_proc.Parts.{Parts}
 use Rattle.proclang.specs.declared.fault.FaultKind.TheVariants.{Shape, DuplicateName}
 use Rattle.proclang.specs.declared.fault.ProcFault.{ProcFault}
 use Rattle.proclang.specs.declared.fault.ProcFault.TheVariants.{At}
-use Rattle.proclang.specs.declared.expr_form.Section.TheVariants as sections
+use Rattle.proclang_forms.specs.declared.expr_forms.Section.TheVariants as sections
 use Rattle.proclang.specs.Seen.{Seen, seen_of}
 use Rattle.proclang.specs.Walk.{each_from, behind, at_most}
 use Rattle.proclang.specs.Lookups.{declared_at, table_at}
 use Rattle.proclang.specs.Expressions.{deepest, as_int, expr_at}
 use Rattle.proclang.specs.Statements.{block_at}
-use Rattle.proclang.specs.ProcForms.{ProcDocument, proc_form, declared_form, EntryDocument, row_parts, rows_parts, part_parts, table_parts, db_parts, entry_form}
+use Rattle.proclang_forms.specs.ProcForms.{ProcDocument, proc_form, declared_form, EntryDocument, row_parts, rows_parts, part_parts, table_parts, db_parts, entry_form}
 
 -- ---- parameters
 

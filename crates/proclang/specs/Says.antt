@@ -11,7 +11,7 @@ use Rattle.catalogue.specs.Rules.{Says, SaysColumn}
 use Rattle.catalogue.specs.Shapes.{TableShape}
 use Rattle.proclang_types.specs.Syntax.{IntSyntax, EntrySyntax, row_entry, rows_entry, part_entry, table_entry, db_entry, ParamShape, ProcSyntax}
 use Rattle.proclang.specs.Expressions.{deepest}
-use Rattle.proclang.specs.ProcForms.{ProcDocument, EntryDocument, row_parts, rows_parts, part_parts, table_parts, db_parts}
+use Rattle.proclang_forms.specs.ProcForms.{ProcDocument, EntryDocument, row_parts, rows_parts, part_parts, table_parts, db_parts}
 use Rattle.proclang.specs.SaysExpressions.{IsTable, SaysFootprintInt}
 use Rattle.proclang.specs.SaysStatements.{SaysBlock}
 use Rattle.proclang.specs.Seen.{Seen, seen_of}

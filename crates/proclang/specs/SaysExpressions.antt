@@ -8,12 +8,12 @@ use Rattle.catalogue.specs.Places.{table_named}
 use Rattle.catalogue.specs.Shapes.{TableShape}
 use Rattle.proclang_types.specs.declared.operator.Comparison.TheVariants as comparisons
 use Rattle.proclang_types.specs.Syntax.{IntSyntax, number, binary, count_rows, sum_column, TextSyntax, literal, BoolSyntax, compare_ints, compare_texts, both, either, negated, row_exists, ExprSyntax, int, text, bool, ValueSyntax, int_value, text_value}
-use Rattle.proclang.specs.declared.operator.Operator.{Operator}
-use Rattle.proclang.specs.declared.operator.Operator.TheVariants.{Arithmetic, Less, AtMost, Same, And, Or}
-use Rattle.proclang.specs.declared.expr_form.Section.{Section}
-use Rattle.proclang.specs.declared.expr_form.Section.TheVariants as sections
+use Rattle.proclang_forms.specs.declared.operator.Operator.{Operator}
+use Rattle.proclang_forms.specs.declared.operator.Operator.TheVariants.{Arithmetic, Less, AtMost, Same, And, Or}
+use Rattle.proclang_forms.specs.declared.expr_forms.Section.{Section}
+use Rattle.proclang_forms.specs.declared.expr_forms.Section.TheVariants as sections
 use Rattle.proclang.specs.declared.scope.Found.{Found}
-use Rattle.proclang.specs.ExprForms.{Form, number_form, literal_form, variable_form, not_form, binary_form, exists_form, count_form, sum_form, is_allowed}
+use Rattle.proclang_forms.specs.ExprForms.{Form, number_form, literal_form, variable_form, not_form, binary_form, exists_form, count_form, sum_form, is_allowed}
 use Rattle.proclang.specs.Expressions.{deepest, variable_syntax, of_ints}
 use Rattle.proclang.specs.Lookups.{column_in}
 use Rattle.proclang.specs.Seen.{Seen, found_in}

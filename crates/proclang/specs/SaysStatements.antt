@@ -11,7 +11,7 @@ use Rattle.proclang_types.specs.Typing.{kind_of, column_kinds}
 use Rattle.proclang.specs.declared.scope.Declaration.TheVariants.{Statement}
 use Rattle.proclang.specs.Seen.{Seen, found_in, seen_in_loop}
 use Rattle.proclang.specs.Spells.{list, SpellsStatement}
-use Rattle.proclang.specs.StmtForms.{LetParts, GetParts, PutParts, InsertParts, DeleteParts, IfParts, ForParts, EachParts, StatementForm, let_parts, get_parts, put_parts, insert_parts, delete_parts, if_parts, for_parts, each_parts, abort_code, reply_values}
+use Rattle.proclang_forms.specs.StmtForms.{LetParts, GetParts, PutParts, InsertParts, DeleteParts, IfParts, ForParts, EachParts, StatementForm, let_parts, get_parts, put_parts, insert_parts, delete_parts, if_parts, for_parts, each_parts, abort_code, reply_values}
 use Rattle.proclang.specs.SaysExpressions.{IsTable, IsColumn, SaysInt, SaysBool, SaysValue}
 
 -- ---- variables

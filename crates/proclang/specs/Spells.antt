@@ -6,10 +6,10 @@ use Rattle.serde_json.specs.View.{items_of}
 use Rattle.documents.specs.Json.{integer}
 use Rattle.proclang_types.specs.declared.right.Right.{Right}
 use Rattle.proclang_types.specs.declared.right.Right.TheVariants.{Read, Write}
-use Rattle.proclang.specs.Operators.{word_of}
-use Rattle.proclang.specs.ExprForms.{Form, number_form, literal_form, variable_form, not_form, binary_form, exists_form, count_form, sum_form}
-use Rattle.proclang.specs.ProcForms.{ProcDocument, EntryDocument, row_parts, rows_parts, part_parts, table_parts, db_parts}
-use Rattle.proclang.specs.StmtForms.{StatementForm, let_parts, get_parts, put_parts, insert_parts, delete_parts, if_parts, for_parts, each_parts, abort_code, reply_values}
+use Rattle.proclang_forms.specs.Operators.{word_of}
+use Rattle.proclang_forms.specs.ExprForms.{Form, number_form, literal_form, variable_form, not_form, binary_form, exists_form, count_form, sum_form}
+use Rattle.proclang_forms.specs.ProcForms.{ProcDocument, EntryDocument, row_parts, rows_parts, part_parts, table_parts, db_parts}
+use Rattle.proclang_forms.specs.StmtForms.{StatementForm, let_parts, get_parts, put_parts, insert_parts, delete_parts, if_parts, for_parts, each_parts, abort_code, reply_values}
 
 -- [WORD, PART ..]
 abbrev pub words : List ℕ → List Data → Data

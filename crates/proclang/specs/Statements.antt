@@ -18,7 +18,7 @@ use Rattle.proclang.specs.Walk.{each_from, behind, at_most}
 use Rattle.proclang.specs.Lookups.{same_type, table_at, column_at}
 use Rattle.proclang.specs.Targets.{target_at, bound, loop_name_at}
 use Rattle.proclang.specs.Expressions.{as_int, as_bool, as_value, statement_expr}
-use Rattle.proclang.specs.StmtForms.{LetParts, GetParts, PutParts, InsertParts, DeleteParts, IfParts, ForParts, EachParts, StatementForm, let_parts, get_parts, put_parts, insert_parts, delete_parts, if_parts, for_parts, each_parts, abort_code, reply_values, statement_form}
+use Rattle.proclang_forms.specs.StmtForms.{LetParts, GetParts, PutParts, InsertParts, DeleteParts, IfParts, ForParts, EachParts, StatementForm, let_parts, get_parts, put_parts, insert_parts, delete_parts, if_parts, for_parts, each_parts, abort_code, reply_values, statement_form}
 
 -- ---- statements: what is read, and the variables that are seen after it
 

@@ -10,9 +10,9 @@ ghost use Rattle.proclang.specs.Expressions.{of_ints, calculate, compare, two_bo
 
 use crate::fault::{FaultKind, ProcFault, fault};
 use crate::node::{calculation, conjunction, disjunction};
-use crate::operator::Operator;
 use crate::path::Path;
 use crate::typed::{as_bool, as_int, as_text, paired};
+use proclang_forms::Operator;
 use proclang_types::{BoolExpr, Comparison, Equality, Expr, IntExpr, IntOperator};
 use std::alloc::Global;
 

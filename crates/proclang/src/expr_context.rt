@@ -1,8 +1,8 @@
 //! Where an expression stands.
 
-use crate::expr_form::Section;
 use crate::scope::Scope;
 use catalogue::Catalogue;
+use proclang_forms::Section;
 
 /// The last depth that blocks and expressions may nest to; the outermost have depth 1.
 pub(crate) const DEEPEST: u32 = 24;

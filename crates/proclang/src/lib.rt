@@ -3,14 +3,11 @@
 
 mod combine;
 mod expr_context;
-mod expr_form;
 mod fault;
 pub mod laws;
 mod limits;
 mod node;
-mod operator;
 mod path;
-mod proc_form;
 mod procs;
 mod read_block;
 mod read_expr;
@@ -22,7 +19,6 @@ mod read_stmt;
 mod read_target;
 mod read_values;
 mod scope;
-mod stmt_form;
 mod typed;
 mod typed_stmt;
 

@@ -7,7 +7,7 @@ ghost use Rattle.proclang_types.specs.Views.{stmt_view, stmts_view};
 ghost use Rattle.proclang.specs.Paths.{places};
 ghost use Rattle.proclang.specs.Faults.{is_memory};
 ghost use Rattle.proclang.specs.Seen.{seen_in_loop};
-ghost use Rattle.proclang.specs.StmtForms.{if_parts_of, for_parts_of, each_parts_of};
+ghost use Rattle.proclang_forms.specs.StmtForms.{if_parts_of, for_parts_of, each_parts_of};
 ghost use Rattle.proclang.specs.Statements.{if_at, for_at, each_at, statement_at, block_at};
 
 use crate::fault::{FaultKind, ProcFault, fault};
@@ -20,11 +20,11 @@ use crate::read_stmt::{
 };
 use crate::read_target::read_loop_name;
 use crate::scope::{Declaration, Scope};
-use crate::stmt_form::{EachForm, ForForm, IfForm, StmtForm, statement_form};
 use crate::typed::paired;
 use crate::typed_stmt::{each_statement, for_statement, if_statement};
 use catalogue::Catalogue;
 use documents::elements;
+use proclang_forms::{EachForm, ForForm, IfForm, StmtForm, statement_form};
 use proclang_types::Stmt;
 use serde_json::Value;
 use std::alloc::Global;

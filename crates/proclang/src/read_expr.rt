@@ -11,7 +11,6 @@ ghost use Rattle.proclang.specs.Expressions.{named, literal_at, not_at, binary_a
 
 use crate::combine::combine;
 use crate::expr_context::{DEEPEST, ExprContext};
-use crate::expr_form::{BinaryForm, CountForm, ExistsForm, ExprForm, Section, SumForm, form_in};
 use crate::fault::{FaultKind, ProcFault, fault};
 use crate::node::{count, negation, sum};
 use crate::path::Path;
@@ -19,6 +18,7 @@ use crate::read_names::{read_column, read_table};
 use crate::scope::Scope;
 use crate::typed::{as_bool, as_int, paired};
 use catalogue::Catalogue;
+use proclang_forms::{BinaryForm, CountForm, ExistsForm, ExprForm, Section, SumForm, form_in};
 use proclang_types::{BoolExpr, Expr, IntExpr, TextExpr};
 use serde_json::Value;
 use std::alloc::Global;

@@ -1,6 +1,6 @@
 use Rattle.std.proofs.Common.{string_bytes}
 use Rattle.proclang.specs.Paths.{places}
-use Rattle.proclang.specs.ProcForms.{proc_parts_of}
+use Rattle.proclang_forms.specs.ProcForms.{proc_parts_of}
 use Rattle.proclang.specs.Procs.{parts_view}
 use Rattle.proclang.proofs.TypedProcs.{parts_fit}
 use Rattle.proclang.proofs.read_proc.read_proc.Goals as goal

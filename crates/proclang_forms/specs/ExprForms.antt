@@ -6,12 +6,12 @@ use Rattle.serde_json.specs.Data.{Data, number, string, array}
 use Rattle.serde_json.specs.Find.{as_str, as_i64}
 use Rattle.serde_json.specs.View.{view}
 use Rattle.documents.specs.Json.{list_of}
-use Rattle.proclang.specs.declared.operator.Operator.{Operator}
-use Rattle.proclang.specs.declared.expr_form.ExprForm.{ExprForm}
-use Rattle.proclang.specs.declared.expr_form.ExprForm.TheVariants as forms
-use Rattle.proclang.specs.declared.expr_form.Section.{Section}
-use Rattle.proclang.specs.declared.expr_form.Section.TheVariants as sections
-use Rattle.proclang.specs.Operators.{operator_of}
+use Rattle.proclang_forms.specs.declared.operator.Operator.{Operator}
+use Rattle.proclang_forms.specs.declared.expr_forms.ExprForm.{ExprForm}
+use Rattle.proclang_forms.specs.declared.expr_forms.ExprForm.TheVariants as forms
+use Rattle.proclang_forms.specs.declared.expr_forms.Section.{Section}
+use Rattle.proclang_forms.specs.declared.expr_forms.Section.TheVariants as sections
+use Rattle.proclang_forms.specs.Operators.{operator_of}
 
 pub data Form : Type 0 where
   number_form : ℤ → Form

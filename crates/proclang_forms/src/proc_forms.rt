@@ -2,23 +2,24 @@
 
 ghost use Rattle.std.specs.Prelude.{◌≡◌, option_map, map};
 ghost use Rattle.serde_json.specs.View.{view};
-ghost use Rattle.proclang.specs.ProcForms.{proc_parts_of, proc_form, declared_entries, declared_form, right_of, entry_form_view, row_form, rows_form, part_form, table_form, db_form, entry_word, entry_words, entry_form};
+ghost use Rattle.proclang_forms.specs.ProcForms.{proc_parts_of, proc_form, declared_entries, declared_form, right_of, entry_form_view, row_form, rows_form, part_form, table_form, db_form, entry_word, entry_words, entry_form};
 
 use documents::{elements, four};
 use proclang_types::Right;
 use serde_json::Value;
 
+/// `[NAME, [PARAMETER ..], FOOTPRINT, BODY]`
 #[derive(Clone, Copy)]
-pub(crate) struct ProcForm<'a> {
-    pub(crate) name: &'a str,
-    pub(crate) params: &'a [Value],
-    pub(crate) footprint: &'a Value,
-    pub(crate) body: &'a Value,
+pub struct ProcForm<'a> {
+    pub name: &'a str,
+    pub params: &'a [Value],
+    pub footprint: &'a Value,
+    pub body: &'a Value,
 }
 
 /// The form of a procedure, `None` of a document that has none.
 #[tactic(auto, unfolding(crate::specs::ProcForms::proc_form))]
-pub(crate) fn proc_form(value: &Value) -> Option<ProcForm<'_>>
+pub fn proc_form(value: &Value) -> Option<ProcForm<'_>>
     ensures { option_map proc_parts_of result ≡ proc_form (view value.now) }
 {
     let (name, params, footprint, body) = four(value)?;
@@ -43,18 +44,24 @@ fn declared_entries(items: &[Value]) -> Option<&[Value]>
 
 /// The entries of a declared footprint, `None` of a document that is none.
 #[tactic(auto, unfolding(crate::specs::ProcForms::declared_form))]
-pub(crate) fn declared_form(value: &Value) -> Option<&[Value]>
+pub fn declared_form(value: &Value) -> Option<&[Value]>
     ensures { option_map (λ s. map view s.now) result ≡ declared_form (view value.now) }
 {
     declared_entries(elements(value)?)
 }
 
+/// One level of an entry of a declared footprint.
 #[derive(Clone, Copy)]
-pub(crate) enum EntryForm<'a> {
+pub enum EntryForm<'a> {
+    /// `["row", RIGHT, TABLE, KEY]`
     Row(Right, &'a str, &'a Value),
+    /// `["rows", RIGHT, TABLE, LOW, HIGH]`
     Rows(Right, &'a str, &'a Value, &'a Value),
+    /// `["part", RIGHT, TABLE, PART]`
     Part(Right, &'a str, &'a Value),
+    /// `["table", RIGHT, TABLE]`
     Table(Right, &'a str),
+    /// `["db", RIGHT]`
     Db(Right),
 }
 
@@ -153,7 +160,7 @@ fn entry_words(items: &[Value]) -> Option<EntryForm<'_>>
 
 /// The form of an entry, `None` of a document that has none.
 #[tactic(auto, unfolding(crate::specs::ProcForms::entry_form))]
-pub(crate) fn entry_form(value: &Value) -> Option<EntryForm<'_>>
+pub fn entry_form(value: &Value) -> Option<EntryForm<'_>>
     ensures { option_map entry_form_view result ≡ entry_form (view value.now) }
 {
     entry_words(elements(value)?)

@@ -2,51 +2,60 @@
 
 ghost use Rattle.std.specs.Prelude.{◌≡◌, option_map, map};
 ghost use Rattle.serde_json.specs.View.{view};
-ghost use Rattle.proclang.specs.ExprForms.{form_view, operands_form, literal_form_of, not_form_of, exists_form_of, count_form_of, sum_form_of, call_form, calls_form, expr_form, is_allowed, form_in};
+ghost use Rattle.proclang_forms.specs.ExprForms.{form_view, operands_form, literal_form_of, not_form_of, exists_form_of, count_form_of, sum_form_of, call_form, calls_form, expr_form, is_allowed, form_in};
 
 use crate::operator::{Operator, operator_of};
 use serde_json::Value;
 
 /// The section of a procedure that an expression stands in. A footprint's expressions read no rows.
 #[derive(Clone, Copy, Debug, PartialEq, Eq)]
-pub(crate) enum Section {
+pub enum Section {
     Footprint,
     Body,
 }
 
+/// `[OPERATOR, LEFT, RIGHT]`
 #[derive(Clone, Copy)]
-pub(crate) struct BinaryForm<'a> {
-    pub(crate) operator: Operator,
-    pub(crate) left: &'a Value,
-    pub(crate) right: &'a Value,
+pub struct BinaryForm<'a> {
+    pub operator: Operator,
+    pub left: &'a Value,
+    pub right: &'a Value,
 }
 
+/// `["exists", TABLE, KEY]`
 #[derive(Clone, Copy)]
-pub(crate) struct ExistsForm<'a> {
-    pub(crate) table: &'a str,
-    pub(crate) key: &'a Value,
+pub struct ExistsForm<'a> {
+    pub table: &'a str,
+    pub key: &'a Value,
 }
 
+/// `["count", TABLE, PART]`
 #[derive(Clone, Copy)]
-pub(crate) struct CountForm<'a> {
-    pub(crate) table: &'a str,
+pub struct CountForm<'a> {
+    pub table: &'a str,
     /// The partition's number.
-    pub(crate) number: &'a Value,
+    pub number: &'a Value,
 }
 
+/// `["sum", TABLE, PART, COLUMN]`
 #[derive(Clone, Copy)]
-pub(crate) struct SumForm<'a> {
-    pub(crate) table: &'a str,
+pub struct SumForm<'a> {
+    pub table: &'a str,
     /// The partition's number.
-    pub(crate) number: &'a Value,
-    pub(crate) column: &'a str,
+    pub number: &'a Value,
+    pub column: &'a str,
 }
 
+/// One level of an expression.
 #[derive(Clone, Copy)]
-pub(crate) enum ExprForm<'a> {
+pub enum ExprForm<'a> {
+    /// A whole number in the signed 64-bit range.
     Number(i64),
+    /// `["text", TEXT]`
     Literal(&'a str),
+    /// A name.
     Variable(&'a str),
+    /// `["not", PART]`
     Not(&'a Value),
     Binary(BinaryForm<'a>),
     Exists(ExistsForm<'a>),
@@ -173,7 +182,7 @@ fn is_allowed(section: Section, form: &ExprForm<'_>) -> bool
 
 /// The form of an expression in a section, `None` of a document that has none there.
 #[tactic(auto, unfolding(crate::specs::ExprForms::form_in))]
-pub(crate) fn form_in(section: Section, value: &Value) -> Option<ExprForm<'_>>
+pub fn form_in(section: Section, value: &Value) -> Option<ExprForm<'_>>
     ensures { option_map form_view result ≡ form_in section (view value.now) }
 {
     let form = expr_form(value)?;

@@ -6,16 +6,16 @@ use Rattle.serde_json.specs.Data.{Data}
 use Rattle.serde_json.specs.Find.{as_str}
 use Rattle.serde_json.specs.View.{view}
 use Rattle.documents.specs.Json.{elements, integer}
-use Rattle.proclang.specs.declared.stmt_form.LetForm.{LetForm}
-use Rattle.proclang.specs.declared.stmt_form.GetForm.{GetForm}
-use Rattle.proclang.specs.declared.stmt_form.PutForm.{PutForm}
-use Rattle.proclang.specs.declared.stmt_form.InsertForm.{InsertForm}
-use Rattle.proclang.specs.declared.stmt_form.DeleteForm.{DeleteForm}
-use Rattle.proclang.specs.declared.stmt_form.IfForm.{IfForm}
-use Rattle.proclang.specs.declared.stmt_form.ForForm.{ForForm}
-use Rattle.proclang.specs.declared.stmt_form.EachForm.{EachForm}
-use Rattle.proclang.specs.declared.stmt_form.StmtForm.{StmtForm}
-use Rattle.proclang.specs.declared.stmt_form.StmtForm.TheVariants as forms
+use Rattle.proclang_forms.specs.declared.stmt_forms.LetForm.{LetForm}
+use Rattle.proclang_forms.specs.declared.stmt_forms.GetForm.{GetForm}
+use Rattle.proclang_forms.specs.declared.stmt_forms.PutForm.{PutForm}
+use Rattle.proclang_forms.specs.declared.stmt_forms.InsertForm.{InsertForm}
+use Rattle.proclang_forms.specs.declared.stmt_forms.DeleteForm.{DeleteForm}
+use Rattle.proclang_forms.specs.declared.stmt_forms.IfForm.{IfForm}
+use Rattle.proclang_forms.specs.declared.stmt_forms.ForForm.{ForForm}
+use Rattle.proclang_forms.specs.declared.stmt_forms.EachForm.{EachForm}
+use Rattle.proclang_forms.specs.declared.stmt_forms.StmtForm.{StmtForm}
+use Rattle.proclang_forms.specs.declared.stmt_forms.StmtForm.TheVariants as forms
 
 pub record LetParts : Type 0 where
   pub variable : List ℕ

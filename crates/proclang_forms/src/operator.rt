@@ -1,13 +1,13 @@
 //! Words that take two operands.
 
 ghost use Rattle.std.specs.Prelude.{◌≡◌};
-ghost use Rattle.proclang.specs.Operators.{operator_of};
+ghost use Rattle.proclang_forms.specs.Operators.{operator_of};
 
 use proclang_types::{Equality, IntOperator};
 
 /// A word that takes two operands.
 #[derive(Clone, Copy, Debug, PartialEq, Eq)]
-pub(crate) enum Operator {
+pub enum Operator {
     /// Of two Ints, an Int.
     Arithmetic(IntOperator),
     /// Of two Ints, a Bool.

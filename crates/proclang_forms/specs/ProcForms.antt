@@ -8,9 +8,9 @@ use Rattle.serde_json.specs.View.{view}
 use Rattle.documents.specs.Json.{elements, four}
 use Rattle.proclang_types.specs.declared.right.Right.{Right}
 use Rattle.proclang_types.specs.declared.right.Right.TheVariants.{Read, Write}
-use Rattle.proclang.specs.declared.proc_form.ProcForm.{ProcForm}
-use Rattle.proclang.specs.declared.proc_form.EntryForm.{EntryForm}
-use Rattle.proclang.specs.declared.proc_form.EntryForm.TheVariants as forms
+use Rattle.proclang_forms.specs.declared.proc_forms.ProcForm.{ProcForm}
+use Rattle.proclang_forms.specs.declared.proc_forms.EntryForm.{EntryForm}
+use Rattle.proclang_forms.specs.declared.proc_forms.EntryForm.TheVariants as forms
 
 pub record ProcDocument : Type 0 where
   pub name : List ℕ

@@ -2,72 +2,81 @@
 
 ghost use Rattle.std.specs.Prelude.{◌≡◌, option_map, map};
 ghost use Rattle.serde_json.specs.View.{view};
-ghost use Rattle.proclang.specs.StmtForms.{stmt_form_view, let_form, get_form, put_form, insert_form, delete_form, if_form, for_form, each_form, abort_form, word_form, words_form, statement_form};
+ghost use Rattle.proclang_forms.specs.StmtForms.{stmt_form_view, let_form, get_form, put_form, insert_form, delete_form, if_form, for_form, each_form, abort_form, word_form, words_form, statement_form};
 
 use documents::elements;
 use serde_json::Value;
 
+/// `["let", NAME, VALUE]`
 #[derive(Clone, Copy)]
-pub(crate) struct LetForm<'a> {
-    pub(crate) variable: &'a str,
-    pub(crate) value: &'a Value,
+pub struct LetForm<'a> {
+    pub variable: &'a str,
+    pub value: &'a Value,
 }
 
+/// `["get", NAME, TABLE, KEY, COLUMN]`
 #[derive(Clone, Copy)]
-pub(crate) struct GetForm<'a> {
-    pub(crate) variable: &'a str,
-    pub(crate) table: &'a str,
-    pub(crate) key: &'a Value,
-    pub(crate) column: &'a str,
+pub struct GetForm<'a> {
+    pub variable: &'a str,
+    pub table: &'a str,
+    pub key: &'a Value,
+    pub column: &'a str,
 }
 
+/// `["put", TABLE, KEY, COLUMN, VALUE]`
 #[derive(Clone, Copy)]
-pub(crate) struct PutForm<'a> {
-    pub(crate) table: &'a str,
-    pub(crate) key: &'a Value,
-    pub(crate) column: &'a str,
-    pub(crate) value: &'a Value,
+pub struct PutForm<'a> {
+    pub table: &'a str,
+    pub key: &'a Value,
+    pub column: &'a str,
+    pub value: &'a Value,
 }
 
+/// `["insert", TABLE, KEY, [VALUE ..]]`
 #[derive(Clone, Copy)]
-pub(crate) struct InsertForm<'a> {
-    pub(crate) table: &'a str,
-    pub(crate) key: &'a Value,
-    pub(crate) values: &'a [Value],
+pub struct InsertForm<'a> {
+    pub table: &'a str,
+    pub key: &'a Value,
+    pub values: &'a [Value],
 }
 
+/// `["delete", TABLE, KEY]`
 #[derive(Clone, Copy)]
-pub(crate) struct DeleteForm<'a> {
-    pub(crate) table: &'a str,
-    pub(crate) key: &'a Value,
+pub struct DeleteForm<'a> {
+    pub table: &'a str,
+    pub key: &'a Value,
 }
 
+/// `["if", TEST, [STATEMENT ..], [STATEMENT ..]]`
 #[derive(Clone, Copy)]
-pub(crate) struct IfForm<'a> {
-    pub(crate) test: &'a Value,
-    pub(crate) first: &'a Value,
-    pub(crate) second: &'a Value,
+pub struct IfForm<'a> {
+    pub test: &'a Value,
+    pub first: &'a Value,
+    pub second: &'a Value,
 }
 
+/// `["for", NAME, LOW, HIGH, [STATEMENT ..]]`
 #[derive(Clone, Copy)]
-pub(crate) struct ForForm<'a> {
-    pub(crate) variable: &'a str,
-    pub(crate) low: &'a Value,
-    pub(crate) high: &'a Value,
-    pub(crate) body: &'a Value,
+pub struct ForForm<'a> {
+    pub variable: &'a str,
+    pub low: &'a Value,
+    pub high: &'a Value,
+    pub body: &'a Value,
 }
 
+/// `["each", NAME, TABLE, PART, [STATEMENT ..]]`
 #[derive(Clone, Copy)]
-pub(crate) struct EachForm<'a> {
-    pub(crate) variable: &'a str,
-    pub(crate) table: &'a str,
+pub struct EachForm<'a> {
+    pub variable: &'a str,
+    pub table: &'a str,
     /// The partition's number.
-    pub(crate) number: &'a Value,
-    pub(crate) body: &'a Value,
+    pub number: &'a Value,
+    pub body: &'a Value,
 }
 
+/// One level of a statement.
 #[derive(Clone, Copy)]
-pub(crate) enum StmtForm<'a> {
+pub enum StmtForm<'a> {
     Let(LetForm<'a>),
     Get(GetForm<'a>),
     Put(PutForm<'a>),
@@ -76,7 +85,9 @@ pub(crate) enum StmtForm<'a> {
     If(IfForm<'a>),
     For(ForForm<'a>),
     Each(EachForm<'a>),
+    /// `["abort", CODE]`, with a whole number in the signed 64-bit range.
     Abort(i64),
+    /// `["reply", VALUE ..]`
     Reply(&'a [Value]),
 }
 
@@ -232,7 +243,7 @@ fn words_form(items: &[Value]) -> Option<StmtForm<'_>>
 
 /// The form of a statement, `None` of a document that has none.
 #[tactic(auto, unfolding(crate::specs::StmtForms::statement_form))]
-pub(crate) fn statement_form(value: &Value) -> Option<StmtForm<'_>>
+pub fn statement_form(value: &Value) -> Option<StmtForm<'_>>
     ensures { option_map stmt_form_view result ≡ statement_form (view value.now) }
 {
     words_form(elements(value)?)

@@ -1,0 +1,4 @@
+pub mod Operators
+pub mod ExprForms
+pub mod StmtForms
+pub mod ProcForms
