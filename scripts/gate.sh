@@ -13,12 +13,15 @@ output=$(mktemp)
 taken=$(mktemp)
 trap 'kill "$sampler" 2> /dev/null; rm -f -- "$notes" "$output" "$taken"' EXIT
 
+# This session, which is 0 where the process that leads it can't be seen from here.
+session=$(ps -o sid= -p $$ | tr -d ' ')
+
 # A line for each check: its process, the seconds of a processor that it has taken, its crate, and what it is for.
 running_checks() {
-    ps -o pid=,cputimes=,args= --sid "$(ps -o sid= -p $$ | tr -d ' ')" | awk '
-        $3 ~ /\/rattle$/ && ($4 == "build" || $4 == "check") && $5 == "--crate-name" {
-            made = / --test /  ? "tests" : $4 == "build" || / -o / ? "proof" : "edits"
-            print $1, $2, $6, made
+    ps -eo sid=,pid=,cputimes=,args= | awk -v session="$session" '
+        $1 == session && $4 ~ /\/rattle$/ && ($5 == "build" || $5 == "check") && $6 == "--crate-name" {
+            made = / --test /  ? "tests" : $5 == "build" || / -o / ? "proof" : "edits"
+            print $2, $3, $7, made
         }'
 }
 

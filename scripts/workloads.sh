@@ -7,6 +7,13 @@
 # transfers.log   20,000 transfers in five batches of 4,000; within a batch no two touch a common account
 # computing.log   4,000 calls in one batch, each of which reads an account of its own and goes 900 times
 #                 through a loop
+# round.json      a ring of 10 rows, each of which names the next, and procedures that follow it, each once with a footprint that
+#                 is found and once with the same rows declared
+# few.json        the same with 1,000 rows
+# many.json       the same with 100,000 rows
+# PROCEDURE.log   4,096 calls of `hop`, which follows the ring 10 times, or 64 calls of `walk`, which goes round the ring of 10
+#                 rows in 5,000 steps; behind `found_` with the footprint found, behind `declared_` with these rows declared,
+#                 and behind `idle_` with them declared and no body. one.log is one call of `found_hop`
 set -euo pipefail
 
 folder=${1:?the folder to write into}
@@ -51,3 +58,43 @@ for batch in 1 2 3 4 5; do
 done >"$folder/transfers.log"
 
 seq 0 3999 | sed 's/.*/["call","compute",[&]]/' >"$folder/computing.log"
+
+# Writes a procedure with a footprint, which follows the ring by so many pairs of steps.
+procedure() {
+    cat <<SETUP
+["$1",[["k","int"]],$2,
+ [["let","x","k"],
+  ["for","i",1,$3,[["get","x","ring","x","next"],["get","x","ring","x","next"]]],
+  ["reply","x"]]],
+SETUP
+}
+
+# Writes a setup whose ring has so many rows.
+ring() {
+    local ten='["declared",["rows","r","ring","k",["+","k",9]]]' all='["declared",["rows","r","ring",0,9]]'
+    cat <<'SETUP'
+["setup",1,
+["catalogue",1,[["ring",64,[["next","int"]]]]],
+["procs",1,[
+SETUP
+    procedure found_hop '["recon"]' 5
+    procedure declared_hop "$ten" 5
+    procedure found_walk '["recon"]' 2500
+    procedure declared_walk "$all" 2500
+    cat <<SETUP
+["idle_hop",[["k","int"]],$ten,[["reply","k"]]],
+["idle_walk",[["k","int"]],$all,[["reply","k"]]]]],
+["rows",1,[
+SETUP
+    seq 1 "$1" | awk -v rows="$1" '{ printf "[\"ring\",%d,[%d]]%s\n", $1 - 1, $1 % rows, $1 < rows ? "," : "" }'
+    echo ']]]'
+}
+
+ring 10 >"$folder/round.json"
+ring 1000 >"$folder/few.json"
+ring 100000 >"$folder/many.json"
+for footprint in found declared idle; do
+    seq 0 4095 | awk -v name="${footprint}_hop" '{ printf "[\"call\",\"%s\",[%d]]\n", name, $1 % 990 }' >"$folder/${footprint}_hop.log"
+    seq 0 63 | awk -v name="${footprint}_walk" '{ printf "[\"call\",\"%s\",[%d]]\n", name, $1 % 10 }' >"$folder/${footprint}_walk.log"
+done
+head -n 1 "$folder/found_hop.log" >"$folder/one.log"

@@ -42,7 +42,7 @@ done
 cd -- "$data"
 for case in */*/; do
     line=${case%/}
-    for path in "$case"{args,setups,logs,runs} "$case"locks-*; do
+    for path in "$case"{args,progress,setups,logs,runs} "$case"locks-*; do
         [[ -f $path ]] && line+=" ${path##*/}"
     done
     printf '%s\n' "$line"

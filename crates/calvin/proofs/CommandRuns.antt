@@ -28,7 +28,7 @@ pub run_at : (alone : Bool) (holds : Option (List ℕ) → Type 0) (source spent
 run_at alone holds source spent sink filled status setup result is run threadless ends = record { setup = setup; is_setup = is; result = result; run = run; threadless = threadless; ends = ends }
 
 pub locks_at : (holds : Option (List ℕ) → Type 0) (settings : Settings) (source spent sink filled : Device) (status : ℕ) (setup : Setup) (result told : Result (String Global) RunFault) → IsSetupAt holds setup →
-    IsFirstBatchPlanned setup.procs settings source spent result → result ≡ told → IsTold told sink filled status → AreLocksAt holds settings source spent sink filled status
+    IsFirstBatchPlanned setup.procs (with_rows map_of.empty setup.rows.items) settings source spent result → result ≡ told → IsTold told sink filled status → AreLocksAt holds settings source spent sink filled status
 locks_at holds settings source spent sink filled status setup result told is planned same ends = record {
   setup = setup;
   is_setup = is;

@@ -165,7 +165,7 @@ pub record AreLocksAt (holds : Holding) (settings : Settings) (source spent sink
   pub setup : Setup
   pub is_setup : IsSetupAt holds setup
   pub result : Result (String Global) RunFault
-  pub planned : IsFirstBatchPlanned setup.procs settings source spent result
+  pub planned : IsFirstBatchPlanned setup.procs (with_rows map_of.empty setup.rows.items) settings source spent result
   pub ends : IsTold result sink filled status
 
 -- Without a setup nothing is read of the log, and nothing is written.
@@ -177,7 +177,7 @@ IsLocksCommand holds settings source spent sink filled status =
 
 -- what holds of the flag `--alone` and the setup's path of `run`
 abbrev pub IfRun : Command → (Bool → List ℕ → Type 0) → Type 0
-IfRun (Run alone setup) P = P alone (string_bytes setup)
+IfRun (Run alone progress setup) P = P alone (string_bytes setup)
 IfRun command P = ⊤
 
 -- what holds of the setup's path of `locks`
@@ -187,7 +187,7 @@ IfLocks command P = ⊤
 
 -- what holds of the paths of the setup and of the other report of `replicas`
 abbrev pub IfReplicas : Command → (List ℕ → List ℕ → Type 0) → Type 0
-IfReplicas (Replicas setup report) P = P (string_bytes setup) (string_bytes report)
+IfReplicas (Replicas progress setup report) P = P (string_bytes setup) (string_bytes report)
 IfReplicas command P = ⊤
 
 -- what holds of the setup's path of `check`

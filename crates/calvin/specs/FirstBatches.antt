@@ -4,6 +4,7 @@ use Rattle.std.specs.Prelude.{◌≡◌, ℕ, ◌+◌, ◌||◌, List, [], ◌�
 use Rattle.std.specs.declared.alloc.Global.{Global}
 use Rattle.std.specs.Io.KnownBytes.{Consumes}
 use Rattle.catalogue.specs.Shapes.{TableShape}
+use Rattle.values.specs.Database.{Database}
 use Rattle.requests.specs.ProcLists.{ProcsParts}
 use Rattle.coarsen.specs.Subtrees.{Requests}
 use Rattle.coarsen.specs.Plans.{IsPlanFor}
@@ -55,17 +56,17 @@ first_of (batch ∷ batches) fault = Ok batch
 first_of [] (Some fault) = Err fault
 first_of [] None = Ok []
 
--- the entries of a log's first batch
-abbrev pub first_batch : ProcsParts → List ℕ → Result (List EntryShape) LogFault
-first_batch procs log = first_of (batches_in procs log) (fault_in procs log)
+-- the entries of a log's first batch, on procedures and starting rows
+abbrev pub first_batch : ProcsParts → Database → List ℕ → Result (List EntryShape) LogFault
+first_batch procs db log = first_of (batches_in procs db log) (fault_in procs log)
 
--- The plans of the first batch of the log that a source has left, on procedures: the source before and after, and the plans'
+-- The plans of the first batch of the log that a source has left, on procedures and starting rows: the source before and after, and the plans'
 -- text or a fault.
-pub record IsFirstBatchPlanned (procs : ProcsParts) (settings : Settings) (source spent : Device) (result : Result (String Global) RunFault) : Type 0 where
+pub record IsFirstBatchPlanned (procs : ProcsParts) (db : Database) (settings : Settings) (source spent : Device) (result : Result (String Global) RunFault) : Type 0 where
   -- The text is that of the first batch.
-  pub text : IfOk result (λ text. IfSome source.bytes (λ log. IsOkAnd (first_batch procs log) (λ entries. IsPlansText procs.tables settings entries (string_bytes text))))
+  pub text : IfOk result (λ text. IfSome source.bytes (λ log. IsOkAnd (first_batch procs db log) (λ entries. IsPlansText procs.tables settings entries (string_bytes text))))
   -- A fault of a line is the log's first, and comes before the first batch ends.
-  pub fault : IfErr result (λ e. IfOfLine e (λ fault. IfSome source.bytes (λ log. first_batch procs log ≡ Err fault)))
+  pub fault : IfErr result (λ e. IfOfLine e (λ fault. IfSome source.bytes (λ log. first_batch procs db log ≡ Err fault)))
   -- The fault of a device comes exactly where the source has failed meanwhile. No thread is refused. Each fault names its line.
   pub device : spent.failed ≡ (source.failed || ends_in_io result)
   pub threadless : IsNotOfThread result

@@ -1,3 +1,4 @@
 pub mod Comparisons
+pub mod ProgressLines
 pub mod FirstBatches
 pub mod CommandEnds

@@ -1,57 +1,29 @@
 //! The commands of the program.
 
-ghost use Rattle.std.specs.Prelude.{◌≡◌, true};
-ghost use Rattle.std.specs.FinMap as map_of;
-ghost use Rattle.row_store.specs.Stock.{with_rows};
-ghost use Rattle.running.specs.Runs.{IsRunOfLog, device_with};
-ghost use Rattle.running.specs.Stops.{IsNotOfThread};
+ghost use Rattle.running.specs.Runs.{device_with};
 ghost use Rattle.calvin.specs.CommandEnds.{Does, IsLocksCommand, IsRunCommand};
 
 use crate::checking::check;
-use crate::executing::{run_log_alone, run_log_on_workers};
 use crate::files::Files;
 use crate::inputs::{print, refused, setup_at};
 use crate::locks::plans_of;
 use crate::replicas::replicas;
+use crate::setup_runs::run_setup;
 use crate::status::DONE;
+use crate::telling::{Lines, lines_of};
 use batch_log::{Sink, Source};
 use command_line::{Command, Line};
-use engine::{OpenGate, Settings};
-use running::RunFault;
-use setup::Setup;
+use engine::Settings;
 use std::alloc::Global;
 use std::sync::Wait;
 use std::thread::Threads;
 
-/// Runs the log on a setup, alone on this thread or on worker threads.
-fn run_setup<R: Threads + Wait + Sync, S: Source, K: Sink>(
-    rt: &R,
-    alloc: Global,
-    alone: bool,
-    setup: Setup,
-    settings: Settings,
-    source: &mut S,
-    out: &mut K,
-) -> Result<u64, RunFault>
-    ensures run { IsRunOfLog setup.procs (with_rows map_of.empty setup.rows.items)
-        (device_with (S.left source.old) (S.failed source.old))
-        (device_with (S.left source.new) (S.failed source.new))
-        (device_with (K.taken out.old) (K.broken out.old))
-        (device_with (K.taken out.new) (K.broken out.new)) result }
-    ensures threadless { alone ≡ true → IsNotOfThread result }
-{
-    if alone {
-        run_log_alone(alloc, setup, settings, source, out)
-    } else {
-        run_log_on_workers(rt, alloc, setup, settings, &OpenGate, source, out)
-    }
-}
-
 /// Prints the report of the log on the setup at a path.
-fn run<R: Threads + Wait + Sync, F: Files, S: Source, K: Sink, E: Sink>(
+fn run<R: Threads + Wait + Sync, F: Files, S: Source, K: Sink, E: Sink + Send>(
     rt: &R,
     alloc: Global,
     alone: bool,
+    lines: Option<Lines>,
     settings: Settings,
     path: &str,
     files: &F,
@@ -69,7 +41,7 @@ fn run<R: Threads + Wait + Sync, F: Files, S: Source, K: Sink, E: Sink>(
         Ok(setup) => setup,
         Err(status) => return status,
     };
-    match run_setup(rt, alloc, alone, setup, settings, source, out) {
+    match run_setup(rt, alloc, alone, lines, setup, settings, source, out, err) {
         Ok(_) => DONE,
         Err(fault) => refused(alloc, err, fault),
     }
@@ -108,11 +80,13 @@ fn locks<F: Files, S: Source, K: Sink, E: Sink>(
 /// Does what a command line asks for, and gives the exit status: 0; 1 where the setup or the log is refused; 3 where memory
 /// was refused; 4 where a device failed, a file can't be read, or a thread was refused, as none is to `run --alone` and
 /// `locks`; 5 where reports differ. A fault goes to `err` in a line. After a fault of the setup or the log `locks` and
-/// `replicas` write nothing to `out`.
-pub fn command<R: Threads + Wait + Sync, F: Files, S: Source, K: Sink, E: Sink>(
+/// `replicas` write nothing to `out`. What is asked for of a run's progress goes to `err`, line over line where that is a
+/// terminal, and changes nothing else.
+pub fn command<R: Threads + Wait + Sync, F: Files, S: Source, K: Sink, E: Sink + Send>(
     rt: &R,
     alloc: Global,
     line: &Line,
+    err_is_terminal: bool,
     files: &F,
     source: &mut S,
     out: &mut K,
@@ -126,13 +100,27 @@ pub fn command<R: Threads + Wait + Sync, F: Files, S: Source, K: Sink, E: Sink>(
 {
     let settings = line.settings;
     match &line.command {
-        Command::Run { alone, setup } => {
-            run(rt, alloc, *alone, settings, setup, files, source, out, err)
+        Command::Run {
+            alone,
+            progress,
+            setup,
+        } => {
+            let lines = lines_of(*progress, err_is_terminal);
+            run(
+                rt, alloc, *alone, lines, settings, setup, files, source, out, err,
+            )
         }
         Command::Locks { setup } => locks(alloc, settings, setup, files, source, out, err),
         Command::Check { setup } => check(alloc, setup, files, out, err),
-        Command::Replicas { setup, report } => replicas(
-            rt, alloc, settings, setup, report, files, source, out, err,
-        ),
+        Command::Replicas {
+            progress,
+            setup,
+            report,
+        } => {
+            let lines = lines_of(*progress, err_is_terminal);
+            replicas(
+                rt, alloc, lines, settings, setup, report, files, source, out, err,
+            )
+        }
     }
 }

@@ -23,7 +23,8 @@ use std::sync::Wait;
 use std::thread::Threads;
 
 /// Runs the log that a source gives on a setup, on one thread, and writes its report into a sink.
-pub(crate) fn run_log_alone<S: Source, K: Sink>(
+pub(crate) fn run_log_alone<R: Wait, S: Source, K: Sink>(
+    rt: &R,
     alloc: Global,
     setup: Setup,
     settings: Settings,
@@ -41,7 +42,7 @@ pub(crate) fn run_log_alone<S: Source, K: Sink>(
         requires { AreOver (tables_of engine.old) (items_of batch) }
         ensures run { IsExecution engine.old batch result engine.new }
         ensures threadless { IfErr result (λ fault. ¬ IsSpawn fault) }
-    { engine.run_alone(alloc, batch, &[]) };
+    { engine.run_alone(rt, alloc, batch, &[]) };
     run_log(alloc, &executor, setup, settings, source, sink)
 }
 
@@ -85,7 +86,8 @@ pub fn run_text<R: Threads + Wait + Sync, G: Gate, S: Source, K: Sink>(
 ) -> Result<u64, RunFault>
     // `Ok`: the log has no fault, all of it was read, and its report was written.
     ensures count { IfOk result (λ n.
-        IfSome (S.left source.old) (λ log. n ≡ length (all_entries (batches_in setup.procs log)))) }
+        IfSome (S.left source.old) (λ log. n ≡ length (all_entries (batches_in setup.procs
+        (with_rows map_of.empty setup.rows.items) log)))) }
     ensures sound { OnOk result (IfSome (S.left source.old) (λ log. fault_in setup.procs log ≡ None)) }
     ensures read { OnOk result (IfSome (S.left source.old) (λ _. S.left source.new ≡ Some [])) }
     ensures ok { OnOk result (IfSome (S.left source.old) (λ log.

@@ -11,7 +11,9 @@ mod laws;
 mod locks;
 mod programs;
 mod replicas;
+mod setup_runs;
 mod status;
+mod telling;
 
 pub use batch_log::{
     DeviceFailed, LogFault, LogFaultKind, LogReader, ReadSource, Sink, Source, WriteSink,
@@ -20,7 +22,7 @@ pub use command_line::{Command, Line, LineFault, read_line};
 pub use commands::command;
 pub use engine::{
     BadSetting, Batch, BatchDone, BatchFault, Engine, ExecFault, Gate, Item, OpenGate, Reply,
-    Settings,
+    Settings, Tally, Watcher,
 };
 pub use executing::run_text;
 pub use files::{FileFault, Files};

@@ -3,6 +3,8 @@
 ghost use Rattle.std.specs.Prelude.{◌≡◌, ◌≤◌, ◌++◌, None, length, map, IfOk, OnOk, string_bytes};
 ghost use Rattle.std.specs.List.{AllByRecursion};
 ghost use Rattle.coarsen.specs.Subtrees.{Requests};
+ghost use Rattle.std.specs.FinMap as map_of;
+ghost use Rattle.row_store.specs.Stock.{with_rows};
 ghost use Rattle.sequencer.specs.Entries.{prepared};
 ghost use Rattle.interp.specs.Entries.{entry_shape};
 ghost use Rattle.batch_log.specs.Reader.{calls_read, fault_of, position_of, source_name, source_of, unread};
@@ -18,7 +20,7 @@ use footprint::Footprint;
 use interp::Entry;
 use report_text::push_plan;
 use requests::Request;
-use row_store::RowStore;
+use row_store::{RowStore, all_is_free_with_nothing_lent};
 use running::RunFault;
 use sequencer::{Batch, BatchFault, prepare};
 use setup::Setup;
@@ -84,7 +86,7 @@ fn lines_of(
     requires few { length requests.items ≤ 4096 }
     requires tables { AllByRecursion (λ r. r.proc.tables ≡ setup.catalogue) requests.items }
     ensures { IfOk result (λ text.
-        IsPlansText setup.catalogue settings (map prepared requests.items) (string_bytes text)) }
+        IsPlansText setup.catalogue settings (map (prepared (with_rows map_of.empty setup.rows.items)) requests.items) (string_bytes text)) }
 {
     let Setup {
         catalogue,
@@ -97,6 +99,7 @@ fn lines_of(
         Err(BatchFault::NoMemory) => return Err(NoMemory),
     };
     let store = RowStore::new(alloc, &catalogue, rows)?;
+    all_is_free_with_nothing_lent();
     let entries = prepare(alloc, &batch, &catalogue, &procs, &store)?;
     text_of(alloc, &catalogue, settings, &entries)
 }
@@ -111,7 +114,7 @@ fn first_plans<S: Source>(
     requires { (position_of reader.old ≡ record { newlines = 0; begun = 0 }) × (calls_read reader.old ≡ 0) ×
         (fault_of reader.old ≡ None) }
     ensures same { source_name reader.new ≡ source_name reader.old }
-    ensures planned { IsFirstBatchPlanned setup.procs settings
+    ensures planned { IsFirstBatchPlanned setup.procs (with_rows map_of.empty setup.rows.items) settings
         (device_with (unread S.left reader.old) (S.failed (source_of reader.old)))
         (device_with (S.left (source_of reader.new)) (S.failed (source_of reader.new))) result }
 {
@@ -134,7 +137,7 @@ pub(crate) fn plans_of<S: Source>(
     settings: Settings,
     source: &mut S,
 ) -> Result<String, RunFault>
-    ensures { IsFirstBatchPlanned setup.procs settings
+    ensures { IsFirstBatchPlanned setup.procs (with_rows map_of.empty setup.rows.items) settings
         (device_with (S.left source.old) (S.failed source.old))
         (device_with (S.left source.new) (S.failed source.new)) result }
 {

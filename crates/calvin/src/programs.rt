@@ -17,10 +17,11 @@ use std::thread::Threads;
 /// Reads a command line from the words behind the program's name, does what it asks for, and gives the exit status: those of
 /// `command`; 2 where the words are no command line that is served, with a text for the user on `err`; 3 where memory was
 /// refused meanwhile.
-pub fn program<R: Threads + Wait + Sync, F: Files, S: Source, K: Sink, E: Sink>(
+pub fn program<R: Threads + Wait + Sync, F: Files, S: Source, K: Sink, E: Sink + Send>(
     rt: &R,
     alloc: Global,
     words: &[String],
+    err_is_terminal: bool,
     files: &F,
     source: &mut S,
     out: &mut K,
@@ -33,7 +34,7 @@ pub fn program<R: Threads + Wait + Sync, F: Files, S: Source, K: Sink, E: Sink>(
         (device_with (K.taken out.new) (K.broken out.new)) result }
 {
     match read_line(alloc, words) {
-        Ok(line) => command(rt, alloc, &line, files, source, out, err),
+        Ok(line) => command(rt, alloc, &line, err_is_terminal, files, source, out, err),
         Err(LineFault::Refused(text)) => {
             let _ = write_all(err, text.as_bytes());
             COMMAND_LINE

@@ -5,12 +5,13 @@ ghost use Rattle.calvin.specs.CommandEnds.{answer_status, answer_text, IsAnswere
 ghost use Rattle.running.specs.Runs.{device_with};
 
 use crate::comparison::{KeptReport, first_difference};
-use crate::executing::run_log_on_workers;
 use crate::files::Files;
 use crate::inputs::{file_at, print, refused, setup_at};
+use crate::setup_runs::run_setup;
 use crate::status::{DIFFERENT, DONE};
+use crate::telling::Lines;
 use batch_log::{LogFaultKind, Sink, Source};
-use engine::{OpenGate, Settings};
+use engine::Settings;
 use running::RunFault;
 use std::alloc::{AllocError, Global};
 use std::sync::Wait;
@@ -60,9 +61,10 @@ fn answer<K: Sink, E: Sink>(
 }
 
 /// Compares the report of the log on the setup at a path with the file at another, which is read first.
-pub(crate) fn replicas<R: Threads + Wait + Sync, F: Files, S: Source, K: Sink, E: Sink>(
+pub(crate) fn replicas<R: Threads + Wait + Sync, F: Files, S: Source, K: Sink, E: Sink + Send>(
     rt: &R,
     alloc: Global,
+    lines: Option<Lines>,
     settings: Settings,
     path: &str,
     report: &str,
@@ -86,7 +88,9 @@ pub(crate) fn replicas<R: Threads + Wait + Sync, F: Files, S: Source, K: Sink, E
         Err(status) => return status,
     };
     let mut kept = KeptReport::new(alloc);
-    match run_log_on_workers(rt, alloc, setup, settings, &OpenGate, source, &mut kept) {
+    match run_setup(
+        rt, alloc, false, lines, setup, settings, source, &mut kept, err,
+    ) {
         Ok(_) => answer(alloc, kept.bytes(), &other, out, err),
         Err(fault) => refused(alloc, err, kept.fault_of(fault)),
     }

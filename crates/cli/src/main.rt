@@ -5,7 +5,7 @@ ghost use Rattle.std.specs.Prelude.{⊤};
 
 use calvin::{FileFault, Files, ReadSource, WriteSink, program};
 use std::alloc::Global;
-use std::io::{self, ErrorKind};
+use std::io::{self, ErrorKind, IsTerminal};
 use std::process::ExitCode;
 use std::{env, fs, rt};
 
@@ -34,6 +34,7 @@ fn main(rt: HostRuntime) -> io::Result<ExitCode> {
         &rt,
         alloc,
         words.get(1..).unwrap_or(&[]),
+        rt.stderr().is_terminal(),
         &Machine { rt: &rt },
         &mut ReadSource::new(rt.stdin()),
         &mut WriteSink::new(rt.stdout()),

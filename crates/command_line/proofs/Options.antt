@@ -124,10 +124,10 @@ no_text f id path none is =
 
 -- where no setup was read, the rows give no command
 pub no_setup : (f : Found) (word : Text) (command : Command) → None ≡ first_value f (codes "setup") → IsCommand word (rows_of f) command → ⊥
-no_setup f word (Run alone setup) none asks = no_text f (codes "setup") (string_bytes setup) none asks.setup
+no_setup f word (Run alone progress setup) none asks = no_text f (codes "setup") (string_bytes setup) none asks.setup_is
 no_setup f word (Locks setup) none asks = no_text f (codes "setup") (string_bytes setup) none asks.setup_is
 no_setup f word (Check setup) none asks = no_text f (codes "setup") (string_bytes setup) none asks.setup_is
-no_setup f word (Replicas setup report) none asks = no_text f (codes "setup") (string_bytes setup) none asks.setup_is
+no_setup f word (Replicas progress setup report) none asks = no_text f (codes "setup") (string_bytes setup) none asks.setup_is
 
 run_for_replicas : codes "replicas" ≡ codes "run" → ⊥
 run_for_replicas e = cc
@@ -140,14 +140,14 @@ check_for_replicas e = cc
 
 -- where no report was read, the rows give no comparison
 pub no_report : (f : Found) (command : Command) → None ≡ first_value f (codes "report") → IsCommand (codes "replicas") (rows_of f) command → ⊥
-no_report f (Run alone setup) none asks = run_for_replicas asks.name
+no_report f (Run alone progress setup) none asks = run_for_replicas asks.name
 no_report f (Locks setup) none asks = locks_for_replicas asks.name
 no_report f (Check setup) none asks = check_for_replicas asks.name
-no_report f (Replicas setup report) none asks = no_text f (codes "report") (string_bytes report) none asks.report_is
+no_report f (Replicas progress setup report) none asks = no_text f (codes "report") (string_bytes report) none asks.report_is
 
 -- a word that is no command's name
 pub no_command : (rows : List Row) (word : Text) (command : Command) → (word ≡ codes "run" → ⊥) → (word ≡ codes "replicas" → ⊥) → (word ≡ codes "locks" → ⊥) → (word ≡ codes "check" → ⊥) → IsCommand word rows command → ⊥
-no_command rows word (Run alone setup) run replicas locks check asks = run asks.name
-no_command rows word (Replicas setup report) run replicas locks check asks = replicas asks.name
+no_command rows word (Run alone progress setup) run replicas locks check asks = run asks.name
+no_command rows word (Replicas progress setup report) run replicas locks check asks = replicas asks.name
 no_command rows word (Locks setup) run replicas locks check asks = locks asks.name
 no_command rows word (Check setup) run replicas locks check asks = check asks.name

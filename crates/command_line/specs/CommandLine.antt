@@ -31,10 +31,11 @@ pub record AreSettings (rows : List Row) (settings : Settings) : Type 0 where
   pub arena : IsNumber rows (codes "arena") settings.arena
 
 -- the command, by its name and its arguments
-pub record IsRun (word : Text) (rows : List Row) (flag : Bool) (path : Text) : Type 0 where
+pub record IsRun (word : Text) (rows : List Row) (alone progress : Bool) (setup : Text) : Type 0 where
   pub name : word ≡ codes "run"
-  pub alone : IsFlag rows (codes "alone") flag
-  pub setup : first_of (codes "setup") rows ≡ Some path
+  pub alone_is : IsFlag rows (codes "alone") alone
+  pub progress_is : IsFlag rows (codes "progress") progress
+  pub setup_is : first_of (codes "setup") rows ≡ Some setup
 
 pub record IsLocks (word : Text) (rows : List Row) (setup : Text) : Type 0 where
   pub name : word ≡ codes "locks"
@@ -44,16 +45,17 @@ pub record IsCheck (word : Text) (rows : List Row) (setup : Text) : Type 0 where
   pub name : word ≡ codes "check"
   pub setup_is : first_of (codes "setup") rows ≡ Some setup
 
-pub record IsReplicas (word : Text) (rows : List Row) (setup report : Text) : Type 0 where
+pub record IsReplicas (word : Text) (rows : List Row) (progress : Bool) (setup report : Text) : Type 0 where
   pub name : word ≡ codes "replicas"
+  pub progress_is : IsFlag rows (codes "progress") progress
   pub setup_is : first_of (codes "setup") rows ≡ Some setup
   pub report_is : first_of (codes "report") rows ≡ Some report
 
 abbrev pub IsCommand : Text → List Row → Command → Type 0
-IsCommand name rows (Run alone setup) = IsRun name rows alone (string_bytes setup)
+IsCommand name rows (Run alone progress setup) = IsRun name rows alone progress (string_bytes setup)
 IsCommand name rows (Locks setup) = IsLocks name rows (string_bytes setup)
 IsCommand name rows (Check setup) = IsCheck name rows (string_bytes setup)
-IsCommand name rows (Replicas setup report) = IsReplicas name rows (string_bytes setup) (string_bytes report)
+IsCommand name rows (Replicas progress setup report) = IsReplicas name rows progress (string_bytes setup) (string_bytes report)
 
 -- what the name and the arguments of a command ask for
 pub record Asks (name : Text) (rows : List Row) (line : Line) : Type 0 where

@@ -33,17 +33,19 @@ with_settings app =
     (number_rule (codes "coarsen") 0 65535 (codes "64")))
     (number_rule (codes "arena") 1 1048576 (codes "65536"))
 
--- `run [--alone] SETUP`, with settings
+-- `run [--alone] [--progress] SETUP`, with settings
 unfoldable pub run_app : App
-run_app = with_settings (with_rule (with_rule (new_app (codes "run"))
+run_app = with_settings (with_rule (with_rule (with_rule (new_app (codes "run"))
     (word_rule (codes "setup")))
     (flag_rule (codes "alone")))
+    (flag_rule (codes "progress")))
 
--- `replicas SETUP REPORT`, with settings
+-- `replicas [--progress] SETUP REPORT`, with settings
 unfoldable pub replicas_app : App
-replicas_app = with_settings (with_rule (with_rule (new_app (codes "replicas"))
+replicas_app = with_settings (with_rule (with_rule (with_rule (new_app (codes "replicas"))
     (word_rule (codes "setup")))
     (word_rule (codes "report")))
+    (flag_rule (codes "progress")))
 
 -- `locks SETUP`, with settings
 unfoldable pub locks_app : App

@@ -17,14 +17,27 @@ use std::alloc::{AllocError, Global};
 /// What the program is asked to do.
 #[derive(Debug, Drop, PartialEq, Eq)]
 pub enum Command {
-    /// Run the log on the setup at this path, with `alone` on one thread.
-    Run { alone: bool, setup: String },
+    /// Run the log on the setup at this path, with `alone` on one thread. With `progress` standard error tells how far it is.
+    Run {
+        alone: bool,
+        progress: bool,
+        setup: String,
+    },
     /// Print the plans of the log's first batch on the setup at this path.
-    Locks { setup: String },
+    Locks {
+        setup: String,
+    },
     /// Read the setup at this path, and say how much it has.
-    Check { setup: String },
-    /// Run the log on the setup at this path, and compare the report with the file at that one.
-    Replicas { setup: String, report: String },
+    Check {
+        setup: String,
+    },
+    /// Run the log on the setup at this path, and compare the report with the file at that one. With `progress` standard
+    /// error tells how far it is.
+    Replicas {
+        progress: bool,
+        setup: String,
+        report: String,
+    },
 }
 
 /// A command line that was read.
@@ -88,7 +101,12 @@ fn run_of(alloc: Global, matches: &ArgMatches<'_>) -> Result<Option<Command>, Al
     };
     let setup = String::from_str(alloc, setup)?;
     let alone = matches.get_flag("alone");
-    Ok(Some(Command::Run { alone, setup }))
+    let progress = matches.get_flag("progress");
+    Ok(Some(Command::Run {
+        alone,
+        progress,
+        setup,
+    }))
 }
 
 // The command `replicas`, by its arguments.
@@ -105,7 +123,12 @@ fn replicas_of(alloc: Global, matches: &ArgMatches<'_>) -> Result<Option<Command
     };
     let setup = String::from_str(alloc, setup)?;
     let report = String::from_str(alloc, report)?;
-    Ok(Some(Command::Replicas { setup, report }))
+    let progress = matches.get_flag("progress");
+    Ok(Some(Command::Replicas {
+        progress,
+        setup,
+        report,
+    }))
 }
 
 // The command `locks`, by its arguments.

@@ -24,8 +24,9 @@ const RUN_EXAMPLE: &str = "Examples:
   calvin run bank.json < calls.log
   calvin run --workers 8 --coarsen 0 bank.json < calls.log
   calvin run --alone bank.json < calls.log
+  calvin run --progress bank.json < calls.log
 
-The options change the speed of a run, and never its report.";
+The options change the speed of a run and what standard error tells of it, and never its report.";
 
 const REPLICAS_ABOUT: &str =
     "Runs the log on standard input and compares its report with another replica's";
@@ -53,6 +54,8 @@ prints `ok T tables P procedures R rows`, or the setup's first fault. The option
 const REPORT_HELP: &str = "The file of the other replica's report";
 
 const SETUP_HELP: &str = "The file of tables, procedures and rows, in JSON";
+
+const PROGRESS_HELP: &str = "Tell on standard error how many calls are settled, and how they ended";
 
 const WORKERS_HELP: &str = "Worker threads, 1 to 16";
 
@@ -93,6 +96,13 @@ fn flag_option<'a>(alloc: Global, name: &'a str, help: &'a str) -> Arg<'a>
         .long(name)
         .action(ArgAction::SetTrue)
         .help(help)
+}
+
+fn progress_option<'a>(alloc: Global) -> Arg<'a>
+    ensures rule { rule_of result ≡ flag_rule (codes "progress") }
+    ensures local { result.global ≡ false }
+{
+    flag_option(alloc, "progress", PROGRESS_HELP)
 }
 
 /// A word that must be there, which help calls by its `value_name`.
@@ -159,11 +169,13 @@ fn run_command<'a>(alloc: Global) -> Result<Command<'a>, AllocError>
         "alone",
         "Run on one thread, without workers and lanes",
     );
+    let progress = progress_option(alloc);
     let command = Command::new(alloc, "run")
         .about(RUN_ABOUT)
         .after_help(RUN_EXAMPLE)
         .arg(setup)?
-        .arg(alone)?;
+        .arg(alone)?
+        .arg(progress)?;
     with_settings(alloc, command)
 }
 
@@ -200,11 +212,13 @@ fn replicas_command<'a>(alloc: Global) -> Result<Command<'a>, AllocError>
 {
     let setup = required_word(alloc, "setup", "SETUP", SETUP_HELP);
     let report = required_word(alloc, "report", "REPORT", REPORT_HELP);
+    let progress = progress_option(alloc);
     let command = Command::new(alloc, "replicas")
         .about(REPLICAS_ABOUT)
         .after_help(REPLICAS_EXAMPLE)
         .arg(setup)?
-        .arg(report)?;
+        .arg(report)?
+        .arg(progress)?;
     with_settings(alloc, command)
 }
 

@@ -175,15 +175,37 @@ pub(crate) fn left_with<R: Threads + Wait + Sync + AllocGlobal>(
     line: &str,
     files: &Folder<'_>,
     source: &mut Slow<'_>,
+    out: Narrow,
+) -> Result<Left, Fail> {
+    let err = Narrow::new(rt.alloc(), 1000, false);
+    left_on(rt, line, files, source, out, err, false)
+}
+
+/// The same, with this error output, which may be a terminal.
+pub(crate) fn left_on<R: Threads + Wait + Sync + AllocGlobal>(
+    rt: &R,
+    line: &str,
+    files: &Folder<'_>,
+    source: &mut Slow<'_>,
     mut out: Narrow,
+    mut err: Narrow,
+    err_is_terminal: bool,
 ) -> Result<Left, Fail> {
     let alloc = rt.alloc();
     let mut words = Vec::new(alloc);
     for word in line.split_whitespace() {
         words.push(String::from_str(alloc, word)?)?;
     }
-    let mut err = Narrow::new(alloc, 1000, false);
-    let status = program(rt, alloc, &words, files, source, &mut out, &mut err);
+    let status = program(
+        rt,
+        alloc,
+        &words,
+        err_is_terminal,
+        files,
+        source,
+        &mut out,
+        &mut err,
+    );
     Ok(Left {
         status,
         out: out.taken,

@@ -1,5 +1,5 @@
 -- What is out is in the lanes: admitting, lending and settling keep it.
-use Rattle.std.proofs.Common.{◌≡◌, ◌≢◌, ℕ, zero, suc, ◌+◌, ◌-◌, ◌<◌, Bool, true, false, cond, nat_lt, ◌&&◌, List, [], ◌∷◌, ◌++◌, map, Option, None, Some, refl, sym, ap, ◌∙◌, subst, arith, inl, inr, ◌⊎◌, slice_get, slice_set}
+use Rattle.std.proofs.Common.{◌≡◌, ◌≢◌, ℕ, zero, suc, ◌+◌, ◌-◌, ◌<◌, ◌≤◌, Bool, true, false, cond, nat_lt, List, [], ◌∷◌, ◌++◌, map, Option, None, Some, refl, sym, ap, ◌∙◌, subst, arith, inl, inr, ◌⊎◌, slice_get, slice_set}
 use Rattle.std.specs.Prelude.{IfSome, is_some, replicate}
 use Rattle.std.proofs.lemmas.Bool.Decides.{nat_tests}
 use Rattle.std.proofs.lemmas.List.Sums.{sum_by-cons}
@@ -8,7 +8,7 @@ use Rattle.scheduler.specs.JobRuns.{JobOf, DoneOf, IsDoneOf, ComesOf}
 use Rattle.scheduler_core.specs.declared.event.Event.TheVariants as events
 use Rattle.scheduler_core.specs.declared.phase.Phase.{Phase}
 use Rattle.scheduler_core.specs.declared.phase.Phase.TheVariants as phase
-use Rattle.scheduler_core.specs.Phases.{is_idle, is_out, is_settled, phase_of, at_number}
+use Rattle.scheduler_core.specs.Phases.{is_idle, is_out, is_settled, phase_of}
 use Rattle.scheduler_core.specs.Events.{enabled}
 use Rattle.scheduler.specs.declared.slot.Slot.{Slot}
 use Rattle.scheduler.specs.declared.slot.Slot.TheVariants.{Idle, Lent, Held, Ran, Settled}
@@ -18,14 +18,14 @@ use Rattle.lanes.specs.Seats.{SchedulerSeatOf, jobs_in, puts_in}
 use Rattle.lanes.specs.Calls.{IsLowestFree, Collects, CollectsNothing}
 use Rattle.engine.specs.Engines.{NoneIsOut, StaysSettled}
 use Rattle.engine.specs.HandedOut.{IsOut, HasJob, AreInLanes}
+use Rattle.engine.specs.Engines.{Account}
+use Rattle.engine.specs.Tallies.{settled_among}
+use Rattle.engine.specs.Listeners.{AreCounted, AreOthersCounted, replies_in, settled_in}
+use Rattle.engine.proofs.Facts.{none_some, some_is, and_left}
+use Rattle.engine.proofs.Counting.{pushed_same}
+use Rattle.engine.proofs.Told.{set_phase, open_counted, others_counted}
 
 -- ---- places of lists
-
-none_some : {X : Type 0} (x : X) → None ≡ Some x → ⊥
-none_some x e = cc
-
-some_is : {X : Type 0} (x y : X) → Some x ≡ Some y → x ≡ y
-some_is x y e = cc
 
 pushed_at : {X : Type 0} (xs : List X) (y x : X) (k : ℕ) → slice_get xs k ≡ Some x → slice_get (xs ++ y ∷ []) k ≡ Some x
 pushed_at [] y x k is = absurd (none_some x is)
@@ -118,6 +118,14 @@ admitted_lanes s seat h = record {
 pub admitted_settled : (s : Schedule) → StaysSettled (phases_of s) (phases_of (record s { slots = s.slots ++ Idle ∷ [] }))
 admitted_settled s = pushed_settled s.slots
 
+pushed_phase : (slots : List Slot) → map phase_in (slots ++ Idle ∷ []) ≡ map phase_in slots ++ phase.Idle ∷ []
+pushed_phase [] = refl
+pushed_phase (s ∷ slots) = ap (λ (ps : List Phase). phase_in s ∷ ps) (pushed_phase slots)
+
+-- no more is settled
+pub admitted_counts : (s : Schedule) → settled_in (record s { slots = s.slots ++ Idle ∷ [] }) ≡ settled_in s
+admitted_counts s = ap (λ (ps : List Phase). settled_among ps (replies_in s.work)) (pushed_phase s.slots) ∙ pushed_same (phases_of s) (replies_in s.work)
+
 -- ---- lending
 
 -- the slot of a transaction to which rows may be lent
@@ -129,10 +137,6 @@ idle_slot (Held job ∷ slots) zero idle = absurd (let e : false ≡ true = idle
 idle_slot (Ran job outcome ∷ slots) zero idle = absurd (let e : false ≡ true = idle in cc)
 idle_slot (Settled outcome ∷ slots) zero idle = absurd (let e : false ≡ true = idle in cc)
 idle_slot (s ∷ slots) (suc place) idle = idle_slot slots place idle
-
-and_left : (a b : Bool) → (a && b) ≡ true → a ≡ true
-and_left true b both = refl
-and_left false b both = absurd (cc)
 
 at_place : (first place : ℕ) (phases : List Phase) → phase_of first phases (first + place) ≡ slice_get phases place
 at_place first place phases =
@@ -160,6 +164,13 @@ module _ (s : Schedule) (seat : SchedulerSeatOf) (h : AreInLanes s seat) (job : 
 
   pub lent_settled : StaysSettled (phases_of s) (phases_of new)
   lent_settled = subst (λ (t : Schedule). StaysSettled (phases_of s) (phases_of t)) (sym lends.new_is) (set_settled s.slots place Idle Lent was_idle refl)
+
+  pub lent_counts : settled_in new ≡ settled_in s
+  lent_counts = open_counted s new place phase.Out
+      (ap (λ (t : Schedule). t.work) lends.new_is)
+      (ap phases_of lends.new_is ∙ set_phase s.slots place Lent)
+      (ap is_settled (out_at s.slots place Idle was_idle))
+      refl
 
   other_slot : (other : JobOf) → IsOut s other → other.no - s.work.first ≢ place
   other_slot other o = apart_places s.slots (other.no - s.work.first) place Lent Idle o.out was_idle (λ e. let x : Lent ≡ Idle = e in cc)
@@ -260,6 +271,13 @@ module _ (s : Schedule) (seat new_seat : SchedulerSeatOf) (h : AreInLanes s seat
   pub settled_stays : (slot : Slot) → StaysSettled (phases_of s) (phases_of (with_slot slot))
   settled_stays slot = set_settled s.slots spot Lent slot was_lent refl
 
+  -- whatever was settled there, the others are counted
+  pub others_told : (slot : Slot) (a : Option Account) → AreCounted s a → AreOthersCounted (with_slot slot) done.job.no a
+  others_told slot a h = others_counted s (with_slot slot) done.job.no (phase_in slot) a refl (set_phase s.slots spot slot) (ap is_settled (out_at s.slots spot Lent was_lent)) h
+
+  pub above : s.work.first ≤ done.job.no
+  above = let at : c.job.no ≡ s.work.first + (c.job.no - s.work.first) = out.lent.job_at.no in omega (arith, at, number)
+
   gone : slice_get new_seat.jobs lane ≡ Some None
   gone = subst (λ (t : SchedulerSeatOf). slice_get t.jobs lane ≡ Some None) (sym c.new_is) (set_at seat.jobs lane (Some c.job) None c.there)
 
@@ -310,6 +328,18 @@ settled_by s new seat new_seat h lane done c None settled back =
 settled_by s new seat new_seat h lane done c (Some outcome) settled back =
     subst (λ (t : Schedule). AreInLanes t new_seat × StaysSettled (phases_of s) (phases_of t)) (sym settled)
     (settled_lanes s seat new_seat h lane done c (Settled outcome) refl, settled_stays s seat new_seat h lane done c (Settled outcome))
+
+-- and who is told has heard of the others
+pub settled_told : (s new : Schedule) (seat new_seat : SchedulerSeatOf) → AreInLanes s seat → (lane : ℕ) (done : DoneOf) → Collects seat lane done new_seat → (o : Option Outcome)
+    → IfSome o (λ outcome. new ≡ record s { slots = slice_set s.slots (done.job.no - s.work.first) (Settled outcome) })
+    → (o ≡ None → new ≡ record s { slots = slice_set s.slots (done.job.no - s.work.first) Idle })
+    → (a : Option Account) → AreCounted s a → (new.work.first ≤ done.job.no) × AreOthersCounted new done.job.no a
+settled_told s new seat new_seat h lane done c None settled back a told =
+    subst (λ (t : Schedule). (t.work.first ≤ done.job.no) × AreOthersCounted t done.job.no a) (sym (back refl))
+    (above s seat new_seat h lane done c, others_told s seat new_seat h lane done c Idle a told)
+settled_told s new seat new_seat h lane done c (Some outcome) settled back a told =
+    subst (λ (t : Schedule). (t.work.first ≤ done.job.no) × AreOthersCounted t done.job.no a) (sym settled)
+    (above s seat new_seat h lane done c, others_told s seat new_seat h lane done c (Settled outcome) a told)
 
 -- where nothing was collected
 pub same_jobs : (s : Schedule) (seat new_seat : SchedulerSeatOf) → AreInLanes s seat → CollectsNothing seat new_seat → AreInLanes s new_seat

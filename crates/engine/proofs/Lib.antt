@@ -1,5 +1,11 @@
+pub mod Facts
 pub mod Rests
 pub mod Ends
+pub mod Counting
+pub mod Onward
+pub mod Told
+pub mod Shown
+pub mod Steps
 pub mod InLanes
 pub mod Stops
 pub mod Sent

@@ -1,5 +1,5 @@
 -- Where no job is out.
-use Rattle.std.proofs.Common.{◌≡◌, zero, suc, Bool, true, false, ◌&&◌, ◌==◌, List, [], ◌∷◌, length, map, Some, refl}
+use Rattle.std.proofs.Common.{◌≡◌, zero, suc, true, false, ◌==◌, List, [], ◌∷◌, length, map, Some, refl}
 use Rattle.std.specs.List.{list_all}
 use Rattle.scheduler_core.specs.declared.phase.Phase.{Phase}
 use Rattle.scheduler_core.specs.declared.phase.Phase.TheVariants.{Idle, Out, Ran, Settled}
@@ -7,14 +7,7 @@ use Rattle.scheduler_core.specs.Transactions.{Transaction}
 use Rattle.scheduler_core.specs.Phases.{is_out, is_settled, is_done}
 use Rattle.scheduler.specs.Settling.{after_settling}
 use Rattle.engine.specs.Engines.{NoneIsOut}
-
-and_right : (a b : Bool) → (a && b) ≡ true → b ≡ true
-and_right true b both = both
-and_right false b both = absurd (cc)
-
-and_left : (a b : Bool) → (a && b) ≡ true → a ≡ true
-and_left true b both = refl
-and_left false b both = absurd (cc)
+use Rattle.engine.proofs.Facts.{and_left, and_right}
 
 settled_not_out : (p : Phase) → is_settled (Some p) ≡ true → is_out (Some p) ≡ false
 settled_not_out Idle settled = refl

@@ -1,5 +1,5 @@
 -- Where a batch stops.
-use Rattle.std.proofs.Common.{◌≡◌, ℕ, List, map, Option, Some, refl, sym, ap, ◌∙◌, subst}
+use Rattle.std.proofs.Common.{◌≡◌, ℕ, List, length, map, Option, Some, refl, sym, ap, ◌∙◌, subst}
 use Rattle.catalogue.specs.Shapes.{TableShape}
 use Rattle.interp.specs.Entries.{entry_shape}
 use Rattle.scheduler.specs.Schedules.{Schedule, Work, phases_of}
@@ -9,6 +9,7 @@ use Rattle.engine.specs.declared.stage.Begun.{Begun as BegunOf}
 use Rattle.engine.specs.declared.stage.Stage.{Stage}
 use Rattle.engine.specs.declared.stage.Stage.TheVariants.{Begun}
 use Rattle.engine.specs.declared.working.Interruption.{Interruption}
+use Rattle.engine.specs.Batches.{entries_of}
 use Rattle.engine.specs.Engines.{Unfinished, NoneIsOut, StaysSettled}
 use Rattle.engine.specs.Executions.{WaitsIn}
 use Rattle.engine.specs.Stages.{IsBegun, IsInterruptedStage, rows_in, unfinished_in, unfinished_of}
@@ -28,7 +29,8 @@ module _ (tables : List TableShape) (first : ℕ) (old : Stage) (b : BegunOf) (s
     schedule = record {
       over = over;
       numbered = ap (λ (w : Work). w.first) work ∙ h.schedule.numbered;
-      entries = ap (λ (w : Work). map entry_shape w.entries) work ∙ h.schedule.entries;
+      entries = subst (λ (w : Work). map entry_shape w.entries ≡ entries_of w.start b.batch) (sym work) h.schedule.entries;
+      plans = subst (λ (w : Work). length w.plans ≡ length w.entries) (sym work) h.schedule.plans;
     };
     rest = record { keeps = none_kept s none; none_out = none };
   }

@@ -14,20 +14,34 @@ use Rattle.row_store.specs.Stock.{rows_code}
 use Rattle.scheduler_core.specs.declared.phase.Phase.{Phase}
 use Rattle.scheduler_core.specs.contracts.phase.Phase as phase
 use Rattle.scheduler_core.specs.Phases.{is_out, is_settled}
+use Rattle.atomic_table.specs.Seated.{TableId, table_id_coded}
+use Rattle.progress.specs.declared.tally.Tally.{Tally}
+use Rattle.progress.specs.contracts.tally.Tally as tally
 
 -- a batch that is unfinished, and how far those of its transactions are that were admitted
 pub record Unfinished : Type 0 where
   pub batch : Batch
   pub phases : List Phase
 
--- the procedures, the settings, the number of the next transaction, the database that the batches which ended have left, and
--- the batch that is unfinished
+-- where tallies are published
+abbrev pub Place : Type 0
+Place = Option TableId
+
+-- the tally with which the last batch ended, the list of all tallies that were published, and where it is published
+pub record Account : Type 0 where
+  pub ended : Tally
+  pub published : List Tally
+  pub place : Place
+
+-- the procedures, the settings, the number of the next transaction, the database that the batches which ended have left, the
+-- batch that is unfinished, and what the watchers are told
 pub record EngineParts : Type 0 where
   pub procs : ProcsParts
   pub settings : Settings
   pub next : ℕ
   pub rows : Database
   pub unfinished : Option Unfinished
+  pub account : Account
 
 abbrev pub tables_of : EngineParts → List TableShape
 tables_of engine = engine.procs.tables
@@ -47,9 +61,20 @@ StaysSettled old new = (place : ℕ) → is_settled (slice_get old place) ≡ tr
 abbrev pub unfinished_code : Coded Unfinished
 unfinished_code = code_by (Batch × List Phase) (coded× batches.the_row.coded (coded_list phase.the_row.coded)) (λ u. (u.batch, u.phases)) (λ p. record { batch = p.0; phases = p.1 }) (λ _. refl)
 
+abbrev pub account_code : Coded Account
+account_code = code_by (Tally × (List Tally × Place)) (coded× tally.the_row.coded (coded× (coded_list tally.the_row.coded) (coded_option table_id_coded))) (λ a. (a.ended, (a.published, a.place))) (λ p. record { ended = p.0; published = p.1.0; place = p.1.1 }) (λ _. refl)
+
+-- the beginning of a published list, and where that is published: what a watcher knows
+pub record Watched : Type 0 where
+  pub seen : List Tally
+  pub place : Place
+
+abbrev pub watched_code : Coded Watched
+watched_code = code_by (List Tally × Place) (coded× (coded_list tally.the_row.coded) (coded_option table_id_coded)) (λ w. (w.seen, w.place)) (λ p. record { seen = p.0; place = p.1 }) (λ _. refl)
+
 abbrev pub engine_code : Coded EngineParts
-engine_code = code_by (ProcsParts × (Settings × (ℕ × (Database × Option Unfinished))))
-    (coded× procs.the_row.coded (coded× settings.the_row.coded (coded× coded_ℕ (coded× rows_code (coded_option unfinished_code)))))
-    (λ e. (e.procs, (e.settings, (e.next, (e.rows, e.unfinished)))))
-    (λ p. record { procs = p.0; settings = p.1.0; next = p.1.1.0; rows = p.1.1.1.0; unfinished = p.1.1.1.1 })
+engine_code = code_by (ProcsParts × (Settings × (ℕ × (Database × (Option Unfinished × Account)))))
+    (coded× procs.the_row.coded (coded× settings.the_row.coded (coded× coded_ℕ (coded× rows_code (coded× (coded_option unfinished_code) account_code)))))
+    (λ e. (e.procs, (e.settings, (e.next, (e.rows, (e.unfinished, e.account))))))
+    (λ p. record { procs = p.0; settings = p.1.0; next = p.1.1.0; rows = p.1.1.1.0; unfinished = p.1.1.1.1.0; account = p.1.1.1.1.1 })
     (λ _. refl)

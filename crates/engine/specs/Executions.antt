@@ -12,6 +12,7 @@ use Rattle.engine.specs.declared.replies.BatchDone.{BatchDone}
 use Rattle.engine.specs.Batches.{entries_of}
 use Rattle.engine.specs.Engines.{EngineParts, Unfinished, is_busy, NoneIsOut, StaysSettled}
 use Rattle.engine.specs.Replies.{reply_of, sent_of, sent_from}
+use Rattle.engine.specs.Tallies.{tally_of, together}
 
 -- procedures, with their tables, and settings are as they were
 pub record KeepsSetting (old new : EngineParts) : Type 0 where
@@ -22,10 +23,11 @@ pub record KeepsSetting (old new : EngineParts) : Type 0 where
 pub record IsExecutionOf (old new : EngineParts) (batch : Batch) (run : BatchDone) : Type 0 where
   pub first : run.first ≡ old.next
   pub sent : map sent_of run.replies.items ≡ sent_from old.next (items_of batch)
-  pub replies : map reply_of run.replies.items ≡ serial_replies (entries_of batch) old.rows
-  pub rows : new.rows ≡ serial_end (entries_of batch) old.rows
+  pub replies : map reply_of run.replies.items ≡ serial_replies (entries_of old.rows batch) old.rows
+  pub rows : new.rows ≡ serial_end (entries_of old.rows batch) old.rows
   pub next : new.next ≡ old.next + length (items_of batch)
   pub idle : new.unfinished ≡ None
+  pub counted : new.account.ended ≡ together old.account.ended (tally_of (map reply_of run.replies.items))
 
 -- a batch as it is taken: nothing of it is admitted
 abbrev pub taken : Batch → Unfinished
@@ -43,12 +45,14 @@ WaitsIn (Some old) None = ⊥
 WaitsIn (Some old) (Some new) = Waits old new
 
 -- A batch was not run to its end. Where a thread was refused, nothing of it has run in this call, and where memory was
--- refused, not all of it. The engine holds it, its transactions have no numbers yet, and the rows before it are kept.
+-- refused, not all of it. The engine holds it, its transactions have no numbers yet, the rows before it are kept, and so is
+-- the tally of the batches that ended.
 abbrev pub IsInterruption : EngineParts → Option Unfinished → EngineParts → ExecFault → Type 0
 IsInterruption old unfinished new (Busy back) = ⊥
 IsInterruption old unfinished new (LogFull back) = ⊥
-IsInterruption old unfinished new Spawn = (new.unfinished ≡ unfinished) × (new.next ≡ old.next) × (new.rows ≡ old.rows)
-IsInterruption old unfinished new NoMemory = WaitsIn unfinished new.unfinished × (new.next ≡ old.next) × (new.rows ≡ old.rows)
+IsInterruption old unfinished new Spawn = (new.unfinished ≡ unfinished) × (new.next ≡ old.next) × (new.rows ≡ old.rows) × (new.account.ended ≡ old.account.ended)
+IsInterruption old unfinished new NoMemory =
+    WaitsIn unfinished new.unfinished × (new.next ≡ old.next) × (new.rows ≡ old.rows) × (new.account.ended ≡ old.account.ended)
 
 -- The batch was not run: it comes back from a busy engine, and where the log would have more than 2^48 transactions, and
 -- nothing is changed; or it was taken and interrupted.

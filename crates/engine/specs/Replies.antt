@@ -4,7 +4,7 @@ use Rattle.std.specs.Prelude.{ℕ, ◌+◌, List, [], ◌∷◌}
 use Rattle.meaning.specs.declared.outcome.Outcome.{Outcome}
 use Rattle.meaning.specs.Outcomes.{as_reply}
 use Rattle.meaning.specs.Entries as meant
-use Rattle.sequencer.specs.declared.batch.Item.{Item}
+use Rattle.sequencer.specs.Batches.{RequestItem}
 use Rattle.engine.specs.declared.replies.Reply.{Reply}
 
 -- what a reply says
@@ -21,12 +21,12 @@ abbrev pub sent_of : Reply → Sent
 sent_of reply = record { transaction = reply.no; client = reply.client; number = reply.number }
 
 -- the requests of a batch, whose transactions are numbered from a first one
-abbrev pub sent_from : ℕ → List Item → List Sent
+abbrev pub sent_from : ℕ → List RequestItem → List Sent
 sent_from transaction [] = []
 sent_from transaction (item ∷ items) = record { transaction = transaction; client = item.client; number = item.number } ∷ sent_from (transaction + 1) items
 
 -- each request with its outcome
-abbrev pub settled : ℕ → List Item → List Outcome → List Reply
+abbrev pub settled : ℕ → List RequestItem → List Outcome → List Reply
 settled transaction items [] = []
 settled transaction [] (outcome ∷ outcomes) = []
 settled transaction (item ∷ items) (outcome ∷ outcomes) =

@@ -1,7 +1,8 @@
 -- Of the code: invariants and steps; no promise rests on these words.
 -- The stages of an engine.
-use Rattle.std.specs.Prelude.{◌≡◌, ◌+◌, ◌≤◌, ◌^◌, ℕ, List, length, map, Option, Some, None}
+use Rattle.std.specs.Prelude.{◌≡◌, ◌+◌, ◌≤◌, ◌^◌, ℕ, List, [], length, map, Option, Some, None, ⊤}
 use Rattle.std.specs.FinMap.{empty}
+use Rattle.progress.specs.Tallies.{opening}
 use Rattle.catalogue.specs.Shapes.{TableShape}
 use Rattle.values.specs.Database.{Database}
 use Rattle.row_store.specs.Stock.{Stock}
@@ -15,7 +16,8 @@ use Rattle.engine.specs.declared.ending.Ended.{Ended}
 use Rattle.engine.specs.declared.stage.Stage.{Stage}
 use Rattle.engine.specs.declared.stage.Stage.TheVariants.{Idle, Held, Begun}
 use Rattle.engine.specs.Batches.{entries_of}
-use Rattle.engine.specs.Engines.{Unfinished, NoneIsOut}
+use Rattle.engine.specs.Engines.{Account, Unfinished, NoneIsOut}
+use Rattle.engine.specs.Accounts.{Shows, settled_of}
 use Rattle.engine.specs.Replies.{reply_of, sent_of, sent_from}
 use Rattle.engine.specs.declared.pool.Refusal.{Refusal}
 use Rattle.engine.specs.declared.pool.Refusal.TheVariants.{Thread, Memory}
@@ -52,7 +54,8 @@ pub record IsBatchFrom (tables : List TableShape) (first : ℕ) (batch : Batch) 
 pub record IsScheduleOf (tables : List TableShape) (first : ℕ) (batch : Batch) (scheduler : Schedule) : Type 0 where
   pub over : scheduler.work.tables ≡ tables
   pub numbered : scheduler.work.first ≡ first
-  pub entries : map entry_shape scheduler.work.entries ≡ entries_of batch
+  pub entries : map entry_shape scheduler.work.entries ≡ entries_of scheduler.work.start batch
+  pub plans : length scheduler.work.plans ≡ length scheduler.work.entries
 
 -- no job is with the caller, and none is out
 pub record IsAtRest (scheduler : Schedule) : Type 0 where
@@ -78,13 +81,32 @@ abbrev pub IsInOrder : List TableShape → ℕ → Option Stage → Type 0
 IsInOrder tables next None = ⊥
 IsInOrder tables next (Some stage) = Fits tables next stage
 
+-- what the watchers are told
+abbrev pub account_in : Option Account → Account
+account_in None = record { ended = opening; published = []; place = None }
+account_in (Some account) = account
+
+-- what they are told is what is settled: so many transactions in the batches that ended, and those of this stage
+pub record IsShown (next : ℕ) (stage : Option Stage) (account : Account) : Type 0 where
+  pub ended : account.ended.settled ≡ next
+  pub shows : Shows account (settled_of (unfinished_in stage) (rows_in stage))
+
+abbrev pub IsTold : ℕ → Option Stage → Option Account → Type 0
+IsTold next stage None = ⊥
+IsTold next stage (Some account) = IsShown next stage account
+
+-- a listener that claims anything was told this
+abbrev pub Knows : ℕ → Stage → Option Account → Type 0
+Knows first stage None = ⊤
+Knows first stage (Some account) = IsShown first (Some stage) account
+
 -- the end of a batch: the rows are those that its entries one by one on the rows before it leave, and the replies are theirs
 pub record IsEndOf (tables : List TableShape) (first : ℕ) (batch : Batch) (start : Database) (ended : Ended) : Type 0 where
   pub free : IsFree tables ended.store
-  pub rows : ended.store.rows ≡ serial_end (entries_of batch) start
+  pub rows : ended.store.rows ≡ serial_end (entries_of start batch) start
   pub numbered : ended.done.first ≡ first
   pub sent : map sent_of ended.done.replies.items ≡ sent_from first (items_of batch)
-  pub replies : map reply_of ended.done.replies.items ≡ serial_replies (entries_of batch) start
+  pub replies : map reply_of ended.done.replies.items ≡ serial_replies (entries_of start batch) start
   pub count : length ended.done.replies.items ≡ length (items_of batch)
   pub few : first + length (items_of batch) ≤ 2 ^ 48
 
@@ -102,3 +124,8 @@ pub record IsInterruptedStage (tables : List TableShape) (first : ℕ) (old : St
   pub fits : Fits tables first stop.stage
   pub rows : rows_in (Some stop.stage) ≡ rows_in (Some old)
   pub batch : Stopped stop.refusal (unfinished_in (Some old)) (unfinished_in (Some stop.stage))
+
+-- what a listener was told when a batch ended counts its replies
+abbrev pub KnowsEnd : Ended → Option Account → Type 0
+KnowsEnd ended None = ⊤
+KnowsEnd ended (Some account) = Shows account (map reply_of ended.done.replies.items)

@@ -1,13 +1,15 @@
 //! Running the transactions of a batch on one thread, event by event.
 
-ghost use Rattle.std.specs.Prelude.{◌≡◌, ◌+◌, ◌*◌, ◌≤◌, true, unwrap_or, option_copied, length, IfOk, OnOk, OnErr};
+ghost use Rattle.std.specs.Prelude.{◌≡◌, ◌+◌, ◌*◌, ◌-◌, ◌≤◌, ◌^◌, ℕ, true, false, unwrap_or, option_copied, length, slice_get, IfOk, OnOk, OnErr};
 ghost use Rattle.scheduler_core.specs.Events.{step};
 ghost use Rattle.scheduler_core.specs.Choices.{chosen};
-ghost use Rattle.scheduler_core.specs.Phases.{is_done, progress};
+ghost use Rattle.scheduler_core.specs.Phases.{is_done, progress, was_run};
 ghost use Rattle.scheduler.specs.Schedules.{log_of, phases_of, KeepsItsJobs};
 ghost use Rattle.scheduler.specs.Moments.{can_make, events_at, IsChoiceAt};
 ghost use Rattle.engine.specs.Engines.{NoneIsOut, StaysSettled};
+ghost use Rattle.engine.specs.Listeners.{AreCounted, HearsOn};
 
+use crate::listener::{Listener, tell};
 use scheduler::{Event, Scheduler, StepAnswer};
 use scheduler_core::each_step_goes_on;
 use values::NoMemory;
@@ -25,68 +27,149 @@ fn chosen_event(scheduler: &Scheduler, choice: Option<&u64>) -> Result<Option<Ev
     }
 }
 
-/// Makes an enabled event. Where memory is refused nothing has changed.
-fn make(scheduler: &mut Scheduler, event: Event) -> Result<(), NoMemory>
+/// Makes an enabled event, and tells the listener of what it settles. Where memory is refused nothing has changed.
+fn make<L: Listener>(
+    scheduler: &mut Scheduler,
+    listener: &mut L,
+    event: Event,
+) -> Result<(), NoMemory>
     requires keeps { KeepsItsJobs scheduler.old }
     requires enabled { can_make scheduler.old event ≡ true }
+    requires told { AreCounted scheduler.old (L.account listener.old) }
     ensures work { scheduler.new.work ≡ scheduler.old.work }
     ensures keeps { KeepsItsJobs scheduler.new }
     ensures made { OnOk result (phases_of scheduler.new
         ≡ step scheduler.old.work.first (phases_of scheduler.old) event) }
     ensures err { OnErr result (phases_of scheduler.new ≡ phases_of scheduler.old) }
+    ensures told { AreCounted scheduler.new (L.account listener.new) }
+    ensures onward { HearsOn (L.account listener.old) (L.account listener.new) }
 {
     match scheduler.step(event) {
-        StepAnswer::Made => Ok(()),
-        StepAnswer::NoMemory => Err(NoMemory),
+        StepAnswer::Made => {}
+        StepAnswer::NoMemory => return Err(NoMemory),
         StepAnswer::Refused => unreachable!(),
     }
+    match event {
+        Event::Settle(no) => tell(scheduler, no, listener),
+        Event::Admit | Event::Lend(_) | Event::Run(_) => {}
+    }
+    Ok(())
 }
 
 /// Makes an enabled event as `make` does: the state is one of at most four steps a transaction further, and what is settled
 /// stays settled.
-fn go_on(scheduler: &mut Scheduler, event: Event) -> Result<(), NoMemory>
+fn go_on<L: Listener>(
+    scheduler: &mut Scheduler,
+    listener: &mut L,
+    event: Event,
+) -> Result<(), NoMemory>
     requires keeps { KeepsItsJobs scheduler.old }
     requires enabled { can_make scheduler.old event ≡ true }
+    requires told { AreCounted scheduler.old (L.account listener.old) }
     ensures work { scheduler.new.work ≡ scheduler.old.work }
     ensures keeps { KeepsItsJobs scheduler.new }
     ensures further { OnOk result (progress (phases_of scheduler.new) ≡ progress (phases_of scheduler.old) + 1) }
     ensures most { progress (phases_of scheduler.new) ≤ 4 * length scheduler.new.work.entries }
     ensures settled { StaysSettled (phases_of scheduler.old) (phases_of scheduler.new) }
+    ensures told { AreCounted scheduler.new (L.account listener.new) }
+    ensures onward { HearsOn (L.account listener.old) (L.account listener.new) }
 {
     each_step_goes_on();
-    let made = make(scheduler, event);
+    let made = make(scheduler, listener, event);
     scheduler.observe();
     made
 }
 
 /// Makes the events of the choices, and those of choice 0 after the last, until all is done or memory is refused.
-fn make_all(scheduler: &mut Scheduler, choices: &[u64]) -> Result<(), NoMemory>
-    requires { KeepsItsJobs scheduler.old }
+fn make_all<L: Listener>(
+    scheduler: &mut Scheduler,
+    listener: &mut L,
+    choices: &[u64],
+) -> Result<(), NoMemory>
+    requires keeps { KeepsItsJobs scheduler.old }
+    requires told { AreCounted scheduler.old (L.account listener.old) }
     ensures work { scheduler.new.work ≡ scheduler.old.work }
     ensures keeps { KeepsItsJobs scheduler.new }
     ensures settled { StaysSettled (phases_of scheduler.old) (phases_of scheduler.new) }
+    ensures told { AreCounted scheduler.new (L.account listener.new) }
+    ensures onward { HearsOn (L.account listener.old) (L.account listener.new) }
     ensures done { OnOk result (is_done (log_of scheduler.new.work) (phases_of scheduler.new) ≡ true) }
 {
     let mut choices = choices.iter();
     'steps: while let Some(event) = chosen_event(scheduler, choices.next())? {
-        go_on(scheduler, event)?;
+        go_on(scheduler, listener, event)?;
     }
     Ok(())
 }
 
-/// Runs the transactions that are left: each step makes the event that the next choice gives, and choice 0 after the last.
-/// Where memory is refused, what was run is settled, and the rows of what was only lent are taken back.
-pub(crate) fn run_left(scheduler: &mut Scheduler, choices: &[u64]) -> Result<(), NoMemory>
-    requires { KeepsItsJobs scheduler.old }
+/// Settles the transaction of a number, if it was run, and tells the listener.
+fn settle_run<L: Listener>(scheduler: &mut Scheduler, listener: &mut L, no: u64)
+    requires keeps { KeepsItsJobs scheduler.old }
+    requires told { AreCounted scheduler.old (L.account listener.old) }
+    requires number { scheduler.old.work.first ≤ no }
     ensures work { scheduler.new.work ≡ scheduler.old.work }
     ensures keeps { KeepsItsJobs scheduler.new }
     ensures settled { StaysSettled (phases_of scheduler.old) (phases_of scheduler.new) }
+    ensures this { was_run (slice_get (phases_of scheduler.new) (no - scheduler.new.work.first)) ≡ false }
+    ensures others { (place : ℕ) → was_run (slice_get (phases_of scheduler.old) place) ≡ false →
+        was_run (slice_get (phases_of scheduler.new) place) ≡ false }
+    ensures told { AreCounted scheduler.new (L.account listener.new) }
+    ensures onward { HearsOn (L.account listener.old) (L.account listener.new) }
+{
+    match scheduler.step(Event::Settle(no)) {
+        StepAnswer::Made => tell(scheduler, no, listener),
+        StepAnswer::Refused => {}
+        StepAnswer::NoMemory => unreachable!(),
+    }
+}
+
+/// Settles what was run, and takes back the rows of what was only lent, of the transactions from a first one on.
+fn settle_runs<L: Listener>(scheduler: &mut Scheduler, listener: &mut L, first: u64, count: usize)
+    requires keeps { KeepsItsJobs scheduler.old }
+    requires told { AreCounted scheduler.old (L.account listener.old) }
+    requires first { first ≡ scheduler.old.work.first }
+    requires count { count ≡ length scheduler.old.work.entries }
+    requires few { first + count ≤ 2 ^ 48 }
+    ensures work { scheduler.new.work ≡ scheduler.old.work }
+    ensures keeps { KeepsItsJobs scheduler.new }
+    ensures settled { StaysSettled (phases_of scheduler.old) (phases_of scheduler.new) }
+    ensures none_out { NoneIsOut (phases_of scheduler.new) }
+    ensures told { AreCounted scheduler.new (L.account listener.new) }
+    ensures onward { HearsOn (L.account listener.old) (L.account listener.new) }
+{
+    for place in 0..count {
+        settle_run(scheduler, listener, first + place as u64);
+    }
+    scheduler.observe();
+    scheduler.settle_held();
+}
+
+/// Runs the transactions that are left: each step makes the event that the next choice gives, and choice 0 after the last.
+/// Where memory is refused, what was run is settled, and the rows of what was only lent are taken back. The listener hears of
+/// each as it is settled. They are so many, numbered from a first one on.
+pub(crate) fn run_left<L: Listener>(
+    scheduler: &mut Scheduler,
+    listener: &mut L,
+    choices: &[u64],
+    first: u64,
+    count: usize,
+) -> Result<(), NoMemory>
+    requires keeps { KeepsItsJobs scheduler.old }
+    requires told { AreCounted scheduler.old (L.account listener.old) }
+    requires first { first ≡ scheduler.old.work.first }
+    requires count { count ≡ length scheduler.old.work.entries }
+    requires few { first + count ≤ 2 ^ 48 }
+    ensures work { scheduler.new.work ≡ scheduler.old.work }
+    ensures keeps { KeepsItsJobs scheduler.new }
+    ensures settled { StaysSettled (phases_of scheduler.old) (phases_of scheduler.new) }
+    ensures told { AreCounted scheduler.new (L.account listener.new) }
+    ensures onward { HearsOn (L.account listener.old) (L.account listener.new) }
     ensures done { OnOk result (is_done (log_of scheduler.new.work) (phases_of scheduler.new) ≡ true) }
     ensures none_out { NoneIsOut (phases_of scheduler.new) }
 {
-    let ended = make_all(scheduler, choices);
+    let ended = make_all(scheduler, listener, choices);
     if ended.is_err() {
-        scheduler.settle_held();
+        settle_runs(scheduler, listener, first, count);
     }
     ended
 }

@@ -1,16 +1,21 @@
 //! The engine.
 
-ghost use Rattle.std.specs.Prelude.{◌≡◌, ◌+◌, ◌<◌, ◌≤◌, ◌^◌, IfOk, IfErr, OnOk, OnErr, Err, Some, None, length, false, true};
+ghost use Rattle.std.specs.Prelude.{◌≡◌, [], ◌∷◌, ◌+◌, ◌<◌, ◌≤◌, ◌^◌, IfOk, IfErr, OnOk, OnErr, Err, Some, None, length, false, true};
 ghost use Rattle.std.specs.FinMap as map_of;
 ghost use Rattle.row_store.specs.Stock.{with_rows};
 ghost use Rattle.sequencer.specs.Batches.{items_of, AreOver};
+ghost use Rattle.progress.specs.Tallies.{opening, latest};
+ghost use Rattle.engine.specs.Accounts.{PublishesOn, ShowsSettled};
 
 use crate::ending::Ended;
 use crate::gate::Gate;
+use crate::listener::Publishing;
 use crate::pool::Refusal;
+use crate::publisher::Publisher;
 use crate::replies::BatchDone;
 use crate::settings::Settings;
 use crate::stage::Stage;
+use crate::watcher::Watcher;
 use crate::working::{Interruption, work_alone, work_on_workers};
 use requests::{Procs, Setup};
 use row_store::RowStore;
@@ -44,13 +49,14 @@ pub struct Engine {
     settings: Settings,
     // How many transactions were run in the batches that ended: the number of the next one.
     next: u64,
-    // Always there but inside a call that moves it.
+    // These two are always there but inside a call that moves them.
     stage: Option<Stage>,
+    publisher: Option<Publisher>,
 }
 
 impl Model for Engine {
     ghost use Rattle.engine.specs.Engines.{EngineParts, engine_code};
-    ghost use Rattle.engine.specs.Stages.{unfinished_in, rows_in, IsInOrder};
+    ghost use Rattle.engine.specs.Stages.{unfinished_in, rows_in, account_in, IsInOrder, IsTold};
 
     ghost Value = { EngineParts };
 
@@ -62,21 +68,32 @@ impl Model for Engine {
       next = e.next;
       rows = rows_in e.stage;
       unfinished = unfinished_in e.stage;
+      account = account_in e.publisher;
     } };
 
-    ghost invariant = { λ e. IsInOrder e.procs.tables e.next e.stage };
+    ghost invariant = { λ e. IsInOrder e.procs.tables e.next e.stage × IsTold e.next e.stage e.publisher };
 }
 
-/// Takes over the rows that a batch left, and counts its transactions.
-fn leave(next: &mut u64, stage: &mut Option<Stage>, ended: Ended) -> BatchDone
+/// Takes over the rows that a batch left, and counts its transactions. What was published counts among the batches that ended.
+fn leave(
+    next: &mut u64,
+    stage: &mut Option<Stage>,
+    publisher: &mut Option<Publisher>,
+    ended: Ended,
+    published: Publisher,
+) -> BatchDone
     requires { next.old + length ended.done.replies.items ≤ 2 ^ 48 }
     ensures next { next.new ≡ next.old + length ended.done.replies.items }
     ensures stage { stage.new ≡ Some (Stage.Idle ended.store) }
+    ensures publisher { publisher.new ≡ Some (record published { ended = latest published.published }) }
     ensures done { result ≡ ended.done }
 {
     let Ended { store, done } = ended;
+    let mut published = published;
+    published.end_batch();
     *next += done.replies.len() as u64;
     *stage = Some(Stage::Idle(store));
+    *publisher = Some(published);
     done
 }
 
@@ -94,6 +111,7 @@ impl Engine {
               rows = with_rows map_of.empty
                   setup.rows.items;
               unfinished = None;
+              account = record engine.account { ended = opening; published = opening ∷ [] };
             }) }
     {
         let Setup {
@@ -102,11 +120,13 @@ impl Engine {
             rows,
         } = setup;
         let store = RowStore::new(alloc, &catalogue, rows)?;
+        let publisher = Publisher::new(alloc)?;
         Ok(Engine {
             procs,
             settings,
             next: 0,
             stage: Some(Stage::Idle(store)),
+            publisher: Some(publisher),
         })
     }
 
@@ -174,7 +194,10 @@ impl Engine {
             result ≡ Err (ExecFault.LogFull batch) }
         ensures refused { IfErr result (IsRefusal self.old self.new batch) }
         ensures threadless { IfErr result (λ fault. ¬ IsSpawn fault) }
+        ensures shown { ShowsSettled self.new }
+        ensures unpublished { self.new.account ≡ self.old.account }
     {
+        let _publisher = &self.publisher;
         if self.is_busy() {
             return Err(ExecFault::Busy(batch));
         }
@@ -186,20 +209,45 @@ impl Engine {
     }
 
     /// Goes on with the unfinished batch on one thread, by these choices of events.
-    fn go_on_alone(&mut self, alloc: Global, choices: &[u64]) -> Result<BatchDone, ExecFault>
+    fn go_on_alone<R: Wait>(
+        &mut self,
+        rt: &R,
+        alloc: Global,
+        choices: &[u64],
+    ) -> Result<BatchDone, ExecFault>
         requires { is_busy self.old ≡ true }
         ensures same { KeepsSetting self.old self.new }
         ensures done { IfOk result (ResumesTo self.old self.new self.old.unfinished) }
         ensures refused { IfErr result (IsInterruption self.old self.old.unfinished self.new) }
         ensures threadless { IfErr result (λ fault. ¬ IsSpawn fault) }
+        ensures shown { ShowsSettled self.new }
+        ensures onward { PublishesOn self.old.account self.new.account }
     {
-        let Some(stage) = self.stage.take() else {
+        let (Some(stage), Some(publisher)) = (self.stage.take(), self.publisher.take()) else {
             unreachable!()
         };
-        match work_alone(alloc, &self.procs, self.settings, self.next, stage, choices) {
-            Ok(ended) => Ok(leave(&mut self.next, &mut self.stage, ended)),
+        let mut listener = Publishing { rt, publisher };
+        let ended = work_alone(
+            alloc,
+            &self.procs,
+            self.settings,
+            self.next,
+            stage,
+            &mut listener,
+            choices,
+        );
+        let Publishing { publisher, .. } = listener;
+        match ended {
+            Ok(ended) => Ok(leave(
+                &mut self.next,
+                &mut self.stage,
+                &mut self.publisher,
+                ended,
+                publisher,
+            )),
             Err(Interruption { stage, refusal }) => {
                 self.stage = Some(stage);
+                self.publisher = Some(publisher);
                 Err(ExecFault::from(refusal))
             }
         }
@@ -216,22 +264,34 @@ impl Engine {
         ensures same { KeepsSetting self.old self.new }
         ensures done { IfOk result (ResumesTo self.old self.new self.old.unfinished) }
         ensures refused { IfErr result (IsInterruption self.old self.old.unfinished self.new) }
+        ensures shown { ShowsSettled self.new }
+        ensures onward { PublishesOn self.old.account self.new.account }
     {
-        let Some(stage) = self.stage.take() else {
+        let (Some(stage), Some(publisher)) = (self.stage.take(), self.publisher.take()) else {
             unreachable!()
         };
-        match work_on_workers(
+        let (ended, listener) = work_on_workers(
             rt,
             alloc,
             &self.procs,
             self.settings,
             self.next,
             stage,
+            Publishing { rt, publisher },
             gate,
-        ) {
-            Ok(ended) => Ok(leave(&mut self.next, &mut self.stage, ended)),
+        );
+        let Publishing { publisher, .. } = listener;
+        match ended {
+            Ok(ended) => Ok(leave(
+                &mut self.next,
+                &mut self.stage,
+                &mut self.publisher,
+                ended,
+                publisher,
+            )),
             Err(Interruption { stage, refusal }) => {
                 self.stage = Some(stage);
+                self.publisher = Some(publisher);
                 Err(ExecFault::from(refusal))
             }
         }
@@ -257,6 +317,9 @@ impl Engine {
         // No other batch comes back. Where a thread is refused nothing has run. Where a thread or memory is refused the engine
         // holds the batch, and no job of it is out.
         ensures refused { IfErr result (IsRefusal self.old self.new batch) }
+        // However it ends, the last published tally counts what is settled. One was published for each that this call settled.
+        ensures shown { ShowsSettled self.new }
+        ensures onward { PublishesOn self.old.account self.new.account }
     {
         self.take(batch)?;
         self.go_on_workers(rt, alloc, gate)
@@ -274,14 +337,18 @@ impl Engine {
         ensures done { IfOk result (ResumesTo self.old self.new self.old.unfinished) }
         // Where a thread or memory is refused again, no job is out, and what was settled before stays settled.
         ensures refused { IfErr result (IsInterruption self.old self.old.unfinished self.new) }
+        // However it ends, the last published tally counts what is settled. One was published for each that this call settled.
+        ensures shown { ShowsSettled self.new }
+        ensures onward { PublishesOn self.old.account self.new.account }
     {
         self.go_on_workers(rt, alloc, gate)
     }
 
     /// Runs a batch on one thread, without a gate: each step makes the event that `choose` gives for the next choice, and for 0
-    /// after the last.
-    pub fn run_alone(
+    /// after the last. It may wait, since it publishes how many are settled.
+    pub fn run_alone<R: Wait>(
         &mut self,
+        rt: &R,
         alloc: Global,
         batch: Batch,
         choices: &[u64],
@@ -295,9 +362,28 @@ impl Engine {
         ensures refused { IfErr result (IsRefusal self.old self.new batch) }
         // It starts no thread.
         ensures threadless { IfErr result (λ fault. ¬ IsSpawn fault) }
+        // However it ends, the last published tally counts what is settled. One was published for each that this call settled.
+        ensures shown { ShowsSettled self.new }
+        ensures onward { PublishesOn self.old.account self.new.account }
     {
         self.take(batch)?;
-        self.go_on_alone(alloc, choices)
+        self.go_on_alone(rt, alloc, choices)
+    }
+
+    /// A watcher that was told all that the engine has published. It may move to a thread of its own, and watch from there while
+    /// the engine runs. This may wait.
+    pub fn watcher<R: Wait>(&mut self, rt: &R) -> Result<Watcher, NoMemory>
+        ensures kept { self.new ≡ self.old }
+        ensures told { IfOk result (λ watcher. watcher ≡ record {
+          seen = self.old.account.published;
+          place = self.old.account.place;
+        }) }
+        ensures shown { ShowsSettled self.new }
+    {
+        let Some(publisher) = &mut self.publisher else {
+            unreachable!()
+        };
+        publisher.watcher(rt)
     }
 }
 

@@ -6,7 +6,9 @@ ghost use Rattle.scheduler.specs.Schedules.{log_of, phases_of};
 ghost use Rattle.lanes.specs.Seats.{SchedulerSeatOf, jobs_in};
 ghost use Rattle.engine.specs.Engines.{NoneIsOut, StaysSettled};
 ghost use Rattle.engine.specs.HandedOut.{AreInLanes};
+ghost use Rattle.engine.specs.Listeners.{AreCounted, HearsOn, settled_in};
 
+use crate::listener::{Listener, tell};
 use lanes::{Lanes, SchedulerSeat};
 use scheduler::{AdmitFault, Scheduler};
 use std::sync::Wait;
@@ -18,6 +20,7 @@ fn admit_all(scheduler: &mut Scheduler) -> Result<(), NoMemory>
     ensures work { scheduler.new.work ≡ scheduler.old.work }
     ensures lanes { (seat : SchedulerSeatOf) → AreInLanes scheduler.old seat → AreInLanes scheduler.new seat }
     ensures settled { StaysSettled (phases_of scheduler.old) (phases_of scheduler.new) }
+    ensures none_settled { settled_in scheduler.new ≡ settled_in scheduler.old }
 {
     'admits: loop {
         match scheduler.admit() {
@@ -41,6 +44,7 @@ fn hand_out(
     ensures work { scheduler.new.work ≡ scheduler.old.work }
     ensures lanes { AreInLanes scheduler.new seat.new }
     ensures settled { StaysSettled (phases_of scheduler.old) (phases_of scheduler.new) }
+    ensures none_settled { settled_in scheduler.new ≡ settled_in scheduler.old }
     ensures more { IfOk result (λ more.
         jobs_in seat.new.jobs ≡ (if more then jobs_in seat.old.jobs + 1 else jobs_in seat.old.jobs)) }
     ensures err { OnErr result (seat.new ≡ seat.old) }
@@ -70,6 +74,7 @@ fn hand_out_all(
     ensures work { scheduler.new.work ≡ scheduler.old.work }
     ensures lanes { AreInLanes scheduler.new seat.new }
     ensures settled { StaysSettled (phases_of scheduler.old) (phases_of scheduler.new) }
+    ensures none_settled { settled_in scheduler.new ≡ settled_in scheduler.old }
     ensures out { out.new ≡ jobs_in seat.new.jobs }
 {
     admit_all(scheduler)?;
@@ -82,10 +87,11 @@ fn hand_out_all(
     Ok(())
 }
 
-/// Settles what a worker delivered, if anything was found. An error says that a job came back without a run, for want of
+/// Settles what a worker delivered, if anything was found, and tells the listener. An error says that a job came back without a run, for want of
 /// memory.
-fn take_in(
+fn take_in<L: Listener>(
     scheduler: &mut Scheduler,
+    listener: &mut L,
     lanes: &Lanes,
     seat: &mut SchedulerSeat,
     out: &mut usize,
@@ -93,10 +99,13 @@ fn take_in(
     requires seat { seat.old.lanes ≡ lanes.now }
     requires lanes { AreInLanes scheduler.old seat.old }
     requires out { out.old ≡ jobs_in seat.old.jobs }
+    requires told { AreCounted scheduler.old (L.account listener.old) }
     ensures seat { seat.new.lanes ≡ lanes.now }
     ensures work { scheduler.new.work ≡ scheduler.old.work }
     ensures lanes { AreInLanes scheduler.new seat.new }
     ensures settled { StaysSettled (phases_of scheduler.old) (phases_of scheduler.new) }
+    ensures told { AreCounted scheduler.new (L.account listener.new) }
+    ensures onward { HearsOn (L.account listener.old) (L.account listener.new) }
     ensures out { out.new ≡ jobs_in seat.new.jobs }
 {
     let Some((_, done)) = lanes.collect(seat) else {
@@ -104,15 +113,18 @@ fn take_in(
         return Ok(());
     };
     let is_run = done.is_run();
+    let no = done.no();
     scheduler.settle(done);
     *out -= 1;
+    tell(scheduler, no, listener);
     if is_run { Ok(()) } else { Err(NoMemory) }
 }
 
 /// Hands out jobs and takes in what comes of them, until all is done or memory is refused.
-fn hand_over<R: Wait>(
+fn hand_over<R: Wait, L: Listener>(
     rt: &R,
     scheduler: &mut Scheduler,
+    listener: &mut L,
     lanes: &Lanes,
     seat: &mut SchedulerSeat,
     count: usize,
@@ -122,16 +134,19 @@ fn hand_over<R: Wait>(
     requires lanes { AreInLanes scheduler.old seat.old }
     requires count { count ≡ lanes.now.count }
     requires out { out.old ≡ jobs_in seat.old.jobs }
+    requires told { AreCounted scheduler.old (L.account listener.old) }
     ensures seat { seat.new.lanes ≡ lanes.now }
     ensures work { scheduler.new.work ≡ scheduler.old.work }
     ensures lanes { AreInLanes scheduler.new seat.new }
     ensures settled { StaysSettled (phases_of scheduler.old) (phases_of scheduler.new) }
+    ensures told { AreCounted scheduler.new (L.account listener.new) }
+    ensures onward { HearsOn (L.account listener.old) (L.account listener.new) }
     ensures out { out.new ≡ jobs_in seat.new.jobs }
     ensures done { OnOk result (is_done (log_of scheduler.new.work) (phases_of scheduler.new) ≡ true) }
 {
     for _ in rt.forever() {
         hand_out_all(scheduler, lanes, seat, count, out)?;
-        take_in(scheduler, lanes, seat, out)?;
+        take_in(scheduler, listener, lanes, seat, out)?;
         if scheduler.is_done() {
             break;
         }
@@ -141,9 +156,10 @@ fn hand_over<R: Wait>(
 
 /// Takes in what comes of the jobs that are out, until none is.
 #[tactic(auto, using(crate::proofs::InLanes::empty_rests))]
-fn take_in_all<R: Wait>(
+fn take_in_all<R: Wait, L: Listener>(
     rt: &R,
     scheduler: &mut Scheduler,
+    listener: &mut L,
     lanes: &Lanes,
     seat: &mut SchedulerSeat,
     out: &mut usize,
@@ -151,23 +167,28 @@ fn take_in_all<R: Wait>(
     requires seat { seat.old.lanes ≡ lanes.now }
     requires lanes { AreInLanes scheduler.old seat.old }
     requires out { out.old ≡ jobs_in seat.old.jobs }
+    requires told { AreCounted scheduler.old (L.account listener.old) }
     ensures work { scheduler.new.work ≡ scheduler.old.work }
     ensures settled { StaysSettled (phases_of scheduler.old) (phases_of scheduler.new) }
+    ensures told { AreCounted scheduler.new (L.account listener.new) }
+    ensures onward { HearsOn (L.account listener.old) (L.account listener.new) }
     ensures none_out { NoneIsOut (phases_of scheduler.new) }
 {
     for _ in rt.forever() {
         if *out == 0 {
             break;
         }
-        let _ = take_in(scheduler, lanes, seat, out);
+        let _ = take_in(scheduler, listener, lanes, seat, out);
     }
 }
 
 /// Hands the transactions that are left to the workers, and settles them as they come back. Where memory is refused, no more
-/// are handed out, and those that are out are taken in first. The seat has put nothing.
-pub(crate) fn schedule<R: Wait>(
+/// are handed out, and those that are out are taken in first. The seat has put nothing. The listener hears of each transaction
+/// as it is settled.
+pub(crate) fn schedule<R: Wait, L: Listener>(
     rt: &R,
     scheduler: &mut Scheduler,
+    listener: &mut L,
     lanes: &Lanes,
     seat: &mut SchedulerSeat,
     count: usize,
@@ -176,15 +197,18 @@ pub(crate) fn schedule<R: Wait>(
     requires count { count ≡ lanes.now.count }
     requires empty { seat.old.jobs ≡ replicate count None }
     requires none_out { NoneIsOut (phases_of scheduler.old) }
+    requires told { AreCounted scheduler.old (L.account listener.old) }
     ensures work { scheduler.new.work ≡ scheduler.old.work }
     ensures settled { StaysSettled (phases_of scheduler.old) (phases_of scheduler.new) }
+    ensures told { AreCounted scheduler.new (L.account listener.new) }
+    ensures onward { HearsOn (L.account listener.old) (L.account listener.new) }
     ensures none_out { NoneIsOut (phases_of scheduler.new) }
     ensures done { OnOk result (is_done (log_of scheduler.new.work) (phases_of scheduler.new) ≡ true) }
 {
     let mut out = 0;
-    let ended = hand_over(rt, scheduler, lanes, seat, count, &mut out);
+    let ended = hand_over(rt, scheduler, listener, lanes, seat, count, &mut out);
     if ended.is_err() {
-        take_in_all(rt, scheduler, lanes, seat, &mut out);
+        take_in_all(rt, scheduler, listener, lanes, seat, &mut out);
     }
     ended
 }

@@ -5,6 +5,7 @@ ghost use Rattle.std.specs.Vec.{vec_capacity};
 ghost use Rattle.engine.specs.Replies.{settled};
 
 use meaning::Outcome;
+use requests::Request;
 use scheduler::Outcomes;
 use sequencer::Item;
 
@@ -34,7 +35,7 @@ pub struct BatchDone {
 pub(crate) fn fill(
     replies: Vec<Reply>,
     first: u64,
-    items: &[Item],
+    items: &[Item<Request>],
     outcomes: Outcomes,
 ) -> Vec<Reply>
     requires empty { replies.items ≡ [] }

@@ -2,12 +2,14 @@
 
 ghost use Rattle.std.specs.Prelude.{◌≡◌, true, is_some, Some, IfOk, IfErr};
 ghost use Rattle.engine.specs.Executions.{WaitsIn};
-ghost use Rattle.engine.specs.Stages.{Fits, EndsBatch, IsBegun, IsInterruptedStage, rows_in, unfinished_in, unfinished_of};
+ghost use Rattle.engine.specs.Stages.{Fits, EndsBatch, IsBegun, IsInterruptedStage, rows_in, unfinished_in, unfinished_of, Knows, KnowsEnd};
+ghost use Rattle.engine.specs.Listeners.{HearsOn};
 
 use crate::alone::run_left;
 use crate::beginning::begin;
 use crate::ending::{Ended, end};
 use crate::gate::Gate;
+use crate::listener::Listener;
 use crate::pool::{Refusal, Run, run_on_workers};
 use crate::settings::Settings;
 use crate::stage::{Begun, Stage};
@@ -61,26 +63,32 @@ fn begun(
 }
 
 /// Works at an unfinished batch on one thread, by these choices of events. Where memory is refused, the stage that it has then
-/// comes back.
-pub(crate) fn work_alone(
+/// comes back. The listener hears of each transaction as it is settled; this waits only where the listener does.
+pub(crate) fn work_alone<L: Listener>(
     alloc: Global,
     procs: &Procs,
     settings: Settings,
     first: u64,
     stage: Stage,
+    listener: &mut L,
     choices: &[u64],
 ) -> Result<Ended, Interruption>
     requires fits { Fits procs.now.tables first stage }
     requires busy { is_some (unfinished_in (Some stage)) ≡ true }
+    requires told { Knows first stage (L.account listener.old) }
     ensures ended { IfOk result (EndsBatch procs.now.tables first (unfinished_in (Some stage)) (rows_in (Some stage))) }
     ensures stop { IfErr result (IsInterruptedStage procs.now.tables first stage) }
     ensures threadless { IfErr result (λ stop. stop.refusal ≡ Refusal.Memory) }
+    ensures told_end { IfOk result (λ ended. KnowsEnd ended (L.account listener.new)) }
+    ensures told_stop { IfErr result (λ stop. Knows first stop.stage (L.account listener.new)) }
+    ensures onward { HearsOn (L.account listener.old) (L.account listener.new) }
 {
     let mut begun = match begun(alloc, procs, settings, first, stage) {
         Ok(begun) => begun,
         Err(stage) => return Err(no_memory(stage)),
     };
-    if run_left(&mut begun.scheduler, choices).is_err() {
+    let count = begun.batch.items().len();
+    if run_left(&mut begun.scheduler, listener, choices, first, count).is_err() {
         return Err(no_memory(Stage::Begun(begun)));
     }
     match end(alloc, first, begun) {
@@ -90,32 +98,43 @@ pub(crate) fn work_alone(
 }
 
 /// Works at an unfinished batch on worker threads. Where memory or a thread is refused, the stage that it has then comes back.
-pub(crate) fn work_on_workers<R: Threads + Wait + Sync, G: Gate>(
+/// The listener hears of each transaction as it is settled, and comes back, too.
+pub(crate) fn work_on_workers<R: Threads + Wait + Sync, G: Gate, L: Listener + Drop>(
     rt: &R,
     alloc: Global,
     procs: &Procs,
     settings: Settings,
     first: u64,
     stage: Stage,
+    listener: L,
     gate: &G,
-) -> Result<Ended, Interruption>
+) -> (Result<Ended, Interruption>, L)
     requires fits { Fits procs.now.tables first stage }
     requires busy { is_some (unfinished_in (Some stage)) ≡ true }
-    ensures ended { IfOk result (EndsBatch procs.now.tables first (unfinished_in (Some stage)) (rows_in (Some stage))) }
-    ensures stop { IfErr result (IsInterruptedStage procs.now.tables first stage) }
+    requires told { Knows first stage (L.account listener) }
+    ensures ended { IfOk result.0 (EndsBatch procs.now.tables first (unfinished_in (Some stage)) (rows_in (Some stage))) }
+    ensures stop { IfErr result.0 (IsInterruptedStage procs.now.tables first stage) }
+    ensures told_end { IfOk result.0 (λ ended. KnowsEnd ended (L.account result.1)) }
+    ensures told_stop { IfErr result.0 (λ stop. Knows first stop.stage (L.account result.1)) }
+    ensures onward { HearsOn (L.account listener) (L.account result.1) }
 {
     let Begun { batch, scheduler } = match begun(alloc, procs, settings, first, stage) {
         Ok(begun) => begun,
-        Err(stage) => return Err(no_memory(stage)),
+        Err(stage) => return (Err(no_memory(stage)), listener),
     };
-    let Run { scheduler, ended } = run_on_workers(rt, alloc, settings, scheduler, gate);
+    let run = run_on_workers(rt, alloc, settings, scheduler, listener, gate);
+    let Run {
+        scheduler,
+        listener,
+        ended,
+    } = run;
     let begun = Begun { batch, scheduler };
     if let Err(refusal) = ended {
         let stage = Stage::Begun(begun);
-        return Err(Interruption { stage, refusal });
+        return (Err(Interruption { stage, refusal }), listener);
     }
     match end(alloc, first, begun) {
-        Ok(ended) => Ok(ended),
-        Err(begun) => Err(no_memory(Stage::Begun(begun))),
+        Ok(ended) => (Ok(ended), listener),
+        Err(begun) => (Err(no_memory(Stage::Begun(begun))), listener),
     }
 }

@@ -3,6 +3,7 @@
 use crate::test_world::{batch_of, engine, executed, replies};
 use engine::Settings;
 use std::alloc::Global;
+use std::sync::Wait;
 use std::test::Fail;
 use test_bank::{Call, TWO_PAYS};
 
@@ -26,15 +27,16 @@ pub(crate) fn choices(alloc: Global, seed: u32, count: u32) -> Result<Vec<u64>, 
 }
 
 /// What comes of calls that are run on one thread, by these choices of events.
-fn run_by(
-    alloc: Global,
+fn run_by<R: Wait + AllocGlobal>(
+    rt: &R,
     settings: Settings,
     calls: &[Call<'_>],
     choices: &[u64],
 ) -> Result<String, Fail> {
+    let alloc = rt.alloc();
     let mut engine = engine(alloc, settings)?;
     let batch = batch_of(alloc, &engine, calls)?;
-    let done = executed(engine.run_alone(alloc, batch, choices))?;
+    let done = executed(engine.run_alone(rt, alloc, batch, choices))?;
     replies(alloc, &done)
 }
 
@@ -74,7 +76,7 @@ fn outcomes_are_those_of_log_order_whatever_the_choices(rt: HostRuntime) -> Resu
         for (calls, outcomes) in table {
             for seed in 0..SEEDS {
                 let choices = choices(alloc, seed, 48)?;
-                let found = run_by(alloc, settings, calls, &choices)?;
+                let found = run_by(&rt, settings, calls, &choices)?;
                 assert_eq!(rt; found.as_str(), outcomes, "{threshold} {most} {seed}");
             }
         }

@@ -13,3 +13,5 @@ mod plain_comparison;
 mod resuming;
 #[cfg(test)]
 mod test_world;
+#[cfg(test)]
+mod watching;

@@ -14,6 +14,7 @@ use requests::{Procs, Request, Setup};
 use row_store::{RowStore, all_is_free_with_nothing_lent};
 use sequencer::prepare;
 use std::alloc::Global;
+use std::sync::Wait;
 use std::test::Fail;
 use test_bank::{CallsFault, bank, batch_over, request};
 use values::{Key, TableNo};
@@ -112,15 +113,16 @@ fn plain_run(alloc: Global) -> Result<(Vec<Outcome>, RowStore), Fail>
 }
 
 /// Appends the outcomes of one batch by an engine, with these choices of events.
-fn run_batch(
-    alloc: Global,
+fn run_batch<R: Wait + AllocGlobal>(
+    rt: &R,
     engine: &mut Engine,
     number: u32,
     choices: &[u64],
     outcomes: &mut Vec<Outcome>,
 ) -> Result<(), Fail> {
+    let alloc = rt.alloc();
     let batch = drawn_batch(alloc, engine.procs(), number)?;
-    let done = executed(engine.run_alone(alloc, batch, choices))?;
+    let done = executed(engine.run_alone(rt, alloc, batch, choices))?;
     for reply in done.replies {
         outcomes.push(reply.outcome)?;
     }
@@ -152,8 +154,8 @@ fn same_accounts(engine: &Engine, store: &RowStore) -> Result<bool, Fail>
 
 /// Whether an engine with these settings gives these outcomes and the accounts of the store, with another list of choices
 /// for each batch.
-fn agrees(
-    alloc: Global,
+fn agrees<R: Wait + AllocGlobal>(
+    rt: &R,
     settings: Settings,
     seed: u32,
     outcomes: &[Outcome],
@@ -161,18 +163,19 @@ fn agrees(
 ) -> Result<bool, Fail>
     requires { store.now.lent ≡ map_of.empty }
 {
+    let alloc = rt.alloc();
     let mut engine = engine(alloc, settings)?;
     let mut found = Vec::new(alloc);
     for number in 0..BATCHES {
         let choices = choices(alloc, seed.wrapping_add(number), 4 * CALLS)?;
-        run_batch(alloc, &mut engine, number, &choices, &mut found)?;
+        run_batch(rt, &mut engine, number, &choices, &mut found)?;
     }
     Ok(found.as_slice() == outcomes && same_accounts(&engine, store)?)
 }
 
 /// Whether an engine with these settings agrees with the plain program by each of many lists of choices.
-fn always_agrees(
-    alloc: Global,
+fn always_agrees<R: Wait + AllocGlobal>(
+    rt: &R,
     settings: Settings,
     outcomes: &[Outcome],
     store: &RowStore,
@@ -180,7 +183,7 @@ fn always_agrees(
     requires { store.now.lent ≡ map_of.empty }
 {
     for seed in 0..SEEDS {
-        if !agrees(alloc, settings, seed, outcomes, store)? {
+        if !agrees(rt, settings, seed, outcomes, store)? {
             return Ok(false);
         }
     }
@@ -195,7 +198,7 @@ fn each_list_of_choices_gives_what_the_plain_program_gives(rt: HostRuntime) -> R
     for (threshold, most) in [(0, 1), (65_535, 1), (0, 1_048_576), (65_535, 1_048_576)] {
         let settings = Settings::new(1, 1, threshold, most)?;
         assert!(rt;
-            always_agrees(alloc, settings, &outcomes, &store)?,
+            always_agrees(&rt, settings, &outcomes, &store)?,
             "{threshold} {most}"
         );
     }

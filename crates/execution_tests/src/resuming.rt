@@ -28,7 +28,7 @@ fn a_batch_goes_on_after_a_refusal(rt: HostRuntime) -> Result<(), Fail> {
         let mut engine = engine(alloc, Settings::new(2, 8, 64, 65_536)?)?;
         let batch = batch_of(alloc, &engine, &TWO_PAYS)?;
         let done = if alone {
-            engine.run_alone(alloc, batch, &[5, 1, 1, 2])
+            engine.run_alone(&rt, alloc, batch, &[5, 1, 1, 2])
         } else {
             engine.execute(&rt, alloc, batch, &OpenGate)
         };

@@ -14,8 +14,8 @@ use Rattle.values.specs.Rows.{type_of}
 use Rattle.values.specs.Keys.{key_of}
 use Rattle.catalogue.specs.Places.{partition_numbered}
 use Rattle.proclang_types.specs.declared.right.Right.{Right}
-use Rattle.proclang_types.specs.Syntax.{IntSyntax, number, variable, binary, count_rows, sum_column, EntrySyntax, row_entry, rows_entry, part_entry, table_entry, db_entry, ProcSyntax}
-use Rattle.proclang_types.specs.Typing.{IntFits, AsksNoRows, EntryFits, kinds_of, ProcFits}
+use Rattle.proclang_types.specs.Syntax.{IntSyntax, number, variable, binary, count_rows, sum_column, EntrySyntax, row_entry, rows_entry, part_entry, table_entry, db_entry, FootprintSyntax, declared_by, found_by_recon, entries_of, ProcSyntax}
+use Rattle.proclang_types.specs.Typing.{IntFits, AsksNoRows, EntryFits, FootprintFits, kinds_of, ProcFits}
 use Rattle.footprint.specs.declared.abort_code.AbortCode.{AbortCode}
 use Rattle.footprint.specs.declared.abort_code.AbortCode.TheVariants.{BadKey, BadPart, TooLong}
 use Rattle.footprint.specs.declared.resource.Resource.{Resource}
@@ -70,6 +70,10 @@ module _ (other : ℤ) (kinds : List ColType) (arguments : List Value) (args : m
       ap (λ (r : Result (List (Resource × Right)) AbortCode). r >>= λ grants. rule (nat_le (count + length grants) 65536) TooLong >>= λ u. with_entries other tables arguments (count + length grants) (with_rights footprint grants) entries) (same_grants tables entry fits.0)
       ∙ alike (grants_of (pos 0) tables arguments entry) (λ grants. rule (nat_le (count + length grants) 65536) TooLong) _ _ (λ grants. same_entries tables (count + length grants) (with_rights footprint grants) entries fits.1)
 
+fits_each : (tables : List TableShape) (kinds : List ColType) (footprint : FootprintSyntax) → FootprintFits tables kinds footprint → AllByRecursion (EntryFits tables kinds) (entries_of footprint)
+fits_each tables kinds (declared_by entries) fits = fits
+fits_each tables kinds found_by_recon fits = tt
+
 pub never_shows : (tables : List TableShape) (proc : ProcSyntax) (arguments : List Value) (other : ℤ) → ProcFits tables proc → map type_of arguments ≡ kinds_of proc.params
-    → declared_with other tables arguments proc.footprint ≡ declared_footprint tables arguments proc.footprint
-never_shows tables proc arguments other fits args = same_entries other (kinds_of proc.params) arguments args tables 0 empty proc.footprint fits.footprint
+    → declared_with other tables arguments (entries_of proc.footprint) ≡ declared_footprint tables arguments (entries_of proc.footprint)
+never_shows tables proc arguments other fits args = same_entries other (kinds_of proc.params) arguments args tables 0 empty (entries_of proc.footprint) (fits_each tables (kinds_of proc.params) proc.footprint fits.footprint)

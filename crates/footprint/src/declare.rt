@@ -1,9 +1,10 @@
 //! Declared footprints.
 
-ghost use Rattle.std.specs.Prelude.{◌≡◌, pos, IfOk, map, slice_get};
+ghost use Rattle.std.specs.Prelude.{◌≡◌, false, pos, IfOk, map, slice_get};
 ghost use Rattle.std.specs.List.{AllByRecursion};
 ghost use Rattle.proclang_types.specs.Views.{int_view, entry_view};
 ghost use Rattle.proclang_types.specs.Procedures.{proc_syntax};
+ghost use Rattle.proclang_types.specs.Syntax.{entries_of, is_recon};
 ghost use Rattle.footprint.specs.Declaration.{declared_number, number_or, grants_of, declared_footprint};
 ghost use Rattle.footprint.specs.Grants.{GrantsAs, IsGrantOf};
 ghost use Rattle.footprint.specs.Tables.{HasTable};
@@ -16,7 +17,7 @@ use crate::footprint::Footprint;
 use crate::grant::Grant;
 use crate::resource::{InPart, InTable, Resource};
 use catalogue::Catalogue;
-use proclang_types::{FootprintEntry, IntExpr, Proc};
+use proclang_types::{FootprintEntry, IntExpr, Proc, ProcFootprint};
 use std::alloc::Global;
 use values::{Key, NoMemory, RowName, Value};
 
@@ -153,14 +154,19 @@ pub fn declared(
     proc: &Proc,
     arguments: &[Value],
 ) -> Result<Result<Footprint, AbortCode>, NoMemory>
-    requires { proc.now.tables ≡ catalogue.now }
+    requires tables { proc.now.tables ≡ catalogue.now }
+    // The procedure declares its footprint.
+    requires declares { is_recon (proc_syntax proc.now).footprint ≡ false }
     ensures exact { IfOk result (λ declared.
-        declared ≡ declared_footprint catalogue.now arguments.now (proc_syntax proc.now).footprint) }
+        declared ≡ declared_footprint catalogue.now arguments.now (entries_of (proc_syntax proc.now).footprint)) }
     // Each resource that it gives a right on is of the catalogue.
     ensures of_catalogue { IfOk result (λ declared.
         IfOk declared (λ footprint. IsFootprintOf catalogue.now footprint)) }
 {
-    match with_entries(alloc, catalogue, arguments, proc.footprint()) {
+    let ProcFootprint::Declared(entries) = proc.footprint() else {
+        unreachable!()
+    };
+    match with_entries(alloc, catalogue, arguments, entries) {
         Ok(footprint) => Ok(Ok(footprint)),
         Err(DeclarationFault::Abort(code)) => Ok(Err(code)),
         Err(DeclarationFault::Memory) => Err(NoMemory),

@@ -4,7 +4,7 @@ ghost use Rattle.std.specs.Prelude.{◌≡◌, ℕ, ◌+◌, ℤ, pos, int_le, i
 ghost use Rattle.values.specs.declared.value.Value.{Value};
 ghost use Rattle.catalogue.specs.Shapes.{TableShape};
 ghost use Rattle.values.specs.Rows.{type_of};
-ghost use Rattle.proclang_types.specs.Syntax.{ProcSyntax};
+ghost use Rattle.proclang_types.specs.Syntax.{ProcSyntax, entries_of};
 ghost use Rattle.proclang_types.specs.Typing.{kinds_of, ProcFits};
 ghost use Rattle.footprint.specs.Arithmetic.{IsDivision};
 ghost use Rattle.footprint.specs.Declaration.{declared_with, declared_footprint, keys_between};
@@ -16,7 +16,8 @@ ghost use Rattle.footprint.specs.TreeOrder.{StandsInTreeOrder};
 pub fn stand_in_never_shows()
     ensures { (tables : List TableShape) (proc : ProcSyntax) (arguments : List Value) (other : ℤ) →
         ProcFits tables proc → map type_of arguments ≡ kinds_of proc.params
-        → declared_with other tables arguments proc.footprint ≡ declared_footprint tables arguments proc.footprint }
+        → declared_with other tables arguments (entries_of proc.footprint)
+        ≡ declared_footprint tables arguments (entries_of proc.footprint) }
 {}
 
 /// The keys from one to a number, place by place: each is one more than the one before it, the first is the lower one, and there

@@ -7,6 +7,7 @@ ghost use Rattle.intake.specs.Histories.{HasAll, without_first, only_first, join
 ghost use Rattle.intake.specs.Passes.{IsClientOf, IsDrawerOf, AreClientsOf, histories_of, own_history, drawn_by, held_by};
 ghost use Rattle.intake.specs.Draining.{all_items, Appends, IsLentBy, IsBackWith};
 
+use crate::batched::Batched;
 use crate::intake::{Intake, MOST_DRAWN};
 use crate::passes::{ClientPass, DrawPass};
 use crate::rule::{CutFirst, TakeIn};
@@ -14,19 +15,6 @@ use crate::view::{Item, View};
 use crossbeam_queue::Pass;
 use std::alloc::AllocError;
 use std::sync::Wait;
-
-/// A batch of items.
-pub trait Batched<Q>: Drop {
-    ghost use Rattle.std.specs.Prelude.{◌≡◌, List};
-    ghost use Rattle.intake.specs.declared.view.Item.{Item};
-
-    /// The items of a batch.
-    ghost items_of: { Self → List (Item Q) };
-
-    /// The batch of these items, of which there are at most 4,096.
-    fn of_items(items: Vec<Item<Q>>) -> Self
-        ensures { items_of result ≡ items.items };
-}
 
 impl<Q> Intake<Q> {
     // The client's history goes to the pass that draws.
@@ -79,7 +67,7 @@ impl<Q: Drop> Intake<Q> {
     {
         for _ in rt.forever() {
             into.reserve(1)?;
-            let items = self.draw(rt, pass, MOST_DRAWN)?;
+            let items = self.draw_items(rt, pass, MOST_DRAWN)?;
             let done = items.len() < MOST_DRAWN;
             keep(into, items);
             if done {

@@ -6,6 +6,7 @@ ghost use Rattle.intake.specs.Histories.{HasAll};
 ghost use Rattle.intake.specs.Rule.{IsAccounted};
 ghost use Rattle.intake.specs.Passes.{IsClientOf, IsDrawerOf, AreNewClients, capacity_of, client_of, sent_by, spare_of, histories_of, drawn_by, held_by};
 
+use crate::batched::Batched;
 use crate::passes::{ClientPass, DrawPass, Full};
 use crate::rule::{CutDrawing, CutFirst, Draws, InOrder, Submits};
 use crate::view::{Item, View};
@@ -89,9 +90,29 @@ impl<Q> Intake<Q> {
         }
     }
 
-    /// Draws requests in the queue's order: at most `max` and 4,096, and fewer only where a step found the queue empty.
-    /// Room for them is made first; where memory is refused, nothing is drawn. It may wait.
-    pub fn draw<R: Wait>(
+    /// Draws requests in the queue's order, as a batch: at most `max` and 4,096, and fewer only where a step found the queue
+    /// empty. Room for them is made first; where memory is refused, nothing is drawn. It may wait.
+    pub fn draw<R: Wait, B: Batched<Q>>(
+        &self,
+        rt: &R,
+        pass: &mut DrawPass<Q>,
+        max: usize,
+    ) -> Result<B, AllocError>
+        requires { IsDrawerOf self.now pass.old }
+        ensures pass { IsDrawerOf self.now pass.new × (held_by pass.new ≡ held_by pass.old) }
+        ensures drawn { IfOk result (λ batch. drawn_by pass.new ≡ drawn_by pass.old ++ B.items_of batch) }
+        ensures most { IfOk result (λ batch. (length (B.items_of batch) ≤ max) × (length (B.items_of batch) ≤ 4096)) }
+        // Where a step found the queue empty, every request of the clients whose histories the pass holds was drawn.
+        ensures short { IfOk result (λ batch. length (B.items_of batch) < max → length (B.items_of batch) < 4096 →
+            HasAll (drawn_by pass.new) (held_by pass.old)) }
+        ensures err { OnErr result (drawn_by pass.new ≡ drawn_by pass.old) }
+    {
+        let items = self.draw_items(rt, pass, max)?;
+        Ok(B::of_items(items))
+    }
+
+    /// Draws requests as `draw` does, as items.
+    pub(crate) fn draw_items<R: Wait>(
         &self,
         rt: &R,
         pass: &mut DrawPass<Q>,

@@ -2,13 +2,14 @@
 //! Each client's requests are drawn in the order in which it submitted them, each once. Generic in the request.
 #![tactic(auto)]
 
+mod batched;
 mod draining;
 mod intake;
 mod passes;
 mod rule;
 mod view;
 
-pub use draining::Batched;
+pub use batched::Batched;
 pub use intake::{Intake, MOST_DRAWN};
 pub use passes::{ClientPass, DrawPass, Full};
 pub use view::Item;

@@ -1,2 +1,3 @@
 pub mod Everywhere
 pub mod LeftNumbers
+pub mod Finding

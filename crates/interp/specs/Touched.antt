@@ -16,3 +16,7 @@ pub record ShowsTouched (entry : EntryShape) (shows : RowName → Bool) : Type 0
 -- there are only writes of names that the entry may write
 pub record OnlyTouched (entry : EntryShape) (writes : List (RowName × Option RowOf)) : Type 0 where
   pub others : (name : RowName) → touches entry name Write ≡ false → lookup (is_at (name_cmp name)) writes ≡ None
+
+-- each name is shown
+pub record ShowsEachName (shows : RowName → Bool) : Type 0 where
+  pub shown : (name : RowName) → shows name ≡ true

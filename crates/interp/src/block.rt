@@ -8,7 +8,7 @@ ghost use Rattle.meaning.specs.Runs.{scoped};
 ghost use Rattle.meaning.specs.Meaning.{effect, in_order, turn_of, turns};
 ghost use Rattle.meaning.specs.Turns.{numbers_between};
 ghost use Rattle.meaning.specs.Entries.{nothing};
-ghost use Rattle.workspace.specs.Coverage.{gate_of, KeepsCovered};
+ghost use Rattle.workspace.specs.Coverage.{rule_of, KeepsCovered};
 ghost use Rattle.workspace.specs.States.{state_at};
 ghost use Rattle.workspace.specs.Answers.{Gives};
 
@@ -32,7 +32,7 @@ fn effect<V: RowView>(
     statement: &Stmt,
 ) -> Result<(), Stop>
     ensures gives { Gives (λ _. tt) (state_at (V.rows shown.now.view.now) space.new) result
-        (effect nothing (gate_of shown.now.permit) (stmt_view statement.now)
+        (effect nothing (rule_of shown.now.permit) (stmt_view statement.now)
         (state_at (V.rows shown.now.view.now) space.old)) }
     ensures kept { OnOk result (KeepsCovered shown.now.permit space.old space.new) }
 {
@@ -74,7 +74,7 @@ fn effect<V: RowView>(
         }
         Stmt::Each { table, part, body } => {
             let number = evaluate_int(shown, space, part)?;
-            let part = access_part(&shown.permit, *table, number)?;
+            let part = access_part(&shown.permit, space, *table, number)?;
             let keys = keys_in(alloc, shown, space, *table, part)?;
             for_each_key(alloc, shown, space, body, &keys)?;
             Ok(())
@@ -93,7 +93,7 @@ fn scoped_block<V: RowView>(
     statements: &Vec<Stmt>,
 ) -> Result<(), Stop>
     ensures gives { Gives (λ _. tt) (state_at (V.rows shown.now.view.now) space.new) result
-        (scoped (in_order nothing (gate_of shown.now.permit) (block_of (stmts_view statements.now.items)))
+        (scoped (in_order nothing (rule_of shown.now.permit) (block_of (stmts_view statements.now.items)))
         (state_at (V.rows shown.now.view.now) space.old)) }
     ensures kept { OnOk result (KeepsCovered shown.now.permit space.old space.new) }
 {
@@ -115,7 +115,7 @@ fn for_each_number<V: RowView>(
     statements: &Vec<Stmt>,
 ) -> Result<(), Stop>
     ensures gives { Gives (λ _. tt) (state_at (V.rows shown.now.view.now) space.new) result
-        (turns (in_order nothing (gate_of shown.now.permit) (block_of (stmts_view statements.now.items)))
+        (turns (in_order nothing (rule_of shown.now.permit) (block_of (stmts_view statements.now.items)))
         (numbers_between low high) (state_at (V.rows shown.now.view.now) space.old)) }
     ensures kept { OnOk result (KeepsCovered shown.now.permit space.old space.new) }
 {
@@ -137,7 +137,7 @@ fn for_each_key<V: RowView>(
     keys: &Vec<Key>,
 ) -> Result<(), Stop>
     ensures gives { Gives (λ _. tt) (state_at (V.rows shown.now.view.now) space.new) result
-        (turns (in_order nothing (gate_of shown.now.permit) (block_of (stmts_view statements.now.items)))
+        (turns (in_order nothing (rule_of shown.now.permit) (block_of (stmts_view statements.now.items)))
         (map pos keys.now.items) (state_at (V.rows shown.now.view.now) space.old)) }
     ensures kept { OnOk result (KeepsCovered shown.now.permit space.old space.new) }
 {
@@ -157,7 +157,7 @@ fn turn<V: RowView>(
     statements: &Vec<Stmt>,
 ) -> Result<(), Stop>
     ensures gives { Gives (λ _. tt) (state_at (V.rows shown.now.view.now) space.new) result
-        (turn_of (in_order nothing (gate_of shown.now.permit) (block_of (stmts_view statements.now.items))) number
+        (turn_of (in_order nothing (rule_of shown.now.permit) (block_of (stmts_view statements.now.items))) number
         (state_at (V.rows shown.now.view.now) space.old)) }
     ensures kept { OnOk result (KeepsCovered shown.now.permit space.old space.new) }
 {
@@ -178,7 +178,7 @@ pub(crate) fn block<V: RowView>(
     statements: &Vec<Stmt>,
 ) -> Result<(), Stop>
     ensures gives { Gives (λ _. tt) (state_at (V.rows shown.now.view.now) space.new) result
-        (in_order nothing (gate_of shown.now.permit) (block_of (stmts_view statements.now.items))
+        (in_order nothing (rule_of shown.now.permit) (block_of (stmts_view statements.now.items))
         (state_at (V.rows shown.now.view.now) space.old)) }
     ensures kept { OnOk result (KeepsCovered shown.now.permit space.old space.new) }
 {

@@ -1,4 +1,5 @@
-//! Running an entry: its outcome and its writes, on whatever view shows what it may read.
+//! Running an entry: its outcome and its writes, on whatever view shows what it may read. And reconnaissance, which finds the
+//! footprint of an entry.
 #![tactic(auto)]
 
 mod block;
@@ -6,11 +7,13 @@ mod body;
 mod effect;
 mod entry;
 mod loop_numbers;
+mod reconnaissance;
 mod row_statement;
 mod runs;
 mod statement;
 
 pub use effect::Effect;
 pub use entry::{Entry, Footing};
+pub use reconnaissance::recon;
 pub use runs::run;
 pub use workspace::RowView;

@@ -5,7 +5,7 @@ ghost use Rattle.std.specs.Prelude.{map, OnOk};
 ghost use Rattle.proclang_types.specs.Views.{int_view, value_view};
 ghost use Rattle.meaning.specs.Meaning.{insert_values, delete_key};
 ghost use Rattle.meaning.specs.Entries.{nothing};
-ghost use Rattle.workspace.specs.Coverage.{gate_of, KeepsCovered};
+ghost use Rattle.workspace.specs.Coverage.{rule_of, KeepsCovered};
 ghost use Rattle.workspace.specs.States.{state_at};
 ghost use Rattle.workspace.specs.Answers.{Gives};
 
@@ -28,13 +28,13 @@ pub(crate) fn insert_values<V: RowView>(
 ) -> Result<(), Stop>
     ensures gives { Gives (λ _.
         tt) (state_at (V.rows shown.now.view.now) space.new) result
-        (insert_values nothing (gate_of shown.now.permit) table (int_view key.now)
+        (insert_values nothing (rule_of shown.now.permit) table (int_view key.now)
         (map value_view values.now.items) (state_at (V.rows shown.now.view.now) space.old)) }
     ensures kept { OnOk result (KeepsCovered shown.now.permit space.old space.new) }
 {
     let number = evaluate_int(shown, space, key)?;
     let values = evaluate_all(alloc, shown, space, values)?;
-    let name = access(&shown.permit, Right::Write, table, number)?;
+    let name = access(&shown.permit, space, Right::Write, table, number)?;
     if is_there(shown, space, &name) {
         return Err(Stop::End(Ending::Abort(AbortCode::DuplicateRow)));
     }
@@ -51,12 +51,12 @@ pub(crate) fn delete_key<V: RowView>(
 ) -> Result<(), Stop>
     ensures gives { Gives (λ _.
         tt) (state_at (V.rows shown.now.view.now) space.new) result
-        (delete_key nothing (gate_of shown.now.permit) table (int_view key.now)
+        (delete_key nothing (rule_of shown.now.permit) table (int_view key.now)
         (state_at (V.rows shown.now.view.now) space.old)) }
     ensures kept { OnOk result (KeepsCovered shown.now.permit space.old space.new) }
 {
     let number = evaluate_int(shown, space, key)?;
-    let gone = access(&shown.permit, Right::Write, table, number)?;
+    let gone = access(&shown.permit, space, Right::Write, table, number)?;
     if !is_there(shown, space, &gone) {
         return Err(Stop::End(Ending::Abort(AbortCode::NoRow)));
     }

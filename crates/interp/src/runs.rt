@@ -19,7 +19,7 @@ use meaning::{Ending, Outcome, stand_in_never_shows, stays_in_footprint};
 use std::alloc::Global;
 use std::collections::BTreeMap;
 use values::NoMemory;
-use workspace::{Permit, RowView, Shown};
+use workspace::{Passage, Permit, RowView, Shown};
 
 /// Runs an entry on the rows of the view.
 fn run_here<V: RowView>(
@@ -49,8 +49,7 @@ fn run_here<V: RowView>(
     };
     let permit = Permit {
         catalogue,
-        footprint,
-        uncovered,
+        passage: Passage::Covered(footprint, uncovered),
     };
     let shown = Shown { view, permit };
     let request = entry.request();

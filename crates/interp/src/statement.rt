@@ -6,7 +6,7 @@ ghost use Rattle.values.specs.declared.value.Value.TheVariants.{Int};
 ghost use Rattle.proclang_types.specs.Views.{int_view, value_view};
 ghost use Rattle.meaning.specs.Meaning.{assign_value, get_column, put_column, reply_with};
 ghost use Rattle.meaning.specs.Entries.{nothing};
-ghost use Rattle.workspace.specs.Coverage.{gate_of, KeepsCovered};
+ghost use Rattle.workspace.specs.Coverage.{rule_of, KeepsCovered};
 ghost use Rattle.workspace.specs.States.{state_at};
 ghost use Rattle.workspace.specs.Answers.{Gives};
 
@@ -37,7 +37,7 @@ pub(crate) fn assign_value<V: RowView>(
 ) -> Result<(), Stop>
     ensures gives { Gives (λ _.
         tt) (state_at (V.rows shown.now.view.now) space.new) result
-        (assign_value nothing (gate_of shown.now.permit) variable (value_view value.now)
+        (assign_value nothing (rule_of shown.now.permit) variable (value_view value.now)
         (state_at (V.rows shown.now.view.now) space.old)) }
     ensures kept { OnOk result (KeepsCovered shown.now.permit space.old space.new) }
 {
@@ -57,12 +57,12 @@ pub(crate) fn get_column<V: RowView>(
 ) -> Result<(), Stop>
     ensures gives { Gives (λ _.
         tt) (state_at (V.rows shown.now.view.now) space.new) result
-        (get_column nothing (gate_of shown.now.permit) variable table (int_view key.now) column
+        (get_column nothing (rule_of shown.now.permit) variable table (int_view key.now) column
         (state_at (V.rows shown.now.view.now) space.old)) }
     ensures kept { OnOk result (KeepsCovered shown.now.permit space.old space.new) }
 {
     let number = evaluate_int(shown, space, key)?;
-    let name = access(&shown.permit, Right::Read, table, number)?;
+    let name = access(&shown.permit, space, Right::Read, table, number)?;
     let row = present_row(&*shown, space, &name)?;
     let value = column_value(row, column)?;
     space.set_variable(variable, value)?;
@@ -81,13 +81,13 @@ pub(crate) fn put_column<V: RowView>(
 ) -> Result<(), Stop>
     ensures gives { Gives (λ _.
         tt) (state_at (V.rows shown.now.view.now) space.new) result
-        (put_column nothing (gate_of shown.now.permit) table (int_view key.now) column (value_view value.now)
+        (put_column nothing (rule_of shown.now.permit) table (int_view key.now) column (value_view value.now)
         (state_at (V.rows shown.now.view.now) space.old)) }
     ensures kept { OnOk result (KeepsCovered shown.now.permit space.old space.new) }
 {
     let number = evaluate_int(shown, space, key)?;
     let value = evaluate(alloc, shown, space, value)?;
-    let name = access(&shown.permit, Right::Write, table, number)?;
+    let name = access(&shown.permit, space, Right::Write, table, number)?;
     let mut row = present_row(&*shown, space, &name)?.clone()?;
     row.set(column, value);
     space.write(name, row)?;
@@ -103,7 +103,7 @@ pub(crate) fn reply_with<V: RowView>(
 ) -> Result<(), Stop>
     ensures gives { Gives (λ _.
         tt) (state_at (V.rows shown.now.view.now) space.new) result
-        (reply_with nothing (gate_of shown.now.permit) (map value_view expressions.now.items)
+        (reply_with nothing (rule_of shown.now.permit) (map value_view expressions.now.items)
         (state_at (V.rows shown.now.view.now) space.old)) }
     ensures kept { OnOk result (KeepsCovered shown.now.permit space.old space.new) }
 {

@@ -4,10 +4,10 @@
 ghost use Rattle.std.specs.Prelude.{◌≡◌, map, IfOk, OnOk};
 ghost use Rattle.values.specs.Database.{Database};
 ghost use Rattle.proclang_types.specs.Views.{int_view, text_view, value_view};
-ghost use Rattle.meaning.specs.Runs.{Gate};
+ghost use Rattle.meaning.specs.Runs.{AccessRule};
 ghost use Rattle.meaning.specs.Meaning.{int_of, text_of, value_of, values_of};
 ghost use Rattle.meaning.specs.Entries.{nothing};
-ghost use Rattle.workspace.specs.Coverage.{gate_of, KeepsCovered};
+ghost use Rattle.workspace.specs.Coverage.{rule_of, KeepsCovered};
 ghost use Rattle.workspace.specs.States.{state_at};
 ghost use Rattle.workspace.specs.Answers.{Gives};
 
@@ -24,7 +24,7 @@ pub fn evaluate_int<V: RowView>(
     expression: &IntExpr,
 ) -> Result<i64, Stop>
     ensures gives { Gives (λ z. z) (state_at (V.rows shown.now.view.now) space.new) result
-        (int_of nothing (gate_of shown.now.permit) (int_view expression.now)
+        (int_of nothing (rule_of shown.now.permit) (int_view expression.now)
         (state_at (V.rows shown.now.view.now) space.old)) }
     ensures kept { OnOk result (KeepsCovered shown.now.permit space.old space.new) }
 {
@@ -40,7 +40,7 @@ pub fn evaluate_int<V: RowView>(
         IntExpr::Count { table, part } => {
             space.take_step()?;
             let number = evaluate_int(shown, space, part)?;
-            let part = access_part(&shown.permit, *table, number)?;
+            let part = access_part(&shown.permit, space, *table, number)?;
             count_in(shown, space, *table, part)
         }
         IntExpr::Sum {
@@ -50,7 +50,7 @@ pub fn evaluate_int<V: RowView>(
         } => {
             space.take_step()?;
             let number = evaluate_int(shown, space, part)?;
-            let part = access_part(&shown.permit, *table, number)?;
+            let part = access_part(&shown.permit, space, *table, number)?;
             total_in(shown, space, *table, part, *column)
         }
     }
@@ -58,7 +58,7 @@ pub fn evaluate_int<V: RowView>(
 
 /// The value of a text expression.
 pub(crate) fn text_of<'a>(space: &'a Workspace, expression: &'a TextExpr) -> &'a str
-    ensures { (db : Database) (gate : Gate) → text_of nothing gate (text_view expression.now) (state_at db space.now)
+    ensures { (db : Database) (rule : AccessRule) → text_of nothing rule (text_view expression.now) (state_at db space.now)
         ≡ (Ok result.now, state_at db space.now) }
 {
     match expression {
@@ -75,7 +75,7 @@ pub fn evaluate<V: RowView>(
     expression: &ValueExpr,
 ) -> Result<Value, Stop>
     ensures gives { Gives (λ v. v) (state_at (V.rows shown.now.view.now) space.new) result
-        (value_of nothing (gate_of shown.now.permit) (value_view expression.now)
+        (value_of nothing (rule_of shown.now.permit) (value_view expression.now)
         (state_at (V.rows shown.now.view.now) space.old)) }
     ensures kept { OnOk result (KeepsCovered shown.now.permit space.old space.new) }
 {
@@ -99,7 +99,7 @@ pub fn evaluate_all<V: RowView>(
     expressions: &Vec<ValueExpr>,
 ) -> Result<Vec<Value>, Stop>
     ensures gives { Gives (λ vs. vs.items) (state_at (V.rows shown.now.view.now) space.new) result
-        (values_of nothing (gate_of shown.now.permit) (map value_view expressions.now.items)
+        (values_of nothing (rule_of shown.now.permit) (map value_view expressions.now.items)
         (state_at (V.rows shown.now.view.now) space.old)) }
     ensures kept { OnOk result (KeepsCovered shown.now.permit space.old space.new) }
 {

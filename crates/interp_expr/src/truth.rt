@@ -6,7 +6,7 @@ ghost use Rattle.proclang_types.specs.Views.{bool_view};
 ghost use Rattle.meaning.specs.Comparing.{compare, compare_bytes};
 ghost use Rattle.meaning.specs.Meaning.{bool_of};
 ghost use Rattle.meaning.specs.Entries.{nothing};
-ghost use Rattle.workspace.specs.Coverage.{gate_of, KeepsCovered};
+ghost use Rattle.workspace.specs.Coverage.{rule_of, KeepsCovered};
 ghost use Rattle.workspace.specs.States.{state_at};
 ghost use Rattle.workspace.specs.Answers.{Gives};
 
@@ -42,7 +42,7 @@ pub fn evaluate_bool<V: RowView>(
     expression: &BoolExpr,
 ) -> Result<bool, Stop>
     ensures gives { Gives (λ b. b) (state_at (V.rows shown.now.view.now) space.new) result
-        (bool_of nothing (gate_of shown.now.permit) (bool_view expression.now)
+        (bool_of nothing (rule_of shown.now.permit) (bool_view expression.now)
         (state_at (V.rows shown.now.view.now) space.old)) }
     ensures kept { OnOk result (KeepsCovered shown.now.permit space.old space.new) }
 {
@@ -77,7 +77,7 @@ pub fn evaluate_bool<V: RowView>(
         BoolExpr::Exists { table, key } => {
             space.take_step()?;
             let number = evaluate_int(shown, space, key)?;
-            let name = access(&shown.permit, Right::Read, *table, number)?;
+            let name = access(&shown.permit, space, Right::Read, *table, number)?;
             Ok(is_there(shown, space, &name))
         }
     }

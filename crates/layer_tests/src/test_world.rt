@@ -4,7 +4,7 @@ use catalogue::Catalogue;
 use coarsen::Plan;
 use interp::Entry;
 use proclang::{Request, read_procs};
-use row_store::RowStore;
+use row_store::{RowStore, all_is_free_with_nothing_lent};
 use sequencer::{Batch, prepare};
 use serde_json::Value as Json;
 use std::alloc::Global;
@@ -56,6 +56,7 @@ pub(crate) fn entries(alloc: Global, name: &str, numbers: &[i64]) -> Result<Vec<
     let request = Request::new(&procs, name, values)?;
     let batch = Batch::of(alloc, vec![in alloc; request]?)?;
     let store = RowStore::new(alloc, &catalogue, Vec::new(alloc))?;
+    all_is_free_with_nothing_lent();
     Ok(prepare(alloc, &batch, &catalogue, &procs, &store)?)
 }
 

@@ -1,8 +1,12 @@
 pub mod Names
 pub mod Partitions
+pub mod Related
 pub mod Frame
 pub mod Typed
 pub mod Totals
 pub mod StandIns
 pub mod Ranges
 pub mod Order
+pub mod Greatest
+pub mod Found
+pub mod Places

@@ -18,9 +18,10 @@ use Rattle.values.specs.Database.{Database, RowOf, name_cmp}
 use Rattle.proclang_types.specs.declared.right.Right.{Right}
 use Rattle.proclang_types.specs.declared.right.Right.TheVariants.{Read, Write}
 use Rattle.proclang_types.specs.Syntax.{IntSyntax, number, variable, binary, count_rows, sum_column, TextSyntax, literal, text_variable, BoolSyntax, compare_ints, compare_texts, both, either, negated, row_exists, ValueSyntax, int_value, text_value, StmtSyntax, assign, get as get_syntax, put, insert_row, delete_row, choose, for_numbers, for_keys, abort as abort_syntax, reply, BlockSyntax, no_statements, followed, block_of, ProcSyntax}
-use Rattle.proclang_types.specs.Typing.{column_kind, IntFits, TextFits, BoolFits, ValueFits, kind_of, in_loop, Takes, declared, scope_after as kinds_after, StmtFits, BlockFits, kinds_of}
+use Rattle.proclang_types.specs.Typing.{column_kind, IntFits, TextFits, BoolFits, ValueFits, kind_of, in_loop, Takes, declared, scope_after as kinds_after, StmtFits, BlockFits, kinds_of, ProcFits}
 use Rattle.footprint.specs.declared.abort_code.AbortCode.{AbortCode}
 use Rattle.footprint.specs.declared.abort_code.AbortCode.TheVariants.{BadKey, BadPart, NoRow, DuplicateRow, Budget, TooLong, Own, Overflow, Uncovered}
+use Rattle.footprint.specs.declared.resource.Resource.{Resource}
 use Rattle.footprint.specs.declared.resource.Resource.TheVariants.{Table}
 use Rattle.footprint.specs.declared.resource.InTable.TheVariants.{Part}
 use Rattle.footprint.specs.declared.resource.InPart.TheVariants.{WholePart}
@@ -29,13 +30,14 @@ use Rattle.footprint.specs.Rights.{FootprintOf, covers}
 use Rattle.footprint.specs.Arithmetic.{result_of, is_int}
 use Rattle.meaning.specs.declared.outcome.Ending.{Ending}
 use Rattle.meaning.specs.declared.outcome.Ending.TheVariants as endings
-use Rattle.meaning.specs.Runs.{State, Ran, continued, and_then, ok, ended, look, alter, provided, Gate, passing, covered, step, tested_key, in_range, computed, accessed, part_there, part_accessed, part_now, row_now, present, absent, set_row, remove_row, declare, set_variable, scoped, replying}
+use Rattle.meaning.specs.Runs.{State, Ran, continued, and_then, ok, ended, look, alter, provided, AccessRule, passing, tested, covered, noted, step, tested_key, in_range, computed, accessed, part_there, part_accessed, part_now, row_now, present, absent, set_row, remove_row, declare, set_variable, scoped, replying}
 use Rattle.meaning.specs.Comparing.{compare, compare_bytes}
 use Rattle.meaning.specs.Partitions.{keys_of, total, part_rows}
 use Rattle.meaning.specs.Turns.{numbers_between}
 use Rattle.meaning.specs.Meaning.{StandIn, int_of, text_of, bool_of, value_of, values_of, chosen, with_number, turns, effect, in_order}
 use Rattle.meaning.specs.Entries.{EntryShape, Footing, declares, faults, finds, start, finished, run_of, nothing, meaning_by}
 use Rattle.meaning.specs.Fitting.{IsRowOf, HasTypes, IsCallOf, StandInNeverShows}
+use Rattle.meaning.specs.Reconnaissance.{StandInNeverFound}
 use Rattle.meaning.proofs.Names.{names_total, exact_names}
 use Rattle.meaning.proofs.Frame.{is_equal}
 use Rattle.meaning.proofs.Typed.{same_number, same_text, same_value, in_place, column_in_place, kept_types, set_types, kinds_through, Extends, extends_take, through_extends, loop_extends}
@@ -194,37 +196,47 @@ module _ (tables : List TableShape) where
       bind Any Any kinds kinds kinds _ _ _ _ (s_provided kinds (not (nat_lt 64 (length old + length vs))) TooLong (old ++ vs)) (λ new w.
       s_alter kinds (λ st. record st { reply = new }) (λ s. refl) (λ s. refl)))
 
-  module _ (fo : FootprintOf) (uncovered : Ending) (d e : StandIn) where
-    abbrev gate : Gate
-    gate = covered tables fo uncovered
+  -- what happens at an access keeps variables and rows
+  abbrev Passes : (Resource → Right → Ran (Unit {0})) → Type 0
+  Passes access = (kinds : List ColType) (resource : Resource) (right : Right) → Same Any kinds kinds (access resource right) (access resource right)
 
-    s_passing : (kinds : List ColType) (b : Bool) → Same Any kinds kinds (passing b uncovered) (passing b uncovered)
-    s_passing kinds true s typed = (refl, (tt, typed))
-    s_passing kinds false s typed = (refl, tt)
+  s_passing : (kinds : List ColType) (uncovered : Ending) (b : Bool) → Same Any kinds kinds (passing b uncovered) (passing b uncovered)
+  s_passing kinds uncovered true s typed = (refl, (tt, typed))
+  s_passing kinds uncovered false s typed = (refl, tt)
+
+  s_tested : (fo : FootprintOf) (uncovered : Ending) → Passes (tested fo uncovered)
+  s_tested fo uncovered kinds resource right = s_passing kinds uncovered (covers fo resource right)
+
+  s_noted : Passes noted
+  s_noted kinds resource right = s_alter kinds (λ st. record st { accesses = st.accesses ++ (resource, right) ∷ [] }) (λ s. refl) (λ s. refl)
+
+  module _ (access : Resource → Right → Ran (Unit {0})) (passes : Passes access) (d e : StandIn) where
+    abbrev rule : AccessRule
+    rule = record { tables = tables; access = access }
 
     abbrev InTable : ℕ → RowName → Type 0
     InTable table name = name.table ≡ table
 
-    s_access : (kinds : List ColType) (right : Right) (table : ℕ) (z : ℤ) → Same (InTable table) kinds kinds (accessed gate right table z) (accessed gate right table z)
+    s_access : (kinds : List ColType) (right : Right) (table : ℕ) (z : ℤ) → Same (InTable table) kinds kinds (accessed rule right table z) (accessed rule right table z)
     s_access kinds right table z = bind Any (InTable table) kinds kinds kinds _ _ _ _ (s_key kinds z) (λ key w.
         let name : RowName = record { table = table; key = key } in
-        bind Any (InTable table) kinds kinds kinds _ _ _ _ (s_passing kinds (covers fo (row_resource tables name) right)) (λ u c. s_ok (InTable table) kinds name refl))
+        bind Any (InTable table) kinds kinds kinds _ _ _ _ (passes kinds (row_resource tables name) right) (λ u c. s_ok (InTable table) kinds name refl))
 
-    s_part : (kinds : List ColType) (table : ℕ) (z : ℤ) → Same Any kinds kinds (part_accessed gate table z) (part_accessed gate table z)
+    s_part : (kinds : List ColType) (table : ℕ) (z : ℤ) → Same Any kinds kinds (part_accessed rule table z) (part_accessed rule table z)
     s_part kinds table z = bind Any Any kinds kinds kinds _ _ _ _ (s_part_there kinds (partition_numbered tables table z)) (λ part u.
-        bind Any Any kinds kinds kinds _ _ _ _ (s_passing kinds (covers fo (Table table (Part part WholePart)) Read)) (λ v w. s_ok Any kinds part tt))
+        bind Any Any kinds kinds kinds _ _ _ _ (passes kinds (Table table (Part part WholePart)) Read) (λ v w. s_ok Any kinds part tt))
 
     abbrev Totals : ℕ → ℕ → Database → Type 0
     Totals table column rows = (x y : ℤ) → total y column (entries rows) ≡ total x column (entries rows)
 
     -- the rows of a partition of a table that has that column
-    s_rows : (kinds : List ColType) (table part column : ℕ) → column_kind tables table column ≡ Some types.Int → Same (Totals table column) kinds kinds (part_now gate table part) (part_now gate table part)
+    s_rows : (kinds : List ColType) (table part column : ℕ) → column_kind tables table column ≡ Some types.Int → Same (Totals table column) kinds kinds (part_now rule table part) (part_now rule table part)
     s_rows kinds table part column is s typed = (refl, (λ x y. same_total tables table part column s.rows x y typed.rows is, typed))
 
     s_in_range : (kinds : List ColType) (x y : ℤ) → y ≡ x → Same Any kinds kinds (in_range x) (in_range y)
     s_in_range kinds x y is s typed = (ap (λ (z : ℤ). in_range z s) is, (s_provided kinds (is_int x) Overflow x s typed).1)
 
-    s_int : (kinds : List ColType) (t : IntSyntax) → IntFits tables kinds t → Same Any kinds kinds (int_of d gate t) (int_of e gate t)
+    s_int : (kinds : List ColType) (t : IntSyntax) → IntFits tables kinds t → Same Any kinds kinds (int_of d rule t) (int_of e rule t)
     s_int kinds (number z) fits = s_ok Any kinds z tt
     s_int kinds (variable place) fits = λ s typed. (ap (λ (z : ℤ). (Ok z, s)) (same_number (slice_get s.variables place) d.number e.number (in_place s.variables kinds place types.Int typed.variables fits)), (tt, typed))
     s_int kinds (binary op a b) fits = bind Any Any kinds kinds kinds _ _ _ _ (s_int kinds a fits.0) (λ x u. bind Any Any kinds kinds kinds _ _ _ _ (s_int kinds b fits.1) (λ y w. s_computed kinds (result_of op x y)))
@@ -239,7 +251,7 @@ module _ (tables : List TableShape) where
         bind (Totals table column) Any kinds kinds kinds _ _ _ _ (s_rows kinds table p column fits.1) (λ rows same.
         s_in_range kinds (total d.number column (entries rows)) (total e.number column (entries rows)) (same d.number e.number)))))
 
-    s_text : (kinds : List ColType) (t : TextSyntax) → TextFits kinds t → Same Any kinds kinds (text_of d gate t) (text_of e gate t)
+    s_text : (kinds : List ColType) (t : TextSyntax) → TextFits kinds t → Same Any kinds kinds (text_of d rule t) (text_of e rule t)
     s_text kinds (literal s) fits = s_ok Any kinds s tt
     s_text kinds (text_variable place) fits = λ s typed. (ap (λ (t : List ℕ). (Ok t, s)) (same_text (slice_get s.variables place) d.text e.text (in_place s.variables kinds place types.Text typed.variables fits)), (tt, typed))
 
@@ -247,13 +259,13 @@ module _ (tables : List TableShape) where
     s_pick kinds true f g k l p q = p
     s_pick kinds false f g k l p q = q
 
-    s_bool : (kinds : List ColType) (t : BoolSyntax) → BoolFits tables kinds t → Same Any kinds kinds (bool_of d gate t) (bool_of e gate t)
+    s_bool : (kinds : List ColType) (t : BoolSyntax) → BoolFits tables kinds t → Same Any kinds kinds (bool_of d rule t) (bool_of e rule t)
     s_bool kinds (compare_ints test a b) fits = bind Any Any kinds kinds kinds _ _ _ _ (s_int kinds a fits.0) (λ x u. bind Any Any kinds kinds kinds _ _ _ _ (s_int kinds b fits.1) (λ y w. s_ok Any kinds (compare test x y) tt))
     s_bool kinds (compare_texts test a b) fits = bind Any Any kinds kinds kinds _ _ _ _ (s_text kinds a fits.0) (λ x u. bind Any Any kinds kinds kinds _ _ _ _ (s_text kinds b fits.1) (λ y w. s_ok Any kinds (compare_bytes test x y) tt))
     s_bool kinds (both a b) fits = bind Any Any kinds kinds kinds _ _ _ _ (s_bool kinds a fits.0) (λ x u.
-        s_pick kinds x (bool_of d gate b) (ok false) (bool_of e gate b) (ok false) (s_bool kinds b fits.1) (s_ok Any kinds false tt))
+        s_pick kinds x (bool_of d rule b) (ok false) (bool_of e rule b) (ok false) (s_bool kinds b fits.1) (s_ok Any kinds false tt))
     s_bool kinds (either a b) fits = bind Any Any kinds kinds kinds _ _ _ _ (s_bool kinds a fits.0) (λ x u.
-        s_pick kinds x (ok true) (bool_of d gate b) (ok true) (bool_of e gate b) (s_ok Any kinds true tt) (s_bool kinds b fits.1))
+        s_pick kinds x (ok true) (bool_of d rule b) (ok true) (bool_of e rule b) (s_ok Any kinds true tt) (s_bool kinds b fits.1))
     s_bool kinds (negated a) fits = bind Any Any kinds kinds kinds _ _ _ _ (s_bool kinds a fits) (λ x u. s_ok Any kinds (not x) tt)
     s_bool kinds (row_exists table key) fits = bind Any Any kinds kinds kinds _ _ _ _ (s_step kinds) (λ u v.
         bind Any Any kinds kinds kinds _ _ _ _ (s_int kinds key fits.1) (λ k w.
@@ -263,14 +275,14 @@ module _ (tables : List TableShape) where
     abbrev OfKind : ColType → Value → Type 0
     OfKind kind v = type_of v ≡ kind
 
-    s_value : (kinds : List ColType) (t : ValueSyntax) → ValueFits tables kinds t → Same (OfKind (kind_of t)) kinds kinds (value_of d gate t) (value_of e gate t)
+    s_value : (kinds : List ColType) (t : ValueSyntax) → ValueFits tables kinds t → Same (OfKind (kind_of t)) kinds kinds (value_of d rule t) (value_of e rule t)
     s_value kinds (int_value t) fits = bind Any (OfKind types.Int) kinds kinds kinds _ _ _ _ (s_int kinds t fits) (λ z u. s_ok (OfKind types.Int) kinds (values.Int z) refl)
     s_value kinds (text_value t) fits = bind Any (OfKind types.Text) kinds kinds kinds _ _ _ _ (s_text kinds t fits) (λ s u. s_ok (OfKind types.Text) kinds (values.Text s) refl)
 
     abbrev OfKinds : List ColType → List Value → Type 0
     OfKinds ks vs = map type_of vs ≡ ks
 
-    s_values : (kinds : List ColType) (ts : List ValueSyntax) → AllByRecursion (ValueFits tables kinds) ts → Same (OfKinds (map kind_of ts)) kinds kinds (values_of d gate ts) (values_of e gate ts)
+    s_values : (kinds : List ColType) (ts : List ValueSyntax) → AllByRecursion (ValueFits tables kinds) ts → Same (OfKinds (map kind_of ts)) kinds kinds (values_of d rule ts) (values_of e rule ts)
     s_values kinds [] fits = s_ok (OfKinds []) kinds [] refl
     s_values kinds (t ∷ ts) fits = bind (OfKind (kind_of t)) (OfKinds (map kind_of (t ∷ ts))) kinds kinds kinds _ _ _ _ (s_value kinds t fits.0) (λ v is.
         bind (OfKinds (map kind_of ts)) (OfKinds (map kind_of (t ∷ ts))) kinds kinds kinds _ _ _ _ (s_values kinds ts fits.1) (λ vs are.
@@ -295,7 +307,7 @@ module _ (tables : List TableShape) where
         (λ u v. s_turns kinds later f g more h zs)
 
     s_get : (kinds : List ColType) (place table : ℕ) (key : IntSyntax) (column : ℕ) (kind : ColType) → IntFits tables kinds key → column_kind tables table column ≡ Some kind → Takes kinds place kind
-        → Same Any kinds (declared kinds place kind) (effect d gate (get_syntax place table key column)) (effect e gate (get_syntax place table key column))
+        → Same Any kinds (declared kinds place kind) (effect d rule (get_syntax place table key column)) (effect e rule (get_syntax place table key column))
     s_get kinds place table key column kind fits there takes = bind Any Any kinds kinds _ _ _ _ _ (s_int kinds key fits) (λ k u.
         bind (InTable table) Any kinds kinds _ _ _ _ _ (s_access kinds Read table k) (λ name is.
         bind (OfTable table) Any kinds kinds _ _ _ _ _ (s_row kinds table name is) (λ found of.
@@ -303,11 +315,11 @@ module _ (tables : List TableShape) where
         s_column kinds place table column kind row there takes its))))
 
     mutual
-      s_effect : (kinds : List ColType) (t : StmtSyntax) → StmtFits tables kinds t → Same Any kinds (kinds_after tables kinds t) (effect d gate t) (effect e gate t)
+      s_effect : (kinds : List ColType) (t : StmtSyntax) → StmtFits tables kinds t → Same Any kinds (kinds_after tables kinds t) (effect d rule t) (effect e rule t)
       s_effect kinds (assign place value) fits = bind (OfKind (kind_of value)) Any kinds kinds _ _ _ _ _ (s_value kinds value fits.0) (λ v is.
           s_variable kinds place v (kind_of value) is fits.1)
       s_effect kinds (get_syntax place table key column) fits =
-          subst (λ (o : Option ColType). Same Any kinds (declared kinds place (unwrap_or o types.Int)) (effect d gate (get_syntax place table key column)) (effect e gate (get_syntax place table key column)))
+          subst (λ (o : Option ColType). Same Any kinds (declared kinds place (unwrap_or o types.Int)) (effect d rule (get_syntax place table key column)) (effect e rule (get_syntax place table key column)))
           (sym fits.1.1) (s_get kinds place table key column fits.1.0 fits.0 fits.1.1 fits.1.2)
       s_effect kinds (put table key column value) fits = bind Any Any kinds kinds kinds _ _ _ _ (s_int kinds key fits.0) (λ k u.
           bind (OfKind (kind_of value)) Any kinds kinds kinds _ _ _ _ (s_value kinds value fits.1) (λ v is.
@@ -329,19 +341,19 @@ module _ (tables : List TableShape) where
           s_remove kinds name))))
       s_effect kinds (for_numbers low high body) fits = bind Any Any kinds kinds kinds _ _ _ _ (s_int kinds low fits.0) (λ first u.
           bind Any Any kinds kinds kinds _ _ _ _ (s_int kinds high fits.1) (λ last w.
-          s_turns kinds (kinds_through tables (in_loop kinds) body) (in_order d gate body) (in_order e gate body) (loop_extends tables kinds body) (s_order (in_loop kinds) body fits.2) (numbers_between first last)))
+          s_turns kinds (kinds_through tables (in_loop kinds) body) (in_order d rule body) (in_order e rule body) (loop_extends tables kinds body) (s_order (in_loop kinds) body fits.2) (numbers_between first last)))
       s_effect kinds (for_keys table part body) fits = bind Any Any kinds kinds kinds _ _ _ _ (s_int kinds part fits.1) (λ z u.
           bind Any Any kinds kinds kinds _ _ _ _ (s_part kinds table z) (λ p w.
           bind Any Any kinds kinds kinds _ _ _ _ (s_look kinds (λ st. part_rows tables table p st.rows)) (λ rows x.
-          s_turns kinds (kinds_through tables (in_loop kinds) body) (in_order d gate body) (in_order e gate body) (loop_extends tables kinds body) (s_order (in_loop kinds) body fits.2) (map pos (keys_of (entries rows))))))
+          s_turns kinds (kinds_through tables (in_loop kinds) body) (in_order d rule body) (in_order e rule body) (loop_extends tables kinds body) (s_order (in_loop kinds) body fits.2) (map pos (keys_of (entries rows))))))
       s_effect kinds (choose test first second) fits = bind Any Any kinds kinds kinds _ _ _ _ (s_bool kinds test fits.0) (λ b u.
-          s_chosen kinds b (in_order d gate first) (in_order d gate second) (in_order e gate first) (in_order e gate second)
-          (s_scoped kinds (kinds_through tables kinds first) (in_order d gate first) (in_order e gate first) (through_extends tables kinds first) (s_order kinds first fits.1))
-          (s_scoped kinds (kinds_through tables kinds second) (in_order d gate second) (in_order e gate second) (through_extends tables kinds second) (s_order kinds second fits.2)))
+          s_chosen kinds b (in_order d rule first) (in_order d rule second) (in_order e rule first) (in_order e rule second)
+          (s_scoped kinds (kinds_through tables kinds first) (in_order d rule first) (in_order e rule first) (through_extends tables kinds first) (s_order kinds first fits.1))
+          (s_scoped kinds (kinds_through tables kinds second) (in_order d rule second) (in_order e rule second) (through_extends tables kinds second) (s_order kinds second fits.2)))
       s_effect kinds (abort_syntax code) fits = s_ended {A = Unit {0}} Any kinds kinds (endings.Abort (Own code))
       s_effect kinds (reply es) fits = bind (OfKinds (map kind_of es)) Any kinds kinds kinds _ _ _ _ (s_values kinds es fits) (λ vs u. s_replying kinds vs)
 
-      s_order : (kinds : List ColType) (b : BlockSyntax) → BlockFits tables kinds b → Same Any kinds (kinds_through tables kinds b) (in_order d gate b) (in_order e gate b)
+      s_order : (kinds : List ColType) (b : BlockSyntax) → BlockFits tables kinds b → Same Any kinds (kinds_through tables kinds b) (in_order d rule b) (in_order e rule b)
       s_order kinds no_statements fits = s_ok Any kinds tt tt
       s_order kinds (followed t rest) fits = bind Any Any kinds kinds _ _ _ _ _ (s_step kinds) (λ u w.
           bind Any Any kinds (kinds_after tables kinds t) _ _ _ _ _ (s_effect kinds t fits.0) (λ v x. s_order (kinds_after tables kinds t) rest fits.1))
@@ -356,7 +368,7 @@ run_same : (tables : List TableShape) (kinds : List ColType) (fo : FootprintOf) 
     → BlockFits tables kinds (block_of body) → map type_of arguments ≡ kinds → HasTypes tables db
     → (run_of d (covered tables fo uncovered) body arguments db ≡ run_of nothing (covered tables fo uncovered) body arguments db) × HasTypes tables (run_of nothing (covered tables fo uncovered) body arguments db).1
 run_same tables kinds fo uncovered body arguments db d fits args rows =
-    let both = s_order tables fo uncovered nothing d kinds (block_of body) fits (start arguments db) (record { variables = args; rows = rows }) in
+    let both = s_order tables (tested fo uncovered) (s_tested tables fo uncovered) nothing d kinds (block_of body) fits (start arguments db) (record { variables = args; rows = rows }) in
     (ap (finished db) both.0, left_typed tables (kinds_through tables kinds (block_of body)) db _ rows both.1)
 
 by_footing : (tables : List TableShape) (kinds : List ColType) (body : List StmtSyntax) (arguments : List Value) (footing : Footing) (db : Database) (d : StandIn)
@@ -371,3 +383,9 @@ never_shows proc entry db call rows =
     let fits : BlockFits entry.tables (kinds_of proc.params) (block_of entry.body) = subst (λ (body : List StmtSyntax). BlockFits entry.tables (kinds_of proc.params) (block_of body)) (sym call.body) call.fits.body in
     let law = λ (d : StandIn). by_footing entry.tables (kinds_of proc.params) entry.body entry.arguments entry.footing db d fits call.arguments rows in
     record { same = λ d. (law d).0; types = (law nothing).1 }
+
+pub never_found : (tables : List TableShape) (proc : ProcSyntax) (arguments : List Value) (db : Database) → ProcFits tables proc → map type_of arguments ≡ kinds_of proc.params → HasTypes tables db
+    → StandInNeverFound tables proc.body arguments db
+never_found tables proc arguments db fits args rows = λ d.
+    ap (λ (r : Result (Unit {0}) Ending × State). r.1.accesses)
+    (s_order tables noted (s_noted tables) nothing d (kinds_of proc.params) (block_of proc.body) fits.body (start arguments db) (record { variables = args; rows = rows })).0

@@ -10,7 +10,7 @@ use Rattle.footprint.specs.declared.abort_code.AbortCode.TheVariants.{Uncovered}
 use Rattle.footprint.specs.Rights.{FootprintOf}
 use Rattle.meaning.specs.declared.outcome.Ending.{Ending}
 use Rattle.meaning.specs.declared.outcome.Ending.TheVariants as endings
-use Rattle.meaning.specs.Runs.{State, Gate, covered}
+use Rattle.meaning.specs.Runs.{State, AccessRule, covered}
 use Rattle.meaning.specs.Meaning.{StandIn, in_order}
 
 -- what an entry may touch: a declared footprint, the abort of one whose expression faults, or a footprint that
@@ -38,7 +38,7 @@ footprint_of (faults code) = None
 footprint_of (finds footprint) = Some footprint
 
 abbrev pub start : List Value → Database → State
-start arguments db = record { rows = db; variables = arguments; steps = 0; reply = [] }
+start arguments db = record { rows = db; variables = arguments; steps = 0; reply = []; accesses = [] }
 
 abbrev pub reply_of : Ending → Reply
 reply_of (endings.Abort code) = aborted code
@@ -49,8 +49,12 @@ abbrev pub finished : Database → Result (Unit {0}) Ending × State → Reply �
 finished db (Ok u, st) = (commit st.reply, st.rows)
 finished db (Err e, st) = (reply_of e, db)
 
-abbrev pub run_of : StandIn → Gate → List StmtSyntax → List Value → Database → Reply × Database
-run_of d gate body arguments db = finished db (in_order d gate (block_of body) (start arguments db))
+-- how the run of a body ends, and the state that is left
+abbrev pub end_of : StandIn → AccessRule → List StmtSyntax → List Value → Database → Result (Unit {0}) Ending × State
+end_of d rule body arguments db = in_order d rule (block_of body) (start arguments db)
+
+abbrev pub run_of : StandIn → AccessRule → List StmtSyntax → List Value → Database → Reply × Database
+run_of d rule body arguments db = finished db (end_of d rule body arguments db)
 
 -- an uncovered access aborts a declared entry, and makes a found one stale
 abbrev pub meaning_by : StandIn → List TableShape → List StmtSyntax → List Value → Footing → Database → Reply × Database

@@ -6,6 +6,7 @@ pub mod Meaning
 pub mod Order
 pub mod Entries
 pub mod Frame
+pub mod Reconnaissance
 pub mod Serial
 pub mod Outcomes
 pub mod Fitting

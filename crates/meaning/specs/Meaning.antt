@@ -14,7 +14,7 @@ use Rattle.footprint.specs.Declaration.{number_or}
 use Rattle.meaning.specs.Comparing.{compare, compare_bytes}
 use Rattle.meaning.specs.Partitions.{keys_of, total}
 use Rattle.meaning.specs.Turns.{numbers_between}
-use Rattle.meaning.specs.Runs.{Ran, ◌>>=◌, ok, abort, look, Gate, step, in_range, computed, accessed, part_accessed, part_now, row_now, present, absent, set_row, remove_row, declare, set_variable, scoped, replying}
+use Rattle.meaning.specs.Runs.{Ran, ◌>>=◌, ok, abort, look, AccessRule, step, in_range, computed, accessed, part_accessed, part_now, row_now, present, absent, set_row, remove_row, declare, set_variable, scoped, replying}
 
 -- What stands for a variable or a column that is not there, or has the other type. That it never shows
 -- where procedure, arguments and rows fit the tables is a law of its own, StandInNeverShows.
@@ -28,132 +28,132 @@ text_or other (Some (values.Text s)) = s
 text_or other None = other
 
 -- the operands of an expression are evaluated from left to right (OperandsComeFirst)
-abbrev pub int_of : StandIn → Gate → IntSyntax → Ran ℤ
-int_of d gate (number z) = ok z
-int_of d gate (variable place) = look (λ st. number_or d.number (slice_get st.variables place))
-int_of d gate (binary op a b) = do
-  x ← int_of d gate a
-  y ← int_of d gate b
+abbrev pub int_of : StandIn → AccessRule → IntSyntax → Ran ℤ
+int_of d rule (number z) = ok z
+int_of d rule (variable place) = look (λ st. number_or d.number (slice_get st.variables place))
+int_of d rule (binary op a b) = do
+  x ← int_of d rule a
+  y ← int_of d rule b
   computed (result_of op x y)
-int_of d gate (count_rows table part) = do
+int_of d rule (count_rows table part) = do
   u ← step
-  z ← int_of d gate part
-  p ← part_accessed gate table z
-  rows ← part_now gate table p
+  z ← int_of d rule part
+  p ← part_accessed rule table z
+  rows ← part_now rule table p
   in_range (pos (len rows))
-int_of d gate (sum_column table part column) = do
+int_of d rule (sum_column table part column) = do
   u ← step
-  z ← int_of d gate part
-  p ← part_accessed gate table z
-  rows ← part_now gate table p
+  z ← int_of d rule part
+  p ← part_accessed rule table z
+  rows ← part_now rule table p
   in_range (total d.number column (entries rows))
 
-abbrev pub text_of : StandIn → Gate → TextSyntax → Ran (List ℕ)
-text_of d gate (literal s) = ok s
-text_of d gate (text_variable place) = look (λ st. text_or d.text (slice_get st.variables place))
+abbrev pub text_of : StandIn → AccessRule → TextSyntax → Ran (List ℕ)
+text_of d rule (literal s) = ok s
+text_of d rule (text_variable place) = look (λ st. text_or d.text (slice_get st.variables place))
 
 abbrev pub chosen : {A : Type 0} → Bool → A → A → A
 chosen true x y = x
 chosen false x y = y
 
 -- the second part of an "and" or an "or" is evaluated only where the first does not decide
-abbrev pub bool_of : StandIn → Gate → BoolSyntax → Ran Bool
-bool_of d gate (compare_ints test a b) = do
-  x ← int_of d gate a
-  y ← int_of d gate b
+abbrev pub bool_of : StandIn → AccessRule → BoolSyntax → Ran Bool
+bool_of d rule (compare_ints test a b) = do
+  x ← int_of d rule a
+  y ← int_of d rule b
   ok (compare test x y)
-bool_of d gate (compare_texts test a b) = do
-  x ← text_of d gate a
-  y ← text_of d gate b
+bool_of d rule (compare_texts test a b) = do
+  x ← text_of d rule a
+  y ← text_of d rule b
   ok (compare_bytes test x y)
-bool_of d gate (both a b) = do
-  x ← bool_of d gate a
-  chosen x (bool_of d gate b) (ok false)
-bool_of d gate (either a b) = do
-  x ← bool_of d gate a
-  chosen x (ok true) (bool_of d gate b)
-bool_of d gate (negated a) = do
-  x ← bool_of d gate a
+bool_of d rule (both a b) = do
+  x ← bool_of d rule a
+  chosen x (bool_of d rule b) (ok false)
+bool_of d rule (either a b) = do
+  x ← bool_of d rule a
+  chosen x (ok true) (bool_of d rule b)
+bool_of d rule (negated a) = do
+  x ← bool_of d rule a
   ok (not x)
-bool_of d gate (row_exists table key) = do
+bool_of d rule (row_exists table key) = do
   u ← step
-  k ← int_of d gate key
-  name ← accessed gate Read table k
+  k ← int_of d rule key
+  name ← accessed rule Read table k
   found ← row_now name
   ok (is_some found)
 
-abbrev pub value_of : StandIn → Gate → ValueSyntax → Ran Value
-value_of d gate (int_value e) = do
-  z ← int_of d gate e
+abbrev pub value_of : StandIn → AccessRule → ValueSyntax → Ran Value
+value_of d rule (int_value e) = do
+  z ← int_of d rule e
   ok (values.Int z)
-value_of d gate (text_value e) = do
-  s ← text_of d gate e
+value_of d rule (text_value e) = do
+  s ← text_of d rule e
   ok (values.Text s)
 
-abbrev pub values_of : StandIn → Gate → List ValueSyntax → Ran (List Value)
-values_of d gate [] = ok []
-values_of d gate (e ∷ es) = do
-  v ← value_of d gate e
-  vs ← values_of d gate es
+abbrev pub values_of : StandIn → AccessRule → List ValueSyntax → Ran (List Value)
+values_of d rule [] = ok []
+values_of d rule (e ∷ es) = do
+  v ← value_of d rule e
+  vs ← values_of d rule es
   ok (v ∷ vs)
 
 -- ---- what each statement does. In which order its parts are looked at, and so which of them fails first, is said once for all
 -- statements in the law OperandsComeFirst: its operands come first, from left to right
 
 -- a variable gets a value: operands first, in order (OperandsComeFirst)
-abbrev pub assign_value : StandIn → Gate → ℕ → ValueSyntax → Ran (Unit {0})
-assign_value d gate place value = do
-  v ← value_of d gate value
+abbrev pub assign_value : StandIn → AccessRule → ℕ → ValueSyntax → Ran (Unit {0})
+assign_value d rule place value = do
+  v ← value_of d rule value
   set_variable place v
 
 -- a variable gets a column of a row: operands first, in order (OperandsComeFirst)
-abbrev pub get_column : StandIn → Gate → ℕ → ℕ → IntSyntax → ℕ → Ran (Unit {0})
-get_column d gate place table key column = do
-  k ← int_of d gate key
-  name ← accessed gate Read table k
+abbrev pub get_column : StandIn → AccessRule → ℕ → ℕ → IntSyntax → ℕ → Ran (Unit {0})
+get_column d rule place table key column = do
+  k ← int_of d rule key
+  name ← accessed rule Read table k
   found ← row_now name
   row ← present found
   set_variable place (unwrap_or (slice_get row column) (values.Int d.number))
 
 -- a column of a row gets a value: operands first, in order (OperandsComeFirst)
-abbrev pub put_column : StandIn → Gate → ℕ → IntSyntax → ℕ → ValueSyntax → Ran (Unit {0})
-put_column d gate table key column value = do
-  k ← int_of d gate key
-  v ← value_of d gate value
-  name ← accessed gate Write table k
+abbrev pub put_column : StandIn → AccessRule → ℕ → IntSyntax → ℕ → ValueSyntax → Ran (Unit {0})
+put_column d rule table key column value = do
+  k ← int_of d rule key
+  v ← value_of d rule value
+  name ← accessed rule Write table k
   found ← row_now name
   row ← present found
   set_row name (slice_set row column v)
 
 -- a new row: operands first, in order (OperandsComeFirst)
-abbrev pub insert_values : StandIn → Gate → ℕ → IntSyntax → List ValueSyntax → Ran (Unit {0})
-insert_values d gate table key es = do
-  k ← int_of d gate key
-  vs ← values_of d gate es
-  name ← accessed gate Write table k
+abbrev pub insert_values : StandIn → AccessRule → ℕ → IntSyntax → List ValueSyntax → Ran (Unit {0})
+insert_values d rule table key es = do
+  k ← int_of d rule key
+  vs ← values_of d rule es
+  name ← accessed rule Write table k
   found ← row_now name
   u ← absent found
   set_row name vs
 
 -- a row is no more: operands first, in order (OperandsComeFirst)
-abbrev pub delete_key : StandIn → Gate → ℕ → IntSyntax → Ran (Unit {0})
-delete_key d gate table key = do
-  k ← int_of d gate key
-  name ← accessed gate Write table k
+abbrev pub delete_key : StandIn → AccessRule → ℕ → IntSyntax → Ran (Unit {0})
+delete_key d rule table key = do
+  k ← int_of d rule key
+  name ← accessed rule Write table k
   found ← row_now name
   row ← present found
   remove_row name
 
 -- more values of the reply: operands first, in order (OperandsComeFirst)
-abbrev pub reply_with : StandIn → Gate → List ValueSyntax → Ran (Unit {0})
-reply_with d gate es = do
-  vs ← values_of d gate es
+abbrev pub reply_with : StandIn → AccessRule → List ValueSyntax → Ran (Unit {0})
+reply_with d rule es = do
+  vs ← values_of d rule es
   replying vs
 
 -- one of two blocks: operands first, in order (OperandsComeFirst)
-abbrev pub if_of : StandIn → Gate → BoolSyntax → Ran (Unit {0}) → Ran (Unit {0}) → Ran (Unit {0})
-if_of d gate test first second = do
-  b ← bool_of d gate test
+abbrev pub if_of : StandIn → AccessRule → BoolSyntax → Ran (Unit {0}) → Ran (Unit {0}) → Ran (Unit {0})
+if_of d rule test first second = do
+  b ← bool_of d rule test
   scoped (chosen b first second)
 
 -- ---- loops
@@ -178,40 +178,40 @@ turns block (z ∷ zs) = do
   turns block zs
 
 -- a block for each number from one to another: operands first, in order (OperandsComeFirst)
-abbrev pub for_of : StandIn → Gate → IntSyntax → IntSyntax → Ran (Unit {0}) → Ran (Unit {0})
-for_of d gate low high block = do
-  first ← int_of d gate low
-  last ← int_of d gate high
+abbrev pub for_of : StandIn → AccessRule → IntSyntax → IntSyntax → Ran (Unit {0}) → Ran (Unit {0})
+for_of d rule low high block = do
+  first ← int_of d rule low
+  last ← int_of d rule high
   turns block (numbers_between first last)
 
 -- a block for each key that a partition holds when the statement begins, ascending: operands first, in order (OperandsComeFirst)
-abbrev pub each_of : StandIn → Gate → ℕ → IntSyntax → Ran (Unit {0}) → Ran (Unit {0})
-each_of d gate table part block = do
-  z ← int_of d gate part
-  p ← part_accessed gate table z
-  rows ← part_now gate table p
+abbrev pub each_of : StandIn → AccessRule → ℕ → IntSyntax → Ran (Unit {0}) → Ran (Unit {0})
+each_of d rule table part block = do
+  z ← int_of d rule part
+  p ← part_accessed rule table z
+  rows ← part_now rule table p
   turns block (map pos (keys_of (entries rows)))
 
 -- ---- statements and blocks
 
 abbrev mutual
   -- what a statement does after its step
-  pub effect : StandIn → Gate → StmtSyntax → Ran (Unit {0})
-  effect d gate (assign place value) = assign_value d gate place value
-  effect d gate (get place table key column) = get_column d gate place table key column
-  effect d gate (put table key column value) = put_column d gate table key column value
-  effect d gate (insert_row table key es) = insert_values d gate table key es
-  effect d gate (delete_row table key) = delete_key d gate table key
-  effect d gate (choose test first second) = if_of d gate test (in_order d gate first) (in_order d gate second)
-  effect d gate (for_numbers low high body) = for_of d gate low high (in_order d gate body)
-  effect d gate (for_keys table part body) = each_of d gate table part (in_order d gate body)
-  effect d gate (syntax.abort code) = abort (Own code)
-  effect d gate (reply es) = reply_with d gate es
+  pub effect : StandIn → AccessRule → StmtSyntax → Ran (Unit {0})
+  effect d rule (assign place value) = assign_value d rule place value
+  effect d rule (get place table key column) = get_column d rule place table key column
+  effect d rule (put table key column value) = put_column d rule table key column value
+  effect d rule (insert_row table key es) = insert_values d rule table key es
+  effect d rule (delete_row table key) = delete_key d rule table key
+  effect d rule (choose test first second) = if_of d rule test (in_order d rule first) (in_order d rule second)
+  effect d rule (for_numbers low high body) = for_of d rule low high (in_order d rule body)
+  effect d rule (for_keys table part body) = each_of d rule table part (in_order d rule body)
+  effect d rule (syntax.abort code) = abort (Own code)
+  effect d rule (reply es) = reply_with d rule es
 
   -- the statements of a block, each after one step
-  pub in_order : StandIn → Gate → BlockSyntax → Ran (Unit {0})
-  in_order d gate no_statements = ok tt
-  in_order d gate (followed s rest) = do
+  pub in_order : StandIn → AccessRule → BlockSyntax → Ran (Unit {0})
+  in_order d rule no_statements = ok tt
+  in_order d rule (followed s rest) = do
     u ← step
-    v ← effect d gate s
-    in_order d gate rest
+    v ← effect d rule s
+    in_order d rule rest

@@ -10,7 +10,7 @@ use Rattle.proclang_types.specs.Syntax.{IntSyntax, binary, count_rows, sum_colum
 use Rattle.footprint.specs.declared.abort_code.AbortCode.TheVariants.{TooLong}
 use Rattle.footprint.specs.Declaration.{number_or}
 use Rattle.meaning.specs.declared.outcome.Ending.{Ending}
-use Rattle.meaning.specs.Runs.{State, Ran, ◌>>=◌, ok, look, provided, Gate, step, accessed, part_accessed, row_now, present, absent}
+use Rattle.meaning.specs.Runs.{State, Ran, ◌>>=◌, ok, look, provided, AccessRule, step, accessed, part_accessed, row_now, present, absent}
 use Rattle.meaning.specs.Meaning.{StandIn, int_of, bool_of, value_of, in_order}
 
 -- an operand: an expression for a number or a text, or a condition
@@ -35,43 +35,43 @@ operands_of (abort code) = []
 operands_of (reply es) = map value_operand es
 
 -- one operand after the other, and the numbers and texts that they give
-abbrev pub operand_values : StandIn → Gate → List Operand → Ran (List Value)
-operand_values d gate [] = ok []
-operand_values d gate (value_operand e ∷ operands) = do
-  v ← value_of d gate e
-  vs ← operand_values d gate operands
+abbrev pub operand_values : StandIn → AccessRule → List Operand → Ran (List Value)
+operand_values d rule [] = ok []
+operand_values d rule (value_operand e ∷ operands) = do
+  v ← value_of d rule e
+  vs ← operand_values d rule operands
   ok (v ∷ vs)
-operand_values d gate (condition e ∷ operands) = do
-  b ← bool_of d gate e
-  operand_values d gate operands
+operand_values d rule (condition e ∷ operands) = do
+  b ← bool_of d rule e
+  operand_values d rule operands
 
 -- ---- what is tested of these values
 
 -- whether the number is a key, and then whether the footprint covers the access to that row
-abbrev pub row_reached : Gate → Right → ℕ → ℤ → Ran (Unit {0})
-row_reached gate right table z = do
-  name ← accessed gate right table z
+abbrev pub row_reached : AccessRule → Right → ℕ → ℤ → Ran (Unit {0})
+row_reached rule right table z = do
+  name ← accessed rule right table z
   ok tt
 
 -- ... and then whether the row is there
-abbrev pub row_present : Gate → Right → ℕ → ℤ → Ran (Unit {0})
-row_present gate right table z = do
-  name ← accessed gate right table z
+abbrev pub row_present : AccessRule → Right → ℕ → ℤ → Ran (Unit {0})
+row_present rule right table z = do
+  name ← accessed rule right table z
   found ← row_now name
   row ← present found
   ok tt
 
 -- ... or is not there
-abbrev pub row_absent : Gate → Right → ℕ → ℤ → Ran (Unit {0})
-row_absent gate right table z = do
-  name ← accessed gate right table z
+abbrev pub row_absent : AccessRule → Right → ℕ → ℤ → Ran (Unit {0})
+row_absent rule right table z = do
+  name ← accessed rule right table z
   found ← row_now name
   absent found
 
 -- whether the number is one of a partition, and then whether the footprint covers the access to it
-abbrev pub part_reached : Gate → ℕ → ℤ → Ran (Unit {0})
-part_reached gate table z = do
-  part ← part_accessed gate table z
+abbrev pub part_reached : AccessRule → ℕ → ℤ → Ran (Unit {0})
+part_reached rule table z = do
+  part ← part_accessed rule table z
   ok tt
 
 -- whether the reply has room for more values
@@ -84,22 +84,22 @@ reply_has_room vs = do
 abbrev pub first_number : StandIn → List Value → ℤ
 first_number d vs = number_or d.number (slice_get vs 0)
 
-abbrev pub tests_of : StandIn → Gate → StmtSyntax → List Value → Ran (Unit {0})
-tests_of d gate (get place table key column) vs = row_present gate Read table (first_number d vs)
-tests_of d gate (put table key column e) vs = row_present gate Write table (first_number d vs)
-tests_of d gate (insert_row table key es) vs = row_absent gate Write table (first_number d vs)
-tests_of d gate (delete_row table key) vs = row_present gate Write table (first_number d vs)
-tests_of d gate (for_keys table part body) vs = part_reached gate table (first_number d vs)
-tests_of d gate (reply es) vs = reply_has_room vs
-tests_of d gate s vs = ok tt
+abbrev pub tests_of : StandIn → AccessRule → StmtSyntax → List Value → Ran (Unit {0})
+tests_of d rule (get place table key column) vs = row_present rule Read table (first_number d vs)
+tests_of d rule (put table key column e) vs = row_present rule Write table (first_number d vs)
+tests_of d rule (insert_row table key es) vs = row_absent rule Write table (first_number d vs)
+tests_of d rule (delete_row table key) vs = row_present rule Write table (first_number d vs)
+tests_of d rule (for_keys table part body) vs = part_reached rule table (first_number d vs)
+tests_of d rule (reply es) vs = reply_has_room vs
+tests_of d rule s vs = ok tt
 
 -- ---- the order
 
 -- first the step, then all operands, and then the tests of their values
-abbrev pub parts_in_order : StandIn → Gate → List Operand → (List Value → Ran (Unit {0})) → Ran (Unit {0})
-parts_in_order d gate operands tests = do
+abbrev pub parts_in_order : StandIn → AccessRule → List Operand → (List Value → Ran (Unit {0})) → Ran (Unit {0})
+parts_in_order d rule operands tests = do
   u ← step
-  vs ← operand_values d gate operands
+  vs ← operand_values d rule operands
   tests vs
 
 -- where the parts end the run, the whole ends it likewise, and leaves the same state
@@ -120,14 +120,14 @@ is_plain s = true
 
 -- Each statement looks at its parts in this order, and the first that fails ends the run. A plain statement fails in no other way.
 -- Counts, sums and tests of a row go the same way, and operators and comparisons evaluate their operands from left to right.
-pub record OperandsComeFirst (d : StandIn) (gate : Gate) : Type 0 where
-  pub statements : (s : StmtSyntax) (rest : BlockSyntax) → EndsLike (parts_in_order d gate (operands_of s) (tests_of d gate s)) (in_order d gate (followed s rest))
-  pub nothing_else : (s : StmtSyntax) → is_plain s ≡ true → GoesOnLike (parts_in_order d gate (operands_of s) (tests_of d gate s)) (in_order d gate (followed s no_statements))
+pub record OperandsComeFirst (d : StandIn) (rule : AccessRule) : Type 0 where
+  pub statements : (s : StmtSyntax) (rest : BlockSyntax) → EndsLike (parts_in_order d rule (operands_of s) (tests_of d rule s)) (in_order d rule (followed s rest))
+  pub nothing_else : (s : StmtSyntax) → is_plain s ≡ true → GoesOnLike (parts_in_order d rule (operands_of s) (tests_of d rule s)) (in_order d rule (followed s no_statements))
   pub counts : (table : ℕ) (part : IntSyntax)
-      → EndsLike (parts_in_order d gate (number_operand part ∷ []) (λ vs. part_reached gate table (first_number d vs))) (int_of d gate (count_rows table part))
+      → EndsLike (parts_in_order d rule (number_operand part ∷ []) (λ vs. part_reached rule table (first_number d vs))) (int_of d rule (count_rows table part))
   pub sums : (table : ℕ) (part : IntSyntax) (column : ℕ)
-      → EndsLike (parts_in_order d gate (number_operand part ∷ []) (λ vs. part_reached gate table (first_number d vs))) (int_of d gate (sum_column table part column))
+      → EndsLike (parts_in_order d rule (number_operand part ∷ []) (λ vs. part_reached rule table (first_number d vs))) (int_of d rule (sum_column table part column))
   pub tests_of_rows : (table : ℕ) (key : IntSyntax)
-      → EndsLike (parts_in_order d gate (number_operand key ∷ []) (λ vs. row_reached gate Read table (first_number d vs))) (bool_of d gate (row_exists table key))
-  pub operators : (op : IntOperator) (a b : IntSyntax) → EndsLike (operand_values d gate (number_operand a ∷ number_operand b ∷ [])) (int_of d gate (binary op a b))
-  pub comparisons : (test : Comparison) (a b : IntSyntax) → EndsLike (operand_values d gate (number_operand a ∷ number_operand b ∷ [])) (bool_of d gate (compare_ints test a b))
+      → EndsLike (parts_in_order d rule (number_operand key ∷ []) (λ vs. row_reached rule Read table (first_number d vs))) (bool_of d rule (row_exists table key))
+  pub operators : (op : IntOperator) (a b : IntSyntax) → EndsLike (operand_values d rule (number_operand a ∷ number_operand b ∷ [])) (int_of d rule (binary op a b))
+  pub comparisons : (test : Comparison) (a b : IntSyntax) → EndsLike (operand_values d rule (number_operand a ∷ number_operand b ∷ [])) (bool_of d rule (compare_ints test a b))

@@ -22,13 +22,18 @@ use Rattle.meaning.specs.Partitions.{part_rows}
 use Rattle.meaning.specs.declared.outcome.Ending.{Ending}
 use Rattle.meaning.specs.declared.outcome.Ending.TheVariants.{Abort}
 
--- where a run is: the rows with its own changes, its variables in the order of their declarations, the steps taken and the
--- values replied
+-- an access: a resource, and the right that is asked for
+abbrev pub Access : Type 0
+Access = Resource × Right
+
+-- where a run is: the rows with its own changes, its variables in the order of their declarations, the steps taken, the
+-- values replied, and the accesses noted
 pub record State : Type 0 where
   pub rows : Database
   pub variables : List Value
   pub steps : ℕ
   pub reply : List Value
+  pub accesses : List Access
 
 -- a part of a run: a value or how the run ends, and in both cases the state that is left
 abbrev pub Ran : Type 0 → Type 0
@@ -68,8 +73,8 @@ provided false code x = abort code
 
 -- ---- accesses
 
--- the tables, and what happens at an access: a run goes on where its footprint covers the access, and else ends
-pub record Gate : Type 0 where
+-- the tables, and what happens at an access
+pub record AccessRule : Type 0 where
   pub tables : List TableShape
   pub access : Resource → Right → Ran (Unit {0})
 
@@ -77,9 +82,21 @@ abbrev pub passing : Bool → Ending → Ran (Unit {0})
 passing true uncovered = ok tt
 passing false uncovered = ended uncovered
 
+-- an access is tested against a footprint: the run goes on where it is covered, and else ends
+abbrev pub tested : FootprintOf → Ending → Resource → Right → Ran (Unit {0})
+tested footprint uncovered resource right = passing (covers footprint resource right) uncovered
+
 -- each access is tested against the footprint
-abbrev pub covered : List TableShape → FootprintOf → Ending → Gate
-covered tables footprint uncovered = record { tables = tables; access = λ resource right. passing (covers footprint resource right) uncovered }
+abbrev pub covered : List TableShape → FootprintOf → Ending → AccessRule
+covered tables footprint uncovered = record { tables = tables; access = tested footprint uncovered }
+
+-- an access is noted behind the others, and the run goes on
+abbrev pub noted : Resource → Right → Ran (Unit {0})
+noted resource right = alter (λ st. record st { accesses = st.accesses ++ (resource, right) ∷ [] })
+
+-- every access is allowed, and noted
+abbrev pub noting : List TableShape → AccessRule
+noting tables = record { tables = tables; access = noted }
 
 -- ---- what steps are made of
 
@@ -104,10 +121,10 @@ tested_key (pos n) = ok n
 tested_key (negsuc n) = abort BadKey
 
 -- the name of a row, once the key was tested and then the right to the row
-abbrev pub accessed : Gate → Right → ℕ → ℤ → Ran RowName
-accessed gate right table z = do
+abbrev pub accessed : AccessRule → Right → ℕ → ℤ → Ran RowName
+accessed rule right table z = do
   key ← tested_key z
-  u ← gate.access (row_resource gate.tables (record { table = table; key = key })) right
+  u ← rule.access (row_resource rule.tables (record { table = table; key = key })) right
   ok (record { table = table; key = key })
 
 -- a partition that may be there
@@ -116,15 +133,15 @@ part_there None = abort BadPart
 part_there (Some part) = ok part
 
 -- a partition, once its number was tested and then the right to read it
-abbrev pub part_accessed : Gate → ℕ → ℤ → Ran ℕ
-part_accessed gate table z = do
-  part ← part_there (partition_numbered gate.tables table z)
-  u ← gate.access (Table table (Part part WholePart)) Read
+abbrev pub part_accessed : AccessRule → ℕ → ℤ → Ran ℕ
+part_accessed rule table z = do
+  part ← part_there (partition_numbered rule.tables table z)
+  u ← rule.access (Table table (Part part WholePart)) Read
   ok part
 
 -- the rows of a partition
-abbrev pub part_now : Gate → ℕ → ℕ → Ran Database
-part_now gate table part = look (λ st. part_rows gate.tables table part st.rows)
+abbrev pub part_now : AccessRule → ℕ → ℕ → Ran Database
+part_now rule table part = look (λ st. part_rows rule.tables table part st.rows)
 
 abbrev pub row_now : RowName → Ran (Option RowOf)
 row_now name = look (λ st. get st.rows name)

@@ -6,6 +6,8 @@ mod laws;
 mod outcome;
 
 pub use laws::{
-    numbers_go_from_low_to_high, operands_come_first, stand_in_never_shows, stays_in_footprint,
+    access_adds_its_right, each_access_is_needed, footprint_has_greatest_rights,
+    found_entry_is_not_stale, found_footprint_is_of_tables, numbers_go_from_low_to_high,
+    operands_come_first, stand_in_is_never_found, stand_in_never_shows, stays_in_footprint,
 };
 pub use outcome::{Ending, Outcome};

@@ -9,7 +9,7 @@ use calvin::{Batch, LogReader, ReadSource, Setup, read_setup};
 use proclang::{Procs, Request};
 use std::alloc::{AllocError, Global};
 
-/// A setup with each kind of statement.
+/// A setup with each kind of statement. `renew` does what `turn` does, and has its footprint found.
 pub(crate) const BANK: &str = r#"["setup",1,
 ["catalogue",1,[["acct",2,[["bal","int"]]],["note",1,[["of","int"],["s","text"]]]]],
 ["procs",1,[
@@ -23,6 +23,12 @@ pub(crate) const BANK: &str = r#"["setup",1,
 ["peek",[["k","int"]],["declared",["row","r","acct","k"]],
  [["get","x","acct","k","bal"],["reply","x"]]],
 ["turn",[["s","text"]],["declared",["table","w","note"]],
+ [["let","c",0],
+  ["each","k","note",0,[["get","n","note","k","of"],["let","c",["+","c","n"]],["delete","note","k"]]],
+  ["for","i",1,2,[["insert","note","i",[["*","i",10],"s"]]]],
+  ["if",["exists","note",9],[["abort",101]],[["put","note",1,"of",["+","c",1]]]],
+  ["reply","c",["count","note",0],["sum","note",0,"of"],"s"]]],
+["renew",[["s","text"]],["recon"],
  [["let","c",0],
   ["each","k","note",0,[["get","n","note","k","of"],["let","c",["+","c","n"]],["delete","note","k"]]],
   ["for","i",1,2,[["insert","note","i",[["*","i",10],"s"]]]],
@@ -41,13 +47,13 @@ pub(crate) fn bank(alloc: Global) -> Option<Setup> {
     read_setup(alloc, BANK.as_bytes()).ok()
 }
 
-/// The requests of the log.
-pub(crate) fn requests(alloc: Global, procs: &Procs) -> Option<Vec<Request>>
+/// The requests of the log, with those of a text between its halves.
+pub(crate) fn requests(alloc: Global, procs: &Procs, between: &str) -> Option<Vec<Request>>
     ensures tables { IfSome result (λ requests.
         AllByRecursion (λ request. request.proc.tables ≡ procs.now.tables) requests.items) }
     ensures few { IfSome result (λ requests. length requests.items ≤ 4096) }
 {
-    let log = log_text(alloc, "").ok()?;
+    let log = log_text(alloc, between).ok()?;
     let mut source = ReadSource::new(log.as_bytes());
     let mut reader = LogReader::new(&mut source);
     reader.next_batch(alloc, procs).ok()?
@@ -64,10 +70,17 @@ pub(crate) fn batch_of(alloc: Global, _procs: &Procs, requests: Vec<Request>) ->
     }
 }
 
+/// The batch of the log, with the calls of a text between its halves.
+pub(crate) fn batch_with(alloc: Global, procs: &Procs, between: &str) -> Option<Batch>
+    ensures { IfSome result (λ batch. AreOver procs.now.tables (items_of batch)) }
+{
+    let requests = requests(alloc, procs, between)?;
+    batch_of(alloc, procs, requests)
+}
+
 /// The batch of the log.
 pub(crate) fn batch(alloc: Global, procs: &Procs) -> Option<Batch>
     ensures { IfSome result (λ batch. AreOver procs.now.tables (items_of batch)) }
 {
-    let requests = requests(alloc, procs)?;
-    batch_of(alloc, procs, requests)
+    batch_with(alloc, procs, "")
 }

@@ -39,10 +39,11 @@ fn is_run(alloc: Global, engine: &Engine, done: &BatchDone) -> Option<bool> {
 }
 
 /// Whether an engine on this setup runs the log as it was reckoned.
-pub(crate) fn runs_on(alloc: Global, setup: Setup) -> Option<bool> {
+pub(crate) fn runs_on<R: Wait + AllocGlobal>(rt: &R, setup: Setup) -> Option<bool> {
+    let alloc = rt.alloc();
     let mut engine = engine_on(alloc, setup, 1)?;
     let batch = batch(alloc, engine.procs())?;
-    match engine.run_alone(alloc, batch, &[]) {
+    match engine.run_alone(rt, alloc, batch, &[]) {
         Ok(done) => is_run(alloc, &engine, &done),
         Err(_) => Some(false),
     }
@@ -89,7 +90,7 @@ pub(crate) fn try_alone<R: Threads + Wait + Sync + AllocGlobal>(
     let batch = batch(alloc, engine.procs())?;
     let choices = choices(alloc, count).ok()?;
     refusal.approach();
-    let ended = engine.run_alone(alloc, batch, &choices);
+    let ended = engine.run_alone(rt, alloc, batch, &choices);
     refusal.pass();
     gone_on_with(rt, &mut engine, ended)
 }

@@ -31,9 +31,9 @@ fn tried<R: Threads + Wait + Sync + AllocGlobal>(
 ) -> Option<Answer> {
     let alloc = rt.alloc();
     match step {
-        "read_setup" => reading::try_setup(alloc, refusal),
+        "read_setup" => reading::try_setup(rt, refusal),
         "next_batch" => reading::try_log(alloc, refusal),
-        "declared" => planning::try_declared(alloc, refusal),
+        "prepare" => planning::try_prepare(alloc, refusal),
         "plan" => planning::try_plan(alloc, refusal),
         "admit" => scheduling::try_admit(alloc, refusal),
         "lend_and_run" => scheduling::try_lend_and_run(alloc, refusal),

@@ -1,70 +1,50 @@
-//! Declared footprints, and the plans for them.
-
-ghost use Rattle.std.specs.Prelude.{◌≡◌};
-ghost use Rattle.std.specs.List.{AllByRecursion};
+//! The footprints of calls, declared and found, and the plans for them.
 
 use crate::answer::Answer;
-use crate::bank::{bank, requests};
+use crate::bank::{bank, batch_with};
 use crate::refusal::Refusal;
 use crate::right::has_digest;
-use crate::texts::PLANS;
+use crate::texts::{FOUND_CALL, PLANS};
 use calvin::Setup;
 use catalogue::Catalogue;
 use coarsen::Plan;
-use footprint::{Footprint, declared};
-use proclang::Request;
 use report_text::push_plan;
+use row_store::{RowStore, all_is_free_with_nothing_lent};
+use sequencer::{Entry, prepare};
 use std::alloc::Global;
 
-/// Appends the footprint that each request declares. Where memory is refused, it is declared again.
-fn declare_all(
+/// The entries of the log's calls and of one whose footprint is found, and the catalogue. Where memory is refused, they are
+/// made again.
+fn entries_of_bank(
     alloc: Global,
-    catalogue: &Catalogue,
-    requests: &[Request],
-    footprints: &mut Vec<Footprint>,
-) -> Answer
-    requires { AllByRecursion (λ request. request.proc.tables ≡ catalogue.now) requests.now }
-{
-    let mut answer = Answer::Right;
-    for request in requests {
-        let mut found = declared(alloc, catalogue, request.proc(), request.args());
-        if found.is_err() {
-            answer = Answer::Refused;
-            found = declared(alloc, catalogue, request.proc(), request.args());
-        }
-        let Ok(Ok(footprint)) = found else {
-            return Answer::Wrong;
-        };
-        if footprints.push(footprint).is_err() {
-            return Answer::Wrong;
-        }
-    }
-    answer
-}
-
-/// The footprint that each call of the log declares. Where it is another, so is its plan.
-pub(crate) fn try_declared(alloc: Global, refusal: &mut Refusal) -> Option<Answer> {
+    refusal: &mut Refusal,
+) -> Option<(Answer, Catalogue, Vec<Entry>)> {
     let Setup {
         catalogue,
         procs,
-        ..
+        rows,
     } = bank(alloc)?;
-    let requests = requests(alloc, &procs)?;
-    let mut footprints = Vec::with_capacity(alloc, requests.len()).ok()?;
+    let batch = batch_with(alloc, &procs, FOUND_CALL)?;
+    let store = RowStore::new(alloc, &catalogue, rows).ok()?;
+    all_is_free_with_nothing_lent();
+    let mut answer = Answer::Right;
     refusal.approach();
-    let answer = declare_all(alloc, &catalogue, &requests, &mut footprints);
-    refusal.pass();
-    let mut plans = Vec::new(alloc);
-    if plan_all(alloc, &footprints, &mut plans) != Answer::Right {
-        return None;
+    let mut made = prepare(alloc, &batch, &catalogue, &procs, &store);
+    if made.is_err() {
+        answer = Answer::Refused;
+        made = prepare(alloc, &batch, &catalogue, &procs, &store);
     }
-    Some(answer.if_right(are_plans(alloc, &catalogue, &plans)?))
+    refusal.pass();
+    Some((answer, catalogue, made.ok()?))
 }
 
-/// Appends the plan for each footprint. Where memory is refused, it is made again.
-fn plan_all(alloc: Global, footprints: &[Footprint], plans: &mut Vec<Plan>) -> Answer {
+/// Appends the plan for the footprint of each entry. Where memory is refused, it is made again.
+fn plan_all(alloc: Global, entries: &[Entry], plans: &mut Vec<Plan>) -> Answer {
     let mut answer = Answer::Right;
-    for footprint in footprints {
+    for entry in entries {
+        let Some(footprint) = entry.footprint() else {
+            return Answer::Wrong;
+        };
         let mut made = Plan::new(alloc, footprint, 64, 65_536);
         if made.is_err() {
             answer = Answer::Refused;
@@ -80,7 +60,7 @@ fn plan_all(alloc: Global, footprints: &[Footprint], plans: &mut Vec<Plan>) -> A
     answer
 }
 
-/// Whether these are the plans of the log's calls.
+/// Whether these are the plans of the calls.
 fn are_plans(alloc: Global, catalogue: &Catalogue, plans: &[Plan]) -> Option<bool> {
     let mut text = String::new(alloc);
     let mut number = 0u64;
@@ -91,21 +71,23 @@ fn are_plans(alloc: Global, catalogue: &Catalogue, plans: &[Plan]) -> Option<boo
     has_digest(alloc, text.as_str(), PLANS)
 }
 
-/// The plan for the footprint of each call of the log.
-pub(crate) fn try_plan(alloc: Global, refusal: &mut Refusal) -> Option<Answer> {
-    let Setup {
-        catalogue,
-        procs,
-        ..
-    } = bank(alloc)?;
-    let requests = requests(alloc, &procs)?;
-    let mut footprints = Vec::new(alloc);
-    if declare_all(alloc, &catalogue, &requests, &mut footprints) != Answer::Right {
+/// The footprint of each call. Where it is another, so is its plan.
+pub(crate) fn try_prepare(alloc: Global, refusal: &mut Refusal) -> Option<Answer> {
+    let (answer, catalogue, entries) = entries_of_bank(alloc, refusal)?;
+    let mut plans = Vec::new(alloc);
+    if plan_all(alloc, &entries, &mut plans) != Answer::Right {
         return None;
     }
-    let mut plans = Vec::with_capacity(alloc, requests.len()).ok()?;
+    Some(answer.if_right(are_plans(alloc, &catalogue, &plans)?))
+}
+
+/// The plan for the footprint of each call.
+pub(crate) fn try_plan(alloc: Global, refusal: &mut Refusal) -> Option<Answer> {
+    let mut elsewhere = Refusal::elsewhere(alloc);
+    let (_, catalogue, entries) = entries_of_bank(alloc, &mut elsewhere)?;
+    let mut plans = Vec::with_capacity(alloc, entries.len()).ok()?;
     refusal.approach();
-    let answer = plan_all(alloc, &footprints, &mut plans);
+    let answer = plan_all(alloc, &entries, &mut plans);
     refusal.pass();
     Some(answer.if_right(are_plans(alloc, &catalogue, &plans)?))
 }

@@ -8,15 +8,17 @@ use calvin::{LogFaultKind, LogReader, ReadSource, SetupFault, read_setup};
 use catalogue::CatalogueFault;
 use proclang::{ProcFault, Request};
 use std::alloc::{AllocError, Global};
+use std::sync::Wait;
 use values::Value;
 
 /// The setup is read; the log is run on it as it was reckoned.
-pub(crate) fn try_setup(alloc: Global, refusal: &mut Refusal) -> Option<Answer> {
+pub(crate) fn try_setup<R: Wait + AllocGlobal>(rt: &R, refusal: &mut Refusal) -> Option<Answer> {
+    let alloc = rt.alloc();
     refusal.approach();
     let read = read_setup(alloc, BANK.as_bytes());
     refusal.pass();
     match read {
-        Ok(setup) => Some(Answer::Right.if_right(runs_on(alloc, setup)?)),
+        Ok(setup) => Some(Answer::Right.if_right(runs_on(rt, setup)?)),
         Err(
             SetupFault::Memory
             | SetupFault::Catalogue(CatalogueFault::Memory)

@@ -23,6 +23,8 @@ pub(crate) struct Refusal {
     alloc: Global,
     /// How many allocations are to be made before the step.
     wanted: u64,
+    /// How many are to be made after the step, unless one is refused.
+    most: u64,
     /// How many were made before the step.
     before: u64,
     /// How many could be made after the step until one was refused, if one was.
@@ -34,6 +36,18 @@ impl Refusal {
         Refusal {
             alloc,
             wanted,
+            most: MOST,
+            before: 0,
+            after: None,
+        }
+    }
+
+    /// One that is not looked for, neither before the step nor after it.
+    pub(crate) fn elsewhere(alloc: Global) -> Refusal {
+        Refusal {
+            alloc,
+            wanted: 0,
+            most: 0,
             before: 0,
             after: None,
         }
@@ -46,8 +60,8 @@ impl Refusal {
 
     /// Leaves it behind, if the step did not meet it: the step has ended.
     pub(crate) fn pass(&mut self) {
-        let made = allocate(self.alloc, MOST);
-        if made < MOST {
+        let made = allocate(self.alloc, self.most);
+        if made < self.most {
             self.after = Some(made);
         }
     }

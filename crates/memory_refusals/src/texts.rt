@@ -116,8 +116,12 @@ pub(crate) const REPLIES: &str = "15f994796414f8972630e2c5f200f73a477bead723ebf0
 /// The digest of the row lines that they leave.
 pub(crate) const ROWS: &str = "3e201c3771e2a0a3b0d5b5a41584b74ac39c2de1b674f326641ed31e9d2beaf4";
 
-/// The digest of the lines of their plans.
-pub(crate) const PLANS: &str = "7707d1e89fc2f49951003b4610dc7d198b9ad97fdffe5d58a6135254e83bce27";
+/// A call whose footprint is found.
+pub(crate) const FOUND_CALL: &str = r#"["call","renew",["x"]]
+"#;
+
+/// The digest of the lines of their plans, with the plan of the call whose footprint is found between the halves.
+pub(crate) const PLANS: &str = "c21fd6ee47bf3064ba19387d9787aee7104e1ca035fc6a66a55606ab317b6dec";
 
 /// The report of the two halves as two batches.
 pub(crate) const REPORT: &str = "0 commit 70\n\

@@ -16,7 +16,7 @@ use Rattle.values.specs.Names.{is_name}
 use Rattle.catalogue.specs.Reading.{column_form, is_used}
 use Rattle.catalogue.specs.Shapes.{TableShape}
 use Rattle.catalogue.specs.Places.{table_named}
-use Rattle.proclang_types.specs.Syntax.{row_entry, rows_entry, part_entry, table_entry, ParamShape, ProcSyntax}
+use Rattle.proclang_types.specs.Syntax.{row_entry, rows_entry, part_entry, table_entry, declared_by, ParamShape, ProcSyntax}
 use Rattle.proclang.specs.declared.fault.FaultKind.TheVariants.{Shape, UnknownTable, DuplicateName, Limit}
 use Rattle.proclang.specs.declared.fault.ProcFault.{ProcFault}
 use Rattle.proclang.specs.declared.fault.ProcFault.TheVariants.{Memory, At}
@@ -26,8 +26,8 @@ use Rattle.proclang.specs.Walk.{each_from, behind, at_most}
 use Rattle.proclang.specs.Lookups.{table_at}
 use Rattle.proclang.specs.Expressions.{deepest, as_int, expr_at}
 use Rattle.proclang.specs.Statements.{block_at}
-use Rattle.proclang_forms.specs.ProcForms.{ProcDocument, proc_form, declared_form, EntryDocument, row_parts, rows_parts, part_parts, table_parts, db_parts, entry_form}
-use Rattle.proclang.specs.Procs.{fresh_at, param_at, each_param, params_at, int_at, entry_of, entry_at, each_entry, footprint_at, PartsSyntax, parts_at, proc_at, each_proc, procs_at}
+use Rattle.proclang_forms.specs.ProcForms.{ProcDocument, proc_form, FootprintDocument, declared_parts, recon_parts, footprint_form, EntryDocument, row_parts, rows_parts, part_parts, table_parts, db_parts, entry_form}
+use Rattle.proclang.specs.Procs.{fresh_at, param_at, each_param, params_at, int_at, entry_of, entry_at, each_entry, footprint_of, footprint_at, PartsSyntax, parts_at, proc_at, each_proc, procs_at}
 use Rattle.proclang.specs.BrokenExpressions.{not_int, in_expr}
 use Rattle.proclang_forms.specs.declared.expr_forms.Section.TheVariants as sections
 use Rattle.proclang.specs.BrokenNames.{in_table}
@@ -151,11 +151,17 @@ entry_first : (tables : List TableShape) (scope : List Seen) (path : List ℕ) (
 unfolding entry_at
 entry_first tables scope path d = formed_first (At Shape path) (entry_form d) (entry_of tables path scope) (in_entry_form tables path scope) refl (λ f. entry_of_first tables path scope f)
 
+footprint_of_first : (tables : List TableShape) (path : List ℕ) (scope : List Seen) (form : FootprintDocument) → IsFirst (footprint_of tables path scope form) (in_footprint_form tables path scope (Some form))
+unfolding footprint_of
+footprint_of_first tables path scope (declared_parts ds) =
+    rule_first (leb (length ds) 256) (At Limit path) (λ _. each_entry tables path scope ds >>= λ es. Ok (declared_by es)) (in_parts (in_entry tables scope) path 1 ds)
+    (ok_first (each_entry tables path scope ds) (λ es. declared_by es) (in_parts (in_entry tables scope) path 1 ds)
+    (parts_first (λ p b e. entry_at tables scope p e) (in_entry tables scope) (λ p b e. entry_first tables scope p e) path 1 [] ds))
+footprint_of_first tables path scope recon_parts = refl
+
 footprint_first : (tables : List TableShape) (path : List ℕ) (scope : List Seen) (d : Data) → IsFirst (footprint_at tables path scope d) (in_footprint tables path scope d)
 unfolding footprint_at
-footprint_first tables path scope d = formed_first (At Shape path) (declared_form d) _ (in_footprint_form tables path scope) refl (λ ds.
-    rule_first (leb (length ds) 256) (At Limit path) (λ _. each_entry tables path scope ds) (in_parts (in_entry tables scope) path 1 ds)
-    (parts_first (λ p b e. entry_at tables scope p e) (in_entry tables scope) (λ p b e. entry_first tables scope p e) path 1 [] ds))
+footprint_first tables path scope d = formed_first (At Shape path) (footprint_form d) (footprint_of tables path scope) (in_footprint_form tables path scope) refl (λ f. footprint_of_first tables path scope f)
 
 -- ---- procedures
 

@@ -16,7 +16,7 @@ use Rattle.catalogue.specs.Rules.{Says}
 use Rattle.catalogue.specs.Shapes.{TableShape}
 use Rattle.catalogue.proofs.Forms.{column_said, column_again}
 use Rattle.catalogue.proofs.Named.{distinct_push, unused}
-use Rattle.proclang_types.specs.Syntax.{IntSyntax, int, EntrySyntax, row_entry, rows_entry, part_entry, table_entry, db_entry, ParamShape, StmtSyntax, ProcSyntax}
+use Rattle.proclang_types.specs.Syntax.{IntSyntax, int, EntrySyntax, row_entry, rows_entry, part_entry, table_entry, db_entry, FootprintSyntax, declared_by, found_by_recon, ParamShape, StmtSyntax, ProcSyntax}
 use Rattle.proclang.specs.declared.fault.FaultKind.TheVariants.{Shape, UnknownTable, DuplicateName}
 use Rattle.proclang.specs.declared.fault.ProcFault.{ProcFault}
 use Rattle.proclang.specs.declared.fault.ProcFault.TheVariants.{At}
@@ -26,15 +26,16 @@ use Rattle.proclang.specs.Walk.{each_from, behind, at_most}
 use Rattle.proclang.specs.Lookups.{table_at}
 use Rattle.proclang.specs.Expressions.{deepest, expr_at}
 use Rattle.proclang.specs.Statements.{block_at}
-use Rattle.proclang_forms.specs.ProcForms.{ProcDocument, proc_form, declared_form, EntryDocument, row_parts, rows_parts, part_parts, table_parts, db_parts, entry_form}
-use Rattle.proclang.specs.Procs.{fresh_at, param_at, params_at, int_at, entry_of, entry_at, footprint_at, PartsSyntax, parts_at, proc_at, procs_at}
+use Rattle.proclang_forms.specs.ProcForms.{ProcDocument, proc_form, FootprintDocument, declared_parts, recon_parts, footprint_form, EntryDocument, row_parts, rows_parts, part_parts, table_parts, db_parts, entry_form}
+use Rattle.proclang.specs.Procs.{fresh_at, param_at, params_at, int_at, entry_of, entry_at, each_entry, footprint_of, footprint_at, PartsSyntax, parts_at, proc_at, procs_at}
 use Rattle.proclang.specs.SaysExpressions.{SaysExpr, SaysFootprintInt}
 use Rattle.proclang.specs.SaysStatements.{SaysBlock}
 use Rattle.proclang.specs.Says.{SaysParam, SaysParams, SaysEntryForm, SaysEntry, SaysFootprint, SaysProc, SaysProcs}
 use Rattle.proclang.proofs.SaidExpressions.{int_found, expr_found, expr_read}
 use Rattle.proclang.proofs.SaidParts.{few_found, few_again, parts_found, parts_read}
 use Rattle.proclang.proofs.SaidBlocks.{block_found, block_read}
-use Rattle.proclang.proofs.Spelled.{entry_said, entry_again, declared_said, declared_again, proc_said, proc_again}
+use Rattle.proclang.specs.Spells.{SpellsFootprint}
+use Rattle.proclang.proofs.Spelled.{entry_said, entry_again, footprint_said, footprint_again, proc_said, proc_again}
 
 ok_is : {A : Type 0} (x y : A) → ◌≡◌ {A = Result A ProcFault} (Ok x) (Ok y) → x ≡ y
 ok_is x y e = cc
@@ -189,19 +190,27 @@ entry_read : (tables : List TableShape) (scope : List Seen) (path : List ℕ) (d
 unfolding entry_at
 entry_read tables scope path d e h = rw (entry_again d h.0 h.1) (entry_form_read tables path scope h.0 e h.2)
 
-footprint_found : (tables : List TableShape) (path : List ℕ) (scope : List Seen) (d : Data) (es : List EntrySyntax) → footprint_at tables path scope d ≡ Ok es → SaysFootprint tables scope d es
-unfolding footprint_at
-footprint_found tables path scope d es e =
-    let ds = bind_ok (formed (At Shape path) (declared_form d)) _ es e in
-    let few = bind_ok (at_most path 256 ds.0) _ es ds.2 in
-    let all = parts_found (λ p b x. entry_at tables scope p x) (SaysEntry tables scope) (λ p b x y h. entry_found tables scope p x y h) path 1 [] ds.0 es few.2 in
-    (ds.0, declared_said d ds.0 (formed_ok (At Shape path) (declared_form d) ds.0 ds.1), few_found path 256 ds.0 few.0 few.1, subst (Says (SaysEntry tables scope) ds.0) (sym all.1) all.2)
+footprint_parts_found : (tables : List TableShape) (path : List ℕ) (scope : List Seen) (d : Data) (form : FootprintDocument) (f : FootprintSyntax) → SpellsFootprint d form → footprint_of tables path scope form ≡ Ok f → SaysFootprint tables scope d f
+unfolding footprint_of
+footprint_parts_found tables path scope d (declared_parts ds) f spells e =
+    let few = bind_ok (at_most path 256 ds) _ f e in
+    let es = bind_ok (each_entry tables path scope ds) _ f few.2 in
+    let all = parts_found (λ p b x. entry_at tables scope p x) (SaysEntry tables scope) (λ p b x y h. entry_found tables scope p x y h) path 1 [] ds es.0 es.1 in
+    subst (SaysFootprint tables scope d) (ok_is (declared_by es.0) f es.2)
+    (ds, spells, few_found path 256 ds few.0 few.1, subst (Says (SaysEntry tables scope) ds) (sym all.1) all.2)
+footprint_parts_found tables path scope d recon_parts f spells e = subst (SaysFootprint tables scope d) (ok_is found_by_recon f e) spells
 
-footprint_read : (tables : List TableShape) (path : List ℕ) (scope : List Seen) (d : Data) (es : List EntrySyntax) → SaysFootprint tables scope d es → footprint_at tables path scope d ≡ Ok es
+footprint_found : (tables : List TableShape) (path : List ℕ) (scope : List Seen) (d : Data) (f : FootprintSyntax) → footprint_at tables path scope d ≡ Ok f → SaysFootprint tables scope d f
 unfolding footprint_at
-footprint_read tables path scope d es h =
-    rw (declared_again d h.0 h.1, few_again path 256 h.0 h.2)
-    (parts_read (λ p b x. entry_at tables scope p x) (SaysEntry tables scope) (λ p b x y g. entry_read tables scope p x y g) path 1 [] h.0 es h.3)
+footprint_found tables path scope d f e =
+    let form = bind_ok (formed (At Shape path) (footprint_form d)) _ f e in
+    footprint_parts_found tables path scope d form.0 f (footprint_said d form.0 (formed_ok (At Shape path) (footprint_form d) form.0 form.1)) form.2
+
+footprint_read : (tables : List TableShape) (path : List ℕ) (scope : List Seen) (d : Data) (f : FootprintSyntax) → SaysFootprint tables scope d f → footprint_at tables path scope d ≡ Ok f
+unfolding footprint_at footprint_of
+footprint_read tables path scope d (declared_by es) h =
+    rw (footprint_again d (declared_parts h.0) h.1, few_again path 256 h.0 h.2, parts_read (λ p b x. entry_at tables scope p x) (SaysEntry tables scope) (λ p b x y g. entry_read tables scope p x y g) path 1 [] h.0 es h.3) refl
+footprint_read tables path scope d found_by_recon h = rw (footprint_again d recon_parts h) refl
 
 -- ---- procedures
 
@@ -211,7 +220,7 @@ proc_name p = p.name
 abbrev made_proc : List ℕ → PartsSyntax → ProcSyntax
 made_proc name parts = record { name = name; params = parts.params; footprint = parts.footprint; body = parts.body }
 
-abbrev made_parts : List ParamShape → List EntrySyntax → List StmtSyntax → PartsSyntax
+abbrev made_parts : List ParamShape → FootprintSyntax → List StmtSyntax → PartsSyntax
 made_parts params footprint body = record { params = params; footprint = footprint; body = body }
 
 record SaysParts (tables : List TableShape) (form : ProcDocument) (parts : PartsSyntax) : Type 0 where

@@ -10,8 +10,8 @@ use Rattle.documents.proofs.Said.{string_said, elements_said, elements_again}
 use Rattle.documents.proofs.Steps.{and_then_ok, map_ok}
 use Rattle.proclang_types.specs.declared.right.Right.{Right}
 use Rattle.proclang_types.specs.declared.right.Right.TheVariants.{Read, Write}
-use Rattle.proclang_forms.specs.ProcForms.{ProcDocument, proc_form, declared_entries, declared_form, EntryDocument, row_parts, rows_parts, part_parts, table_parts, db_parts, right_of, row_form, rows_form, part_form, table_form, db_form, entry_word, entry_words, entry_form}
-use Rattle.proclang.specs.Spells.{words, right_word, SpellsEntry, SpellsProc}
+use Rattle.proclang_forms.specs.ProcForms.{ProcDocument, proc_form, FootprintDocument, declared_parts, recon_parts, recon_form, footprint_word, footprint_words, footprint_form, EntryDocument, row_parts, rows_parts, part_parts, table_parts, db_parts, right_of, row_form, rows_form, part_form, table_form, db_form, entry_word, entry_words, entry_form}
+use Rattle.proclang.specs.Spells.{words, right_word, SpellsEntry, SpellsFootprint, SpellsProc}
 use Rattle.proclang.proofs.Words.{word_or, none_is}
 
 -- ---- footprints
@@ -139,28 +139,41 @@ entry_again d (part_parts right table part) h = ap entry_form h ∙ entry_words_
 entry_again d (table_parts right table) h = ap entry_form h ∙ entry_words_again (codes "table") (string (right_word right) ∷ string table ∷ []) ∙ ap (option_and_then (λ r. Some (table_parts r table))) (right_again right)
 entry_again d (db_parts right) h = ap entry_form h ∙ entry_words_again (codes "db") (string (right_word right) ∷ []) ∙ ap (option_map db_parts) (right_again right)
 
-declared_entries_said : (ds entries : List Data) → declared_entries ds ≡ Some entries → array (items_of ds) ≡ words (codes "declared") entries
-unfolding declared_entries
-declared_entries_said [] entries e = none_is entries e
-declared_entries_said (head ∷ rest) entries e =
-    let word = and_then_ok _ (as_str head) entries e in
-    elim (word_or word.0 (codes "declared") (Some rest) None entries word.2) [
-      | inl h ↦ (let is : rest ≡ entries = (let g = h.1 in cc) in words_are head rest entries (string_said head word.0 word.1 ∙ ap (λ (s : List ℕ). string s) h.0) is)
-      | inr none ↦ none_is entries none
-    ]
-  where
-    words_are : (head : Data) (rest entries : List Data) → head ≡ string (codes "declared") → rest ≡ entries → array (items_of (head ∷ rest)) ≡ words (codes "declared") entries
-    words_are head rest entries p q = rw (p, q) refl
+recon_said : (parts : List Data) (f : FootprintDocument) → recon_form parts ≡ Some f → SpellsFootprint (words (codes "recon") parts) f
+unfolding recon_form
+recon_said [] f e = let is : recon_parts ≡ f = cc in subst (SpellsFootprint (words (codes "recon") [])) is refl
+recon_said (d ∷ ds) f e = none_is f e
 
-pub declared_said : (d : Data) (entries : List Data) → declared_form d ≡ Some entries → d ≡ words (codes "declared") entries
-unfolding declared_form
-declared_said d entries e =
-    let ds = and_then_ok declared_entries (elements d) entries e in
-    elements_said d ds.0 ds.1 ∙ declared_entries_said ds.0 entries ds.2
+footprint_word_said : (word : List ℕ) (parts : List Data) (f : FootprintDocument) → footprint_word word parts ≡ Some f → SpellsFootprint (words word parts) f
+unfolding footprint_word
+footprint_word_said word parts f e = elim (word_or word (codes "declared") (Some (declared_parts parts)) _ f e) [
+  | inl h ↦ (let is : declared_parts parts ≡ f = (let g = h.1 in cc) in subst (SpellsFootprint (words word parts)) is (ap (λ (w : List ℕ). words w parts) h.0))
+  | inr a ↦ elim (word_or word (codes "recon") (recon_form parts) None f a) [
+    | inl h ↦ rw h.0 (recon_said parts f h.1)
+    | inr none ↦ none_is f none
+  ]
+]
 
-pub declared_again : (d : Data) (entries : List Data) → d ≡ words (codes "declared") entries → declared_form d ≡ Some entries
-unfolding declared_form declared_entries
-declared_again d entries h = ap declared_form h ∙ ap (option_and_then declared_entries) (elements_again (string (codes "declared") ∷ entries))
+footprint_words_said : (ds : List Data) (f : FootprintDocument) → footprint_words ds ≡ Some f → SpellsFootprint (array (items_of ds)) f
+footprint_words_said [] f e = none_is f e
+footprint_words_said (head ∷ parts) f e =
+    let word = and_then_ok _ (as_str head) f e in
+    rw (string_said head word.0 word.1) (footprint_word_said word.0 parts f word.2)
+
+pub footprint_said : (d : Data) (f : FootprintDocument) → footprint_form d ≡ Some f → SpellsFootprint d f
+unfolding footprint_form
+footprint_said d f e =
+    let ds = and_then_ok footprint_words (elements d) f e in
+    rw (elements_said d ds.0 ds.1) (footprint_words_said ds.0 f ds.2)
+
+footprint_words_again : (word : List ℕ) (parts : List Data) → footprint_form (words word parts) ≡ footprint_word word parts
+unfolding footprint_form
+footprint_words_again word parts = ap (option_and_then footprint_words) (elements_again (string word ∷ parts))
+
+pub footprint_again : (d : Data) (f : FootprintDocument) → SpellsFootprint d f → footprint_form d ≡ Some f
+unfolding footprint_word recon_form
+footprint_again d (declared_parts ds) h = ap footprint_form h ∙ footprint_words_again (codes "declared") ds
+footprint_again d recon_parts h = ap footprint_form h ∙ footprint_words_again (codes "recon") []
 
 -- ---- procedures
 

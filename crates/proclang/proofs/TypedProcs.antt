@@ -10,9 +10,9 @@ use Rattle.catalogue.specs.Shapes.{TableShape}
 use Rattle.values.specs.Names.{is_name}
 use Rattle.catalogue.specs.Reading.{is_used}
 use Rattle.catalogue.proofs.Named.{distinct_push}
-use Rattle.proclang_types.specs.Syntax.{IntSyntax, EntrySyntax, row_entry, rows_entry, part_entry, table_entry, db_entry, ParamShape, ProcSyntax, block_of}
+use Rattle.proclang_types.specs.Syntax.{IntSyntax, EntrySyntax, row_entry, rows_entry, part_entry, table_entry, db_entry, FootprintSyntax, declared_by, found_by_recon, ParamShape, ProcSyntax, block_of}
 use Rattle.proclang_types.specs.Procedures.{ProcParts, proc_syntax}
-use Rattle.proclang_types.specs.Typing.{IntFits, AsksNoRows, EntryFits, BlockFits, kinds_of, ProcFits}
+use Rattle.proclang_types.specs.Typing.{IntFits, AsksNoRows, EntryFits, FootprintFits, BlockFits, kinds_of, ProcFits}
 use Rattle.proclang.specs.declared.fault.FaultKind.TheVariants.{Shape, DuplicateName}
 use Rattle.proclang.specs.declared.fault.ProcFault.{ProcFault}
 use Rattle.proclang.specs.declared.fault.ProcFault.TheVariants.{At}
@@ -22,8 +22,8 @@ use Rattle.proclang.specs.Walk.{each_from, behind, at_most}
 use Rattle.proclang.specs.Lookups.{declared_at, table_at}
 use Rattle.proclang.specs.Expressions.{deepest, expr_at}
 use Rattle.proclang.specs.Statements.{block_at}
-use Rattle.proclang_forms.specs.ProcForms.{ProcDocument, proc_form, declared_form, EntryDocument, row_parts, rows_parts, part_parts, table_parts, db_parts, entry_form}
-use Rattle.proclang.specs.Procs.{fresh_at, params_at, int_at, entry_of, entry_at, footprint_at, PartsSyntax, parts_at, proc_at, each_proc}
+use Rattle.proclang_forms.specs.ProcForms.{ProcDocument, proc_form, FootprintDocument, declared_parts, recon_parts, footprint_form, EntryDocument, row_parts, rows_parts, part_parts, table_parts, db_parts, entry_form}
+use Rattle.proclang.specs.Procs.{fresh_at, params_at, int_at, entry_of, entry_at, each_entry, footprint_of, footprint_at, PartsSyntax, parts_at, proc_at, each_proc}
 use Rattle.requests.specs.ProcLists.{AreOver, AreProcs, proc_named}
 use Rattle.requests.proofs.ProcLists.{named_used}
 use Rattle.proclang.proofs.TypedExpressions.{table_there, int_fits, expr_fits}
@@ -73,13 +73,24 @@ entry_fits tables path scope (db_parts right) e r =
     let is : db_entry right ≡ e = cc in
     subst (EntryFits tables (seen_kinds scope)) is tt
 
-footprint_fits : (tables : List TableShape) (path : List ℕ) (scope : List Seen) (d : Data) (es : List EntrySyntax) → footprint_at tables path scope d ≡ Ok es → AllByRecursion (EntryFits tables (seen_kinds scope)) es
-unfolding footprint_at entry_at
-footprint_fits tables path scope d es e =
-    let f = bind_ok (formed (At Shape path) (declared_form d)) _ es e in
-    let few = bind_ok (at_most path 256 f.0) _ es f.2 in
-    each_keeps (EntryFits tables (seen_kinds scope)) (λ p before x. entry_at tables scope p x)
-    (λ p before x y h. let form = bind_ok (formed (At Shape p) (entry_form x)) _ y h in entry_fits tables p scope form.0 y form.2) path 1 [] f.0 es tt few.2
+footprint_parts_fit : (tables : List TableShape) (path : List ℕ) (scope : List Seen) (form : FootprintDocument) (f : FootprintSyntax) → footprint_of tables path scope form ≡ Ok f → FootprintFits tables (seen_kinds scope) f
+unfolding footprint_of entry_at
+footprint_parts_fit tables path scope (declared_parts ds) f e =
+    let few = bind_ok (at_most path 256 ds) _ f e in
+    let es = bind_ok (each_entry tables path scope ds) _ f few.2 in
+    let is : declared_by es.0 ≡ f = (let h = es.2 in cc) in
+    subst (FootprintFits tables (seen_kinds scope)) is
+    (each_keeps (EntryFits tables (seen_kinds scope)) (λ p before x. entry_at tables scope p x)
+    (λ p before x y h. let form = bind_ok (formed (At Shape p) (entry_form x)) _ y h in entry_fits tables p scope form.0 y form.2) path 1 [] ds es.0 tt es.1)
+footprint_parts_fit tables path scope recon_parts f e =
+    let is : found_by_recon ≡ f = cc in
+    subst (FootprintFits tables (seen_kinds scope)) is tt
+
+footprint_fits : (tables : List TableShape) (path : List ℕ) (scope : List Seen) (d : Data) (f : FootprintSyntax) → footprint_at tables path scope d ≡ Ok f → FootprintFits tables (seen_kinds scope) f
+unfolding footprint_at
+footprint_fits tables path scope d f e =
+    let form = bind_ok (formed (At Shape path) (footprint_form d)) _ f e in
+    footprint_parts_fit tables path scope form.0 f form.2
 
 -- what follows a procedure's name fits
 pub parts_fit : (tables : List TableShape) (path : List ℕ) (form : ProcDocument) (name : List ℕ) (p : PartsSyntax) → parts_at tables path form ≡ Ok p → ProcFits tables (record { name = name; params = p.params; footprint = p.footprint; body = p.body })
@@ -90,7 +101,7 @@ parts_fit tables path form name p e =
     let body = bind_ok (block_at tables deepest (path ++ 3 ∷ []) (seen_of params.0) form.body) _ p foot.2 in
     let made : PartsSyntax = record { params = params.0; footprint = foot.0; body = body.0 } in
     let is : made ≡ p = (let h = body.2 in cc) in
-    let entries : AllByRecursion (EntryFits tables (kinds_of params.0)) foot.0 = rw kinds_seen at (footprint_fits tables (path ++ 2 ∷ []) (seen_of params.0) form.footprint foot.0 foot.1) in
+    let entries : FootprintFits tables (kinds_of params.0) foot.0 = rw kinds_seen at (footprint_fits tables (path ++ 2 ∷ []) (seen_of params.0) form.footprint foot.0 foot.1) in
     let block : BlockFits tables (kinds_of params.0) (block_of body.0) = rw kinds_seen at (block_fits tables deepest (path ++ 3 ∷ []) (seen_of params.0) form.body body.0 body.1) in
     subst (λ (q : PartsSyntax). ProcFits tables (record { name = name; params = q.params; footprint = q.footprint; body = q.body })) is (record { footprint = entries; body = block })
 

@@ -19,7 +19,7 @@ use Rattle.proclang.specs.BrokenExpressions.{not_int, in_expr}
 use Rattle.proclang.specs.BrokenNames.{in_table}
 use Rattle.proclang.specs.BrokenStatements.{in_parts, too_many, in_block}
 use Rattle.proclang.specs.Expressions.{deepest}
-use Rattle.proclang_forms.specs.ProcForms.{ProcDocument, proc_form, declared_form, EntryDocument, row_parts, rows_parts, part_parts, table_parts, db_parts, entry_form}
+use Rattle.proclang_forms.specs.ProcForms.{ProcDocument, proc_form, FootprintDocument, declared_parts, recon_parts, footprint_form, EntryDocument, row_parts, rows_parts, part_parts, table_parts, db_parts, entry_form}
 use Rattle.proclang.specs.Seen.{Seen, seen_of}
 
 -- those of each part in turn, the first at the place that is given, behind the names that the parts before it give
@@ -74,12 +74,13 @@ in_entry_form tables path scope (Some (db_parts right)) = []
 abbrev pub in_entry : List TableShape → List Seen → List ℕ → Data → List ProcFault
 in_entry tables scope path d = in_entry_form tables path scope (entry_form d)
 
-abbrev pub in_footprint_form : List TableShape → List ℕ → List Seen → Option (List Data) → List ProcFault
+abbrev pub in_footprint_form : List TableShape → List ℕ → List Seen → Option FootprintDocument → List ProcFault
 in_footprint_form tables path scope None = At Shape path ∷ []
-in_footprint_form tables path scope (Some ds) = too_many path 256 ds ++ in_parts (in_entry tables scope) path 1 ds
+in_footprint_form tables path scope (Some (declared_parts ds)) = too_many path 256 ds ++ in_parts (in_entry tables scope) path 1 ds
+in_footprint_form tables path scope (Some recon_parts) = []
 
 abbrev pub in_footprint : List TableShape → List ℕ → List Seen → Data → List ProcFault
-in_footprint tables path scope d = in_footprint_form tables path scope (declared_form d)
+in_footprint tables path scope d = in_footprint_form tables path scope (footprint_form d)
 
 -- ---- procedures
 

@@ -6,9 +6,9 @@ use Rattle.documents.specs.Json.{versioned_list}
 use Rattle.documents.specs.Reading.{◌>>=◌, formed, rule}
 use Rattle.catalogue.specs.Shapes.{TableShape}
 use Rattle.catalogue.specs.Reading.{column_form, is_used}
-use Rattle.proclang_types.specs.Syntax.{IntSyntax, EntrySyntax, row_entry, rows_entry, part_entry, table_entry, db_entry, ParamShape, StmtSyntax, ProcSyntax}
+use Rattle.proclang_types.specs.Syntax.{IntSyntax, EntrySyntax, row_entry, rows_entry, part_entry, table_entry, db_entry, FootprintSyntax, declared_by, found_by_recon, ParamShape, StmtSyntax, ProcSyntax}
 use Rattle.proclang_types.specs.Procedures.{param_shape}
-use Rattle.proclang_types.specs.Views.{entry_view, stmts_view}
+use Rattle.proclang_types.specs.Views.{footprint_view, stmts_view}
 use Rattle.proclang.specs.declared.read_proc.Parts.{Parts}
 use Rattle.proclang.specs.declared.fault.FaultKind.TheVariants.{Shape, DuplicateName}
 use Rattle.proclang.specs.declared.fault.ProcFault.{ProcFault}
@@ -19,7 +19,7 @@ use Rattle.proclang.specs.Walk.{each_from, behind, at_most}
 use Rattle.proclang.specs.Lookups.{declared_at, table_at}
 use Rattle.proclang.specs.Expressions.{deepest, as_int, expr_at}
 use Rattle.proclang.specs.Statements.{block_at}
-use Rattle.proclang_forms.specs.ProcForms.{ProcDocument, proc_form, declared_form, EntryDocument, row_parts, rows_parts, part_parts, table_parts, db_parts, entry_form}
+use Rattle.proclang_forms.specs.ProcForms.{ProcDocument, proc_form, FootprintDocument, declared_parts, recon_parts, footprint_form, EntryDocument, row_parts, rows_parts, part_parts, table_parts, db_parts, entry_form}
 
 -- ---- parameters
 
@@ -79,22 +79,28 @@ entry_at tables scope path d = do
 abbrev pub each_entry : List TableShape → List ℕ → List Seen → List Data → Result (List EntrySyntax) ProcFault
 each_entry tables path scope ds = each_from (λ p before e. behind before (entry_at tables scope p e)) path 1 [] ds
 
-unfoldable pub footprint_at : List TableShape → List ℕ → List Seen → Data → Result (List EntrySyntax) ProcFault
-footprint_at tables path scope d = do
-  ds ← formed (At Shape path) (declared_form d)
+unfoldable pub footprint_of : List TableShape → List ℕ → List Seen → FootprintDocument → Result FootprintSyntax ProcFault
+footprint_of tables path scope (declared_parts ds) = do
   _ ← at_most path 256 ds
-  each_entry tables path scope ds
+  entries ← each_entry tables path scope ds
+  Ok (declared_by entries)
+footprint_of tables path scope recon_parts = Ok found_by_recon
+
+unfoldable pub footprint_at : List TableShape → List ℕ → List Seen → Data → Result FootprintSyntax ProcFault
+footprint_at tables path scope d = do
+  form ← formed (At Shape path) (footprint_form d)
+  footprint_of tables path scope form
 
 -- ---- procedures
 
 -- what follows a procedure's name
 pub record PartsSyntax : Type 0 where
   pub params : List ParamShape
-  pub footprint : List EntrySyntax
+  pub footprint : FootprintSyntax
   pub body : List StmtSyntax
 
 abbrev pub parts_view : Parts → PartsSyntax
-parts_view p = record { params = map param_shape p.params.items; footprint = map entry_view p.footprint.items; body = stmts_view p.body.items }
+parts_view p = record { params = map param_shape p.params.items; footprint = footprint_view p.footprint; body = stmts_view p.body.items }
 
 unfoldable pub parts_at : List TableShape → List ℕ → ProcDocument → Result PartsSyntax ProcFault
 parts_at tables path form = do

@@ -9,7 +9,7 @@ use Rattle.documents.specs.Json.{integer}
 use Rattle.values.specs.Names.{is_name}
 use Rattle.catalogue.specs.Rules.{Says, SaysColumn}
 use Rattle.catalogue.specs.Shapes.{TableShape}
-use Rattle.proclang_types.specs.Syntax.{IntSyntax, EntrySyntax, row_entry, rows_entry, part_entry, table_entry, db_entry, ParamShape, ProcSyntax}
+use Rattle.proclang_types.specs.Syntax.{IntSyntax, EntrySyntax, row_entry, rows_entry, part_entry, table_entry, db_entry, FootprintSyntax, declared_by, found_by_recon, ParamShape, ProcSyntax}
 use Rattle.proclang.specs.Expressions.{deepest}
 use Rattle.proclang_forms.specs.ProcForms.{ProcDocument, EntryDocument, row_parts, rows_parts, part_parts, table_parts, db_parts}
 use Rattle.proclang.specs.SaysExpressions.{IsTable, SaysFootprintInt}
@@ -42,9 +42,10 @@ SaysEntryForm tables scope (db_parts right) e = e ≡ db_entry right
 abbrev pub SaysEntry : List TableShape → List Seen → Data → EntrySyntax → Type 0
 SaysEntry tables scope d e = (form : EntryDocument) × SpellsEntry d form × SaysEntryForm tables scope form e
 
--- ["declared", ENTRY ..]
-abbrev pub SaysFootprint : List TableShape → List Seen → Data → List EntrySyntax → Type 0
-SaysFootprint tables scope d es = (ds : List Data) × (d ≡ words (codes "declared") ds) × (length ds ≤ 256) × Says (SaysEntry tables scope) ds es
+-- ["declared", ENTRY ..], or ["recon"]
+abbrev pub SaysFootprint : List TableShape → List Seen → Data → FootprintSyntax → Type 0
+SaysFootprint tables scope d (declared_by es) = (ds : List Data) × (d ≡ words (codes "declared") ds) × (length ds ≤ 256) × Says (SaysEntry tables scope) ds es
+SaysFootprint tables scope d found_by_recon = d ≡ words (codes "recon") []
 
 -- parameters are seen in the whole footprint and the whole body
 pub record SaysProc (tables : List TableShape) (d : Data) (p : ProcSyntax) : Type 0 where

@@ -8,7 +8,7 @@ use Rattle.proclang_types.specs.declared.right.Right.{Right}
 use Rattle.proclang_types.specs.declared.right.Right.TheVariants.{Read, Write}
 use Rattle.proclang_forms.specs.Operators.{word_of}
 use Rattle.proclang_forms.specs.ExprForms.{Form, number_form, literal_form, variable_form, not_form, binary_form, exists_form, count_form, sum_form}
-use Rattle.proclang_forms.specs.ProcForms.{ProcDocument, EntryDocument, row_parts, rows_parts, part_parts, table_parts, db_parts}
+use Rattle.proclang_forms.specs.ProcForms.{ProcDocument, FootprintDocument, declared_parts, recon_parts, EntryDocument, row_parts, rows_parts, part_parts, table_parts, db_parts}
 use Rattle.proclang_forms.specs.StmtForms.{StatementForm, let_parts, get_parts, put_parts, insert_parts, delete_parts, if_parts, for_parts, each_parts, abort_code, reply_values}
 
 -- [WORD, PART ..]
@@ -54,6 +54,11 @@ SpellsEntry d (rows_parts right table low high) = d ≡ words (codes "rows") (st
 SpellsEntry d (part_parts right table part) = d ≡ words (codes "part") (string (right_word right) ∷ string table ∷ part ∷ [])
 SpellsEntry d (table_parts right table) = d ≡ words (codes "table") (string (right_word right) ∷ string table ∷ [])
 SpellsEntry d (db_parts right) = d ≡ words (codes "db") (string (right_word right) ∷ [])
+
+-- ["declared", ENTRY ..], ["recon"]
+abbrev pub SpellsFootprint : Data → FootprintDocument → Type 0
+SpellsFootprint d (declared_parts entries) = d ≡ words (codes "declared") entries
+SpellsFootprint d recon_parts = d ≡ words (codes "recon") []
 
 -- [name, [PARAM ..], FOOT, BLOCK]
 abbrev pub SpellsProc : Data → ProcDocument → Type 0

@@ -25,8 +25,8 @@ mod typed_stmt;
 pub use fault::{FaultKind, Places, ProcFault};
 pub use laws::one_list_of_procedures_is_said;
 pub use proclang_types::{
-    BoolExpr, Comparison, Equality, Expr, FootprintEntry, IntExpr, IntOperator, Param, Proc, Right,
-    Stmt, TextExpr, ValueExpr,
+    BoolExpr, Comparison, Equality, Expr, FootprintEntry, IntExpr, IntOperator, Param, Proc,
+    ProcFootprint, Right, Stmt, TextExpr, ValueExpr,
 };
 pub use procs::read_procs;
 pub use requests::{Procs, Request, RequestFault};

@@ -3,11 +3,11 @@
 ghost use Rattle.std.specs.Prelude.{◌≡◌, map};
 ghost use Rattle.serde_json.specs.View.{view};
 ghost use Rattle.documents.specs.Reading.{Reads};
-ghost use Rattle.proclang_types.specs.Views.{int_view, entry_view};
+ghost use Rattle.proclang_types.specs.Views.{int_view, entry_view, footprint_view};
 ghost use Rattle.proclang.specs.Paths.{places};
 ghost use Rattle.proclang.specs.Faults.{is_memory};
-ghost use Rattle.proclang_forms.specs.ProcForms.{row_parts, rows_parts, part_parts, entry_form_view};
-ghost use Rattle.proclang.specs.Procs.{int_at, entry_of, entry_at, each_entry, footprint_at};
+ghost use Rattle.proclang_forms.specs.ProcForms.{row_parts, rows_parts, part_parts, entry_form_view, footprint_form_view};
+ghost use Rattle.proclang.specs.Procs.{int_at, entry_of, entry_at, each_entry, footprint_of, footprint_at};
 
 use crate::expr_context::{DEEPEST, ExprContext};
 use crate::fault::{FaultKind, ProcFault, fault};
@@ -18,8 +18,8 @@ use crate::read_names::read_table;
 use crate::scope::Scope;
 use crate::typed::as_int;
 use catalogue::Catalogue;
-use proclang_forms::{EntryForm, Section, declared_form, entry_form};
-use proclang_types::{FootprintEntry, IntExpr, Right};
+use proclang_forms::{EntryForm, FootprintForm, Section, entry_form, footprint_form};
+use proclang_types::{FootprintEntry, IntExpr, ProcFootprint, Right};
 use serde_json::Value;
 use std::alloc::Global;
 
@@ -171,6 +171,27 @@ fn read_each(
     Ok(entries)
 }
 
+#[tactic(auto, unfolding(crate::specs::Procs::footprint_of))]
+fn read_footprint_parts(
+    alloc: Global,
+    catalogue: &Catalogue,
+    scope: &Scope,
+    path: &Path<'_>,
+    form: FootprintForm<'_>,
+) -> Result<ProcFootprint, ProcFault>
+    ensures { Reads is_memory footprint_view result (footprint_of catalogue.now (places path.now) scope.now
+        (footprint_form_view form.entry)) }
+{
+    match form {
+        FootprintForm::Declared(values) => {
+            at_most(alloc, path, 256, values)?;
+            let entries = read_each(alloc, catalogue, scope, path, values)?;
+            Ok(ProcFootprint::Declared(entries))
+        }
+        FootprintForm::Recon => Ok(ProcFootprint::Recon),
+    }
+}
+
 /// The footprint that the document says, of a procedure whose parameters are seen.
 #[tactic(auto, unfolding(crate::specs::Procs::footprint_at))]
 pub(crate) fn read_footprint(
@@ -179,13 +200,12 @@ pub(crate) fn read_footprint(
     scope: &Scope,
     path: &Path<'_>,
     value: &Value,
-) -> Result<Vec<FootprintEntry>, ProcFault>
-    ensures { Reads is_memory (λ v. map entry_view v.items) result
+) -> Result<ProcFootprint, ProcFault>
+    ensures { Reads is_memory footprint_view result
         (footprint_at catalogue.now (places path.now) scope.now (view value.now)) }
 {
-    let Some(values) = declared_form(value) else {
+    let Some(form) = footprint_form(value) else {
         return Err(fault(alloc, FaultKind::Shape, path));
     };
-    at_most(alloc, path, 256, values)?;
-    read_each(alloc, catalogue, scope, path, values)
+    read_footprint_parts(alloc, catalogue, scope, path, form)
 }

@@ -20,7 +20,7 @@ use crate::read_params::read_params;
 use crate::scope::Scope;
 use catalogue::Catalogue;
 use proclang_forms::{ProcForm, proc_form};
-use proclang_types::{FootprintEntry, Param, Proc, Stmt};
+use proclang_types::{Param, Proc, ProcFootprint, Stmt};
 use requests::Procs;
 use serde_json::Value;
 use std::alloc::Global;
@@ -29,7 +29,7 @@ use std::alloc::Global;
 #[derive(Drop)]
 pub(crate) struct Parts {
     params: Vec<Param>,
-    footprint: Vec<FootprintEntry>,
+    footprint: ProcFootprint,
     body: Vec<Stmt>,
 }
 

@@ -9,6 +9,8 @@ use Rattle.documents.specs.Json.{elements, four}
 use Rattle.proclang_types.specs.declared.right.Right.{Right}
 use Rattle.proclang_types.specs.declared.right.Right.TheVariants.{Read, Write}
 use Rattle.proclang_forms.specs.declared.proc_forms.ProcForm.{ProcForm}
+use Rattle.proclang_forms.specs.declared.proc_forms.FootprintForm.{FootprintForm}
+use Rattle.proclang_forms.specs.declared.proc_forms.FootprintForm.TheVariants as footprints
 use Rattle.proclang_forms.specs.declared.proc_forms.EntryForm.{EntryForm}
 use Rattle.proclang_forms.specs.declared.proc_forms.EntryForm.TheVariants as forms
 
@@ -32,13 +34,31 @@ proc_form d =
 
 -- ---- footprints
 
-unfoldable pub declared_entries : List Data → Option (List Data)
-declared_entries [] = None
-declared_entries (head ∷ entries) = option_and_then (λ word. if bytes_eq word (codes "declared") then Some entries else None) (as_str head)
+pub data FootprintDocument : Type 0 where
+  -- entries
+  declared_parts : List Data → FootprintDocument
+  recon_parts : FootprintDocument
 
--- the entries of a declared footprint
-unfoldable pub declared_form : Data → Option (List Data)
-declared_form d = option_and_then declared_entries (elements d)
+abbrev pub footprint_form_view : FootprintForm → FootprintDocument
+footprint_form_view (footprints.Declared entries) = declared_parts (map view entries.now)
+footprint_form_view footprints.Recon = recon_parts
+
+unfoldable pub recon_form : List Data → Option FootprintDocument
+recon_form [] = Some recon_parts
+recon_form (d ∷ ds) = None
+
+-- what stands behind a head word
+unfoldable pub footprint_word : List ℕ → List Data → Option FootprintDocument
+footprint_word word parts =
+    if bytes_eq word (codes "declared") then Some (declared_parts parts) else
+    (if bytes_eq word (codes "recon") then recon_form parts else None)
+
+abbrev pub footprint_words : List Data → Option FootprintDocument
+footprint_words [] = None
+footprint_words (head ∷ parts) = option_and_then (λ word. footprint_word word parts) (as_str head)
+
+unfoldable pub footprint_form : Data → Option FootprintDocument
+footprint_form d = option_and_then footprint_words (elements d)
 
 pub data EntryDocument : Type 0 where
   -- right, table, KEY

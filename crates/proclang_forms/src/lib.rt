@@ -9,7 +9,7 @@ mod stmt_forms;
 
 pub use expr_forms::{BinaryForm, CountForm, ExistsForm, ExprForm, Section, SumForm, form_in};
 pub use operator::Operator;
-pub use proc_forms::{EntryForm, ProcForm, declared_form, entry_form, proc_form};
+pub use proc_forms::{EntryForm, FootprintForm, ProcForm, entry_form, footprint_form, proc_form};
 pub use stmt_forms::{
     DeleteForm, EachForm, ForForm, GetForm, IfForm, InsertForm, LetForm, PutForm, StmtForm,
     statement_form,

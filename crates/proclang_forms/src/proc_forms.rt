@@ -2,7 +2,7 @@
 
 ghost use Rattle.std.specs.Prelude.{◌≡◌, option_map, map};
 ghost use Rattle.serde_json.specs.View.{view};
-ghost use Rattle.proclang_forms.specs.ProcForms.{proc_parts_of, proc_form, declared_entries, declared_form, right_of, entry_form_view, row_form, rows_form, part_form, table_form, db_form, entry_word, entry_words, entry_form};
+ghost use Rattle.proclang_forms.specs.ProcForms.{proc_parts_of, proc_form, footprint_form_view, recon_form, footprint_word, footprint_words, footprint_form, right_of, entry_form_view, row_form, rows_form, part_form, table_form, db_form, entry_word, entry_words, entry_form};
 
 use documents::{elements, four};
 use proclang_types::Right;
@@ -31,23 +31,49 @@ pub fn proc_form(value: &Value) -> Option<ProcForm<'_>>
     })
 }
 
-#[tactic(auto, unfolding(crate::specs::ProcForms::declared_entries))]
-fn declared_entries(items: &[Value]) -> Option<&[Value]>
-    ensures { option_map (λ s. map view s.now) result ≡ declared_entries (map view items.now) }
+/// One level of a footprint.
+#[derive(Clone, Copy)]
+pub enum FootprintForm<'a> {
+    /// `["declared", ENTRY ..]`
+    Declared(&'a [Value]),
+    /// `["recon"]`
+    Recon,
+}
+
+#[tactic(auto, unfolding(crate::specs::ProcForms::recon_form))]
+fn recon_form<'a>(parts: &[Value]) -> Option<FootprintForm<'a>>
+    ensures { option_map footprint_form_view result ≡ recon_form (map view parts.now) }
 {
-    let (head, entries) = items.split_first()?;
-    match head.as_str()? {
-        "declared" => Some(entries),
+    match parts {
+        [] => Some(FootprintForm::Recon),
         _ => None,
     }
 }
 
-/// The entries of a declared footprint, `None` of a document that is none.
-#[tactic(auto, unfolding(crate::specs::ProcForms::declared_form))]
-pub fn declared_form(value: &Value) -> Option<&[Value]>
-    ensures { option_map (λ s. map view s.now) result ≡ declared_form (view value.now) }
+#[tactic(auto, unfolding(crate::specs::ProcForms::footprint_word))]
+fn footprint_word<'a>(word: &str, parts: &'a [Value]) -> Option<FootprintForm<'a>>
+    ensures { option_map footprint_form_view result ≡ footprint_word word.now (map view parts.now) }
 {
-    declared_entries(elements(value)?)
+    match word {
+        "declared" => Some(FootprintForm::Declared(parts)),
+        "recon" => recon_form(parts),
+        _ => None,
+    }
+}
+
+fn footprint_words(items: &[Value]) -> Option<FootprintForm<'_>>
+    ensures { option_map footprint_form_view result ≡ footprint_words (map view items.now) }
+{
+    let (head, parts) = items.split_first()?;
+    footprint_word(head.as_str()?, parts)
+}
+
+/// The form of a footprint, `None` of a document that has none.
+#[tactic(auto, unfolding(crate::specs::ProcForms::footprint_form))]
+pub fn footprint_form(value: &Value) -> Option<FootprintForm<'_>>
+    ensures { option_map footprint_form_view result ≡ footprint_form (view value.now) }
+{
+    footprint_words(elements(value)?)
 }
 
 /// One level of an entry of a declared footprint.

@@ -1,22 +1,22 @@
 -- Claimed: what contracts promise to a reader rests on these words.
 -- A procedure as contracts see it: its parts, and the tables that it speaks of.
-use Rattle.std.specs.Prelude.{ℕ, List, map, string_bytes}
+use Rattle.std.specs.Prelude.{ℕ, List, string_bytes}
 use Rattle.catalogue.specs.Shapes.{TableShape}
 use Rattle.proclang_types.specs.declared.procedure.Param.{Param}
 use Rattle.proclang_types.specs.declared.statement.Stmt.{Stmt}
-use Rattle.proclang_types.specs.declared.statement.FootprintEntry.{FootprintEntry}
+use Rattle.proclang_types.specs.declared.statement.ProcFootprint.{ProcFootprint}
 use Rattle.proclang_types.specs.Syntax.{ParamShape, ProcSyntax}
-use Rattle.proclang_types.specs.Views.{stmts_view, entry_view}
+use Rattle.proclang_types.specs.Views.{stmts_view, footprint_view}
 
 pub record ProcParts : Type 0 where
   pub tables : List TableShape
   pub name : List ℕ
   pub params : List ParamShape
-  pub footprint : List FootprintEntry
+  pub footprint : ProcFootprint
   pub body : List Stmt
 
 abbrev pub param_shape : Param → ParamShape
 param_shape p = record { name = string_bytes p.name; kind = p.kind }
 
 abbrev pub proc_syntax : ProcParts → ProcSyntax
-proc_syntax p = record { name = p.name; params = p.params; footprint = map entry_view p.footprint; body = stmts_view p.body }
+proc_syntax p = record { name = p.name; params = p.params; footprint = footprint_view p.footprint; body = stmts_view p.body }

@@ -1,6 +1,6 @@
 -- Claimed: what contracts promise to a reader rests on these words.
 -- Typed syntax without where it lies in memory. Variables, tables and columns are places.
-use Rattle.std.specs.Prelude.{ℕ, ℤ, List, [], ◌∷◌}
+use Rattle.std.specs.Prelude.{ℕ, ℤ, Bool, true, false, List, [], ◌∷◌}
 use Rattle.values.specs.declared.value.ColType.{ColType}
 use Rattle.proclang_types.specs.declared.right.Right.{Right}
 use Rattle.proclang_types.specs.declared.operator.IntOperator.{IntOperator}
@@ -77,6 +77,13 @@ pub data EntrySyntax : Type 0 where
   -- the whole database
   db_entry : Right → EntrySyntax
 
+-- how the footprint of a procedure's calls is known
+pub data FootprintSyntax : Type 0 where
+  -- these entries declare it
+  declared_by : List EntrySyntax → FootprintSyntax
+  -- reconnaissance finds it
+  found_by_recon : FootprintSyntax
+
 pub record ParamShape : Type 0 where
   pub name : List ℕ
   pub kind : ColType
@@ -85,5 +92,14 @@ pub record ParamShape : Type 0 where
 pub record ProcSyntax : Type 0 where
   pub name : List ℕ
   pub params : List ParamShape
-  pub footprint : List EntrySyntax
+  pub footprint : FootprintSyntax
   pub body : List StmtSyntax
+
+abbrev pub is_recon : FootprintSyntax → Bool
+is_recon (declared_by entries) = false
+is_recon found_by_recon = true
+
+-- the entries that declare the footprint, of which there are none where reconnaissance finds it
+abbrev pub entries_of : FootprintSyntax → List EntrySyntax
+entries_of (declared_by entries) = entries
+entries_of found_by_recon = []

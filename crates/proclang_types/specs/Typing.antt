@@ -5,7 +5,7 @@ use Rattle.std.specs.List.{AllByRecursion}
 use Rattle.values.specs.declared.value.ColType.{ColType}
 use Rattle.values.specs.declared.value.ColType.TheVariants as types
 use Rattle.catalogue.specs.Shapes.{TableShape}
-use Rattle.proclang_types.specs.Syntax.{IntSyntax, number, variable, binary, count_rows, sum_column, TextSyntax, literal, text_variable, BoolSyntax, compare_ints, compare_texts, both, either, negated, row_exists, ValueSyntax, int_value, text_value, ExprSyntax, int, text, bool, StmtSyntax, assign, get, put, insert_row, delete_row, choose, for_numbers, for_keys, abort, reply, BlockSyntax, no_statements, followed, block_of, EntrySyntax, row_entry, rows_entry, part_entry, table_entry, db_entry, ParamShape, ProcSyntax}
+use Rattle.proclang_types.specs.Syntax.{IntSyntax, number, variable, binary, count_rows, sum_column, TextSyntax, literal, text_variable, BoolSyntax, compare_ints, compare_texts, both, either, negated, row_exists, ValueSyntax, int_value, text_value, ExprSyntax, int, text, bool, StmtSyntax, assign, get, put, insert_row, delete_row, choose, for_numbers, for_keys, abort, reply, BlockSyntax, no_statements, followed, block_of, EntrySyntax, row_entry, rows_entry, part_entry, table_entry, db_entry, FootprintSyntax, declared_by, found_by_recon, ParamShape, ProcSyntax}
 
 -- the type of a column of a table
 abbrev pub column_kind : List TableShape → ℕ → ℕ → Option ColType
@@ -109,10 +109,14 @@ EntryFits tables kinds (part_entry right table part) = (table < length tables) �
 EntryFits tables kinds (table_entry right table) = table < length tables
 EntryFits tables kinds (db_entry right) = ⊤
 
+abbrev pub FootprintFits : List TableShape → List ColType → FootprintSyntax → Type 0
+FootprintFits tables kinds (declared_by entries) = AllByRecursion (EntryFits tables kinds) entries
+FootprintFits tables kinds found_by_recon = ⊤
+
 abbrev pub kinds_of : List ParamShape → List ColType
 kinds_of params = map (λ p. p.kind) params
 
 -- the footprint and the body fit the parameters
 pub record ProcFits (tables : List TableShape) (proc : ProcSyntax) : Type 0 where
-  pub footprint : AllByRecursion (EntryFits tables (kinds_of proc.params)) proc.footprint
+  pub footprint : FootprintFits tables (kinds_of proc.params) proc.footprint
   pub body : BlockFits tables (kinds_of proc.params) (block_of proc.body)

@@ -15,7 +15,9 @@ use Rattle.proclang_types.specs.declared.statement.Stmt.{Stmt, fold-Stmt}
 use Rattle.proclang_types.specs.declared.statement.Stmt.TheOpen.{Stmt-F}
 use Rattle.proclang_types.specs.declared.statement.FootprintEntry.{FootprintEntry}
 use Rattle.proclang_types.specs.declared.statement.FootprintEntry.TheVariants as entries
-use Rattle.proclang_types.specs.Syntax.{IntSyntax, number, variable, binary, count_rows, sum_column, TextSyntax, literal, text_variable, BoolSyntax, compare_ints, compare_texts, both, either, negated, row_exists, ValueSyntax, int_value, text_value, ExprSyntax, int, text, bool, StmtSyntax, assign, get, put, insert_row, delete_row, choose, for_numbers, for_keys, abort, reply, block_of, EntrySyntax, row_entry, rows_entry, part_entry, table_entry, db_entry}
+use Rattle.proclang_types.specs.declared.statement.ProcFootprint.{ProcFootprint}
+use Rattle.proclang_types.specs.declared.statement.ProcFootprint.TheVariants as footprints
+use Rattle.proclang_types.specs.Syntax.{IntSyntax, number, variable, binary, count_rows, sum_column, TextSyntax, literal, text_variable, BoolSyntax, compare_ints, compare_texts, both, either, negated, row_exists, ValueSyntax, int_value, text_value, ExprSyntax, int, text, bool, StmtSyntax, assign, get, put, insert_row, delete_row, choose, for_numbers, for_keys, abort, reply, block_of, EntrySyntax, row_entry, rows_entry, part_entry, table_entry, db_entry, FootprintSyntax, declared_by, found_by_recon}
 
 abbrev pub int_view : IntExpr → IntSyntax
 int_view (Number z) = number z
@@ -70,3 +72,7 @@ entry_view (entries.Rows right table low high) = rows_entry right table (int_vie
 entry_view (entries.Part right table part) = part_entry right table (int_view part)
 entry_view (entries.Table right table) = table_entry right table
 entry_view (entries.Db right) = db_entry right
+
+abbrev pub footprint_view : ProcFootprint → FootprintSyntax
+footprint_view (footprints.Declared entries) = declared_by (map entry_view entries.items)
+footprint_view footprints.Recon = found_by_recon

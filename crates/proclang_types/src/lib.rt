@@ -12,4 +12,4 @@ pub use expression::{BoolExpr, Expr, IntExpr, TextExpr, ValueExpr};
 pub use operator::{Comparison, Equality, IntOperator};
 pub use procedure::{Param, Proc};
 pub use right::Right;
-pub use statement::{FootprintEntry, Stmt};
+pub use statement::{FootprintEntry, ProcFootprint, Stmt};

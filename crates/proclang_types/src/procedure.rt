@@ -4,7 +4,7 @@ ghost use Rattle.std.specs.Prelude.{◌≡◌, map, string_bytes, length};
 ghost use Rattle.proclang_types.specs.Procedures.{proc_syntax, param_shape, ProcParts};
 ghost use Rattle.proclang_types.specs.Typing.{ProcFits};
 
-use crate::statement::{FootprintEntry, Stmt};
+use crate::statement::{ProcFootprint, Stmt};
 use catalogue::Catalogue;
 use std::marker::Model;
 use std::snapshot::Snapshot;
@@ -17,7 +17,7 @@ pub struct Param {
     pub kind: ColType,
 }
 
-/// A procedure over the tables of a catalogue: its name, its parameters, the footprint that it declares, and its body.
+/// A procedure over the tables of a catalogue: its name, its parameters, how the footprint of its calls is known, and its body.
 /// Its footprint and its body are well typed and well scoped: each variable, table and column that they name is there and
 /// has the type that is asked for.
 #[derive(Drop)]
@@ -25,7 +25,7 @@ pub struct Proc {
     catalogue: Snapshot<Catalogue>,
     name: String,
     params: Vec<Param>,
-    footprint: Vec<FootprintEntry>,
+    footprint: ProcFootprint,
     body: Vec<Stmt>,
 }
 
@@ -35,18 +35,19 @@ impl Model for Proc {
     ghost use Rattle.proclang_types.specs.Typing.{ProcFits};
     ghost use Rattle.proclang_types.specs.contracts.expression.IntExpr as int_expr;
     ghost use Rattle.proclang_types.specs.contracts.statement.Stmt as stmt;
+    ghost use Rattle.proclang_types.specs.contracts.statement.ProcFootprint as proc_footprint;
     ghost use Rattle.std.specs.Coded.{codes};
 
     ghost Value = { ProcParts };
 
-    ghost coded = { Prim.hlevel (codes, int_expr.the_row.coded, stmt.the_row.coded) };
+    ghost coded = { Prim.hlevel (codes, int_expr.the_row.coded, stmt.the_row.coded, proc_footprint.the_row.coded) };
 
     ghost view = { λ p. record {
       tables = p.catalogue.value;
       name = string_bytes p.name;
       params = map param_shape
           p.params.items;
-      footprint = p.footprint.items;
+      footprint = p.footprint;
       body = p.body.items;
     } };
 
@@ -57,18 +58,20 @@ impl Model for Proc {
           name = string_bytes p.name;
           params = map param_shape
               p.params.items;
-          footprint = p.footprint.items;
+          footprint = p.footprint;
           body = p.body.items;
         })) };
 }
 
 impl Proc {
+    ghost use Rattle.proclang_types.specs.Syntax.{is_recon};
+
     /// The procedure with these parts.
     pub fn new(
         catalogue: &Catalogue,
         name: String,
         params: Vec<Param>,
-        footprint: Vec<FootprintEntry>,
+        footprint: ProcFootprint,
         body: Vec<Stmt>,
     ) -> Proc
         requires { ProcFits catalogue.now
@@ -77,7 +80,7 @@ impl Proc {
               name = string_bytes name;
               params = map param_shape
                   params.items;
-              footprint = footprint.items;
+              footprint = footprint;
               body = body.items;
             })) }
         ensures { result ≡ record {
@@ -85,7 +88,7 @@ impl Proc {
           name = string_bytes name;
           params = map param_shape
               params.items;
-          footprint = footprint.items;
+          footprint = footprint;
           body = body.items;
         } }
     {
@@ -110,11 +113,19 @@ impl Proc {
         self.params.as_slice()
     }
 
-    pub fn footprint(&self) -> &Vec<FootprintEntry>
-        ensures same { result.now.items ≡ self.now.footprint }
+    /// How the footprint of a call is known.
+    pub fn footprint(&self) -> &ProcFootprint
+        ensures same { result.now ≡ self.now.footprint }
         ensures fits { ProcFits self.now.tables (proc_syntax self.now) }
     {
         &self.footprint
+    }
+
+    /// Whether reconnaissance finds the footprint of each call.
+    pub fn is_recon(&self) -> bool
+        ensures { result ≡ is_recon (proc_syntax self.now).footprint }
+    {
+        matches!(self.footprint, ProcFootprint::Recon)
     }
 
     pub fn body(&self) -> &Vec<Stmt>

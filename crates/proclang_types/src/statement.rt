@@ -95,3 +95,12 @@ pub enum FootprintEntry {
         right: Right,
     },
 }
+
+/// How the footprint of a procedure's calls is known.
+#[derive(Debug, Drop)]
+pub enum ProcFootprint {
+    /// These entries declare it, 0 to 256.
+    Declared(Vec<FootprintEntry>),
+    /// Reconnaissance finds it for each call.
+    Recon,
+}

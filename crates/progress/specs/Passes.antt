@@ -1,6 +1,7 @@
 -- Claimed: what contracts promise to a reader rests on these words.
 -- What the two kinds of pass know, and which tally they belong to.
 use Rattle.std.specs.Prelude.{◌≡◌, List}
+use Rattle.atomic_table.specs.Seated.{TableId}
 use Rattle.crossbeam_utils.specs.Seq.{cell_view}
 use Rattle.progress.specs.declared.tally.Tally.{Tally}
 use Rattle.progress.specs.declared.progress.Progress.{Progress}
@@ -15,14 +16,25 @@ published w = (cell_view w.pass).seen
 abbrev pub seen : WatchPass → List Tally
 seen p = (cell_view p.pass).seen
 
+-- where a list is published: no two lists that stand at a time have one place
+abbrev pub place_of : Progress → TableId
+place_of progress = progress.cell.table.shared.table_id
+
+-- where the list of a pass is published
+abbrev pub writer_place : WriterPass → TableId
+writer_place w = w.pass.table_id
+
+abbrev pub watch_place : WatchPass → TableId
+watch_place p = p.pass.table_id
+
 abbrev pub IsWriterOf : Progress → WriterPass → Type 0
-IsWriterOf progress w = w.pass.table_id ≡ progress.cell.table.shared.table_id
+IsWriterOf progress w = writer_place w ≡ place_of progress
 
 abbrev pub IsWatchOf : Progress → WatchPass → Type 0
-IsWatchOf progress p = p.pass.table_id ≡ progress.cell.table.shared.table_id
+IsWatchOf progress p = watch_place p ≡ place_of progress
 
 abbrev pub IsSameWriter : WriterPass → WriterPass → Type 0
-IsSameWriter v w = w.pass.table_id ≡ v.pass.table_id
+IsSameWriter v w = writer_place w ≡ writer_place v
 
 abbrev pub IsSameWatch : WatchPass → WatchPass → Type 0
-IsSameWatch v w = w.pass.table_id ≡ v.pass.table_id
+IsSameWatch v w = watch_place w ≡ watch_place v

@@ -26,11 +26,12 @@ impl Model for Procs {
     ghost use Rattle.std.specs.Coded.{codes};
     ghost use Rattle.proclang_types.specs.contracts.expression.IntExpr as int_expr;
     ghost use Rattle.proclang_types.specs.contracts.statement.Stmt as stmt;
+    ghost use Rattle.proclang_types.specs.contracts.statement.ProcFootprint as proc_footprint;
     ghost use Rattle.requests.specs.ProcLists.{ProcsParts, IsProcMap, procs_of};
 
     ghost Value = { ProcsParts };
 
-    ghost coded = { Prim.hlevel (codes, int_expr.the_row.coded, stmt.the_row.coded) };
+    ghost coded = { Prim.hlevel (codes, int_expr.the_row.coded, stmt.the_row.coded, proc_footprint.the_row.coded) };
 
     ghost view = { λ p. record { tables = p.catalogue.value; procs = procs_of p.procs.entries } };
 

@@ -67,11 +67,12 @@ impl Model for Request {
     ghost use Rattle.std.specs.Coded.{codes};
     ghost use Rattle.proclang_types.specs.contracts.expression.IntExpr as int_expr;
     ghost use Rattle.proclang_types.specs.contracts.statement.Stmt as stmt;
+    ghost use Rattle.proclang_types.specs.contracts.statement.ProcFootprint as proc_footprint;
     ghost use Rattle.requests.specs.Requests.{AreArgs, Call};
 
     ghost Value = { Call };
 
-    ghost coded = { Prim.hlevel (codes, int_expr.the_row.coded, stmt.the_row.coded) };
+    ghost coded = { Prim.hlevel (codes, int_expr.the_row.coded, stmt.the_row.coded, proc_footprint.the_row.coded) };
 
     ghost view = { λ r. record { proc = arc_value r.proc; args = r.args.items } };
 

@@ -6,9 +6,8 @@ use Rattle.requests.specs.Requests.{Call}
 use Rattle.meaning.specs.Entries.{EntryShape}
 use Rattle.meaning.specs.Entries as meant
 use Rattle.meaning.specs.Serial.{serial_end, serial_replies}
-use Rattle.sequencer.specs.declared.batch.Item.{Item}
 use Rattle.sequencer.specs.declared.batch.Batch.{Batch}
-use Rattle.sequencer.specs.Batches.{items_of, items_from}
+use Rattle.sequencer.specs.Batches.{RequestItem, items_of, items_from}
 use Rattle.sequencer.specs.Entries.{prepared}
 use Rattle.report_text.specs.Report.{batch_text, reply_lines}
 use Rattle.engine.specs.declared.replies.BatchDone.{BatchDone}
@@ -19,7 +18,7 @@ use Rattle.engine.specs.Executions.{IsExecutionOf}
 use Rattle.engine.specs.Replies.{reply_of, sent_of, sent_from, Sent}
 use Rattle.running.specs.Transcripts.{said_lines, with_batch_line}
 
-said_as : (n : ℕ) (rs : List Reply) (items : List Item) (replies : List meant.Reply) → map sent_of rs ≡ sent_from n items → map reply_of rs ≡ replies → said_lines rs ≡ reply_lines n replies
+said_as : (n : ℕ) (rs : List Reply) (items : List RequestItem) (replies : List meant.Reply) → map sent_of rs ≡ sent_from n items → map reply_of rs ≡ replies → said_lines rs ≡ reply_lines n replies
 said_as n [] items [] e f = refl
 said_as n [] items (p ∷ ps) e f = absurd cc
 said_as n (r ∷ rs) items [] e f = absurd cc
@@ -31,24 +30,24 @@ said_as n (r ∷ rs) (i ∷ is) (p ∷ ps) e f =
     let rest : said_lines rs ≡ reply_lines (n + 1) ps = said_as (n + 1) rs is ps (cc) (cc) in
     rw (number, reply, rest) refl
 
-requests_in : (n : ℕ) (requests : List Call) → map (λ item. prepared item.request) (items_from n requests) ≡ map prepared requests
-requests_in n [] = refl
-requests_in n (r ∷ rs) = ap (λ rest. prepared r ∷ rest) (requests_in (n + 1) rs)
+requests_in : (db : Database) (n : ℕ) (requests : List Call) → map (λ item. prepared db item.request) (items_from n requests) ≡ map (prepared db) requests
+requests_in db n [] = refl
+requests_in db n (r ∷ rs) = ap (λ rest. prepared db r ∷ rest) (requests_in db (n + 1) rs)
 
 -- the entries of a batch are those of its requests
-pub entries_in : (requests : List Call) (batch : Batch) → items_of batch ≡ items_from 0 requests → entries_of batch ≡ map prepared requests
-entries_in requests batch e = ap (map (λ item. prepared item.request)) e ∙ requests_in 0 requests
+pub entries_in : (db : Database) (requests : List Call) (batch : Batch) → items_of batch ≡ items_from 0 requests → entries_of db batch ≡ map (prepared db) requests
+entries_in db requests batch e = ap (map (λ item. prepared db item.request)) e ∙ requests_in db 0 requests
 
 -- the reply lines of a batch that was run are those of its entries one by one
 pub lines_are : (old new : EngineParts) (batch : Batch) (run : BatchDone) (requests : List Call) → IsExecutionOf old new batch run → items_of batch ≡ items_from 0 requests →
-    said_lines run.replies.items ≡ reply_lines old.next (serial_replies (map prepared requests) old.rows)
+    said_lines run.replies.items ≡ reply_lines old.next (serial_replies (map (prepared old.rows) requests) old.rows)
 lines_are old new batch run requests r e =
     said_as old.next run.replies.items (items_of batch) _ r.sent r.replies
-    ∙ ap (λ (es : List EntryShape). reply_lines old.next (serial_replies es old.rows)) (entries_in requests batch e)
+    ∙ ap (λ (es : List EntryShape). reply_lines old.next (serial_replies es old.rows)) (entries_in old.rows requests batch e)
 
 pub rows_are : (old new : EngineParts) (batch : Batch) (run : BatchDone) (requests : List Call) → IsExecutionOf old new batch run → items_of batch ≡ items_from 0 requests →
-    new.rows ≡ serial_end (map prepared requests) old.rows
-rows_are old new batch run requests r e = r.rows ∙ ap (λ (es : List EntryShape). serial_end es old.rows) (entries_in requests batch e)
+    new.rows ≡ serial_end (map (prepared old.rows) requests) old.rows
+rows_are old new batch run requests r e = r.rows ∙ ap (λ (es : List EntryShape). serial_end es old.rows) (entries_in old.rows requests batch e)
 
 pub requests_count : (n : ℕ) (requests : List Call) → length (items_from n requests) ≡ length requests
 requests_count n [] = refl

@@ -20,7 +20,7 @@ use Rattle.batch_log.specs.Lines.{Lines}
 use Rattle.batch_log.specs.Log.{batches_of, first_fault, log_said, IsEnd, IsFault, IsNextBatch}
 use Rattle.report_text.specs.Texts.{digest, end_line, row_text}
 use Rattle.report_text.specs.Report.{batch_text, batch_texts, end_text, all_entries, next_batch, reply_lines, report}
-use Rattle.running.specs.Reports.{batches_in, fault_in, report_of}
+use Rattle.running.specs.Reports.{prepared_in_turn, batches_in, fault_in, report_of}
 
 -- ---- entries one by one, in two parts
 
@@ -55,14 +55,15 @@ reply_lines-append n (x ∷ xs) ys = rw (reply_lines-append (n + 1) xs ys, more 
 abbrev pub to_write : List TableShape → Database → ℕ → List EntryShape → List (List EntryShape) → Option LogFault → List ℕ
 to_write tables db b es batches fault = batch_texts tables b (length es) (serial_end es db) batches ++ end_text (is_some fault) tables db (es ++ all_entries batches)
 
-abbrev pub batches : Lines → List (List EntryShape)
-batches lines = map (map prepared) (batches_of lines)
+-- from a database on
+abbrev pub batches : Database → Lines → List (List EntryShape)
+batches rows lines = prepared_in_turn rows (batches_of lines)
 
 -- `front` is written of the report of the log `input`, after these entries, and `rest` is not read
 pub record Gone (procs : ProcsParts) (db : Database) (b m total : ℕ) (es : List EntryShape) (front input rest : List ℕ) : Type 0 where
-  pub text : report_of procs db input ≡ front ++ to_write procs.tables db b es (batches (log_said procs.procs m total rest)) (first_fault (log_said procs.procs m total rest))
+  pub text : report_of procs db input ≡ front ++ to_write procs.tables db b es (batches (serial_end es db) (log_said procs.procs m total rest)) (first_fault (log_said procs.procs m total rest))
   pub fault : fault_in procs input ≡ first_fault (log_said procs.procs m total rest)
-  pub ran : all_entries (batches_in procs input) ≡ es ++ all_entries (batches (log_said procs.procs m total rest))
+  pub ran : all_entries (batches_in procs db input) ≡ es ++ all_entries (batches (serial_end es db) (log_said procs.procs m total rest))
 
 -- the state of a run: the entries so far, and what they gave
 pub record SoFar (procs : ProcsParts) (db : Database) (b m total number : ℕ) (rows : Database) (said : Sha256) (left now taken gave : Option (List ℕ)) : Type 0 where
@@ -84,16 +85,23 @@ Gone-start procs db input = record { text = refl; fault = refl; ran = refl }
 
 Gone-next : (procs : ProcsParts) (db : Database) (b m total next total2 : ℕ) (es : List EntryShape) (calls : List Call) (front input mid rest : List ℕ) →
     Gone procs db b m total es front input mid → IsNextBatch (log_said procs.procs m total mid) calls (log_said procs.procs next total2 rest) →
-    Gone procs db (next_batch b) next total2 (es ++ map prepared calls) (front ++ batch_text procs.tables b (length es) (serial_end es db) (map prepared calls)) input rest
-Gone-next procs db b m total next total2 es calls front input mid rest g h = record {
-  text = g.text
-      ∙ ap (λ x. front ++ x) (ap (λ (bs : List (List Call)). to_write procs.tables db b es (map (map prepared) bs) (first_fault (log_said procs.procs m total mid))) h.batches
-      ∙ ap (to_write procs.tables db b es (map prepared calls ∷ batches (log_said procs.procs next total2 rest))) h.fault
-      ∙ to_write-more procs.tables db b es (map prepared calls) (batches (log_said procs.procs next total2 rest)) (first_fault (log_said procs.procs next total2 rest)))
-      ∙ sym (append_assoc front _ _);
-  fault = g.fault ∙ h.fault;
-  ran = g.ran ∙ ap (λ (bs : List (List Call)). es ++ all_entries (map (map prepared) bs)) h.batches ∙ sym (append_assoc es (map prepared calls) _);
-}
+    Gone procs db (next_batch b) next total2 (es ++ map (prepared (serial_end es db)) calls) (front ++ batch_text procs.tables b (length es) (serial_end es db) (map (prepared (serial_end es db)) calls)) input rest
+Gone-next procs db b m total next total2 es calls front input mid rest g h =
+    let rows : Database = serial_end es db in
+    let new : List EntryShape = map (prepared rows) calls in
+    let left : List (List Call) = batches_of (log_said procs.procs next total2 rest) in
+    let after : serial_end new rows ≡ serial_end (es ++ new) db = sym (serial_end-append es new db) in
+    record {
+      text = g.text
+          ∙ ap (λ x. front ++ x) (ap (λ (bs : List (List Call)). to_write procs.tables db b es (prepared_in_turn rows bs) (first_fault (log_said procs.procs m total mid))) h.batches
+          ∙ ap (to_write procs.tables db b es (new ∷ prepared_in_turn (serial_end new rows) left)) h.fault
+          ∙ to_write-more procs.tables db b es new (prepared_in_turn (serial_end new rows) left) (first_fault (log_said procs.procs next total2 rest))
+          ∙ ap (λ (d : Database). batch_text procs.tables b (length es) rows new ++ to_write procs.tables db (next_batch b) (es ++ new) (prepared_in_turn d left) (first_fault (log_said procs.procs next total2 rest))) after)
+          ∙ sym (append_assoc front _ _);
+      fault = g.fault ∙ h.fault;
+      ran = g.ran ∙ ap (λ (bs : List (List Call)). es ++ all_entries (prepared_in_turn rows bs)) h.batches ∙ sym (append_assoc es new _)
+          ∙ ap (λ (d : Database). (es ++ new) ++ all_entries (prepared_in_turn d left)) after;
+    }
 
 -- ---- what a run knows of its input
 
@@ -118,37 +126,37 @@ SoFar-front procs db b m total number rows said left now taken gave s =
 pub SoFar-front_in_batch : (procs : ProcsParts) (db : Database) (b m total next total2 number : ℕ) (rows : Database) (tables : List TableShape) (calls : List Call) (said : Sha256)
     (left now after taken gave stopped : Option (List ℕ)) → SoFar procs db b m total number rows said left now taken gave → tables ≡ procs.tables →
     Passes (λ xs ys. IsNextBatch (log_said procs.procs m total xs) calls (log_said procs.procs next total2 ys)) now after →
-    AppendsFront gave stopped (batch_text tables b number rows (map prepared calls)) → IfSome left (λ input. AppendsFront taken stopped (report_of procs db input))
+    AppendsFront gave stopped (batch_text tables b number rows (map (prepared rows) calls)) → IfSome left (λ input. AppendsFront taken stopped (report_of procs db input))
 SoFar-front_in_batch procs db b m total next total2 number rows tables calls said left now after taken gave stopped s t p f =
-    let joined : Passes (Gone procs db (next_batch b) next total2 (s.es ++ map prepared calls) (s.front ++ batch_text procs.tables b (length s.es) (serial_end s.es db) (map prepared calls))) left after =
+    let joined : Passes (Gone procs db (next_batch b) next total2 (s.es ++ map (prepared (serial_end s.es db)) calls) (s.front ++ batch_text procs.tables b (length s.es) (serial_end s.es db) (map (prepared (serial_end s.es db)) calls))) left after =
     Passes-trans _ _ _ _ _ _ s.gone p (λ x y z g h. Gone-next _ _ _ _ _ _ _ _ _ _ _ _ _ g h) in
-    let same : batch_text tables b number rows (map prepared calls) ≡ batch_text procs.tables b (length s.es) (serial_end s.es db) (map prepared calls) = rw (t, s.number_is, s.rows_is) refl in
+    let same : batch_text tables b number rows (map (prepared rows) calls) ≡ batch_text procs.tables b (length s.es) (serial_end s.es db) (map (prepared (serial_end s.es db)) calls) = rw (t, s.number_is, s.rows_is) refl in
     Passes-first _ _ left after joined (λ x y g. front_of_more taken gave stopped s.front _ _ _ s.gave_is (rw same at f) (g.text ∙ append_assoc s.front _ _))
 
 -- a batch ran and its text was written
 pub SoFar-next : (procs : ProcsParts) (db : Database) (b m total next total2 number number2 : ℕ) (rows rows2 : Database) (tables : List TableShape) (calls : List Call) (said said2 : Sha256)
     (left now after taken gave given : Option (List ℕ)) → SoFar procs db b m total number rows said left now taken gave → tables ≡ procs.tables →
     Passes (λ xs ys. IsNextBatch (log_said procs.procs m total xs) calls (log_said procs.procs next total2 ys)) now after →
-    Appends gave given (batch_text tables b number rows (map prepared calls)) →
-    number2 ≡ number + length calls → rows2 ≡ serial_end (map prepared calls) rows →
-    ((t : List ℕ) → Holds256 said t → Holds256 said2 (t ++ reply_lines number (serial_replies (map prepared calls) rows))) →
+    Appends gave given (batch_text tables b number rows (map (prepared rows) calls)) →
+    number2 ≡ number + length calls → rows2 ≡ serial_end (map (prepared rows) calls) rows →
+    ((t : List ℕ) → Holds256 said t → Holds256 said2 (t ++ reply_lines number (serial_replies (map (prepared rows) calls) rows))) →
     SoFar procs db (next_batch b) next total2 number2 rows2 said2 left after taken given
 SoFar-next procs db b m total next total2 number number2 rows rows2 tables calls said said2 left now after taken gave given s t p f e k h =
-    let same : batch_text tables b number rows (map prepared calls) ≡ batch_text procs.tables b (length s.es) (serial_end s.es db) (map prepared calls) = rw (t, s.number_is, s.rows_is) refl in
-    let grown : reply_lines 0 (serial_replies s.es db) ++ reply_lines number (serial_replies (map prepared calls) rows) ≡ reply_lines 0 (serial_replies (s.es ++ map prepared calls) db) =
+    let same : batch_text tables b number rows (map (prepared rows) calls) ≡ batch_text procs.tables b (length s.es) (serial_end s.es db) (map (prepared (serial_end s.es db)) calls) = rw (t, s.number_is, s.rows_is) refl in
+    let grown : reply_lines 0 (serial_replies s.es db) ++ reply_lines number (serial_replies (map (prepared rows) calls) rows) ≡ reply_lines 0 (serial_replies (s.es ++ map (prepared (serial_end s.es db)) calls) db) =
     rw (s.number_is, s.rows_is, serial_replies-append, reply_lines-append, replies_each, none_plus) refl in
     record {
-      es = s.es ++ map prepared calls;
-      front = s.front ++ batch_text procs.tables b (length s.es) (serial_end s.es db) (map prepared calls);
-      number_is = simp (length-append, length_mapped calls, e, s.number_is);
-      rows_is = k ∙ ap (serial_end (map prepared calls)) s.rows_is ∙ sym (serial_end-append s.es (map prepared calls) db);
+      es = s.es ++ map (prepared (serial_end s.es db)) calls;
+      front = s.front ++ batch_text procs.tables b (length s.es) (serial_end s.es db) (map (prepared (serial_end s.es db)) calls);
+      number_is = simp (length-append, length_mapped (serial_end s.es db) calls, e, s.number_is);
+      rows_is = k ∙ ap (λ (d : Database). serial_end (map (prepared d) calls) d) s.rows_is ∙ sym (serial_end-append s.es (map (prepared (serial_end s.es db)) calls) db);
       said_is = rw grown at (h _ s.said_is);
       gave_is = Appends-trans taken gave given s.front _ s.gave_is (rw same at f);
       gone = Passes-trans _ _ _ _ _ _ s.gone p (λ x y z g i. Gone-next _ _ _ _ _ _ _ _ _ _ _ _ _ g i);
     }
   where
-    length_mapped : (calls : List Call) → length (map prepared calls) ≡ length calls
-    length_mapped calls = length-map calls prepared
+    length_mapped : (start : Database) (calls : List Call) → length (map (prepared start) calls) ≡ length calls
+    length_mapped start calls = length-map calls (prepared start)
 
 nothing_ran : (procs : ProcsParts) (db : Database) (said : Sha256) (left taken : Option (List ℕ)) → Holds256 said [] → SoFar procs db 1 0 0 0 db said left left taken taken
 nothing_ran procs db said left taken h = record {
@@ -171,7 +179,7 @@ SoFar-start procs db b m total number rows said left now taken e1 e2 e3 e4 e5 e6
 Gone-end : (procs : ProcsParts) (db : Database) (b m total : ℕ) (es : List EntryShape) (front input rest : List ℕ) → Gone procs db b m total es front input rest → IsEnd (log_said procs.procs m total rest) →
     report_of procs db input ≡ front ++ end_text false procs.tables db es
 Gone-end procs db b m total es front input rest g h =
-    g.text ∙ ap (λ x. front ++ x) (ap (λ (bs : List (List Call)). to_write procs.tables db b es (map (map prepared) bs) (first_fault (log_said procs.procs m total rest))) h.batches
+    g.text ∙ ap (λ x. front ++ x) (ap (λ (bs : List (List Call)). to_write procs.tables db b es (prepared_in_turn (serial_end es db) bs) (first_fault (log_said procs.procs m total rest))) h.batches
     ∙ ap (to_write procs.tables db b es []) h.fault ∙ rw append-nil refl)
 
 -- the end line that was written
@@ -201,12 +209,12 @@ SoFar-front_in_end procs db b m total number rows tables said left now after tak
 pub SoFar-sound : (procs : ProcsParts) (db : Database) (b m total number : ℕ) (rows : Database) (said : Sha256) (left now after taken gave : Option (List ℕ)) →
     SoFar procs db b m total number rows said left now taken gave →
     Passes (λ xs ys. IsEnd (log_said procs.procs m total xs) × (ys ≡ [])) now after →
-    IfSome left (λ input. fault_in procs input ≡ None) × IfSome left (λ input. number ≡ length (all_entries (batches_in procs input)))
+    IfSome left (λ input. fault_in procs input ≡ None) × IfSome left (λ input. number ≡ length (all_entries (batches_in procs db input)))
 SoFar-sound procs db b m total number rows said left now after taken gave s p =
-    let joined : Passes (λ x y. (fault_in procs x ≡ None) × (all_entries (batches_in procs x) ≡ s.es)) left after =
+    let joined : Passes (λ x y. (fault_in procs x ≡ None) × (all_entries (batches_in procs db x) ≡ s.es)) left after =
     Passes-trans _ _ _ _ _ _ s.gone p (λ x y z g h. (
       g.fault ∙ h.0.fault,
-      g.ran ∙ ap (λ (bs : List (List Call)). s.es ++ all_entries (map (map prepared) bs)) h.0.batches ∙ append-nil s.es,
+      g.ran ∙ ap (λ (bs : List (List Call)). s.es ++ all_entries (prepared_in_turn (serial_end s.es db) bs)) h.0.batches ∙ append-nil s.es,
     )) in (
       Passes-first _ _ left after joined (λ x y g. g.0),
       Passes-first _ _ left after joined (λ x y g. s.number_is ∙ ap length (sym g.1)),
@@ -226,7 +234,7 @@ SoFar-read procs db b m total number rows said left now taken gave last came s p
 Gone-fault : (procs : ProcsParts) (db : Database) (b m total : ℕ) (es : List EntryShape) (front input rest : List ℕ) (fault : LogFault) → Gone procs db b m total es front input rest →
     IsFault (log_said procs.procs m total rest) fault → report_of procs db input ≡ front
 Gone-fault procs db b m total es front input rest fault g h =
-    g.text ∙ ap (λ x. front ++ x) (ap (λ (bs : List (List Call)). to_write procs.tables db b es (map (map prepared) bs) (first_fault (log_said procs.procs m total rest))) h.batches
+    g.text ∙ ap (λ x. front ++ x) (ap (λ (bs : List (List Call)). to_write procs.tables db b es (prepared_in_turn (serial_end es db) bs) (first_fault (log_said procs.procs m total rest))) h.batches
     ∙ ap (to_write procs.tables db b es []) h.first) ∙ append-nil front
 
 -- it is the log's first, and the report up to it was written

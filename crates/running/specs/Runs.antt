@@ -22,7 +22,7 @@ device_with bytes failed = record { bytes = bytes; failed = failed }
 -- it ended.
 pub record IsRunOfLog (procs : ProcsParts) (db : Database) (source spent sink filled : Device) (result : Result ℕ RunFault) : Type 0 where
   -- Where it ended well, the log has no fault, all of it was read, its report was written, and the transactions were counted.
-  pub count : IfOk result (λ n. IfSome source.bytes (λ log. n ≡ length (all_entries (batches_in procs log))))
+  pub count : IfOk result (λ n. IfSome source.bytes (λ log. n ≡ length (all_entries (batches_in procs db log))))
   pub sound : OnOk result (IfSome source.bytes (λ log. fault_in procs log ≡ None))
   pub read : OnOk result (IfSome source.bytes (λ log. spent.bytes ≡ Some []))
   pub ok : OnOk result (IfSome source.bytes (λ log. Appends sink.bytes filled.bytes (report_of procs db log)))

@@ -5,5 +5,5 @@ mod log;
 mod run_fault;
 mod transcript;
 
-pub use log::run_log;
+pub use log::{run_log, run_log_on};
 pub use run_fault::RunFault;

@@ -77,18 +77,18 @@ fn run_batch<X: Fn(&mut Engine, Batch) -> Result<BatchDone, ExecFault>, K: Sink>
     requires room { engine.old.next + length requests.items ≤ 2 ^ 48 }
     ensures same { KeepsSetting engine.old engine.new }
     ensures idle { OnOk result (is_busy engine.new ≡ false) }
-    ensures rows { OnOk result (engine.new.rows ≡ serial_end (map prepared requests.items) engine.old.rows) }
+    ensures rows { OnOk result (engine.new.rows ≡ serial_end (map (prepared engine.old.rows) requests.items) engine.old.rows) }
     ensures next { OnOk result (engine.new.next ≡ engine.old.next + length requests.items) }
     ensures batch { OnOk result (batch_of transcript.new ≡ next_batch (batch_of transcript.old)) }
     ensures said { OnOk result ((m : List ℕ) → Holds256 (said_of transcript.old) m
         → Holds256 (said_of transcript.new) (m
-        ++ reply_lines engine.old.next (serial_replies (map prepared requests.items) engine.old.rows))) }
+        ++ reply_lines engine.old.next (serial_replies (map (prepared engine.old.rows) requests.items) engine.old.rows))) }
     ensures text { OnOk result (Appends (K.taken sink.old) (K.taken sink.new)
         (batch_text (tables_of engine.old) (batch_of transcript.old) engine.old.next engine.old.rows
-        (map prepared requests.items))) }
+        (map (prepared engine.old.rows) requests.items))) }
     ensures front { AppendsFront (K.taken sink.old) (K.taken sink.new)
         (batch_text (tables_of engine.old) (batch_of transcript.old) engine.old.next engine.old.rows
-        (map prepared requests.items)) }
+        (map (prepared engine.old.rows) requests.items)) }
     ensures stops { IfErr result (IsMachineFault line) }
     ensures threads { IfErr result (λ e. IfOfThread e (HasAnswered X.Fn executor.now ExecFault.Spawn)) }
     ensures fails { K.broken sink.new ≡ (K.broken sink.old || ends_in_io result) }
@@ -179,8 +179,8 @@ fn run_batches<X: Fn(&mut Engine, Batch) -> Result<BatchDone, ExecFault>, S: Sou
     Err(RunFault::at(LogFaultKind::Memory, reader.last_line()))
 }
 
-/// Runs the log that a source gives on an engine that has run none.
-fn run_source<X: Fn(&mut Engine, Batch) -> Result<BatchDone, ExecFault>, S: Source, K: Sink>(
+/// Runs the log that a source gives on an engine that has run none, as `run_log` does on a new one.
+pub fn run_log_on<X: Fn(&mut Engine, Batch) -> Result<BatchDone, ExecFault>, S: Source, K: Sink>(
     alloc: Global,
     executor: &X,
     engine: &mut Engine,
@@ -195,6 +195,7 @@ fn run_source<X: Fn(&mut Engine, Batch) -> Result<BatchDone, ExecFault>, S: Sour
         (device_with (S.left source.new) (S.failed source.new))
         (device_with (K.taken sink.old) (K.broken sink.old))
         (device_with (K.taken sink.new) (K.broken sink.new)) result }
+    // It ends with a refused thread only where the executor has answered so.
     ensures threads { IfErr result (λ e. IfOfThread e (HasAnswered X.Fn executor.now ExecFault.Spawn)) }
 {
     let mut reader = LogReader::new(source);
@@ -228,7 +229,7 @@ pub fn run_log<X: Fn(&mut Engine, Batch) -> Result<BatchDone, ExecFault>, S: Sou
     ensures threads { IfErr result (λ e. IfOfThread e (HasAnswered X.Fn executor.now ExecFault.Spawn)) }
 {
     match Engine::new(alloc, setup, settings) {
-        Ok(mut engine) => run_source(alloc, executor, &mut engine, source, sink),
+        Ok(mut engine) => run_log_on(alloc, executor, &mut engine, source, sink),
         Err(_) => Err(RunFault::at(LogFaultKind::Memory, 0)),
     }
 }

@@ -4,7 +4,7 @@ ghost use Rattle.std.specs.Prelude.{IfOk};
 ghost use Rattle.scheduler.specs.Schedules.{KeepsItsJobs};
 
 use requests::Setup;
-use row_store::RowStore;
+use row_store::{RowStore, all_is_free_with_nothing_lent};
 use scheduler::Scheduler;
 use sequencer::prepare;
 use std::alloc::Global;
@@ -27,6 +27,7 @@ pub(crate) fn scheduler(
     } = bank(alloc)?;
     let batch = batch(alloc, &procs, calls)?;
     let store = RowStore::new(alloc, &catalogue, rows)?;
+    all_is_free_with_nothing_lent();
     let entries = prepare(alloc, &batch, &catalogue, &procs, &store)?;
     if entries.len() > 4096 || first > 4096 || most == 0 {
         return Err(Fail::from("too many"));

@@ -5,6 +5,7 @@ ghost use Rattle.std.specs.List.{AllByRecursion};
 ghost use Rattle.catalogue.specs.Shapes.{TableShape};
 ghost use Rattle.sequencer.specs.Batches.{items_from, AreOver};
 
+use intake::{Batched, Item};
 use requests::Request;
 use std::alloc::Global;
 use thiserror::Error;
@@ -12,16 +13,6 @@ use values::NoMemory;
 
 /// The most requests that a batch has.
 const MOST_REQUESTS: usize = 4096;
-
-/// A request of a batch, and who sent it.
-#[derive(Drop)]
-pub struct Item {
-    /// The client, 1 to 4; 0 where the request came with none.
-    pub client: u8,
-    /// The request's number among those of its client, from 0.
-    pub number: u64,
-    pub request: Request,
-}
 
 /// Why requests are no batch.
 #[derive(Clone, Copy, Debug, PartialEq, Eq, Error)]
@@ -35,7 +26,7 @@ pub enum BatchFault {
 }
 
 /// Requests as items, of client 0 and with numbers from 0.
-fn numbered(alloc: Global, requests: Vec<Request>) -> Result<Vec<Item>, NoMemory>
+fn numbered(alloc: Global, requests: Vec<Request>) -> Result<Vec<Item<Request>>, NoMemory>
     requires { length requests.items ≤ 4096 }
     ensures { IfOk result (λ items. items.items ≡ items_from 0 requests.items) }
 {
@@ -52,10 +43,11 @@ fn numbered(alloc: Global, requests: Vec<Request>) -> Result<Vec<Item>, NoMemory
     Ok(items)
 }
 
-/// Requests that are run together, in their order: at most 4,096.
+/// Requests that are run together, in their order: at most 4,096, each with its client and its number. An intake of requests
+/// gives what is drawn as such batches. Of requests that came with no client the client is 0.
 #[derive(Drop)]
 pub struct Batch {
-    items: Vec<Item>,
+    items: Vec<Item<Request>>,
 }
 
 impl Batch {
@@ -79,9 +71,22 @@ impl Batch {
     }
 
     /// The requests in order, each with its client and its number.
-    pub fn items(&self) -> &[Item]
+    pub fn items(&self) -> &[Item<Request>]
         ensures { result.now ≡ items_of self.now }
     {
         self.items.as_slice()
+    }
+}
+
+impl Batched<Request> for Batch {
+    ghost use Rattle.std.specs.Prelude.{◌≡◌};
+    ghost use Rattle.sequencer.specs.Batches.{items_of};
+
+    ghost items_of = { items_of };
+
+    fn of_items(items: Vec<Item<Request>>) -> Batch
+        ensures { items_of result ≡ items.items }
+    {
+        Batch { items }
     }
 }

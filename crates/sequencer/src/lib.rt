@@ -1,9 +1,13 @@
-//! From requests to entries: batches, and the footing of each of their requests.
+//! From requests to entries: the intake, which several clients submit requests to, batches, and the footing of each of their
+//! requests.
 #![tactic(auto)]
 
 mod batch;
+mod laws;
 mod preparing;
 
-pub use batch::{Batch, BatchFault, Item};
+pub use batch::{Batch, BatchFault};
+pub use intake::{Batched, ClientPass, DrawPass, Full, Intake, Item, MOST_DRAWN};
 pub use interp::{Entry, Footing, RowView};
+pub use laws::found_request_holds_in_its_batch;
 pub use preparing::prepare;

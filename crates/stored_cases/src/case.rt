@@ -16,7 +16,20 @@ use std::{io, rt};
 pub(crate) struct Left<'a> {
     pub(crate) stdout: &'a [u8],
     pub(crate) stderr: &'a [u8],
+    /// Whether lines may stand before that on standard error.
+    pub(crate) is_end: bool,
     pub(crate) status: &'a [u8],
+}
+
+impl Left<'_> {
+    /// Whether this is what must stand on standard error.
+    fn has_stderr(&self, bytes: &[u8]) -> bool {
+        if self.is_end {
+            bytes.ends_with(self.stderr)
+        } else {
+            bytes == self.stderr
+        }
+    }
 }
 
 /// What a run is given beside its words: the files of its case, a setup in the place of the case's, and a log.
@@ -58,11 +71,20 @@ impl<R: Threads + Wait + Sync + rt::Files + AllocGlobal> Given<'_, R> {
         let mut out = Output::new(Vec::new(alloc), most);
         let mut err = Output::new(Vec::new(alloc), most);
         let mut source = ReadSource::new(self.log);
-        let ended = program(rt, alloc, words, self, &mut source, &mut out, &mut err);
+        let ended = program(
+            rt,
+            alloc,
+            words,
+            false,
+            self,
+            &mut source,
+            &mut out,
+            &mut err,
+        );
         let status = format!(in alloc; "{ended}\n")?;
         Ok(
             out.bytes.as_slice() == left.stdout
-                && err.bytes.as_slice() == left.stderr
+                && left.has_stderr(err.bytes.as_slice())
                 && status.as_bytes() == left.status,
         )
     }
@@ -87,7 +109,7 @@ impl<R: Threads + Wait + Sync + rt::Files + AllocGlobal> Given<'_, R> {
 const RUNS: [(&str, usize); 5] = [
     ("run --workers 2 --lanes 8 setup.json", 4096),
     (
-        "run --workers 1 --lanes 1 --coarsen 0 --arena 1 setup.json",
+        "run --workers 16 --lanes 1 --coarsen 0 --arena 1 setup.json",
         4096,
     ),
     (
@@ -142,29 +164,36 @@ impl Case {
         }
     }
 
-    fn left(&self) -> Left<'_> {
+    fn left(&self, is_end: bool) -> Left<'_> {
         Left {
             stdout: self.stdout.as_slice(),
             stderr: self.stderr.as_slice(),
+            is_end,
             status: self.status.as_slice(),
         }
     }
 
-    /// The runs that differ, of those with the words in the case's file `args`, of which each stands on a line.
+    /// The runs that differ, of those with the words in a file of the case, of which each stands on a line. With `is_end`
+    /// lines may stand before what must be on standard error.
     pub(crate) fn differs_by_words<R: Threads + Wait + Sync + rt::Files + AllocGlobal>(
         &self,
         rt: &R,
         files: &CaseFiles<'_, R>,
+        file: &str,
+        is_end: bool,
     ) -> io::Result<Vec<String>> {
         let alloc = rt.alloc();
-        let text = files.text(alloc, "args")?;
+        let text = files.text(alloc, file)?;
         let mut words = Vec::new(alloc);
         for word in text.lines() {
             words.push(String::from_str(alloc, word)?)?;
         }
         let mut runs = Vec::new(alloc);
         for most in [4096, 1] {
-            if !self.given(files).leaves(rt, &words, most, self.left())? {
+            if !self
+                .given(files)
+                .leaves(rt, &words, most, self.left(is_end))?
+            {
                 runs.push(format!(in alloc; "with {most} bytes a write")?)?;
             }
         }
@@ -182,7 +211,7 @@ impl Case {
         let given = self.given(files);
         let mut runs = Vec::new(alloc);
         for (line, most) in RUNS {
-            if !given.leaves_by_line(rt, line, most, self.left())? {
+            if !given.leaves_by_line(rt, line, most, self.left(false))? {
                 runs.push(format!(in alloc; "{line}, {most} bytes a write")?)?;
             }
         }
@@ -190,7 +219,7 @@ impl Case {
             let text = files.text(alloc, file)?;
             if file == "runs" {
                 for line in text.lines() {
-                    if !given.leaves_by_line(rt, line, 4096, self.left())? {
+                    if !given.leaves_by_line(rt, line, 4096, self.left(false))? {
                         runs.push(String::from_str(alloc, line)?)?;
                     }
                 }
@@ -217,6 +246,7 @@ fn has_plans<R: Threads + Wait + Sync + rt::Files + AllocGlobal>(
     let left = Left {
         stdout: plans.as_bytes(),
         stderr: b"",
+        is_end: false,
         status: b"0\n",
     };
     given.leaves_by_line(rt, line.as_str(), 4096, left)

@@ -24,7 +24,8 @@ fn differing<R: Threads + Wait + Sync + rt::Files + AllocGlobal>(
     ways: &str,
 ) -> io::Result<Vec<String>> {
     match ways {
-        "args" => Case::read(rt, files)?.differs_by_words(rt, files),
+        "args" => Case::read(rt, files)?.differs_by_words(rt, files, "args", false),
+        "progress" => Case::read(rt, files)?.differs_by_words(rt, files, "progress", true),
         "setups" => tables::differing_setups(rt, files),
         "logs" => tables::differing_logs(rt, files),
         _ => Case::read(rt, files)?.differs_by_settings(rt, files, ways),

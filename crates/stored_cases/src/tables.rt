@@ -35,6 +35,7 @@ fn says<R: Threads + Wait + Sync + rt::Files + AllocGlobal>(
     let left = Left {
         stdout,
         stderr,
+        is_end: false,
         status,
     };
     given.leaves_by_line(rt, line, 4096, left)

@@ -16,6 +16,10 @@ use Rattle.proclang_types.specs.declared.right.Right.TheVariants.{Read}
 use Rattle.footprint.specs.declared.resource.Resource.{Resource}
 use Rattle.footprint.specs.Tree.{row_resource, ancestors_of}
 use Rattle.footprint.specs.Rights.{FootprintOf, covers, covers_row, is_at_least}
+use Rattle.workspace.specs.declared.permit.Passage.{Passage}
+use Rattle.workspace.specs.declared.permit.Passage.TheVariants.{Covered, Noting}
+use Rattle.workspace.specs.declared.permit.Permit.{Permit}
+use Rattle.workspace.specs.Coverage.{allows, permits}
 use Rattle.workspace.proofs.Ahead.{both_true, table_of}
 
 weaker : (right : Right) (o : Option Right) → is_at_least right o ≡ true → is_at_least Read o ≡ true
@@ -35,6 +39,14 @@ any_weaker right fo (r ∷ rs) e = or_more (is_at_least right (get fo r)) _ (is_
 pub covers_read : (tables : List TableShape) (fo : FootprintOf) (name : RowName) (right : Right) → covers_row tables fo name right ≡ true → covers_row tables fo name Read ≡ true
 covers_read tables fo name right e = any_weaker right fo (row_resource tables name ∷ ancestors_of (row_resource tables name)) e
 
+-- and a name that a permit covers with some right it covers with Read
+allowed_read : (passage : Passage) (tables : List TableShape) (name : RowName) (right : Right) → allows passage (row_resource tables name) right ≡ true → allows passage (row_resource tables name) Read ≡ true
+allowed_read (Covered footprint uncovered) tables name right e = covers_read tables footprint.now name right e
+allowed_read Noting tables name right e = refl
+
+pub permits_read : (permit : Permit) (name : RowName) (right : Right) → permits permit name right ≡ true → permits permit name Read ≡ true
+permits_read permit name right e = allowed_read permit.passage permit.catalogue.now name right e
+
 -- ---- partitions
 
 same_number : (a b : ℕ) → (a == b) ≡ true → a ≡ b
@@ -53,3 +65,8 @@ covers_in_part tables fo table part q right e c =
     let w : unwrap_or (partition_of tables q.table q.key) 0 ≡ part = ap (λ (n : ℕ). unwrap_or (partition_of tables n q.key) 0) t ∙ p in
     or_right (is_at_least right (get fo (Table q.table (Part (unwrap_or (partition_of tables q.table q.key) 0) (Row q.key))))) _
     (subst (λ (n : ℕ). covers fo (Table q.table (Part n WholePart)) right ≡ true) (sym w) (subst (λ (n : ℕ). covers fo (Table n (Part part WholePart)) right ≡ true) (sym t) c))
+
+pub allowed_in_part : (passage : Passage) (tables : List TableShape) (table part : ℕ) (q : RowName) (right : Right) → is_in_part tables table part q ≡ true
+    → allows passage (Table table (Part part WholePart)) right ≡ true → allows passage (row_resource tables q) right ≡ true
+allowed_in_part (Covered footprint uncovered) tables table part q right e c = covers_in_part tables footprint.now table part q right e c
+allowed_in_part Noting tables table part q right e c = refl

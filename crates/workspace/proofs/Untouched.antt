@@ -13,7 +13,7 @@ use Rattle.workspace.specs.Coverage.{ShowsCovered, permits_part, permits}
 use Rattle.workspace.specs.Scan.{is_after, is_ahead, IsNext, IsNextRow, ShowsPart}
 use Rattle.workspace.specs.Walks.{IsNextKey, write_of, untouched}
 use Rattle.workspace.proofs.Ahead.{both_true, together, get_kept, table_of, key_test, skip_past}
-use Rattle.workspace.proofs.Covered.{covers_in_part}
+use Rattle.workspace.proofs.Covered.{allowed_in_part}
 
 pub get_untouched : (ws : List (RowName × Option RowOf)) (db : Database) (q : RowName) → get (untouched ws db) q ≡ cond (not (is_some (write_of ws q))) (get db q) None
 get_untouched ws db q = get_kept db (λ q. not (is_some (write_of ws q))) q
@@ -25,14 +25,14 @@ still_none false o e = refl
 -- a covered partition is shown
 pub shows_part : (permit : Permit) (tables : List TableShape) (shows : RowName → Bool) (table part : ℕ) → ShowsCovered permit tables shows → permits_part permit table part ≡ true → ShowsPart tables shows table part
 shows_part permit tables shows table part h c = record {
-  shown = λ q e. h.shown q (covers_in_part permit.catalogue.now permit.footprint.now table part q Read (sym (ap (λ (ts : List TableShape). is_in_part ts table part q) h.over) ∙ e) c);
+  shown = λ q e. h.shown q (allowed_in_part permit.passage permit.catalogue.now table part q Read (sym (ap (λ (ts : List TableShape). is_in_part ts table part q) h.over) ∙ e) c);
 }
 
 -- and so is each row that a walk over it comes to
 pub next_covered : (permit : Permit) (db : Database) (table part : ℕ) (after : Option ℕ) (key : ℕ) → permits_part permit table part ≡ true
     → IsNextKey permit.catalogue.now db table part after (Some key) → permits permit (record { table = table; key = key }) Read ≡ true
 next_covered permit db table part after key c m =
-    covers_in_part permit.catalogue.now permit.footprint.now table part (record { table = table; key = key }) Read
+    allowed_in_part permit.passage permit.catalogue.now table part (record { table = table; key = key }) Read
     (both_true (is_in_part permit.catalogue.now table part (record { table = table; key = key })) (is_after after key) m.1.ahead).0 c
 
 -- the walk stops at a name at which nothing was written

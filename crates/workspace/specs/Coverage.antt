@@ -11,22 +11,36 @@ use Rattle.proclang_types.specs.declared.right.Right.TheVariants.{Read, Write}
 use Rattle.footprint.specs.declared.resource.Resource.TheVariants.{Table}
 use Rattle.footprint.specs.declared.resource.InTable.TheVariants.{Part}
 use Rattle.footprint.specs.declared.resource.InPart.TheVariants.{WholePart}
-use Rattle.footprint.specs.Rights.{covers, covers_row}
-use Rattle.meaning.specs.Runs.{Gate, covered}
+use Rattle.footprint.specs.declared.resource.Resource.{Resource}
+use Rattle.footprint.specs.Tree.{row_resource}
+use Rattle.footprint.specs.Rights.{covers}
+use Rattle.meaning.specs.Runs.{Ran, AccessRule, tested, noted}
+use Rattle.workspace.specs.declared.permit.Passage.{Passage}
+use Rattle.workspace.specs.declared.permit.Passage.TheVariants.{Covered, Noting}
 use Rattle.workspace.specs.declared.permit.Permit.{Permit}
 use Rattle.workspace.specs.declared.workspace.Workspace.{Workspace}
 
+-- the permit lets an access pass: where a footprint is given, that covers it
+abbrev pub allows : Passage → Resource → Right → Bool
+allows (Covered footprint uncovered) resource right = covers footprint.now resource right
+allows Noting resource right = true
+
 -- the permit covers a right on a row name
 abbrev pub permits : Permit → RowName → Right → Bool
-permits permit name right = covers_row permit.catalogue.now permit.footprint.now name right
+permits permit name right = allows permit.passage (row_resource permit.catalogue.now name) right
 
 -- the permit covers reading a partition
 abbrev pub permits_part : Permit → ℕ → ℕ → Bool
-permits_part permit table part = covers permit.footprint.now (Table table (Part part WholePart)) Read
+permits_part permit table part = allows permit.passage (Table table (Part part WholePart)) Read
 
--- what happens at an access under a permit
-abbrev pub gate_of : Permit → Gate
-gate_of permit = covered permit.catalogue.now permit.footprint.now permit.uncovered
+-- what happens at an access
+abbrev pub at_access : Passage → Resource → Right → Ran (Unit {0})
+at_access (Covered footprint uncovered) = tested footprint.now uncovered
+at_access Noting = noted
+
+-- the rule of accesses under a permit
+abbrev pub rule_of : Permit → AccessRule
+rule_of permit = record { tables = permit.catalogue.now; access = at_access permit.passage }
 
 -- a view of the permit's tables shows each name that is covered with Read
 pub record ShowsCovered (permit : Permit) (tables : List TableShape) (shows : RowName → Bool) : Type 0 where

@@ -8,7 +8,7 @@ use Rattle.workspace.specs.Overlay.{applied}
 
 -- where a run is: its own writes over the rows of a database
 abbrev pub state_at : Database → Workspace → State
-state_at db space = record { rows = applied space.writes.entries db; variables = space.variables.items; steps = space.steps; reply = space.reply.items }
+state_at db space = record { rows = applied space.writes.entries db; variables = space.variables.items; steps = space.steps; reply = space.reply.items; accesses = space.accesses }
 
 -- the state with so many variables, the others being gone
 abbrev pub with_first : ℕ → State → State

@@ -1,6 +1,7 @@
 //! What a run reads and what it has of its own: the rows that it is shown, under a permit, and its own writes over them.
 #![tactic(auto)]
 
+mod accesses;
 mod own;
 mod permit;
 mod rows;
@@ -11,7 +12,8 @@ mod view;
 mod walk;
 mod workspace;
 
-pub use permit::{Permit, part_of};
+pub use accesses::Accesses;
+pub use permit::{Passage, Permit, part_of};
 pub use rows::{access, access_part, is_there, present_row};
 pub use scanning::{count_in, keys_in, total_in};
 pub use shown::Shown;

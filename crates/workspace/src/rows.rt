@@ -1,23 +1,24 @@
 //! Accesses of rows.
 #![tactic(auto, unfolding(meaning::specs::Runs::and_then))]
 
-ghost use Rattle.std.specs.Prelude.{◌≡◌, true, IfOk, is_some, option_copied};
+ghost use Rattle.std.specs.Prelude.{◌≡◌, true, IfOk, OnOk, is_some, option_copied};
 ghost use Rattle.std.specs.FinMap as map;
 ghost use Rattle.catalogue.specs.Places.{partition_numbered};
+ghost use Rattle.values.specs.Database.{Database};
 ghost use Rattle.proclang_types.specs.declared.right.Right.TheVariants.{Read};
 ghost use Rattle.meaning.specs.Runs.{State, tested_key, accessed, part_accessed, present};
 ghost use Rattle.workspace.specs.Overlay.{applied};
-ghost use Rattle.workspace.specs.Coverage.{gate_of, permits, permits_part};
+ghost use Rattle.workspace.specs.Coverage.{rule_of, permits, permits_part};
 ghost use Rattle.workspace.specs.States.{state_at};
 ghost use Rattle.workspace.specs.Answers.{Gives};
 
-use crate::permit::Permit;
+use crate::permit::{Permit, row_resource};
 use crate::shown::Shown;
 use crate::stop::Stop;
 use crate::view::RowView;
 use crate::workspace::Workspace;
 use catalogue::Catalogue;
-use footprint::{AbortCode, Right};
+use footprint::{AbortCode, InPart, InTable, Resource, Right};
 use meaning::Ending;
 use values::{Key, Row, RowName, TableNo};
 
@@ -31,21 +32,26 @@ fn tested_key(number: i64) -> Result<Key, Stop>
     }
 }
 
-/// The name of the row with the key of that number: the key is tested, and then the right to the row.
-#[tactic(auto, unfolding(meaning::specs::Runs::and_then), using(crate::proofs::Covered::covers_read))]
-pub fn access(permit: &Permit, right: Right, table: TableNo, number: i64) -> Result<RowName, Stop>
-    ensures name { (state : State) →
-        Gives (λ name. name) state result (accessed (gate_of permit.now) right table number state) }
+/// The name of the row with the key of that number: the key is tested, and then comes the access to the row.
+#[tactic(auto, unfolding(meaning::specs::Runs::and_then), using(crate::proofs::Covered::permits_read))]
+pub fn access(
+    permit: &Permit,
+    space: &mut Workspace,
+    right: Right,
+    table: TableNo,
+    number: i64,
+) -> Result<RowName, Stop>
+    ensures name { (db : Database) →
+        Gives (λ name. name) (state_at db space.new) result
+        (accessed (rule_of permit.now) right table number (state_at db space.old)) }
     ensures right { IfOk result (λ name. permits permit.now name right ≡ true) }
     ensures read { IfOk result (λ name. permits permit.now name Read ≡ true) }
+    ensures writes { OnOk result (space.new.writes ≡ space.old.writes) }
 {
     let key = tested_key(number)?;
     let name = RowName::new(table, key);
-    if permit.covers(&name, right) {
-        Ok(name)
-    } else {
-        Err(Stop::End(permit.uncovered))
-    }
+    permit.pass(space, row_resource(permit.catalogue, &name), right)?;
+    Ok(name)
 }
 
 /// The partition with a number, `None` exactly where the table has none with that number.
@@ -59,18 +65,24 @@ fn part_numbered(catalogue: &Catalogue, table: TableNo, number: i64) -> Option<u
     }
 }
 
-/// The partition with a number: the number is tested, and then the right to read the partition.
-pub fn access_part(permit: &Permit, table: TableNo, number: i64) -> Result<u32, Stop>
-    ensures part { (state : State) →
-        Gives (λ part. part) state result (part_accessed (gate_of permit.now) table number state) }
+/// The partition with a number: the number is tested, and then comes the access, to read the partition.
+pub fn access_part(
+    permit: &Permit,
+    space: &mut Workspace,
+    table: TableNo,
+    number: i64,
+) -> Result<u32, Stop>
+    ensures part { (db : Database) →
+        Gives (λ part. part) (state_at db space.new) result
+        (part_accessed (rule_of permit.now) table number (state_at db space.old)) }
     ensures read { IfOk result (λ part. permits_part permit.now table part ≡ true) }
+    ensures writes { OnOk result (space.new.writes ≡ space.old.writes) }
 {
     let Some(part) = part_numbered(permit.catalogue, table, number) else {
         return Err(Stop::End(Ending::Abort(AbortCode::BadPart)));
     };
-    if !permit.covers_part(table, part) {
-        return Err(Stop::End(permit.uncovered));
-    }
+    let resource = Resource::Table(table, InTable::Part(part, InPart::WholePart));
+    permit.pass(space, resource, Right::Read)?;
     Ok(part)
 }
 

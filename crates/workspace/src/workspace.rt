@@ -13,6 +13,7 @@ ghost use Rattle.workspace.specs.States.{state_at, with_first};
 ghost use Rattle.workspace.specs.Answers.{Gives};
 ghost use Rattle.workspace.specs.declared.permit.Permit.{Permit as PermitOf};
 
+use crate::accesses::Accesses;
 use crate::stop::Stop;
 use footprint::AbortCode;
 use meaning::Ending;
@@ -20,14 +21,15 @@ use std::alloc::Global;
 use std::collections::BTreeMap;
 use values::{NoMemory, Row, RowName, Value};
 
-/// The own writes of a run, its variables in the order of their declarations, the steps that it took, and what it
-/// replied. A write without a row is a deletion.
+/// The own writes of a run, its variables in the order of their declarations, the steps that it took, what it replied, and
+/// the accesses noted. A write without a row is a deletion.
 #[derive(Drop)]
 pub struct Workspace {
     pub writes: BTreeMap<RowName, Option<Row>>,
     pub variables: Vec<Value>,
     pub steps: u32,
     pub reply: Vec<Value>,
+    pub accesses: Accesses,
 }
 
 impl Workspace {
@@ -41,6 +43,7 @@ impl Workspace {
             variables: arguments.to_vec(alloc)?,
             steps: 0,
             reply: Vec::new(alloc),
+            accesses: Accesses::new(alloc),
         })
     }
 

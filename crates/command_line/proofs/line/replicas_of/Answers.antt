@@ -1,6 +1,6 @@
 use Rattle.std.proofs.Common.{◌≡◌, None, rules, refl, codes}
 use Rattle.clap.specs.Words.{found_of}
-use Rattle.command_line.proofs.Options.{no_report, no_setup, text_read}
+use Rattle.command_line.proofs.Options.{flag_read, no_report, no_setup, text_read}
 use Rattle.command_line.proofs.line.replicas_of.Goals as goal
 
 pub returns-in_default-clause-none : goal.returns-in_default-clause-none
@@ -18,6 +18,7 @@ returns-clause-some c =
     let found = found_of c.args.matches.now in
     record {
       name = refl;
+      progress_is = flag_read found (codes "progress") _ c.get_flag-progress.ensures.value c.get_flag-progress.ensures.other;
       setup_is = text_read found (codes "setup") _ c.in-Some.setup.now c.in-Some.ensures c.in_ok-setup.ensures.ok;
       report_is = text_read found (codes "report") _ c.in-Some-get_str.report.now c.in-Some-get_str.ensures c.in_ok-report.ensures.ok;
     }

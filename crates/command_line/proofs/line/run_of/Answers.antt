@@ -13,6 +13,7 @@ returns-clause-some c =
     let found = found_of c.args.matches.now in
     record {
       name = refl;
-      alone = flag_read found (codes "alone") _ c.get_flag-alone.ensures.value c.get_flag-alone.ensures.other;
-      setup = text_read found (codes "setup") _ c.in-Some.setup.now c.in-Some.ensures c.in_ok-setup.ensures.ok;
+      alone_is = flag_read found (codes "alone") _ c.get_flag-alone.ensures.value c.get_flag-alone.ensures.other;
+      progress_is = flag_read found (codes "progress") _ c.get_flag-progress.ensures.value c.get_flag-progress.ensures.other;
+      setup_is = text_read found (codes "setup") _ c.in-Some.setup.now c.in-Some.ensures c.in_ok-setup.ensures.ok;
     }

@@ -1,12 +1,14 @@
-use Rattle.std.proofs.Common.{rules, sym, subst}
+use Rattle.std.proofs.Common.{rules}
 use Rattle.scheduler.specs.Schedules.{log_of, phases_of}
-use Rattle.engine.specs.Engines.{NoneIsOut}
-use Rattle.engine.proofs.Rests.{done_rests, settling_rests}
+use Rattle.engine.proofs.Onward.{hears_on}
+use Rattle.engine.proofs.Rests.{done_rests}
 use Rattle.engine.proofs.alone.run_left.Goals as goal
 
-pub returns-then-is_err-clause-none_out : goal.returns-then-is_err-clause-none_out
-returns-then-is_err-clause-none_out c = subst NoneIsOut (sym c.settle_held.ensures.phases) (settling_rests (phases_of c.make_all-ended.new.scheduler))
+pub returns-then-is_err-clause-onward : goal.returns-then-is_err-clause-onward
+returns-then-is_err-clause-onward g c =
+    hears_on (g.L.Listener.account c.args.listener.now) (g.L.Listener.account c.make_all-ended.new.listener) (g.L.Listener.account c.settle_runs.new.listener)
+    c.make_all-ended.ensures.onward c.settle_runs.ensures.onward
 
 pub returns-else-is_err-clause-none_out : goal.returns-else-is_err-clause-none_out
-returns-else-is_err-clause-none_out c =
+returns-else-is_err-clause-none_out g c =
     done_rests (log_of c.make_all-ended.new.scheduler.work) (phases_of c.make_all-ended.new.scheduler) (search rules)

@@ -2,7 +2,8 @@ use Rattle.std.proofs.Common.{◌≡◌, true, sym, ap, ◌∙◌, subst, slice_
 use Rattle.scheduler_core.specs.Phases.{is_settled}
 use Rattle.scheduler.specs.Schedules.{Schedule, phases_of}
 use Rattle.engine.specs.HandedOut.{AreInLanes}
-use Rattle.engine.proofs.InLanes.{admitted_lanes, admitted_settled}
+use Rattle.engine.specs.Listeners.{settled_in}
+use Rattle.engine.proofs.InLanes.{admitted_lanes, admitted_settled, admitted_counts}
 use Rattle.engine.proofs.handing.admit_all.Goals as goal
 
 pub admits-preserved : goal.admits-preserved
@@ -12,4 +13,5 @@ admits-preserved c =
       ap (λ (t : Schedule). t.work) e ∙ c.admits.invariant.0,
       λ seat h. subst (λ (t : Schedule). AreInLanes t seat) (sym e) (admitted_lanes s seat (c.admits.invariant.1 seat h)),
       λ place settled. subst (λ (t : Schedule). is_settled (slice_get (phases_of t) place) ≡ true) (sym e) (admitted_settled s place (c.admits.invariant.2 place settled)),
+      ap settled_in e ∙ admitted_counts s ∙ c.admits.invariant.3,
     )

@@ -1,8 +1,9 @@
-use Rattle.std.proofs.Common.{◌≡◌, ◌-◌, length}
+use Rattle.std.proofs.Common.{◌≡◌, ◌-◌}
 use Rattle.scheduler.specs.Schedules.{phases_of}
-use Rattle.lanes.specs.Seats.{SchedulerSeatOf, jobs_in}
+use Rattle.lanes.specs.Seats.{jobs_in}
 use Rattle.engine.specs.Engines.{StaysSettled}
 use Rattle.engine.specs.HandedOut.{AreInLanes}
+use Rattle.engine.specs.Listeners.{settled_in}
 use Rattle.engine.proofs.handing.hand_out_all.Given as goal
 
 -- so many jobs are out, and they are in the lanes
@@ -13,6 +14,7 @@ invariant-jobs l =
     × (l.scheduler.work ≡ l.fn.scheduler.work)
     × StaysSettled (phases_of l.fn.scheduler) (phases_of l.scheduler)
     × (l.out ≡ jobs_in l.seat.jobs)
+    × (settled_in l.scheduler ≡ settled_in l.fn.scheduler)
 
 -- the lanes that are free
 abbrev pub decreases-jobs : goal.decreases-jobs

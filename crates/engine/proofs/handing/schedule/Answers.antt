@@ -1,5 +1,6 @@
 use Rattle.std.proofs.Common.{rules}
 use Rattle.scheduler.specs.Schedules.{log_of, phases_of}
+use Rattle.engine.proofs.Onward.{hears_on}
 use Rattle.engine.proofs.Rests.{done_rests}
 use Rattle.engine.proofs.InLanes.{none_lanes}
 use Rattle.engine.proofs.handing.schedule.Goals as goal
@@ -10,3 +11,8 @@ hand_over-ended-requires-clause-lanes g c = none_lanes c.args.scheduler.now c.ar
 pub returns-else-is_err-clause-none_out : goal.returns-else-is_err-clause-none_out
 returns-else-is_err-clause-none_out g c =
     done_rests (log_of c.hand_over-ended.new.scheduler.work) (phases_of c.hand_over-ended.new.scheduler) (search rules)
+
+pub returns-then-is_err-clause-onward : goal.returns-then-is_err-clause-onward
+returns-then-is_err-clause-onward g c =
+    hears_on (g.L.Listener.account c.args.listener.now) (g.L.Listener.account c.hand_over-ended.new.listener) (g.L.Listener.account c.take_in_all.new.listener)
+    c.hand_over-ended.ensures.onward c.take_in_all.ensures.onward

@@ -22,36 +22,36 @@ returns-in-Ok-write_batch-clause-next g c = next_is _ _ c.in-Ok.batch c.in-Ok-ex
 
 pub returns-in-Ok-write_batch-clause-said : goal.returns-in-Ok-write_batch-clause-said
 returns-in-Ok-write_batch-clause-said g c = λ m h.
-    let lines : said_lines c.deref.result.now ≡ reply_lines c.args.engine.now.next (serial_replies (map prepared c.args.requests.items) c.args.engine.now.rows) =
+    let lines : said_lines c.deref.result.now ≡ reply_lines c.args.engine.now.next (serial_replies (map (prepared c.args.engine.now.rows) c.args.requests.items) c.args.engine.now.rows) =
     ap said_lines c.deref.ensures.value ∙ lines_are _ _ c.in-Ok.batch c.in-Ok-execute.done c.args.requests.items c.in-Ok-execute.ensures.done c.in-Ok.ensures.items in
     rw (← lines) (c.in-Ok-write_batch.ensures.said m h)
 
 pub returns-in-Ok-write_batch-clause-text : goal.returns-in-Ok-write_batch-clause-text
 returns-in-Ok-write_batch-clause-text g c =
-    let lines : said_lines c.deref.result.now ≡ reply_lines c.args.engine.now.next (serial_replies (map prepared c.args.requests.items) c.args.engine.now.rows) =
+    let lines : said_lines c.deref.result.now ≡ reply_lines c.args.engine.now.next (serial_replies (map (prepared c.args.engine.now.rows) c.args.requests.items) c.args.engine.now.rows) =
     ap said_lines c.deref.ensures.value ∙ lines_are _ _ c.in-Ok.batch c.in-Ok-execute.done c.args.requests.items c.in-Ok-execute.ensures.done c.in-Ok.ensures.items in
     let text : with_batch_line (batch_of c.args.transcript.now) c.rows.result.now.tables c.rows.result.now.rows (said_lines c.deref.result.now)
-    ≡ batch_text (tables_of c.args.engine.now) (batch_of c.args.transcript.now) c.args.engine.now.next c.args.engine.now.rows (map prepared c.args.requests.items) =
+    ≡ batch_text (tables_of c.args.engine.now) (batch_of c.args.transcript.now) c.args.engine.now.next c.args.engine.now.rows (map (prepared c.args.engine.now.rows) c.args.requests.items) =
     text_is _ _ _ _ _ _ _ _ (c.rows.ensures.tables ∙ ap (λ (p : ProcsParts). p.tables) c.in-Ok-execute.ensures.same.procs)
     (c.rows.ensures.rows ∙ rows_are _ _ c.in-Ok.batch c.in-Ok-execute.done c.args.requests.items c.in-Ok-execute.ensures.done c.in-Ok.ensures.items) lines in
     rw (← text) c.in-Ok-write_batch.ensures.text
 
 pub returns-in-Ok-write_batch-clause-front : goal.returns-in-Ok-write_batch-clause-front
 returns-in-Ok-write_batch-clause-front g c =
-    let lines : said_lines c.deref.result.now ≡ reply_lines c.args.engine.now.next (serial_replies (map prepared c.args.requests.items) c.args.engine.now.rows) =
+    let lines : said_lines c.deref.result.now ≡ reply_lines c.args.engine.now.next (serial_replies (map (prepared c.args.engine.now.rows) c.args.requests.items) c.args.engine.now.rows) =
     ap said_lines c.deref.ensures.value ∙ lines_are _ _ c.in-Ok.batch c.in-Ok-execute.done c.args.requests.items c.in-Ok-execute.ensures.done c.in-Ok.ensures.items in
     let text : with_batch_line (batch_of c.args.transcript.now) c.rows.result.now.tables c.rows.result.now.rows (said_lines c.deref.result.now)
-    ≡ batch_text (tables_of c.args.engine.now) (batch_of c.args.transcript.now) c.args.engine.now.next c.args.engine.now.rows (map prepared c.args.requests.items) =
+    ≡ batch_text (tables_of c.args.engine.now) (batch_of c.args.transcript.now) c.args.engine.now.next c.args.engine.now.rows (map (prepared c.args.engine.now.rows) c.args.requests.items) =
     text_is _ _ _ _ _ _ _ _ (c.rows.ensures.tables ∙ ap (λ (p : ProcsParts). p.tables) c.in-Ok-execute.ensures.same.procs)
     (c.rows.ensures.rows ∙ rows_are _ _ c.in-Ok.batch c.in-Ok-execute.done c.args.requests.items c.in-Ok-execute.ensures.done c.in-Ok.ensures.items) lines in
     rw (← text) c.write_batch.ensures.front
 
 pub returns-clause-front : goal.returns-clause-front
 returns-clause-front g c =
-    let lines : said_lines c.deref.result.now ≡ reply_lines c.args.engine.now.next (serial_replies (map prepared c.args.requests.items) c.args.engine.now.rows) =
+    let lines : said_lines c.deref.result.now ≡ reply_lines c.args.engine.now.next (serial_replies (map (prepared c.args.engine.now.rows) c.args.requests.items) c.args.engine.now.rows) =
     ap said_lines c.deref.ensures.value ∙ lines_are _ _ c.in-Ok.batch c.in-Ok-execute.done c.args.requests.items c.in-Ok-execute.ensures.done c.in-Ok.ensures.items in
     let text : with_batch_line (batch_of c.args.transcript.now) c.rows.result.now.tables c.rows.result.now.rows (said_lines c.deref.result.now)
-    ≡ batch_text (tables_of c.args.engine.now) (batch_of c.args.transcript.now) c.args.engine.now.next c.args.engine.now.rows (map prepared c.args.requests.items) =
+    ≡ batch_text (tables_of c.args.engine.now) (batch_of c.args.transcript.now) c.args.engine.now.next c.args.engine.now.rows (map (prepared c.args.engine.now.rows) c.args.requests.items) =
     text_is _ _ _ _ _ _ _ _ (c.rows.ensures.tables ∙ ap (λ (p : ProcsParts). p.tables) c.in-Ok-execute.ensures.same.procs)
     (c.rows.ensures.rows ∙ rows_are _ _ c.in-Ok.batch c.in-Ok-execute.done c.args.requests.items c.in-Ok-execute.ensures.done c.in-Ok.ensures.items) lines in
     rw (← text) c.write_batch.ensures.front

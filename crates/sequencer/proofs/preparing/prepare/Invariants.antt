@@ -8,7 +8,7 @@ use Rattle.sequencer.proofs.preparing.prepare.Given as goal
 -- the entries so far are those of the requests so far, over the tables of the catalogue
 abbrev pub invariant-loop-item : goal.invariant-loop-item
 invariant-loop-item g l = record {
-  exact : map entry_shape l.entries.items ≡ map (λ item. prepared item.request) (take l.item-index l.batch.items.items);
+  exact : map entry_shape l.entries.items ≡ map (λ item. prepared (g.V.RowView.rows l.view) item.request) (take l.item-index l.batch.items.items);
   tables : AllByRecursion (λ entry. entry.request.proc.tables ≡ l.catalogue) l.entries.items;
   of_catalogue : AreEntriesOver l.catalogue l.entries.items;
 }

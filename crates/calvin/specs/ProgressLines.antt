@@ -1,0 +1,26 @@
+-- Claimed: what contracts promise to a reader rests on these words.
+-- The lines that say how far a run is.
+use Rattle.std.specs.Prelude.{ℕ, List, [], ◌++◌, Bool, true, false, codes}
+use Rattle.std.specs.Fmt.{decimal}
+use Rattle.progress.specs.declared.tally.Tally.{Tally}
+use Rattle.calvin.specs.declared.telling.Lines.{Lines}
+use Rattle.calvin.specs.declared.telling.Lines.TheVariants.{Below, Over}
+
+-- how many are settled, and how they ended
+abbrev pub tally_text : Tally → List ℕ
+tally_text tally =
+    decimal tally.settled ++ codes " settled, " ++ decimal tally.committed ++ codes " committed, " ++ decimal tally.aborted ++ codes " aborted, " ++ decimal tally.stale ++ codes " stale"
+
+-- A line that goes over the one before begins with a carriage return.
+abbrev pub before : Lines → List ℕ
+before Below = []
+before Over = codes "\r"
+
+-- Of the lines that go over each other, the last one alone ends with a newline. Others each end with one.
+abbrev pub behind : Lines → Bool → List ℕ
+behind Over false = []
+behind Over true = codes "\n"
+behind Below is_last = codes "\n"
+
+abbrev pub line_text : Lines → Bool → Tally → List ℕ
+line_text lines is_last tally = before lines ++ tally_text tally ++ behind lines is_last

@@ -1,0 +1,221 @@
+//! Running the log on a setup, on one thread or on worker threads, and telling meanwhile on standard error how far it is.
+
+ghost use Rattle.std.specs.Prelude.{◌≡◌, IfErr, false, true};
+ghost use Rattle.std.specs.FinMap as map_of;
+ghost use Rattle.row_store.specs.Stock.{with_rows};
+ghost use Rattle.sequencer.specs.Batches.{items_of, AreOver};
+ghost use Rattle.engine.specs.Engines.{is_busy, tables_of};
+ghost use Rattle.engine.specs.Executions.{IsSpawn};
+ghost use Rattle.running.specs.Executors.{IsExecution};
+ghost use Rattle.running.specs.Runs.{IsRunOfLog, device_with};
+ghost use Rattle.running.specs.Stops.{IsNotOfThread};
+
+use crate::executing::{run_log_alone, run_log_on_workers};
+use crate::telling::{Lines, RunEnd, tell_engine, tell_until};
+use batch_log::{LogFaultKind, Sink, Source};
+use engine::{Batch, BatchDone, Engine, ExecFault, OpenGate, Settings, Watcher};
+use running::{RunFault, run_log_on};
+use setup::Setup;
+use std::alloc::Global;
+use std::cell::RefCell;
+use std::sync::Wait;
+use std::thread::{Threads, join_mut};
+
+/// Runs a log on an engine that has run none, on one thread. At the end of each batch a line goes to `err`.
+fn run_telling<R: Wait, S: Source, K: Sink, E: Sink>(
+    rt: &R,
+    alloc: Global,
+    lines: Lines,
+    engine: &mut Engine,
+    source: &mut S,
+    sink: &mut K,
+    err: &RefCell<&mut E>,
+) -> Result<u64, RunFault>
+    requires idle { is_busy engine.old ≡ false }
+    requires unused { engine.old.next ≡ 0 }
+    ensures run { IsRunOfLog engine.old.procs engine.old.rows
+        (device_with (S.left source.old) (S.failed source.old))
+        (device_with (S.left source.new) (S.failed source.new))
+        (device_with (K.taken sink.old) (K.broken sink.old))
+        (device_with (K.taken sink.new) (K.broken sink.new)) result }
+    ensures threadless { IsNotOfThread result }
+{
+    let executor = move |engine: &mut Engine, batch: Batch| -> Result<BatchDone, ExecFault>
+        requires { AreOver (tables_of engine.old) (items_of batch) }
+        ensures run { IsExecution engine.old batch result engine.new }
+        ensures threadless { IfErr result (λ fault. ¬ IsSpawn fault) }
+    {
+        let done = engine.run_alone(rt, alloc, batch, &[]);
+        if let Ok(mut err) = err.try_borrow_mut() {
+            tell_engine(rt, alloc, lines, engine, false, &mut **err);
+        }
+        done
+    };
+    run_log_on(alloc, &executor, engine, source, sink)
+}
+
+/// Runs the log that a source gives on a setup, on one thread, and writes its report into a sink. At the end of each batch a
+/// line goes to `err`.
+pub(crate) fn run_log_alone_telling<R: Wait, S: Source, K: Sink, E: Sink>(
+    rt: &R,
+    alloc: Global,
+    lines: Lines,
+    setup: Setup,
+    settings: Settings,
+    source: &mut S,
+    sink: &mut K,
+    err: &mut E,
+) -> Result<u64, RunFault>
+    ensures run { IsRunOfLog setup.procs (with_rows map_of.empty setup.rows.items)
+        (device_with (S.left source.old) (S.failed source.old))
+        (device_with (S.left source.new) (S.failed source.new))
+        (device_with (K.taken sink.old) (K.broken sink.old))
+        (device_with (K.taken sink.new) (K.broken sink.new)) result }
+    ensures threadless { IsNotOfThread result }
+{
+    let Ok(mut engine) = Engine::new(alloc, setup, settings) else {
+        return Err(RunFault::at(LogFaultKind::Memory, 0));
+    };
+    let cell = RefCell::new(&mut *err);
+    let ended = run_telling(rt, alloc, lines, &mut engine, source, sink, &cell);
+    let err = cell.into_inner();
+    if matches!(lines, Lines::Over) {
+        tell_engine(rt, alloc, lines, &mut engine, true, err);
+    }
+    ended
+}
+
+/// Runs a log on an engine that has run none, on worker threads, and then says that the run has ended.
+fn run_to_end<R: Threads + Wait + Sync, S: Source, K: Sink>(
+    rt: &R,
+    alloc: Global,
+    engine: &mut Engine,
+    source: &mut S,
+    sink: &mut K,
+    end: &RunEnd,
+) -> Result<u64, RunFault>
+    requires idle { is_busy engine.old ≡ false }
+    requires unused { engine.old.next ≡ 0 }
+    ensures { IsRunOfLog engine.old.procs engine.old.rows
+        (device_with (S.left source.old) (S.failed source.old))
+        (device_with (S.left source.new) (S.failed source.new))
+        (device_with (K.taken sink.old) (K.broken sink.old))
+        (device_with (K.taken sink.new) (K.broken sink.new)) result }
+{
+    let executor = move |engine: &mut Engine, batch: Batch| -> Result<BatchDone, ExecFault>
+        requires { AreOver (tables_of engine.old) (items_of batch) }
+        ensures { IsExecution engine.old batch result engine.new }
+    { engine.execute(rt, alloc, batch, &OpenGate) };
+    let ended = run_log_on(alloc, &executor, engine, source, sink);
+    end.come();
+    ended
+}
+
+/// Runs a log on an engine that has run none, on worker threads, while a thread of its own writes lines to `err`. Where that
+/// thread is refused, the last line is written when the run has ended.
+fn run_beside_teller<R: Threads + Wait + Sync, S: Source, K: Sink, E: Sink + Send>(
+    rt: &R,
+    alloc: Global,
+    lines: Lines,
+    engine: &mut Engine,
+    watcher: &mut Watcher,
+    source: &mut S,
+    sink: &mut K,
+    err: &mut E,
+) -> Result<u64, RunFault>
+    requires idle { is_busy engine.old ≡ false }
+    requires unused { engine.old.next ≡ 0 }
+    ensures { IsRunOfLog engine.old.procs engine.old.rows
+        (device_with (S.left source.old) (S.failed source.old))
+        (device_with (S.left source.new) (S.failed source.new))
+        (device_with (K.taken sink.old) (K.broken sink.old))
+        (device_with (K.taken sink.new) (K.broken sink.new)) result }
+{
+    let end = RunEnd::new();
+    let end = &end;
+    let ((), ended) = join_mut(
+        rt,
+        &mut || tell_until(rt, alloc, lines, watcher, end, err),
+        &mut || -> Result<u64, RunFault>
+            requires { (is_busy engine.now ≡ false) × (engine.now.next ≡ 0) }
+            ensures { IsRunOfLog engine.entry.now.procs engine.entry.now.rows
+                (device_with (S.left source.entry.now) (S.failed source.entry.now))
+                (device_with (S.left source.exit.now) (S.failed source.exit.now))
+                (device_with (K.taken sink.entry.now) (K.broken sink.entry.now))
+                (device_with (K.taken sink.exit.now) (K.broken sink.exit.now)) result }
+        { run_to_end(rt, alloc, engine, source, sink, end) },
+    );
+    ended
+}
+
+/// Runs the log that a source gives on a setup, on worker threads, and writes its report into a sink. Meanwhile a line goes to
+/// `err` about twice a second, and one at the end.
+pub(crate) fn run_log_on_workers_telling<
+    R: Threads + Wait + Sync,
+    S: Source,
+    K: Sink,
+    E: Sink + Send,
+>(
+    rt: &R,
+    alloc: Global,
+    lines: Lines,
+    setup: Setup,
+    settings: Settings,
+    source: &mut S,
+    sink: &mut K,
+    err: &mut E,
+) -> Result<u64, RunFault>
+    ensures { IsRunOfLog setup.procs (with_rows map_of.empty setup.rows.items)
+        (device_with (S.left source.old) (S.failed source.old))
+        (device_with (S.left source.new) (S.failed source.new))
+        (device_with (K.taken sink.old) (K.broken sink.old))
+        (device_with (K.taken sink.new) (K.broken sink.new)) result }
+{
+    let Ok(mut engine) = Engine::new(alloc, setup, settings) else {
+        return Err(RunFault::at(LogFaultKind::Memory, 0));
+    };
+    let Ok(mut watcher) = engine.watcher(rt) else {
+        return Err(RunFault::at(LogFaultKind::Memory, 0));
+    };
+    run_beside_teller(
+        rt,
+        alloc,
+        lines,
+        &mut engine,
+        &mut watcher,
+        source,
+        sink,
+        err,
+    )
+}
+
+/// Runs the log on a setup, alone on this thread or on worker threads. Where it is asked for lines, they go to `err`.
+pub(crate) fn run_setup<R: Threads + Wait + Sync, S: Source, K: Sink, E: Sink + Send>(
+    rt: &R,
+    alloc: Global,
+    alone: bool,
+    lines: Option<Lines>,
+    setup: Setup,
+    settings: Settings,
+    source: &mut S,
+    out: &mut K,
+    err: &mut E,
+) -> Result<u64, RunFault>
+    ensures run { IsRunOfLog setup.procs (with_rows map_of.empty setup.rows.items)
+        (device_with (S.left source.old) (S.failed source.old))
+        (device_with (S.left source.new) (S.failed source.new))
+        (device_with (K.taken out.old) (K.broken out.old))
+        (device_with (K.taken out.new) (K.broken out.new)) result }
+    ensures threadless { alone ≡ true → IsNotOfThread result }
+{
+    match (alone, lines) {
+        (true, None) => run_log_alone(rt, alloc, setup, settings, source, out),
+        (true, Some(lines)) => {
+            run_log_alone_telling(rt, alloc, lines, setup, settings, source, out, err)
+        }
+        (false, None) => run_log_on_workers(rt, alloc, setup, settings, &OpenGate, source, out),
+        (false, Some(lines)) => {
+            run_log_on_workers_telling(rt, alloc, lines, setup, settings, source, out, err)
+        }
+    }
+}
