@@ -1,10 +1,12 @@
 #!/usr/bin/env bash
-# Runs the gate: `rt ci`, and then `scripts/edits.py together`, which tries more edits, many in one check. It says before its last
-# line how much of a processor's time it took, and what each crate took of it. The last line counts both.
+# Runs the gate: `rt ci`; then, on the program that it left built, `scripts/examples.py` and `scripts/manual.py --check`, which
+# compare what comes out with what the documents say; and then `scripts/edits.py together`, which tries more edits, many in one
+# check. It says before its last line how much of a processor's time it took, and what each crate took of it. The last line
+# counts what `rt ci` and the edits passed.
 #
 # One check runs on each processor; each takes less than 5 GB of memory. The time of the whole is exact. The shares of the crates,
 # for their own proof, for their tests and for their edits, are read off the checks every two seconds, so that each lacks the
-# end of its checks. Checks of other process sessions count for nothing. It ends with 0 only where both do.
+# end of its checks. Checks of other process sessions count for nothing. It ends with 0 only where all of these do.
 set -uo pipefail
 cd -- "$(dirname -- "$0")/.."
 
@@ -32,7 +34,7 @@ sampler=$!
 
 TIMEFORMAT='%U %S'
 gate() {
-    RT_JOBS="$(nproc)" rt ci && scripts/edits.py together
+    RT_JOBS="$(nproc)" rt ci && scripts/examples.py && scripts/manual.py --check && scripts/edits.py together
 }
 { time gate > "$output" 2>&1; } 2> "$taken" &
 gate=$!

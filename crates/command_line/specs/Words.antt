@@ -63,4 +63,5 @@ calvin_app = with_subcommand (with_subcommand (with_subcommand (with_subcommand 
   no_binary_name = true;
   subcommand_required = true;
   arg_required_else_help = true;
+  has_version = true;
 }) (new_app (codes "calvin"))) run_app.top) replicas_app.top) locks_app.top) check_app.top

@@ -1,7 +1,8 @@
 //! The command line as `clap` parses it, with its help.
 
-ghost use Rattle.std.specs.Prelude.{◌≡◌, codes, IfOk, false};
-ghost use Rattle.clap.specs.Words.{app_of, rule_of};
+ghost use Rattle.std.specs.Prelude.{◌≡◌, codes, IfOk, false, true};
+ghost use Rattle.clap.specs.Simple.{on_top};
+ghost use Rattle.clap.specs.Words.{app_of, new_app, rule_of};
 ghost use Rattle.clap.specs.declared.builder.command.Command.TheViews.{out-Command as fields_of};
 ghost use Rattle.command_line.specs.Words.{calvin_app, check_app, flag_rule, locks_app, number_rule, replicas_app, run_app, with_settings, word_rule};
 
@@ -18,7 +19,18 @@ const EXAMPLE: &str = "Example:
 
 bank.json holds tables, procedures and rows. Each line of calls.log is a call, as
   [\"call\",\"pay\",[1,2,30]]
-`calvin run --help` lists the options.";
+`calvin run --help` lists the options.
+
+Exit status:
+  0  all is well
+  1  the setup or the log was refused
+  2  the command line was refused, or help or the version was asked for
+  3  no memory
+  4  reading or writing failed, or a thread was refused
+  5  the reports differ";
+
+/// The version of the program: the forms of setups, logs and reports are those of version 1.
+const VERSION: &str = "1.0.0";
 
 const RUN_EXAMPLE: &str = "Examples:
   calvin run bank.json < calls.log
@@ -26,7 +38,14 @@ const RUN_EXAMPLE: &str = "Examples:
   calvin run --alone bank.json < calls.log
   calvin run --progress bank.json < calls.log
 
-The options change the speed of a run and what standard error tells of it, and never its report.";
+The options change the speed of a run and what standard error tells of it, and never its report.
+
+Exit status:
+  0  the report is whole
+  1  the setup or the log was refused; standard error has the fault
+  2  the command line was refused, or help was asked for
+  3  no memory
+  4  reading or writing failed, or a thread was refused";
 
 const REPLICAS_ABOUT: &str =
     "Runs the log on standard input and compares its report with another replica's";
@@ -34,7 +53,15 @@ const REPLICAS_ABOUT: &str =
 const REPLICAS_EXAMPLE: &str = "Example:
   calvin replicas bank.json report.txt < calls.log
 
-prints `same`, or `differ at byte N` with the first place, from 0, where the two differ or one ends.";
+prints `same`, or `differ at byte N` with the first place, from 0, where the two differ or one ends.
+
+Exit status:
+  0  the reports are the same
+  1  the setup or the log was refused; standard error has the fault
+  2  the command line was refused, or help was asked for
+  3  no memory
+  4  reading or writing failed, or a thread was refused
+  5  the reports differ";
 
 const LOCKS_ABOUT: &str =
     "Prints the lock requests of the first batch of the log on standard input";
@@ -42,14 +69,28 @@ const LOCKS_ABOUT: &str =
 const LOCKS_EXAMPLE: &str = "Example:
   calvin locks bank.json < calls.log
 
-prints a line `NO MODE RESOURCE` for each request, and runs nothing.";
+prints a line `NO MODE RESOURCE` for each request, and runs nothing.
+
+Exit status:
+  0  the requests are printed
+  1  the setup or the log was refused; standard error has the fault
+  2  the command line was refused, or help was asked for
+  3  no memory
+  4  reading or writing failed";
 
 const CHECK_ABOUT: &str = "Reads a setup, and says how many tables, procedures and rows it has";
 
 const CHECK_EXAMPLE: &str = "Example:
   calvin check bank.json
 
-prints `ok T tables P procedures R rows`, or the setup's first fault. The options change nothing.";
+prints `ok T tables P procedures R rows`, or the setup's first fault. The options change nothing.
+
+Exit status:
+  0  the setup breaks no rule
+  1  the setup was refused; standard error has the fault
+  2  the command line was refused, or help was asked for
+  3  no memory
+  4  reading or writing failed";
 
 const REPORT_HELP: &str = "The file of the other replica's report";
 
@@ -66,10 +107,11 @@ const COARSEN_HELP: &str =
 
 const ARENA_HELP: &str = "Lock requests that may stand at a time, 1 to 1048576";
 
-/// An option whose value is a number from `least` to `most`.
+/// An option whose value is a number from `least` to `most`, which help calls by a letter.
 fn number_option<'a>(
     alloc: Global,
     name: &'a str,
+    letter: &'a str,
     least: u64,
     most: u64,
     default: &'a str,
@@ -80,7 +122,7 @@ fn number_option<'a>(
 {
     Arg::new(alloc, name)
         .long(name)
-        .value_name("N")
+        .value_name(letter)
         .action(ArgAction::Set)
         .value_parser(ValueParser::unsigned(least, most))
         .default_value(default)
@@ -121,28 +163,28 @@ fn workers_option<'a>(alloc: Global) -> Arg<'a>
     ensures rule { rule_of result ≡ number_rule (codes "workers") 1 16 (codes "4") }
     ensures local { result.global ≡ false }
 {
-    number_option(alloc, "workers", 1, 16, "4", WORKERS_HELP)
+    number_option(alloc, "workers", "N", 1, 16, "4", WORKERS_HELP)
 }
 
 fn lanes_option<'a>(alloc: Global) -> Arg<'a>
     ensures rule { rule_of result ≡ number_rule (codes "lanes") 1 64 (codes "8") }
     ensures local { result.global ≡ false }
 {
-    number_option(alloc, "lanes", 1, 64, "8", LANES_HELP)
+    number_option(alloc, "lanes", "N", 1, 64, "8", LANES_HELP)
 }
 
 fn coarsen_option<'a>(alloc: Global) -> Arg<'a>
     ensures rule { rule_of result ≡ number_rule (codes "coarsen") 0 65535 (codes "64") }
     ensures local { result.global ≡ false }
 {
-    number_option(alloc, "coarsen", 0, 65_535, "64", COARSEN_HELP)
+    number_option(alloc, "coarsen", "K", 0, 65_535, "64", COARSEN_HELP)
 }
 
 fn arena_option<'a>(alloc: Global) -> Arg<'a>
     ensures rule { rule_of result ≡ number_rule (codes "arena") 1 1048576 (codes "65536") }
     ensures local { result.global ≡ false }
 {
-    number_option(alloc, "arena", 1, 1_048_576, "65536", ARENA_HELP)
+    number_option(alloc, "arena", "C", 1, 1_048_576, "65536", ARENA_HELP)
 }
 
 /// The command with the options of the settings.
@@ -222,6 +264,15 @@ fn replicas_command<'a>(alloc: Global) -> Result<Command<'a>, AllocError>
     with_settings(alloc, command)
 }
 
+/// The program's name, what it is for, and its version.
+fn described<'a>(alloc: Global) -> Result<Command<'a>, AllocError>
+    ensures app { IfOk result (λ r. app_of r ≡ on_top (λ s. record s { has_version = true }) (new_app (codes "calvin"))) }
+    ensures local { IfOk result (λ r. (fields_of r).has_globals ≡ false) }
+{
+    let command = Command::new(alloc, "calvin").bin_name("calvin")?;
+    Ok(command.about(ABOUT).version(VERSION).after_help(EXAMPLE))
+}
+
 /// The whole command line, without the program's name.
 pub(crate) fn calvin_command<'a>(alloc: Global) -> Result<Command<'a>, AllocError>
     ensures { IfOk result (λ r. app_of r ≡ calvin_app) }
@@ -230,10 +281,7 @@ pub(crate) fn calvin_command<'a>(alloc: Global) -> Result<Command<'a>, AllocErro
     let replicas = replicas_command(alloc)?;
     let locks = locks_command(alloc)?;
     let check = check_command(alloc)?;
-    Command::new(alloc, "calvin")
-        .bin_name("calvin")?
-        .about(ABOUT)
-        .after_help(EXAMPLE)
+    described(alloc)?
         .no_binary_name(true)
         .subcommand_required(true)
         .arg_required_else_help(true)

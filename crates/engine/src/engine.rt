@@ -370,8 +370,7 @@ impl Engine {
         self.go_on_alone(rt, alloc, choices)
     }
 
-    /// A watcher that was told all that the engine has published. It may move to a thread of its own, and watch from there while
-    /// the engine runs. This may wait.
+    /// A watcher that was told all that was published. A thread may take it, and watch while the engine runs. This may wait.
     pub fn watcher<R: Wait>(&mut self, rt: &R) -> Result<Watcher, NoMemory>
         ensures kept { self.new ≡ self.old }
         ensures told { IfOk result (λ watcher. watcher ≡ record {

@@ -8,11 +8,9 @@ use Rattle.command_line.proofs.parser.calvin_command.Goals as goal
 pub returns : goal.returns
 unfolding calvin_app
 returns c =
-    let named : app_of c.in_ok-bin_name.field-0 ≡ new_app (codes "calvin") = ap app_of_fields c.in_ok-bin_name.ensures.0 ∙ c.new.ensures.app in
-    let told : app_of c.after_help.result ≡ new_app (codes "calvin") = ap app_of_fields c.after_help.ensures ∙ ap app_of_fields c.about.ensures ∙ named in
-    let bare : app_of c.no_binary_name.result ≡ on_top (λ s. record s { no_binary_name = true }) (new_app (codes "calvin")) =
-    ap app_of_fields c.no_binary_name.ensures ∙ ap (on_top (λ s. record s { no_binary_name = true })) told in
-    let asked : app_of c.arg_required_else_help.result ≡ on_top (λ s. record s { no_binary_name = true; subcommand_required = true; arg_required_else_help = true }) (new_app (codes "calvin")) =
+    let bare : app_of c.no_binary_name.result ≡ on_top (λ s. record s { no_binary_name = true; has_version = true }) (new_app (codes "calvin")) =
+    ap app_of_fields c.no_binary_name.ensures ∙ ap (on_top (λ s. record s { no_binary_name = true })) c.in_ok-described.ensures.app in
+    let asked : app_of c.arg_required_else_help.result ≡ on_top (λ s. record s { no_binary_name = true; subcommand_required = true; arg_required_else_help = true; has_version = true }) (new_app (codes "calvin")) =
     ap app_of_fields c.arg_required_else_help.ensures
     ∙ ap (λ f. app_of_fields (record f { arg_required_else_help = true })) c.subcommand_required.ensures
     ∙ ap (on_top (λ s. record s { subcommand_required = true; arg_required_else_help = true })) bare in
