@@ -1,7 +1,7 @@
 #!/usr/bin/env bash
 # Refuses each allocation of each step of crates/memory_refusals in turn, and counts what the steps answer:
 #
-#     scripts/refuse_memory.sh [--built] [STEP ..]
+#     scripts/refuse_memory.sh [--built | --left] [STEP ..]
 #
 # The steps are the words in crates/memory_refusals/args; without any named here, all of them. For each step it prints how many
 # refusals were met, one a run: how many of these runs answered so, how many were right all the same, and how many were wrong.
@@ -13,8 +13,9 @@
 # allocations. With EVERY=25 in the environment, only each 25th of them is refused.
 #
 # With --built the proved program is built, and a library that the script has `cc` make and that is loaded in front of the
-# system's refuses the allocation. Such a run takes some milliseconds. The step `resume`, in which a thread is refused first,
-# and then an allocation while the batch is gone on with, is tried so alone.
+# system's refuses the allocation. Such a run takes some milliseconds. The steps `resume` and `resume_alone`, in which a thread is
+# refused first, and then an allocation while the batch is gone on with, are tried so alone. With --left it is the program that an
+# earlier run of the toolchain left built.
 set -euo pipefail
 cd -- "$(dirname -- "$0")/../crates/memory_refusals"
 
@@ -28,8 +29,10 @@ folder=$(mktemp -d)
 trap 'rm -rf -- "$folder"' EXIT
 
 built=false
-if [ "${1:-}" = --built ]; then
+left=false
+if [ "${1:-}" = --built ] || [ "${1:-}" = --left ]; then
     built=true
+    [ "$1" = --left ] && left=true
     shift
 fi
 steps=("$@")
@@ -37,13 +40,13 @@ if [ ${#steps[@]} -eq 0 ]; then
     mapfile -t steps < args
 fi
 if ! $built; then
-    echo 'the step resume is tried with --built alone' >&2
-    mapfile -t steps < <(printf '%s\n' "${steps[@]}" | grep -vx resume)
+    echo 'the steps resume and resume_alone are tried with --built alone' >&2
+    mapfile -t steps < <(printf '%s\n' "${steps[@]}" | grep -v '^resume')
 fi
 
-# Writes the library that refuses one allocation.
+# Builds the program where that is asked for, and writes the library that refuses one allocation.
 build() {
-    rt run > "$folder/said" 2>&1 || {
+    $left || rt run > "$folder/said" 2>&1 || {
         cat -- "$folder/said" >&2
         return 1
     }
@@ -96,8 +99,8 @@ run_built() {
 # Runs the cases in a folder, and gives what the program printed.
 run_cases() {
     if $built; then
-        find "$1" -name 'resume.*.args' -exec cat {} + | run_built 2
-        find "$1" -name '*.args' ! -name 'resume.*' -exec cat {} + | run_built 0
+        find "$1" -name 'resume*.args' -exec cat {} + | run_built 2
+        find "$1" -name '*.args' ! -name 'resume*' -exec cat {} + | run_built 0
     else
         rt try --fail-alloc "$refused" --cases "$1" 2> "$folder/said"
     fi

@@ -14,6 +14,11 @@
 # PROCEDURE.log   4,096 calls of `hop`, which follows the ring 10 times, or 64 calls of `walk`, which goes round the ring of 10
 #                 rows in 5,000 steps; behind `found_` with the footprint found, behind `declared_` with these rows declared,
 #                 and behind `idle_` with them declared and no body. one.log is one call of `found_hop`
+# fewer.json      1,000 rows in a table of 2 partitions, and the procedures of the logs below
+# more.json       the same with 100,000 rows
+# lock_table.log  4,096 calls that lock the table to be written and do nothing
+# insert.log      4,096 calls of which each inserts a row, with that row declared; with --coarsen 0 each locks the table
+# insert_part.log the same with the row's partition declared
 set -euo pipefail
 
 folder=${1:?the folder to write into}
@@ -98,3 +103,24 @@ for footprint in found declared idle; do
     seq 0 63 | awk -v name="${footprint}_walk" '{ printf "[\"call\",\"%s\",[%d]]\n", name, $1 % 10 }' >"$folder/${footprint}_walk.log"
 done
 head -n 1 "$folder/found_hop.log" >"$folder/one.log"
+
+# Writes a setup whose table of 2 partitions has so many rows.
+accounts() {
+    cat <<'SETUP'
+["setup",1,
+["catalogue",1,[["acct",2,[["bal","int"]]]]],
+["procs",1,[
+["lock_table",[],["declared",["table","w","acct"]],[]],
+["insert",[["k","int"]],["declared",["row","w","acct","k"]],[["insert","acct","k",[1]]]],
+["insert_part",[["k","int"],["p","int"]],["declared",["part","w","acct","p"]],[["insert","acct","k",[1]]]]]],
+["rows",1,[
+SETUP
+    seq 1 "$1" | awk -v rows="$1" '{ printf "[\"acct\",%d,[1000]]%s\n", $1 - 1, $1 < rows ? "," : "" }'
+    echo ']]]'
+}
+
+accounts 1000 >"$folder/fewer.json"
+accounts 100000 >"$folder/more.json"
+seq 0 4095 | sed 's/.*/["call","lock_table",[]]/' >"$folder/lock_table.log"
+seq 100000 104095 | sed 's/.*/["call","insert",[&]]/' >"$folder/insert.log"
+seq 100000 104095 | awk '{ printf "[\"call\",\"insert_part\",[%d,%d]]\n", $1, $1 % 2 }' >"$folder/insert_part.log"

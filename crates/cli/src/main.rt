@@ -27,9 +27,25 @@ impl<R: rt::Files + AllocGlobal> Files for Machine<'_, R> {
     }
 }
 
+/// The status where the words can't be read for want of memory.
+const MEMORY: u8 = 3;
+
+/// The words that the program was started with.
+fn words<R: env::Env + AllocGlobal>(rt: &R) -> io::Result<Vec<String>> {
+    Ok(env::args(rt)?.collect(rt.alloc())?)
+}
+
 fn main(rt: HostRuntime) -> io::Result<ExitCode> {
     let alloc = rt.alloc();
-    let words: Vec<String> = env::args(&rt)?.collect(alloc)?;
+    let words = match words(&rt) {
+        Ok(words) => words,
+        Err(error) if error.kind() == ErrorKind::OutOfMemory => {
+            let _ = eprintln!(rt; "fault 37 line 0");
+            return Ok(ExitCode::from(MEMORY));
+        }
+        // A word that isn't text is no command line that is served, and no words are none either.
+        Err(_) => Vec::new(alloc),
+    };
     let status = program(
         &rt,
         alloc,

@@ -208,53 +208,36 @@ impl Engine {
         Ok(())
     }
 
-    /// Goes on with the unfinished batch on one thread, by these choices of events.
-    fn go_on_alone<R: Wait>(
+    /// Runs a batch on worker threads, over lanes. A worker passes the gate once for each job that it claimed, before it runs it.
+    ///
+    /// The replies are those of the batch's entries one by one on the rows before it, and the rows afterwards are theirs.
+    pub fn execute<R: Threads + Wait + Sync, G: Gate>(
         &mut self,
         rt: &R,
         alloc: Global,
-        choices: &[u64],
+        batch: Batch,
+        gate: &G,
     ) -> Result<BatchDone, ExecFault>
-        requires { is_busy self.old ≡ true }
+        requires { AreOver (tables_of self.old) (items_of batch) }
         ensures same { KeepsSetting self.old self.new }
-        ensures done { IfOk result (ResumesTo self.old self.new self.old.unfinished) }
-        ensures refused { IfErr result (IsInterruption self.old self.old.unfinished self.new) }
-        ensures threadless { IfErr result (λ fault. ¬ IsSpawn fault) }
+        ensures done { IfOk result (IsExecutionOf self.old self.new batch) }
+        // While an earlier batch is unfinished the batch comes back, and so it does where the log would be too long.
+        ensures busy { is_busy self.old ≡ true → result ≡ Err (ExecFault.Busy batch) }
+        ensures full { is_busy self.old ≡ false → 2 ^ 48 < self.old.next + length (items_of batch) →
+            result ≡ Err (ExecFault.LogFull batch) }
+        // No other batch comes back. Where a thread is refused nothing has run. Where a thread or memory is refused the engine
+        // holds the batch, and no job of it is out.
+        ensures refused { IfErr result (IsRefusal self.old self.new batch) }
+        // However it ends, the last published tally counts what is settled. One was published for each that this call settled.
         ensures shown { ShowsSettled self.new }
         ensures onward { PublishesOn self.old.account self.new.account }
     {
-        let (Some(stage), Some(publisher)) = (self.stage.take(), self.publisher.take()) else {
-            unreachable!()
-        };
-        let mut listener = Publishing { rt, publisher };
-        let ended = work_alone(
-            alloc,
-            &self.procs,
-            self.settings,
-            self.next,
-            stage,
-            &mut listener,
-            choices,
-        );
-        let Publishing { publisher, .. } = listener;
-        match ended {
-            Ok(ended) => Ok(leave(
-                &mut self.next,
-                &mut self.stage,
-                &mut self.publisher,
-                ended,
-                publisher,
-            )),
-            Err(Interruption { stage, refusal }) => {
-                self.stage = Some(stage);
-                self.publisher = Some(publisher);
-                Err(ExecFault::from(refusal))
-            }
-        }
+        self.take(batch)?;
+        self.resume(rt, alloc, gate)
     }
 
-    /// Goes on with the unfinished batch on worker threads.
-    fn go_on_workers<R: Threads + Wait + Sync, G: Gate>(
+    /// Goes on with the unfinished batch on worker threads, and gives the replies of the whole batch.
+    pub fn resume<R: Threads + Wait + Sync, G: Gate>(
         &mut self,
         rt: &R,
         alloc: Global,
@@ -263,7 +246,9 @@ impl Engine {
         requires { is_busy self.old ≡ true }
         ensures same { KeepsSetting self.old self.new }
         ensures done { IfOk result (ResumesTo self.old self.new self.old.unfinished) }
+        // Where a thread or memory is refused again, no job is out, and what was settled before stays settled.
         ensures refused { IfErr result (IsInterruption self.old self.old.unfinished self.new) }
+        // However it ends, the last published tally counts what is settled. One was published for each that this call settled.
         ensures shown { ShowsSettled self.new }
         ensures onward { PublishesOn self.old.account self.new.account }
     {
@@ -297,53 +282,6 @@ impl Engine {
         }
     }
 
-    /// Runs a batch on worker threads, over lanes. A worker passes the gate once for each job that it claimed, before it runs it.
-    ///
-    /// The replies are those of the batch's entries one by one on the rows before it, and the rows afterwards are theirs.
-    pub fn execute<R: Threads + Wait + Sync, G: Gate>(
-        &mut self,
-        rt: &R,
-        alloc: Global,
-        batch: Batch,
-        gate: &G,
-    ) -> Result<BatchDone, ExecFault>
-        requires { AreOver (tables_of self.old) (items_of batch) }
-        ensures same { KeepsSetting self.old self.new }
-        ensures done { IfOk result (IsExecutionOf self.old self.new batch) }
-        // While an earlier batch is unfinished the batch comes back, and so it does where the log would be too long.
-        ensures busy { is_busy self.old ≡ true → result ≡ Err (ExecFault.Busy batch) }
-        ensures full { is_busy self.old ≡ false → 2 ^ 48 < self.old.next + length (items_of batch) →
-            result ≡ Err (ExecFault.LogFull batch) }
-        // No other batch comes back. Where a thread is refused nothing has run. Where a thread or memory is refused the engine
-        // holds the batch, and no job of it is out.
-        ensures refused { IfErr result (IsRefusal self.old self.new batch) }
-        // However it ends, the last published tally counts what is settled. One was published for each that this call settled.
-        ensures shown { ShowsSettled self.new }
-        ensures onward { PublishesOn self.old.account self.new.account }
-    {
-        self.take(batch)?;
-        self.go_on_workers(rt, alloc, gate)
-    }
-
-    /// Goes on with the unfinished batch on worker threads, and gives the replies of the whole batch.
-    pub fn resume<R: Threads + Wait + Sync, G: Gate>(
-        &mut self,
-        rt: &R,
-        alloc: Global,
-        gate: &G,
-    ) -> Result<BatchDone, ExecFault>
-        requires { is_busy self.old ≡ true }
-        ensures same { KeepsSetting self.old self.new }
-        ensures done { IfOk result (ResumesTo self.old self.new self.old.unfinished) }
-        // Where a thread or memory is refused again, no job is out, and what was settled before stays settled.
-        ensures refused { IfErr result (IsInterruption self.old self.old.unfinished self.new) }
-        // However it ends, the last published tally counts what is settled. One was published for each that this call settled.
-        ensures shown { ShowsSettled self.new }
-        ensures onward { PublishesOn self.old.account self.new.account }
-    {
-        self.go_on_workers(rt, alloc, gate)
-    }
-
     /// Runs a batch on one thread, without a gate: each step makes the event that `choose` gives for the next choice, and for 0
     /// after the last. It may wait, since it publishes how many are settled.
     pub fn run_alone<R: Wait>(
@@ -367,7 +305,56 @@ impl Engine {
         ensures onward { PublishesOn self.old.account self.new.account }
     {
         self.take(batch)?;
-        self.go_on_alone(rt, alloc, choices)
+        self.resume_alone(rt, alloc, choices)
+    }
+
+    /// Goes on with the unfinished batch on one thread, by these choices of events, and gives the replies of the whole batch. It may
+    /// wait, since it publishes how many are settled.
+    pub fn resume_alone<R: Wait>(
+        &mut self,
+        rt: &R,
+        alloc: Global,
+        choices: &[u64],
+    ) -> Result<BatchDone, ExecFault>
+        requires { is_busy self.old ≡ true }
+        ensures same { KeepsSetting self.old self.new }
+        ensures done { IfOk result (ResumesTo self.old self.new self.old.unfinished) }
+        // Where memory is refused again, no job is out, and what was settled before stays settled.
+        ensures refused { IfErr result (IsInterruption self.old self.old.unfinished self.new) }
+        // It starts no thread.
+        ensures threadless { IfErr result (λ fault. ¬ IsSpawn fault) }
+        // However it ends, the last published tally counts what is settled. One was published for each that this call settled.
+        ensures shown { ShowsSettled self.new }
+        ensures onward { PublishesOn self.old.account self.new.account }
+    {
+        let (Some(stage), Some(publisher)) = (self.stage.take(), self.publisher.take()) else {
+            unreachable!()
+        };
+        let mut listener = Publishing { rt, publisher };
+        let ended = work_alone(
+            alloc,
+            &self.procs,
+            self.settings,
+            self.next,
+            stage,
+            &mut listener,
+            choices,
+        );
+        let Publishing { publisher, .. } = listener;
+        match ended {
+            Ok(ended) => Ok(leave(
+                &mut self.next,
+                &mut self.stage,
+                &mut self.publisher,
+                ended,
+                publisher,
+            )),
+            Err(Interruption { stage, refusal }) => {
+                self.stage = Some(stage);
+                self.publisher = Some(publisher);
+                Err(ExecFault::from(refusal))
+            }
+        }
     }
 
     /// A watcher that was told all that was published. A thread may take it, and watch while the engine runs. This may wait.

@@ -91,10 +91,10 @@ const MEETINGS: [Met<'static>; 9] = [
         false,
     ),
     (
-        &[("pay", &[1, 2, 30]), ("pay", &[2, 1, 30])],
-        (2, 2),
+        &[("pay", &[1, 2, 1]), ("pay", &[2, 1, 1])],
+        (2, 8),
         (1, 1_000),
-        "commit 70;commit 100;",
+        "commit 99;commit 100;",
         false,
     ),
     (

@@ -1,5 +1,8 @@
 //! The engine's calls: a batch that is executed, and gone on with where memory or a thread was refused.
 
+ghost use Rattle.std.specs.Prelude.{◌≡◌, true};
+ghost use Rattle.engine.specs.Engines.{is_busy};
+
 use crate::answer::Answer;
 use crate::bank::{bank, batch};
 use crate::refusal::Refusal;
@@ -49,17 +52,40 @@ pub(crate) fn runs_on<R: Wait + AllocGlobal>(rt: &R, setup: Setup) -> Option<boo
     }
 }
 
+/// How an unfinished batch is gone on with.
+#[derive(Clone, Copy)]
+pub(crate) enum Then {
+    Resume,
+    ResumeAlone,
+}
+
+impl Then {
+    fn go_on<R: Threads + Wait + Sync + AllocGlobal>(
+        self,
+        rt: &R,
+        engine: &mut Engine,
+    ) -> Result<BatchDone, ExecFault>
+        requires { is_busy engine.old ≡ true }
+    {
+        match self {
+            Then::Resume => engine.resume(rt, rt.alloc(), &OpenGate),
+            Then::ResumeAlone => engine.resume_alone(rt, rt.alloc(), &[]),
+        }
+    }
+}
+
 /// What comes of an execution that ended so, and is gone on with where memory or a thread was refused.
 fn gone_on_with<R: Threads + Wait + Sync + AllocGlobal>(
     rt: &R,
     engine: &mut Engine,
     ended: Result<BatchDone, ExecFault>,
+    then: Then,
 ) -> Option<Answer> {
     let alloc = rt.alloc();
     match ended {
         Ok(done) => Some(Answer::Right.if_right(is_run(alloc, engine, &done)?)),
         Err(ExecFault::NoMemory | ExecFault::Spawn) if engine.is_busy() => {
-            match engine.resume(rt, alloc, &OpenGate) {
+            match then.go_on(rt, engine) {
                 Ok(done) => Some(Answer::Refused.if_right(is_run(alloc, engine, &done)?)),
                 Err(_) => Some(Answer::Wrong),
             }
@@ -84,6 +110,7 @@ pub(crate) fn try_alone<R: Threads + Wait + Sync + AllocGlobal>(
     rt: &R,
     refusal: &mut Refusal,
     count: usize,
+    then: Then,
 ) -> Option<Answer> {
     let alloc = rt.alloc();
     let mut engine = engine_on(alloc, bank(alloc)?, 1)?;
@@ -92,7 +119,7 @@ pub(crate) fn try_alone<R: Threads + Wait + Sync + AllocGlobal>(
     refusal.approach();
     let ended = engine.run_alone(rt, alloc, batch, &choices);
     refusal.pass();
-    gone_on_with(rt, &mut engine, ended)
+    gone_on_with(rt, &mut engine, ended, then)
 }
 
 /// The log on so many workers.
@@ -100,6 +127,7 @@ pub(crate) fn try_workers<R: Threads + Wait + Sync + AllocGlobal>(
     rt: &R,
     refusal: &mut Refusal,
     workers: usize,
+    then: Then,
 ) -> Option<Answer> {
     let alloc = rt.alloc();
     let mut engine = engine_on(alloc, bank(alloc)?, workers)?;
@@ -107,13 +135,15 @@ pub(crate) fn try_workers<R: Threads + Wait + Sync + AllocGlobal>(
     refusal.approach();
     let ended = engine.execute(rt, alloc, batch, &OpenGate);
     refusal.pass();
-    gone_on_with(rt, &mut engine, ended)
+    gone_on_with(rt, &mut engine, ended, then)
 }
 
-/// The log on two workers, gone on with where a thread was refused at first; where none was, it is run as usual.
+/// The log on two workers, gone on with where a thread was refused at first, and once more where memory was refused then; where
+/// no thread was, it is run as usual.
 pub(crate) fn try_resume<R: Threads + Wait + Sync + AllocGlobal>(
     rt: &R,
     refusal: &mut Refusal,
+    then: Then,
 ) -> Option<Answer> {
     let alloc = rt.alloc();
     let mut engine = engine_on(alloc, bank(alloc)?, 2)?;
@@ -121,8 +151,8 @@ pub(crate) fn try_resume<R: Threads + Wait + Sync + AllocGlobal>(
     let mut ended = engine.execute(rt, alloc, batch, &OpenGate);
     if ended.is_err() && engine.is_busy() {
         refusal.approach();
-        ended = engine.resume(rt, alloc, &OpenGate);
+        ended = then.go_on(rt, &mut engine);
         refusal.pass();
     }
-    gone_on_with(rt, &mut engine, ended)
+    gone_on_with(rt, &mut engine, ended, then)
 }

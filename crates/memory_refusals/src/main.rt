@@ -18,6 +18,7 @@ mod scheduling;
 mod texts;
 
 use answer::Answer;
+use executing::Then;
 use refusal::Refusal;
 use std::sync::Wait;
 use std::thread::Threads;
@@ -37,11 +38,13 @@ fn tried<R: Threads + Wait + Sync + AllocGlobal>(
         "plan" => planning::try_plan(alloc, refusal),
         "admit" => scheduling::try_admit(alloc, refusal),
         "lend_and_run" => scheduling::try_lend_and_run(alloc, refusal),
-        "run_alone" => executing::try_alone(rt, refusal, 0),
-        "run_alone_by_choices" => executing::try_alone(rt, refusal, 1_000),
-        "execute_1" => executing::try_workers(rt, refusal, 1),
-        "execute_2" => executing::try_workers(rt, refusal, 2),
-        "resume" => executing::try_resume(rt, refusal),
+        "run_alone" => executing::try_alone(rt, refusal, 0, Then::Resume),
+        "run_alone_by_choices" => executing::try_alone(rt, refusal, 1_000, Then::ResumeAlone),
+        "execute_1" => executing::try_workers(rt, refusal, 1, Then::Resume),
+        "execute_2" => executing::try_workers(rt, refusal, 2, Then::Resume),
+        "execute_2_then_alone" => executing::try_workers(rt, refusal, 2, Then::ResumeAlone),
+        "resume" => executing::try_resume(rt, refusal, Then::Resume),
+        "resume_alone" => executing::try_resume(rt, refusal, Then::ResumeAlone),
         "run_text" => reporting::try_text(rt, refusal),
         _ => None,
     }

@@ -1,5 +1,5 @@
 -- Names that compare alike are one, and so are resources.
-use Rattle.std.proofs.Common.{◌≡◌, ℕ, Bool, true, false, ◌&&◌, List, refl, sym, ap, ◌∙◌, Ordering, Less, Equal, Greater}
+use Rattle.std.proofs.Common.{◌≡◌, ℕ, Bool, true, false, ◌&&◌, List, refl, sym, ap, ◌∙◌, Option, Some, None, is_some, Ordering, Less, Equal, Greater}
 use Rattle.std.specs.Ordering.{is_eq, nat_cmp}
 use Rattle.std.specs.Cmp.{IsTotalOrder}
 use Rattle.std.specs.BTreeMap.{get}
@@ -13,7 +13,8 @@ use Rattle.footprint.specs.Tree.{resource_cmp}
 use Rattle.footprint.proofs.Resources.{resources_total, exact_resources}
 use Rattle.catalogue.specs.Shapes.{TableShape}
 use Rattle.row_store.specs.Shelving.{shelf_of}
-use Rattle.row_store.specs.Places.{Shelf, Shelves, is_name, is_shelf, place_in, place_at}
+use Rattle.std.specs.declared.snapshot.Snapshot.{Snapshot}
+use Rattle.row_store.specs.Places.{Places, Shelves, is_name, is_shelf, counted_away}
 
 pub names_total : IsTotalOrder name_cmp
 names_total = name_laws.lawful.total
@@ -38,11 +39,13 @@ is_name_itself a = ap is_eq (tied_itself names_total a)
 pub is_shelf_itself : (a : Resource) → is_shelf a a ≡ true
 is_shelf_itself a = ap is_eq (tied_itself resources_total a)
 
-pub place_same : (s : Shelf) (a b : RowName) → is_name a b ≡ true → place_in s a ≡ place_in s b
-place_same s a b h = ap (place_in s) (same_name a b h)
+pub own_same : (m : Places) (a b : RowName) → is_name a b ≡ true → get name_cmp m a ≡ get name_cmp m b
+own_same m a b h = ap (get name_cmp m) (same_name a b h)
 
-pub place_at_same : (s : Shelves) (a b : Resource) (q : RowName) → is_shelf a b ≡ true → place_at s a q ≡ place_at s b q
-place_at_same s a b q h = ap (λ d. place_at s d q) (same_shelf a b h)
+-- nothing counts on a shelf that is here but what its places say
+pub here_counts : (away : Option (Snapshot Places)) (q : RowName) → is_some away ≡ false → counted_away away q ≡ None
+here_counts None q h = refl
+here_counts (Some lent) q h = absurd (cc)
 
 pub get_same : (s : Shelves) (a b : Resource) → is_shelf a b ≡ true → get resource_cmp s a ≡ get resource_cmp s b
 get_same s a b h = ap (get resource_cmp s) (same_shelf a b h)

@@ -1,6 +1,8 @@
+pub mod Back
 pub mod Copies
 pub mod Exact
 pub mod Kept
+pub mod Lent
 pub mod Locks
 pub mod Numbers
 pub mod Rows

@@ -12,11 +12,13 @@ use Rattle.values.specs.Database.{Database, RowOf, name_cmp}
 use Rattle.footprint.specs.declared.resource.Resource.{Resource}
 use Rattle.footprint.specs.Tree.{resource_cmp}
 use Rattle.workspace.specs.Overlay.{applied, with_write}
+use Rattle.std.specs.declared.snapshot.Snapshot.{Snapshot}
 use Rattle.row_store.specs.declared.place.Place.{Place}
-use Rattle.row_store.specs.Places.{Shelf, Shelves, PlaceOf, place_of, place_on, place_at, made, full, seen_at, written, is_name, is_shelf}
+use Rattle.row_store.specs.declared.shelf.Shelf.{Shelf}
+use Rattle.row_store.specs.Places.{Places, Shelves, PlaceOf, standing, counted_away, seen_over, seen_in, seen_on, full, seen_at, written, is_name, is_shelf}
 use Rattle.row_store.specs.Shelving.{shelf_of}
 use Rattle.row_store.specs.Locked.{is_named}
-use Rattle.row_store.specs.Views.{found, names_of, rows_at, rows_of}
+use Rattle.row_store.specs.Views.{found, names_away, names_of, rows_at, rows_of}
 use Rattle.row_store.proofs.Exact.{names_total, exact_names, same_name, own_place}
 
 turned : (n q : RowName) → eq_by_cmp name_cmp q n ≡ is_name n q
@@ -57,20 +59,34 @@ named_place (e ∷ es) q p h = elim (is_at (name_cmp q) e.0) as (λ (b : Bool). 
   | false ↦ λ is g. ap (λ b. is_name e.0 q || b) (named_place es q p g) ∙ or_true (is_name e.0 q)
 ] refl h
 
-place_there : (o : Option Place) (p : PlaceOf) → option_map place_of o ≡ Some p → (x : Place) × (o ≡ Some x)
-place_there None p h = absurd (cc)
-place_there (Some x) p h = (x, refl)
+stands_there : (o : Option Place) (r : RowOf) → standing o ≡ Some r → (x : Place) × (o ≡ Some x)
+stands_there None r h = absurd (cc)
+stands_there (Some x) r h = (x, refl)
 
-named_in : (es : List (Resource × Shelf)) (d : Resource) (q : RowName) (p : PlaceOf) → place_on (lookup (is_at (resource_cmp d)) es) q ≡ Some p → is_named (names_of es) q ≡ true
-named_in [] d q p h = absurd (cc)
-named_in (e ∷ es) d q p h = named_append (keys e.1) (names_of es) q ∙ elim (is_at (resource_cmp d) e.0) as (λ (b : Bool). place_on (cond b (Some e.1) (lookup (is_at (resource_cmp d)) es)) q ≡ Some p → (is_named (keys e.1) q || is_named (names_of es) q) ≡ true) [
-  | true ↦ λ g. let x = place_there (tree.get name_cmp e.1 q) p g in ap (λ b. b || is_named (names_of es) q) (named_place e.1.entries q x.0 x.1)
-  | false ↦ λ g. ap (λ b. is_named (keys e.1) q || b) (named_in es d q p g) ∙ or_true (is_named (keys e.1) q)
-] h
+named_away : (away : Option (Snapshot Places)) (q : RowName) (r : RowOf) → counted_away away q ≡ Some r → is_named (names_away away) q ≡ true
+named_away None q r h = absurd (cc)
+named_away (Some lent) q r h = let x = stands_there (tree.get name_cmp lent.value q) r h in named_place lent.value.entries q x.0 x.1
 
-unnamed : (shelves : Shelves) (d : Resource) (q : RowName) (o : Option PlaceOf) → place_at shelves d q ≡ o → is_named (names_of shelves.entries) q ≡ false → (made o).counts_as ≡ None
+named_shelf : (s : Shelf) (q : RowName) (r : RowOf) → (seen_in s q).counts_as ≡ Some r → is_named (keys s.places ++ names_away s.away) q ≡ true
+named_shelf s q r h =
+    named_append (keys s.places) (names_away s.away) q
+    ∙ elim (tree.get name_cmp s.places q) as (λ (o : Option Place). tree.get name_cmp s.places q ≡ o → (seen_over o (counted_away s.away q)).counts_as ≡ Some r → (is_named (keys s.places) q || is_named (names_away s.away) q) ≡ true) [
+      | None ↦ λ is g. ap (λ b. is_named (keys s.places) q || b) (named_away s.away q r g) ∙ or_true (is_named (keys s.places) q)
+      | Some x ↦ λ is g. ap (λ b. b || is_named (names_away s.away) q) (named_place s.places.entries q x is)
+    ] refl h
+
+named_in : (es : List (Resource × Shelf)) (d : Resource) (q : RowName) (r : RowOf) → (seen_on (lookup (is_at (resource_cmp d)) es) q).counts_as ≡ Some r → is_named (names_of es) q ≡ true
+named_in [] d q r h = absurd (cc)
+named_in (e ∷ es) d q r h =
+    let here : List RowName = keys e.1.places ++ names_away e.1.away in
+    named_append here (names_of es) q ∙ elim (is_at (resource_cmp d) e.0) as (λ (b : Bool). (seen_on (cond b (Some e.1) (lookup (is_at (resource_cmp d)) es)) q).counts_as ≡ Some r → (is_named here q || is_named (names_of es) q) ≡ true) [
+      | true ↦ λ g. ap (λ b. b || is_named (names_of es) q) (named_shelf e.1 q r g)
+      | false ↦ λ g. ap (λ b. is_named here q || b) (named_in es d q r g) ∙ or_true (is_named here q)
+    ] h
+
+unnamed : (shelves : Shelves) (d : Resource) (q : RowName) (o : Option RowOf) → (seen_at shelves d q).counts_as ≡ o → is_named (names_of shelves.entries) q ≡ false → o ≡ None
 unnamed shelves d q None h none = refl
-unnamed shelves d q (Some p) h none = let clash : true ≡ false = sym (named_in shelves.entries d q p h) ∙ none in absurd (cc)
+unnamed shelves d q (Some r) h none = let clash : true ≡ false = sym (named_in shelves.entries d q r h) ∙ none in absurd (cc)
 
 pub get-rows_of : (tables : List TableShape) (shelves : Shelves) (q : RowName) → get (rows_of tables shelves) q ≡ (found tables shelves q).counts_as
 get-rows_of tables shelves q =
@@ -78,7 +94,7 @@ get-rows_of tables shelves q =
     get-rows_at row (names_of shelves.entries) q
     ∙ elim (is_named (names_of shelves.entries) q) as (λ (b : Bool). is_named (names_of shelves.entries) q ≡ b → (if b then row q else None) ≡ row q) [
       | true ↦ λ is. refl
-      | false ↦ λ is. sym (unnamed shelves (shelf_of tables q) q (place_at shelves (shelf_of tables q) q) refl is)
+      | false ↦ λ is. sym (unnamed shelves (shelf_of tables q) q (row q) refl is)
     ] refl
 
 pub same_database : (a b : Database) → ((q : RowName) → get a q ≡ get b q) → a ≡ b
@@ -89,17 +105,17 @@ pub same_rows : (tables : List TableShape) (old new : Shelves) → ((q : RowName
 same_rows tables old new h = same_database _ _ (λ q. get-rows_of tables new q ∙ h q ∙ sym (get-rows_of tables old q))
 
 -- a row that is put at a name
-put_place : (b : Bool) (row : RowOf) (o : Option PlaceOf) → (made (if b then Some (full (Some row)) else o)).counts_as ≡ (if b then Some row else (made o).counts_as)
+put_place : (b : Bool) (row : RowOf) (o : PlaceOf) → (if b then full (Some row) else o).counts_as ≡ (if b then Some row else o.counts_as)
 put_place true row o = refl
 put_place false row o = refl
 
 pub row_put : (tables : List TableShape) (old new : Shelves) (name : RowName) (row : RowOf)
-    → ((d : Resource) (q : RowName) → place_at new d q ≡ (if is_shelf (shelf_of tables name) d && is_name name q then Some (full (Some row)) else place_at old d q))
+    → ((d : Resource) (q : RowName) → seen_at new d q ≡ (if is_shelf (shelf_of tables name) d && is_name name q then full (Some row) else seen_at old d q))
     → rows_of tables new ≡ insert (rows_of tables old) name row
 row_put tables old new name row h = same_database _ _ (λ q.
     get-rows_of tables new q
-    ∙ ap (λ p. (made p).counts_as) (h (shelf_of tables q) q ∙ ap (λ b. if b then Some (full (Some row)) else place_at old (shelf_of tables q) q) (own_place tables name q))
-    ∙ put_place (is_name name q) row (place_at old (shelf_of tables q) q)
+    ∙ ap (λ p. p.counts_as) (h (shelf_of tables q) q ∙ ap (λ b. if b then full (Some row) else seen_at old (shelf_of tables q) q) (own_place tables name q))
+    ∙ put_place (is_name name q) row (seen_at old (shelf_of tables q) q)
     ∙ ap (λ o. if is_name name q then Some row else o) (sym (get-rows_of tables old q))
     ∙ sym (get-with_write (rows_of tables old) name (Some row) q))
 

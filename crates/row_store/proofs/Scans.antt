@@ -19,10 +19,10 @@ use Rattle.row_store.specs.declared.place.Place.{Place}
 use Rattle.std.specs.BTreeMap as tree
 use Rattle.catalogue.specs.Places.{partition_of}
 use Rattle.footprint.specs.Tree.{resource_cmp}
-use Rattle.row_store.specs.Places.{Shelf, Shelves, place_of, place_in, place_on, made, seen_at, standing}
+use Rattle.row_store.specs.declared.shelf.Shelf.{Shelf}
+use Rattle.row_store.specs.Places.{Shelves, shared_row, seen_in, seen_on, seen_at, standing}
 use Rattle.row_store.specs.Shelving.{shelf_of, shelf_at}
 use Rattle.row_store.specs.Views.{found}
-use Rattle.row_store.proofs.Shown.{standing_seen}
 use Rattle.row_store.specs.Scans.{start_of}
 use Rattle.row_store.proofs.Exact.{names_total, exact_names}
 
@@ -31,7 +31,7 @@ at q es = lookup (is_at (name_cmp q)) es
 
 -- the row that stands there
 abbrev pub stands : Option Place → Option RowOf
-stands o = standing (option_map place_of o)
+stands o = standing o
 
 pub record IsLeft (tables : List TableShape) (table part : ℕ) (after : Option ℕ) (all rest : List (RowName × Place)) : Type 0 where
   pub left : (q : RowName) → is_ahead tables table part after q ≡ true → stands (lookup (is_at (name_cmp q)) all) ≡ stands (lookup (is_at (name_cmp q)) rest)
@@ -81,12 +81,12 @@ if_true false x o h e = absurd (cc)
 
 -- the place that is passed has no row, or is not ahead
 pub left_on : (tables : List TableShape) (table part : ℕ) (after : Option ℕ) (all : List (RowName × Place)) (e : RowName × Place) (rest : List (RowName × Place))
-    → IsLeft tables table part after all (e ∷ rest) → (if is_ahead tables table part after e.0 then (place_of e.1).row else None) ≡ None → IsLeft tables table part after all rest
+    → IsLeft tables table part after all (e ∷ rest) → (if is_ahead tables table part after e.0 then shared_row e.1.row else None) ≡ None → IsLeft tables table part after all rest
 left_on tables table part after all e rest l miss = record {
   left = λ q a. l.left q a ∙ elim (is_at (name_cmp q) e.0) as (λ (b : Bool). is_at (name_cmp q) e.0 ≡ b → stands (cond b (Some e.1) (at q rest)) ≡ stands (at q rest)) [
     | true ↦ λ is.
         let same : q ≡ e.0 = exact_names q e.0 (is_equal (name_cmp q e.0) is) in
-        if_true (is_ahead tables table part after e.0) (place_of e.1).row None miss (ap (is_ahead tables table part after) (sym same) ∙ a)
+        if_true (is_ahead tables table part after e.0) (shared_row e.1.row) None miss (ap (is_ahead tables table part after) (sym same) ∙ a)
         ∙ ap stands (sym (ap (λ x. at x rest) same ∙ below_all e.0 rest (head_sorted e rest l.sorted)))
     | false ↦ λ is. refl
   ] refl;
@@ -104,10 +104,10 @@ ahead_if false x row h = absurd (cc)
 
 pub left_found : (tables : List TableShape) (table part : ℕ) (after : Option ℕ) (all : List (RowName × Place)) (e : RowName × Place) (rest : List (RowName × Place)) (row : RowOf) (db : Database)
     → ((q : RowName) → is_in_part tables table part q ≡ true → get db q ≡ stands (lookup (is_at (name_cmp q)) all))
-    → IsLeft tables table part after all (e ∷ rest) → (if is_ahead tables table part after e.0 then (place_of e.1).row else None) ≡ Some row
+    → IsLeft tables table part after all (e ∷ rest) → (if is_ahead tables table part after e.0 then shared_row e.1.row else None) ≡ Some row
     → IsNextRow tables db table part after (e.0.key, row)
 left_found tables table part after all e rest row db shown l hit =
-    let is = ahead_if (is_ahead tables table part after e.0) (place_of e.1).row row hit in
+    let is = ahead_if (is_ahead tables table part after e.0) (shared_row e.1.row) row hit in
     let here : e.0.table ≡ table = of_table tables table part after e.0 is.0 in
     let name : ◌≡◌ {A = RowName} (record { table = table; key = e.0.key }) e.0 = λ i. record { table = sym here i; key = e.0.key } in
     record {
@@ -168,16 +168,16 @@ part_shelf tables table part q h =
     ap (λ t. shelf_at tables t (unwrap_or (partition_of tables t q.key) 0)) (table_is q.table table both.0)
     ∙ ap (shelf_at tables table) (table_is (unwrap_or (partition_of tables table q.key) 0) part both.1)
 
-on_shelf : (o : Option Shelf) (s : Shelf) (q : RowName) → o ≡ Some s → (made (place_on o q)).row ≡ standing (place_in s q)
-on_shelf o s q is = ap (λ x. (made (place_on x q)).row) is ∙ sym (standing_seen (place_in s q))
+on_shelf : (o : Option Shelf) (s : Shelf) (q : RowName) → o ≡ Some s → (seen_on o q).row ≡ (seen_in s q).row
+on_shelf o s q is = ap (λ x. (seen_on x q).row) is
 
 pub shelf_found : (tables : List TableShape) (shelves : Shelves) (shelf : Shelf) (table part : ℕ) (q : RowName) → is_in_part tables table part q ≡ true
-    → tree.get resource_cmp shelves (shelf_at tables table part) ≡ Some shelf → (found tables shelves q).row ≡ standing (place_in shelf q)
+    → tree.get resource_cmp shelves (shelf_at tables table part) ≡ Some shelf → (found tables shelves q).row ≡ (seen_in shelf q).row
 shelf_found tables shelves shelf table part q h is =
     ap (λ d. (seen_at shelves d q).row) (part_shelf tables table part q h) ∙ on_shelf (tree.get resource_cmp shelves (shelf_at tables table part)) shelf q is
 
-no_shelf : (o : Option Shelf) (q : RowName) → o ≡ None → (made (place_on o q)).row ≡ None
-no_shelf o q is = ap (λ x. (made (place_on x q)).row) is
+no_shelf : (o : Option Shelf) (q : RowName) → o ≡ None → (seen_on o q).row ≡ None
+no_shelf o q is = ap (λ x. (seen_on x q).row) is
 
 pub nothing_found : (tables : List TableShape) (shelves : Shelves) (table part : ℕ) (after : Option ℕ) (db : Database)
     → tree.get resource_cmp shelves (shelf_at tables table part) ≡ None

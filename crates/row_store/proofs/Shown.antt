@@ -1,5 +1,5 @@
 -- What is shown stands there.
-use Rattle.std.proofs.Common.{◌≡◌, ℕ, Bool, true, false, not, ◌||◌, cond, List, [], ◌∷◌, refl, sym, ap, ◌∙◌, Option, Some, None, length, arith}
+use Rattle.std.proofs.Common.{◌≡◌, ℕ, Bool, true, false, not, ◌||◌, cond, List, [], ◌∷◌, refl, sym, ap, ◌∙◌, inl, inr, Option, Some, None, length, arith}
 use Rattle.std.specs.Ordering.{nat_cmp, eq_by_cmp}
 use Rattle.std.specs.List.{list_any}
 use Rattle.std.specs.BTreeMap.{BTreeMap}
@@ -7,17 +7,16 @@ use Rattle.std.specs.FinMap.{FinMap, empty, find, entries, get, get-entries, len
 use Rattle.std.specs.declared.snapshot.Snapshot.{Snapshot}
 use Rattle.values.specs.declared.name.RowName.{RowName}
 use Rattle.catalogue.specs.Shapes.{TableShape}
-use Rattle.proclang_types.specs.declared.right.Right.TheVariants.{Write}
+use Rattle.proclang_types.specs.declared.right.Right.TheVariants.{Read, Write}
 use Rattle.coarsen.specs.Subtrees.{Requests}
 use Rattle.coarsen.specs.Clashes.{locks_row}
-use Rattle.row_store.specs.Places.{Shelves, PlaceOf, standing, made}
+use Rattle.coarsen.specs.Laws.{LockedRowsConflict}
+use Rattle.row_store.specs.Laws.{AreLentAlone}
+use Rattle.row_store.specs.Places.{Shelves}
 use Rattle.row_store.specs.Stock.{Stock, is_free}
-use Rattle.row_store.specs.Views.{found, rows_of, lent_of, IsRowStore}
+use Rattle.row_store.specs.Views.{found, rows_of, lent_of, lent_at, IsRowStore}
 use Rattle.row_store.proofs.Numbers.{get-lent_of}
-
-pub standing_seen : (o : Option PlaceOf) → standing o ≡ (made o).row
-standing_seen None = refl
-standing_seen (Some p) = refl
+use Rattle.row_store.proofs.Kept.{cases}
 
 either_not : (a b : Bool) → a || b ≡ false → (a ≡ false) × (b ≡ false)
 either_not true b h = absurd (cc)
@@ -49,6 +48,27 @@ pub store_here : (tables : List TableShape) (shelves : Shelves) (lent : BTreeMap
 store_here tables shelves lent stock is kept name free = kept.here name (λ i p e.
     ap (λ (s : Stock). locks_row s.tables p name Write) is
     ∙ free_plan stock.tables stock.lent name free i p (ap (λ (s : Stock). get s.lent i) (sym is) ∙ get-lent_of lent i ∙ e))
+
+not_free : (tables : List TableShape) (lent : FinMap nat_cmp Requests) (i : ℕ) (p : Requests) → get lent i ≡ Some p → (name : RowName) → locks_row tables p name Write ≡ true
+    → is_free tables lent name ≡ false
+not_free tables lent i p e name w = elim (cases (is_free tables lent name)) [
+  | inl free ↦ let clash : true ≡ false = sym w ∙ free_plan tables lent name free i p e in absurd (cc)
+  | inr off ↦ off
+]
+
+-- what one plan that is lent locks to write, no other locks
+pub lent_alone : (tables : List TableShape) (shelves : Shelves) (lent : BTreeMap ℕ (Snapshot Requests)) → LockedRowsConflict → IsRowStore tables shelves lent
+    → AreLentAlone tables (lent_of lent)
+lent_alone tables shelves lent law kept = λ i p e name w.
+    let mine : lent_at lent i ≡ Some p = sym (get-lent_of lent i) ∙ e in (
+      not_free tables (lent_of lent) i p e name w,
+      λ j o f ne.
+          let theirs : lent_at lent j ≡ Some o = sym (get-lent_of lent j) ∙ f in
+          elim (cases (locks_row tables o name Read)) [
+            | inl reads ↦ absurd (kept.apart i j p o mine theirs ne (law tables p o (kept.sound i p mine) (kept.sound j o theirs) name w reads))
+            | inr off ↦ off
+          ],
+    )
 
 none_of_len : {A : Type 0} (xs : List A) → length xs ≡ 0 → xs ≡ []
 none_of_len [] e = refl

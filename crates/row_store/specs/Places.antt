@@ -1,17 +1,20 @@
 -- Claimed: what contracts promise to a reader rests on these words.
 -- Places: what stands at row names, and what counts there.
-use Rattle.std.specs.Prelude.{Option, Some, None, option_map, Bool, is_some}
+use Rattle.std.specs.Prelude.{Option, Some, None, option_map, Bool, false, is_some}
 use Rattle.std.specs.BTreeMap.{BTreeMap, get, is_at}
 use Rattle.std.specs.Arc.{arc_value}
 use Rattle.std.specs.declared.sync.Arc.{Arc}
 use Rattle.std.specs.declared.alloc.Global.{Global}
+use Rattle.std.specs.declared.snapshot.Snapshot.{Snapshot}
 use Rattle.values.specs.declared.name.RowName.{RowName}
 use Rattle.values.specs.Database.{RowOf, name_cmp}
 use Rattle.footprint.specs.declared.resource.Resource.{Resource}
 use Rattle.footprint.specs.Tree.{resource_cmp}
 use Rattle.row_store.specs.declared.place.Place.{Place}
+use Rattle.row_store.specs.declared.shelf.Shelf.{Shelf}
 
--- the row of a place, and the row that counts there: while a row is lent to be written it is away, and counts as it was lent
+-- the row that stands at a name, and the row that counts there: while a row is lent to be written it is away, and counts as
+-- it was lent
 pub record PlaceOf : Type 0 where
   pub row : Option RowOf
   pub counts_as : Option RowOf
@@ -19,62 +22,92 @@ pub record PlaceOf : Type 0 where
 abbrev pub shared_row : Option (Arc RowOf Global) → Option RowOf
 shared_row row = option_map arc_value row
 
-abbrev pub place_of : Place → PlaceOf
-place_of place = record { row = shared_row place.row; counts_as = shared_row place.counts_as.value }
-
--- a place whose row is there
+-- a name whose row is there
 abbrev pub full : Option RowOf → PlaceOf
 full row = record { row = row; counts_as = row }
 
--- a place with the row that stands there, and no other counts
+-- a name with the row that stands there, and no other counts
 abbrev pub settled : PlaceOf → PlaceOf
 settled place = full place.row
 
--- what is left of a place that a row, or none, is given back to
-abbrev pub placed : Option RowOf → Option PlaceOf
-placed None = None
-placed (Some row) = Some (full (Some row))
-
--- a place whose row is away
+-- a name whose row is away
 abbrev pub emptied : PlaceOf → PlaceOf
 emptied place = record { row = None; counts_as = place.counts_as }
 
--- a shelf has places, and shelves stand at resources
-abbrev pub Shelf : Type 0
-Shelf = BTreeMap RowName Place
+-- a name whose row went out, and counts as it stood there
+abbrev pub gone : PlaceOf → PlaceOf
+gone place = record { row = None; counts_as = place.row }
 
+-- what a place says that counts, or what counts where it says nothing
+abbrev pub counted : Option (Snapshot (Option (Arc RowOf Global))) → Option RowOf → Option RowOf
+counted None otherwise = otherwise
+counted (Some row) otherwise = shared_row row.value
+
+-- the row that stands at a place; none where there is no place
+abbrev pub standing : Option Place → Option RowOf
+standing None = None
+standing (Some place) = shared_row place.row
+
+abbrev pub counted_at : Option Place → Option RowOf → Option RowOf
+counted_at None otherwise = otherwise
+counted_at (Some place) otherwise = counted place.counts_as otherwise
+
+-- what is seen at a place, or where there is none
+abbrev pub seen_over : Option Place → Option RowOf → PlaceOf
+seen_over place otherwise = record { row = standing place; counts_as = counted_at place otherwise }
+
+abbrev pub place_of : Place → PlaceOf
+place_of place = seen_over (Some place) None
+
+abbrev pub Places : Type 0
+Places = BTreeMap RowName Place
+
+-- what counts at a name of a shelf that is away: the row that stood there as the shelf was lent
+abbrev pub counted_away : Option (Snapshot Places) → RowName → Option RowOf
+counted_away None name = None
+counted_away (Some lent) name = standing (get name_cmp lent.value name)
+
+-- what is seen at a name, whether the name has a place, and whether the shelf is away
+abbrev pub seen_in : Shelf → RowName → PlaceOf
+seen_in shelf name = seen_over (get name_cmp shelf.places name) (counted_away shelf.away name)
+
+abbrev pub has_in : Shelf → RowName → Bool
+has_in shelf name = is_some (get name_cmp shelf.places name)
+
+abbrev pub is_out : Shelf → Bool
+is_out shelf = is_some shelf.away
+
+-- the same where there may be no shelf
+abbrev pub seen_on : Option Shelf → RowName → PlaceOf
+seen_on None name = full None
+seen_on (Some shelf) name = seen_in shelf name
+
+abbrev pub has_on : Option Shelf → RowName → Bool
+has_on None name = false
+has_on (Some shelf) name = has_in shelf name
+
+abbrev pub is_out_on : Option Shelf → Bool
+is_out_on None = false
+is_out_on (Some shelf) = is_out shelf
+
+-- shelves stand at resources
 abbrev pub Shelves : Type 0
 Shelves = BTreeMap Resource Shelf
 
--- the place of a name
-abbrev pub place_in : Shelf → RowName → Option PlaceOf
-place_in shelf name = option_map place_of (get name_cmp shelf name)
-
-abbrev pub place_on : Option Shelf → RowName → Option PlaceOf
-place_on None name = None
-place_on (Some shelf) name = place_in shelf name
-
-abbrev pub place_at : Shelves → Resource → RowName → Option PlaceOf
-place_at shelves at name = place_on (get resource_cmp shelves at) name
+abbrev pub shelf_on : Shelves → Resource → Option Shelf
+shelf_on shelves at = get resource_cmp shelves at
 
 abbrev pub has_shelf : Shelves → Resource → Bool
-has_shelf shelves at = is_some (get resource_cmp shelves at)
+has_shelf shelves at = is_some (shelf_on shelves at)
 
--- the row that stands at a place; none where there is no place
-abbrev pub standing : Option PlaceOf → Option RowOf
-standing None = None
-standing (Some place) = place.row
-
--- the place as it is, or an empty one where there is none
-abbrev pub made : Option PlaceOf → PlaceOf
-made None = full None
-made (Some place) = place
+abbrev pub is_away : Shelves → Resource → Bool
+is_away shelves at = is_out_on (shelf_on shelves at)
 
 abbrev pub has_place : Shelves → Resource → RowName → Bool
-has_place shelves at name = is_some (place_at shelves at name)
+has_place shelves at name = has_on (shelf_on shelves at) name
 
 abbrev pub seen_at : Shelves → Resource → RowName → PlaceOf
-seen_at shelves at name = made (place_at shelves at name)
+seen_at shelves at name = seen_on (shelf_on shelves at) name
 
 -- two names, or two resources, are one
 abbrev pub is_name : RowName → RowName → Bool

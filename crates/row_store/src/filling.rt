@@ -1,10 +1,10 @@
 //! The shelves of a new store.
 
-ghost use Rattle.std.specs.Prelude.{◌≡◌, Some, ◌&&◌, if◌then◌else◌, IfOk, OnOk};
+ghost use Rattle.std.specs.Prelude.{◌≡◌, Some, false, ◌&&◌, if◌then◌else◌, IfOk, OnOk};
 ghost use Rattle.std.specs.FinMap as map;
 ghost use Rattle.values.specs.declared.name.RowName.{RowName as AnyName};
 ghost use Rattle.footprint.specs.declared.resource.Resource.{Resource as AnyResource};
-ghost use Rattle.row_store.specs.Places.{place_at, full, is_name, is_shelf};
+ghost use Rattle.row_store.specs.Places.{seen_at, is_away, full, is_name, is_shelf};
 ghost use Rattle.row_store.specs.Shelving.{shelf_of};
 ghost use Rattle.row_store.specs.Stock.{with_rows};
 ghost use Rattle.row_store.specs.Views.{rows_of, found};
@@ -30,6 +30,7 @@ fn put_row(
     ensures here { OnOk result (((q : AnyName) →
         (found catalogue.now shelves.old q).row ≡ (found catalogue.now shelves.old q).counts_as) → (q : AnyName) →
         (found catalogue.now shelves.new q).row ≡ (found catalogue.now shelves.new q).counts_as) }
+    ensures away { OnOk result ((d : AnyResource) → is_away shelves.new d ≡ is_away shelves.old d) }
 {
     let row = Arc::new(alloc, row)?;
     add_row(alloc, shelves, &shelf_of(catalogue, name), &name, Some(row))?;
@@ -45,6 +46,7 @@ pub(crate) fn filled(
     ensures rows { IfOk result (λ shelves. rows_of catalogue.now shelves ≡ with_rows map.empty rows.items) }
     ensures here { IfOk result (λ shelves. (q : AnyName) →
         (found catalogue.now shelves q).row ≡ (found catalogue.now shelves q).counts_as) }
+    ensures away { IfOk result (λ shelves. (d : AnyResource) → is_away shelves d ≡ false) }
 {
     let mut shelves = BTreeMap::new(alloc);
     for (table, key, row) in rows {

@@ -1,6 +1,7 @@
 //! The rows of a database.
 #![tactic(auto)]
 
+mod exchange;
 mod filling;
 mod laws;
 mod lending;

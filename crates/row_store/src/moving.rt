@@ -1,40 +1,19 @@
-//! Moves the rows of whole plans between the shelves of a store and those of a loan.
+//! Moves the rows of names between the shelves of a store and those of a loan.
 
-ghost use Rattle.std.specs.Prelude.{◌≡◌, true, false, if◌then◌else◌, IfOk, OnOk};
+ghost use Rattle.std.specs.Prelude.{◌≡◌, true, false, ◌&&◌, ◌||◌, OnOk};
 ghost use Rattle.values.specs.declared.name.RowName.{RowName as AnyName};
 ghost use Rattle.footprint.specs.declared.resource.Resource.{Resource as AnyResource};
-ghost use Rattle.row_store.specs.Places.{place_at, has_shelf, has_place, seen_at, is_shelf};
+ghost use Rattle.row_store.specs.Places.{has_shelf, is_away, has_place, seen_at, is_shelf, is_name};
 ghost use Rattle.row_store.specs.Shelving.{shelf_of};
-ghost use Rattle.row_store.specs.Locked.{among, is_named};
-ghost use Rattle.row_store.specs.Moving.{AreEmptied, IsCopied, AreCopied, IsShared, AreShared, IsShelfPut, AreShelvesPut};
-ghost use Rattle.row_store.specs.Moving.{IsShelfTaken, AreShelvesTaken, IsRowPut, IsRowTaken, AreRowsPut};
+ghost use Rattle.row_store.specs.Locked.{is_named};
+ghost use Rattle.row_store.specs.Moving.{AreEmptied, IsShared, AreShared, IsRowPut, AreOthersKept, AreRowsPut};
 
-use crate::shelves::{
-    Shelves, add_row, add_shelf, copy_shelf, empty_place, make_place, make_shelf, put_row,
-    put_shelf, share_row, take_place,
-};
+use crate::shelves::{Shelves, add_row, empty_place, make_place, put_row, share_row, take_row};
 use crate::shelving::shelf_of;
 use catalogue::Catalogue;
 use footprint::Resource;
 use std::alloc::Global;
-use std::collections::BTreeMap;
 use values::{NoMemory, RowName};
-
-/// Sees to it that shelves are there.
-pub(crate) fn make_shelves(
-    alloc: Global,
-    shelves: &mut Shelves,
-    at: &[Resource],
-) -> Result<(), NoMemory>
-    ensures places { (d : AnyResource) (q : AnyName) → place_at shelves.new d q ≡ place_at shelves.old d q }
-    ensures kept { (d : AnyResource) → has_shelf shelves.old d ≡ true → has_shelf shelves.new d ≡ true }
-    ensures there { OnOk result ((d : AnyResource) → among at.now d ≡ true → has_shelf shelves.new d ≡ true) }
-{
-    for shelf in at {
-        make_shelf(alloc, shelves, shelf)?;
-    }
-    Ok(())
-}
 
 /// Sees to it that names have places.
 pub(crate) fn make_places(
@@ -47,6 +26,7 @@ pub(crate) fn make_places(
     ensures kept { (d : AnyResource) (q : AnyName) → has_place shelves.old d q ≡ true →
         has_place shelves.new d q ≡ true }
     ensures shelves { (d : AnyResource) → has_shelf shelves.old d ≡ true → has_shelf shelves.new d ≡ true }
+    ensures away { (d : AnyResource) → is_away shelves.new d ≡ is_away shelves.old d }
     ensures there { OnOk result ((q : AnyName) → is_named names.now q ≡ true →
         has_place shelves.new (shelf_of catalogue.now q) q ≡ true) }
 {
@@ -61,41 +41,11 @@ pub(crate) fn empty_places(catalogue: &Catalogue, shelves: &mut Shelves, names: 
     ensures seen { AreEmptied catalogue.now names.now shelves.old shelves.new }
     ensures places { (d : AnyResource) (q : AnyName) → has_place shelves.new d q ≡ has_place shelves.old d q }
     ensures shelves { (d : AnyResource) → has_shelf shelves.new d ≡ has_shelf shelves.old d }
+    ensures away { (d : AnyResource) → is_away shelves.new d ≡ is_away shelves.old d }
 {
     for name in names {
         empty_place(shelves, &shelf_of(catalogue, *name), name);
     }
-}
-
-/// Adds a copy of a shelf.
-fn copy_one(
-    alloc: Global,
-    shelves: &Shelves,
-    copies: &mut Shelves,
-    at: &Resource,
-) -> Result<(), NoMemory>
-    ensures places { OnOk result (IsCopied at.now shelves.now copies.old copies.new) }
-    ensures shelves { OnOk result ((d : AnyResource) →
-        has_shelf copies.new d ≡ (if is_shelf at.now d then true else has_shelf copies.old d)) }
-{
-    let copy = copy_shelf(alloc, shelves, at)?;
-    add_shelf(copies, at, copy)
-}
-
-/// Copies of shelves, with the rows that stand there.
-pub(crate) fn copy_shelves(
-    alloc: Global,
-    shelves: &Shelves,
-    at: &[Resource],
-) -> Result<Shelves, NoMemory>
-    ensures places { IfOk result (λ copies. AreCopied at.now shelves.now copies) }
-    ensures shelves { IfOk result (λ copies. (d : AnyResource) → has_shelf copies d ≡ among at.now d) }
-{
-    let mut copies = BTreeMap::new(alloc);
-    for shelf in at {
-        copy_one(alloc, shelves, &mut copies, shelf)?;
-    }
-    Ok(copies)
 }
 
 /// Adds the row that stands at a name, shared.
@@ -106,8 +56,12 @@ fn share_one(
     at: &Resource,
     name: &RowName,
 ) -> Result<(), NoMemory>
-    ensures places { OnOk result (IsShared at.now name.now shelves.now copies.old copies.new) }
+    ensures seen { OnOk result (IsShared at.now name.now shelves.now copies.old copies.new) }
+    ensures kept { OnOk result ((d : AnyResource) (q : AnyName) → has_place copies.old d q ≡ true →
+        has_place copies.new d q ≡ true) }
+    ensures there { OnOk result (has_place copies.new at.now name.now ≡ true) }
     ensures shelves { OnOk result ((d : AnyResource) → has_shelf copies.old d ≡ true → has_shelf copies.new d ≡ true) }
+    ensures away { OnOk result ((d : AnyResource) → is_away copies.new d ≡ is_away copies.old d) }
 {
     let row = share_row(shelves, at, name)?;
     add_row(alloc, copies, at, name, row)?;
@@ -122,8 +76,11 @@ pub(crate) fn share_rows(
     copies: &mut Shelves,
     names: &[RowName],
 ) -> Result<(), NoMemory>
-    ensures places { OnOk result (AreShared catalogue.now names.now shelves.now copies.old copies.new) }
+    ensures seen { OnOk result (AreShared catalogue.now names.now shelves.now copies.old copies.new) }
+    ensures there { OnOk result ((q : AnyName) → is_named names.now q ≡ true →
+        has_place copies.new (shelf_of catalogue.now q) q ≡ true) }
     ensures shelves { OnOk result ((d : AnyResource) → has_shelf copies.old d ≡ true → has_shelf copies.new d ≡ true) }
+    ensures away { OnOk result ((d : AnyResource) → is_away copies.new d ≡ is_away copies.old d) }
 {
     for name in names {
         share_one(alloc, shelves, copies, &shelf_of(catalogue, *name), name)?;
@@ -131,39 +88,19 @@ pub(crate) fn share_rows(
     Ok(())
 }
 
-/// Moves a shelf from a loan into the place of the store's, if both are there.
-fn put_one_shelf(shelves: &mut Shelves, from: &mut Shelves, at: &Resource)
-    ensures places { IsShelfPut at.now from.old shelves.old shelves.new }
-    ensures shelves { (d : AnyResource) → has_shelf shelves.new d ≡ has_shelf shelves.old d }
-    ensures left { IsShelfTaken at.now from.old from.new }
-    ensures left_shelves { (d : AnyResource) →
-        has_shelf from.new d ≡ (if is_shelf at.now d then false else has_shelf from.old d) }
-{
-    if let Some(shelf) = from.remove(at) {
-        put_shelf(shelves, at, shelf);
-    }
-}
-
-/// Moves whole shelves from a loan into the places of the store's. It takes no memory and copies no row.
-pub(crate) fn put_shelves(shelves: &mut Shelves, from: &mut Shelves, at: &[Resource])
-    ensures places { AreShelvesPut at.now from.old shelves.old shelves.new }
-    ensures shelves { (d : AnyResource) → has_shelf shelves.new d ≡ has_shelf shelves.old d }
-    ensures left { AreShelvesTaken at.now from.old from.new }
-{
-    for shelf in at {
-        put_one_shelf(shelves, from, shelf);
-    }
-}
-
 /// Moves the row of a name from a loan into the place in the store, if both have a place of that name. Without a row the
 /// place goes.
 fn put_one_row(shelves: &mut Shelves, from: &mut Shelves, at: &Resource, name: &RowName)
-    ensures places { IsRowPut at.now name.now from.old shelves.old shelves.new }
+    ensures seen { IsRowPut at.now name.now from.old shelves.old shelves.new }
+    ensures others { AreOthersKept at.now name.now shelves.old shelves.new }
     ensures shelves { (d : AnyResource) → has_shelf shelves.new d ≡ has_shelf shelves.old d }
-    ensures left { IsRowTaken at.now name.now from.old from.new }
+    ensures away { (d : AnyResource) → is_away shelves.new d ≡ is_away shelves.old d }
+    ensures left { (d : AnyResource) (q : AnyName) → (is_shelf at.now d && is_name name.now q) ≡ true →
+        has_place from.new d q ≡ false }
+    ensures left_others { AreOthersKept at.now name.now from.old from.new }
 {
-    if let Some(place) = take_place(from, at, name) {
-        put_row(shelves, at, name, place.row);
+    if let Some(row) = take_row(from, at, name) {
+        put_row(shelves, at, name, row);
     }
 }
 
@@ -174,8 +111,11 @@ pub(crate) fn put_rows(
     from: &mut Shelves,
     names: &[RowName],
 )
-    ensures places { AreRowsPut catalogue.now names.now from.old shelves.old shelves.new }
+    ensures seen { AreRowsPut catalogue.now names.now from.old shelves.old shelves.new }
+    ensures places { (q : AnyName) → is_named names.now q ≡ false →
+        has_place shelves.new (shelf_of catalogue.now q) q ≡ has_place shelves.old (shelf_of catalogue.now q) q }
     ensures shelves { (d : AnyResource) → has_shelf shelves.new d ≡ has_shelf shelves.old d }
+    ensures away { (d : AnyResource) → is_away shelves.new d ≡ is_away shelves.old d }
 {
     for name in names {
         put_one_row(shelves, from, &shelf_of(catalogue, *name), name);

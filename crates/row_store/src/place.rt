@@ -1,7 +1,8 @@
 //! Places: what stands at row names.
 
-ghost use Rattle.std.specs.Prelude.{◌≡◌};
-ghost use Rattle.row_store.specs.Places.{place_of, full, settled, shared_row};
+ghost use Rattle.std.specs.Prelude.{◌≡◌, Some, None, Option};
+ghost use Rattle.values.specs.Database.{RowOf};
+ghost use Rattle.row_store.specs.Places.{place_of, seen_over, full, settled, shared_row};
 
 use std::alloc::AllocError;
 use std::snapshot::Snapshot;
@@ -9,19 +10,30 @@ use std::sync::Arc;
 use values::Row;
 
 /// A place: a row name with a row or with none. While its row is lent to be written the row is away, and counts as it was
-/// lent.
+/// lent. A place that says nothing of what counts was made on a shelf, and there counts what the shelf says.
 #[derive(Drop)]
 pub(crate) struct Place {
     pub(crate) row: Option<Arc<Row>>,
-    pub(crate) counts_as: Snapshot<Option<Arc<Row>>>,
+    pub(crate) counts_as: Option<Snapshot<Option<Arc<Row>>>>,
 }
 
 impl Place {
+    /// A place with this row, or with none, which counts.
     pub(crate) fn new(row: Option<Arc<Row>>) -> Place
         ensures { place_of result ≡ full (shared_row row) }
     {
-        let counts_as = Snapshot::of(&row);
+        let counts_as = Some(Snapshot::of(&row));
         Place { row, counts_as }
+    }
+
+    /// A place for a row to come.
+    pub(crate) fn reserved() -> Place
+        ensures { (otherwise : Option RowOf) → seen_over (Some result) otherwise ≡ seen_over None otherwise }
+    {
+        Place {
+            row: None,
+            counts_as: None,
+        }
     }
 }
 

@@ -5,7 +5,7 @@ ghost use Rattle.std.specs.FinMap as map;
 ghost use Rattle.values.specs.declared.name.RowName.{RowName as AnyName};
 ghost use Rattle.values.specs.Database.{Database};
 ghost use Rattle.workspace.specs.Scan.{IsNext, is_after, is_ahead, is_in_part};
-ghost use Rattle.row_store.specs.Places.{place_of, place_in, standing};
+ghost use Rattle.row_store.specs.Places.{shared_row, seen_in};
 ghost use Rattle.row_store.specs.Scans.{start_of};
 ghost use Rattle.row_store.specs.Views.{found};
 
@@ -48,7 +48,7 @@ fn row_ahead<'a>(
     place: &'a Place,
 ) -> Option<&'a Row>
     ensures { option_map (λ row. row.now) result ≡ (if is_ahead catalogue.now table part after.now name.now
-        then (place_of place.now).row else None) }
+        then shared_row place.now.row else None) }
 {
     if !is_ahead(catalogue, table, part, after, name) {
         return None;
@@ -79,10 +79,13 @@ fn next_on<'a>(
     after: &Option<Key>,
 ) -> Option<(Key, &'a Row)>
     ensures { (db : Database) → ((q : AnyName) → is_in_part catalogue.now table part q ≡ true →
-        map.get db q ≡ standing (place_in shelf.now q)) →
+        map.get db q ≡ (seen_in shelf.now q).row) →
         IsNext catalogue.now db table part after.now (option_map (λ found. (found.0, found.1.now)) result) }
 {
-    for (name, place) in shelf.range((start_of(table, after), Bound::Unbounded)) {
+    for (name, place) in shelf
+        .places
+        .range((start_of(table, after), Bound::Unbounded))
+    {
         if let Some(row) = row_ahead(catalogue, table, part, after, name, place) {
             return Some((name.key, row));
         }

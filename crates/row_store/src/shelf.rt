@@ -1,95 +1,166 @@
 //! One shelf: the places of row names.
 
-ghost use Rattle.std.specs.Prelude.{◌≡◌, Some, None, true, if◌then◌else◌, is_some, option_map, IfOk, OnOk, OnErr};
+ghost use Rattle.std.specs.Prelude.{◌≡◌, Some, None, true, false, ◌&&◌, if◌then◌else◌, is_some, option_map, IfOk, OnOk};
 ghost use Rattle.values.specs.declared.name.RowName.{RowName as AnyName};
-ghost use Rattle.row_store.specs.Places.{place_in, standing, made, full, placed, emptied, shared_row, is_name, place_of};
+ghost use Rattle.row_store.specs.Places.{seen_in, has_in, is_out, full, emptied, gone, settled, shared_row, is_name};
 
 use crate::place::Place;
+use std::alloc::{AllocError, Global};
 use std::collections::BTreeMap;
+use std::mem;
 use std::snapshot::Snapshot;
 use std::sync::Arc;
 use values::{NoMemory, Row, RowName};
 
-/// The places of a shelf, in the order of their names.
-pub(crate) type Shelf = BTreeMap<RowName, Place>;
+/// Places, in the order of their names.
+type Places = BTreeMap<RowName, Place>;
 
-/// Sees to it that a name has a place.
-#[tactic(auto, using(crate::proofs::Exact::place_same))]
-pub(crate) fn make_place(shelf: &mut Shelf, name: &RowName) -> Result<(), NoMemory>
-    ensures made { OnOk result ((q : AnyName) →
-        place_in shelf.new q ≡ (if is_name name.now q then Some (made (place_in shelf.old q))
-        else place_in shelf.old q)) }
-    ensures err { OnErr result ((q : AnyName) → place_in shelf.new q ≡ place_in shelf.old q) }
-    ensures seen { (q : AnyName) → made (place_in shelf.new q) ≡ made (place_in shelf.old q) }
-    ensures kept { (q : AnyName) → is_some (place_in shelf.old q) ≡ true → is_some (place_in shelf.new q) ≡ true }
-{
-    if shelf.contains_key(name) {
-        return Ok(());
-    }
-    shelf.insert(*name, Place::new(None))?;
-    Ok(())
+/// The places of a shelf. While the shelf is lent whole they are away, and their rows count as they were lent.
+#[derive(Drop)]
+pub(crate) struct Shelf {
+    pub(crate) places: Places,
+    away: Option<Snapshot<Places>>,
 }
 
-/// Empties the place of a name. Its row counts as before.
-#[tactic(auto, using(crate::proofs::Exact::place_same))]
-pub(crate) fn empty_place(shelf: &mut Shelf, name: &RowName)
-    ensures { (q : AnyName) →
-        place_in shelf.new q ≡ (if is_name name.now q then option_map emptied (place_in shelf.old q)
-        else place_in shelf.old q) }
-{
-    if let Some(place) = shelf.get_mut(name) {
-        place.row = None;
+impl Shelf {
+    /// A shelf without places.
+    pub(crate) fn new(alloc: Global) -> Shelf
+        ensures seen { (q : AnyName) → seen_in result q ≡ full None }
+        ensures away { is_out result ≡ false }
+    {
+        Shelf {
+            places: BTreeMap::new(alloc),
+            away: None,
+        }
     }
-}
 
-/// Fills the place of a name, if there is one, with a row or with none.
-#[tactic(auto, using(crate::proofs::Exact::place_same))]
-pub(crate) fn fill_place(shelf: &mut Shelf, name: &RowName, row: Option<Arc<Row>>)
-    ensures { (q : AnyName) →
-        place_in shelf.new q ≡ (if is_name name.now q
-        then option_map (λ _. full (shared_row row)) (place_in shelf.old q) else place_in shelf.old q) }
-{
-    if let Some(place) = shelf.get_mut(name) {
-        place.counts_as = Snapshot::of(&row);
-        place.row = row;
+    /// Whether the places are away.
+    pub(crate) fn is_away(&self) -> bool
+        ensures { result ≡ is_out self.now }
+    {
+        self.away.is_some()
     }
-}
 
-/// Puts a row in the place of a name that has one; without a row the place goes.
-#[tactic(auto, using(crate::proofs::Exact::place_same))]
-pub(crate) fn put_row(shelf: &mut Shelf, name: &RowName, row: Option<Arc<Row>>)
-    ensures { (q : AnyName) →
-        place_in shelf.new q ≡ (if is_name name.now q
-        then (if is_some (place_in shelf.old q) then placed (shared_row row) else None) else place_in shelf.old q) }
-{
-    match row {
-        Some(row) => fill_place(shelf, name, Some(row)),
-        None => {
-            shelf.remove(name);
+    /// Lends the places: they go out with the shelf that is given, and none are left.
+    pub(crate) fn take(&mut self, alloc: Global) -> Shelf
+        ensures taken { result ≡ self.old }
+        ensures seen { (q : AnyName) → seen_in self.new q ≡ gone (seen_in self.old q) }
+        ensures places { (q : AnyName) → has_in self.new q ≡ false }
+        ensures away { is_out self.new ≡ true }
+    {
+        let lent = Shelf {
+            places: BTreeMap::new(alloc),
+            away: Some(Snapshot::of(&self.places)),
+        };
+        mem::replace(self, lent)
+    }
+
+    /// Sees to it that a name has a place.
+    #[tactic(auto, using(crate::proofs::Exact::own_same))]
+    pub(crate) fn make_place(&mut self, name: &RowName) -> Result<(), NoMemory>
+        ensures seen { (q : AnyName) → seen_in self.new q ≡ seen_in self.old q }
+        ensures kept { (q : AnyName) → has_in self.old q ≡ true → has_in self.new q ≡ true }
+        ensures there { OnOk result (has_in self.new name.now ≡ true) }
+        ensures away { is_out self.new ≡ is_out self.old }
+    {
+        if self.places.contains_key(name) {
+            return Ok(());
+        }
+        self.places.insert(*name, Place::reserved())?;
+        Ok(())
+    }
+
+    /// Empties the place of a name. Its row counts as before.
+    #[tactic(auto, using(crate::proofs::Exact::own_same))]
+    pub(crate) fn empty_place(&mut self, name: &RowName)
+        ensures seen { (q : AnyName) →
+            seen_in self.new q ≡ (if is_name name.now q then emptied (seen_in self.old q) else seen_in self.old q) }
+        ensures places { (q : AnyName) → has_in self.new q ≡ has_in self.old q }
+        ensures away { is_out self.new ≡ is_out self.old }
+    {
+        if let Some(place) = self.places.get_mut(name) {
+            place.row = None;
+        }
+    }
+
+    /// Fills the place of a name, if there is one, with a row or with none.
+    #[tactic(auto, using(crate::proofs::Exact::own_same))]
+    pub(crate) fn fill_place(&mut self, name: &RowName, row: Option<Arc<Row>>)
+        ensures seen { (q : AnyName) →
+            seen_in self.new q ≡ (if is_name name.now q && has_in self.old q then full (shared_row row)
+            else seen_in self.old q) }
+        ensures places { (q : AnyName) → has_in self.new q ≡ has_in self.old q }
+        ensures away { is_out self.new ≡ is_out self.old }
+    {
+        if let Some(place) = self.places.get_mut(name) {
+            place.counts_as = Some(Snapshot::of(&row));
+            place.row = row;
+        }
+    }
+
+    /// Puts a row in the place of a name that has one; without a row the place goes, unless the shelf is away.
+    #[tactic(auto, using(crate::proofs::Exact::own_same, crate::proofs::Exact::here_counts))]
+    pub(crate) fn put_row(&mut self, name: &RowName, row: Option<Arc<Row>>)
+        ensures seen { (q : AnyName) →
+            seen_in self.new q ≡ (if is_name name.now q && has_in self.old q then full (shared_row row)
+            else seen_in self.old q) }
+        ensures places { (q : AnyName) → is_name name.now q ≡ false → has_in self.new q ≡ has_in self.old q }
+        ensures away { is_out self.new ≡ is_out self.old }
+    {
+        if row.is_some() || self.is_away() {
+            self.fill_place(name, row);
+        } else {
+            self.places.remove(name);
+        }
+    }
+
+    /// Takes the place of a name away, and gives the row that stands there, if there is a place.
+    #[tactic(auto, using(crate::proofs::Exact::own_same))]
+    pub(crate) fn take_row(&mut self, name: &RowName) -> Option<Option<Arc<Row>>>
+        ensures row { option_map shared_row result
+            ≡ (if has_in self.old name.now then Some (seen_in self.old name.now).row else None) }
+        ensures seen { (q : AnyName) → is_name name.now q ≡ false → seen_in self.new q ≡ seen_in self.old q }
+        ensures places { (q : AnyName) →
+            has_in self.new q ≡ (if is_name name.now q then false else has_in self.old q) }
+        ensures away { is_out self.new ≡ is_out self.old }
+    {
+        let place = self.places.remove(name)?;
+        Some(place.row)
+    }
+
+    /// The row that stands at a name, once more.
+    pub(crate) fn share_row(&self, name: &RowName) -> Result<Option<Arc<Row>>, NoMemory>
+        ensures { IfOk result (λ row. shared_row row ≡ (seen_in self.now name.now).row) }
+    {
+        let Some(place) = self.places.get(name) else {
+            return Ok(None);
+        };
+        let Some(row) = &place.row else {
+            return Ok(None);
+        };
+        Ok(Some(row.clone()?))
+    }
+
+    /// The row that stands at a name.
+    pub(crate) fn row_at(&self, name: &RowName) -> Option<&Row>
+        ensures { option_map (λ r. r.now) result ≡ (seen_in self.now name.now).row }
+    {
+        let place = self.places.get(name)?;
+        match &place.row {
+            Some(row) => Some(row),
+            None => None,
         }
     }
 }
 
-/// The row that stands at a name, once more.
-pub(crate) fn share_row(shelf: &Shelf, name: &RowName) -> Result<Option<Arc<Row>>, NoMemory>
-    ensures { IfOk result (λ row. shared_row row ≡ standing (place_in shelf.now name.now)) }
-{
-    let Some(place) = shelf.get(name) else {
-        return Ok(None);
-    };
-    let Some(row) = &place.row else {
-        return Ok(None);
-    };
-    Ok(Some(row.clone()?))
-}
+impl Clone for Shelf {
+    // The copy is here, with the rows that stand on the shelf.
+    ghost is_clone = { λ shelf copy. (is_out copy ≡ false) × ((q : AnyName) → seen_in copy q ≡ settled (seen_in shelf q)) };
 
-/// The row that stands at a name.
-pub(crate) fn row_at<'a>(shelf: &'a Shelf, name: &RowName) -> Option<&'a Row>
-    ensures { option_map (λ r. r.now) result ≡ standing (place_in shelf.now name.now) }
-{
-    let place = shelf.get(name)?;
-    match &place.row {
-        Some(row) => Some(row),
-        None => None,
+    fn clone(&self) -> Result<Shelf, AllocError> {
+        Ok(Shelf {
+            places: self.places.clone()?,
+            away: None,
+        })
     }
 }

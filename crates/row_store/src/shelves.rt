@@ -1,12 +1,11 @@
 //! All shelves, each at its resource.
 
-ghost use Rattle.std.specs.Prelude.{◌≡◌, Some, None, true, ◌&&◌, if◌then◌else◌, is_some, option_map, IfOk, OnOk, OnErr};
+ghost use Rattle.std.specs.Prelude.{◌≡◌, Some, None, true, false, not, ◌&&◌, ◌||◌, if◌then◌else◌, option_map, IfOk, OnOk, OnErr};
 ghost use Rattle.values.specs.declared.name.RowName.{RowName as AnyName};
 ghost use Rattle.footprint.specs.declared.resource.Resource.{Resource as AnyResource};
-ghost use Rattle.row_store.specs.Places.{place_in, place_at, has_shelf, has_place, seen_at, standing, made, full, emptied, placed, settled, shared_row, is_name, is_shelf, place_of};
+ghost use Rattle.row_store.specs.Places.{has_shelf, is_away, has_place, seen_at, seen_in, is_out, full, emptied, settled, shared_row, is_name, is_shelf};
 
-use crate::place::Place;
-use crate::shelf::{self, Shelf};
+use crate::shelf::Shelf;
 use footprint::Resource;
 use std::alloc::Global;
 use std::collections::BTreeMap;
@@ -22,15 +21,18 @@ pub(crate) fn make_shelf(
     shelves: &mut Shelves,
     at: &Resource,
 ) -> Result<(), NoMemory>
-    ensures places { (d : AnyResource) (q : AnyName) → place_at shelves.new d q ≡ place_at shelves.old d q }
+    ensures seen { (d : AnyResource) (q : AnyName) → seen_at shelves.new d q ≡ seen_at shelves.old d q }
+    ensures places { (d : AnyResource) (q : AnyName) → has_place shelves.old d q ≡ true →
+        has_place shelves.new d q ≡ true }
     ensures made { OnOk result ((d : AnyResource) →
         has_shelf shelves.new d ≡ (if is_shelf at.now d then true else has_shelf shelves.old d)) }
     ensures err { OnErr result ((d : AnyResource) → has_shelf shelves.new d ≡ has_shelf shelves.old d) }
+    ensures away { (d : AnyResource) → is_away shelves.new d ≡ is_away shelves.old d }
 {
     if shelves.contains_key(at) {
         return Ok(());
     }
-    shelves.insert(*at, BTreeMap::new(alloc))?;
+    shelves.insert(*at, Shelf::new(alloc))?;
     Ok(())
 }
 
@@ -38,16 +40,15 @@ pub(crate) fn make_shelf(
 #[tactic(auto, using(crate::proofs::Exact::get_same))]
 fn make_place_on(shelves: &mut Shelves, at: &Resource, name: &RowName) -> Result<(), NoMemory>
     requires { has_shelf shelves.old at.now ≡ true }
-    ensures made { OnOk result ((d : AnyResource) (q : AnyName) →
-        place_at shelves.new d q ≡ (if is_shelf at.now d && is_name name.now q
-        then Some (made (place_at shelves.old d q)) else place_at shelves.old d q)) }
     ensures seen { (d : AnyResource) (q : AnyName) → seen_at shelves.new d q ≡ seen_at shelves.old d q }
     ensures kept { (d : AnyResource) (q : AnyName) → has_place shelves.old d q ≡ true →
         has_place shelves.new d q ≡ true }
+    ensures there { OnOk result (has_place shelves.new at.now name.now ≡ true) }
     ensures shelves { (d : AnyResource) → has_shelf shelves.new d ≡ has_shelf shelves.old d }
+    ensures away { (d : AnyResource) → is_away shelves.new d ≡ is_away shelves.old d }
 {
     match shelves.get_mut(at) {
-        Some(shelf) => shelf::make_place(shelf, name),
+        Some(shelf) => shelf.make_place(name),
         None => Ok(()),
     }
 }
@@ -64,9 +65,7 @@ pub(crate) fn make_place(
         has_place shelves.new d q ≡ true }
     ensures shelves { (d : AnyResource) → has_shelf shelves.old d ≡ true → has_shelf shelves.new d ≡ true }
     ensures there { OnOk result (has_place shelves.new at.now name.now ≡ true) }
-    ensures made { OnOk result ((d : AnyResource) (q : AnyName) →
-        place_at shelves.new d q ≡ (if is_shelf at.now d && is_name name.now q then Some (seen_at shelves.old d q)
-        else place_at shelves.old d q)) }
+    ensures away { (d : AnyResource) → is_away shelves.new d ≡ is_away shelves.old d }
 {
     make_shelf(alloc, shelves, at)?;
     make_place_on(shelves, at, name)
@@ -80,11 +79,15 @@ pub(crate) fn add_row(
     name: &RowName,
     row: Option<Arc<Row>>,
 ) -> Result<(), NoMemory>
-    ensures places { OnOk result ((d : AnyResource) (q : AnyName) →
-        place_at shelves.new d q ≡ (if is_shelf at.now d && is_name name.now q then Some (full (shared_row row))
-        else place_at shelves.old d q)) }
+    ensures seen { OnOk result ((d : AnyResource) (q : AnyName) →
+        seen_at shelves.new d q ≡ (if is_shelf at.now d && is_name name.now q then full (shared_row row)
+        else seen_at shelves.old d q)) }
+    ensures kept { OnOk result ((d : AnyResource) (q : AnyName) → has_place shelves.old d q ≡ true →
+        has_place shelves.new d q ≡ true) }
+    ensures there { OnOk result (has_place shelves.new at.now name.now ≡ true) }
     ensures shelves { OnOk result ((d : AnyResource) → has_shelf shelves.old d ≡ true →
         has_shelf shelves.new d ≡ true) }
+    ensures away { OnOk result ((d : AnyResource) → is_away shelves.new d ≡ is_away shelves.old d) }
 {
     make_place(alloc, shelves, at, name)?;
     fill_place(shelves, at, name, row);
@@ -92,19 +95,17 @@ pub(crate) fn add_row(
 }
 
 /// Empties a place.
-#[tactic(auto, using(crate::proofs::Exact::get_same, crate::proofs::Steps::emptied_made, crate::proofs::Steps::emptied_there))]
+#[tactic(auto, using(crate::proofs::Exact::get_same))]
 pub(crate) fn empty_place(shelves: &mut Shelves, at: &Resource, name: &RowName)
-    ensures places { (d : AnyResource) (q : AnyName) →
-        place_at shelves.new d q ≡ (if is_shelf at.now d && is_name name.now q
-        then option_map emptied (place_at shelves.old d q) else place_at shelves.old d q) }
     ensures seen { (d : AnyResource) (q : AnyName) →
         seen_at shelves.new d q ≡ (if is_shelf at.now d && is_name name.now q then emptied (seen_at shelves.old d q)
         else seen_at shelves.old d q) }
     ensures kept { (d : AnyResource) (q : AnyName) → has_place shelves.new d q ≡ has_place shelves.old d q }
     ensures shelves { (d : AnyResource) → has_shelf shelves.new d ≡ has_shelf shelves.old d }
+    ensures away { (d : AnyResource) → is_away shelves.new d ≡ is_away shelves.old d }
 {
     if let Some(shelf) = shelves.get_mut(at) {
-        shelf::empty_place(shelf, name);
+        shelf.empty_place(name);
     }
 }
 
@@ -116,30 +117,31 @@ pub(crate) fn fill_place(
     name: &RowName,
     row: Option<Arc<Row>>,
 )
-    ensures places { (d : AnyResource) (q : AnyName) →
-        place_at shelves.new d q ≡ (if is_shelf at.now d && is_name name.now q
-        then option_map (λ _. full (shared_row row)) (place_at shelves.old d q) else place_at shelves.old d q) }
     ensures seen { (d : AnyResource) (q : AnyName) → has_place shelves.old at.now name.now ≡ true →
         seen_at shelves.new d q ≡ (if is_shelf at.now d && is_name name.now q then full (shared_row row)
         else seen_at shelves.old d q) }
     ensures kept { (d : AnyResource) (q : AnyName) → has_place shelves.new d q ≡ has_place shelves.old d q }
     ensures shelves { (d : AnyResource) → has_shelf shelves.new d ≡ has_shelf shelves.old d }
+    ensures away { (d : AnyResource) → is_away shelves.new d ≡ is_away shelves.old d }
 {
     if let Some(shelf) = shelves.get_mut(at) {
-        shelf::fill_place(shelf, name, row);
+        shelf.fill_place(name, row);
     }
 }
 
-/// Puts a row in the place of a name that has one; without a row the place goes.
+/// Puts a row in the place of a name that has one; without a row the place goes, unless its shelf is away.
 #[tactic(auto, using(crate::proofs::Exact::get_same))]
 pub(crate) fn put_row(shelves: &mut Shelves, at: &Resource, name: &RowName, row: Option<Arc<Row>>)
-    ensures places { (d : AnyResource) (q : AnyName) →
-        place_at shelves.new d q ≡ (if is_shelf at.now d && is_name name.now q
-        then (if has_place shelves.old d q then placed (shared_row row) else None) else place_at shelves.old d q) }
+    ensures seen { (d : AnyResource) (q : AnyName) →
+        seen_at shelves.new d q ≡ (if is_shelf at.now d && (is_name name.now q && has_place shelves.old d q)
+        then full (shared_row row) else seen_at shelves.old d q) }
+    ensures kept { (d : AnyResource) (q : AnyName) → (is_shelf at.now d && is_name name.now q) ≡ false →
+        has_place shelves.new d q ≡ has_place shelves.old d q }
     ensures shelves { (d : AnyResource) → has_shelf shelves.new d ≡ has_shelf shelves.old d }
+    ensures away { (d : AnyResource) → is_away shelves.new d ≡ is_away shelves.old d }
 {
     if let Some(shelf) = shelves.get_mut(at) {
-        shelf::put_row(shelf, name, row);
+        shelf.put_row(name, row);
     }
 }
 
@@ -149,64 +151,62 @@ pub(crate) fn share_row(
     at: &Resource,
     name: &RowName,
 ) -> Result<Option<Arc<Row>>, NoMemory>
-    ensures { IfOk result (λ row. shared_row row ≡ standing (place_at shelves.now at.now name.now)) }
+    ensures { IfOk result (λ row. shared_row row ≡ (seen_at shelves.now at.now name.now).row) }
 {
     match shelves.get(at) {
-        Some(shelf) => shelf::share_row(shelf, name),
+        Some(shelf) => shelf.share_row(name),
         None => Ok(None),
     }
 }
 
 /// The row that stands at a name.
 pub(crate) fn row_at<'a>(shelves: &'a Shelves, at: &Resource, name: &RowName) -> Option<&'a Row>
-    ensures { option_map (λ r. r.now) result ≡ standing (place_at shelves.now at.now name.now) }
+    ensures { option_map (λ r. r.now) result ≡ (seen_at shelves.now at.now name.now).row }
 {
     let shelf = shelves.get(at)?;
-    shelf::row_at(shelf, name)
+    shelf.row_at(name)
 }
 
-/// Takes a place off its shelf.
-pub(crate) fn take_place(shelves: &mut Shelves, at: &Resource, name: &RowName) -> Option<Place>
-    ensures taken { option_map place_of result ≡ place_at shelves.old at.now name.now }
+/// Takes a place off its shelf, and gives the row that stands there, if there is a place.
+#[tactic(auto, using(crate::proofs::Exact::get_same))]
+pub(crate) fn take_row(
+    shelves: &mut Shelves,
+    at: &Resource,
+    name: &RowName,
+) -> Option<Option<Arc<Row>>>
+    ensures row { option_map shared_row result ≡ (if has_place shelves.old at.now name.now
+        then Some (seen_at shelves.old at.now name.now).row else None) }
+    ensures seen { (d : AnyResource) (q : AnyName) → (is_shelf at.now d && is_name name.now q) ≡ false →
+        seen_at shelves.new d q ≡ seen_at shelves.old d q }
     ensures places { (d : AnyResource) (q : AnyName) →
-        place_at shelves.new d q ≡ (if is_shelf at.now d && is_name name.now q then None
-        else place_at shelves.old d q) }
-    ensures shelves { (d : AnyResource) → has_shelf shelves.new d ≡ has_shelf shelves.old d }
+        has_place shelves.new d q ≡ (if is_shelf at.now d && is_name name.now q then false
+        else has_place shelves.old d q) }
 {
     let shelf = shelves.get_mut(at)?;
-    shelf.remove(name)
+    shelf.take_row(name)
 }
 
 /// A copy of a shelf, with the rows that stand there.
 pub(crate) fn copy_shelf(alloc: Global, shelves: &Shelves, at: &Resource) -> Result<Shelf, NoMemory>
-    ensures { IfOk result (λ copy. (q : AnyName) →
-        place_in copy q ≡ option_map settled (place_at shelves.now at.now q)) }
+    ensures seen { IfOk result (λ copy. (q : AnyName) → seen_in copy q ≡ settled (seen_at shelves.now at.now q)) }
+    ensures away { IfOk result (λ copy. is_out copy ≡ false) }
 {
     match shelves.get(at) {
         Some(shelf) => Ok(shelf.clone()?),
-        None => Ok(BTreeMap::new(alloc)),
+        None => Ok(Shelf::new(alloc)),
     }
 }
 
-/// Adds a shelf.
+/// Adds a shelf that isn't away.
 pub(crate) fn add_shelf(shelves: &mut Shelves, at: &Resource, shelf: Shelf) -> Result<(), NoMemory>
-    ensures places { OnOk result ((d : AnyResource) (q : AnyName) →
-        place_at shelves.new d q ≡ (if is_shelf at.now d then place_in shelf q else place_at shelves.old d q)) }
+    requires { is_out shelf ≡ false }
+    ensures seen { OnOk result ((d : AnyResource) (q : AnyName) →
+        seen_at shelves.new d q ≡ (if is_shelf at.now d then seen_in shelf q else seen_at shelves.old d q)) }
     ensures shelves { OnOk result ((d : AnyResource) →
         has_shelf shelves.new d ≡ (if is_shelf at.now d then true else has_shelf shelves.old d)) }
+    ensures away { OnOk result ((d : AnyResource) →
+        is_away shelves.new d ≡ (if is_shelf at.now d then false else is_away shelves.old d)) }
 {
     shelves.insert(*at, shelf)?;
     Ok(())
-}
-
-/// Puts a shelf in the place of the one at a resource, if there is one.
-pub(crate) fn put_shelf(shelves: &mut Shelves, at: &Resource, shelf: Shelf)
-    ensures places { (d : AnyResource) (q : AnyName) →
-        place_at shelves.new d q ≡ (if is_shelf at.now d && has_shelf shelves.old at.now then place_in shelf q
-        else place_at shelves.old d q) }
-    ensures shelves { (d : AnyResource) → has_shelf shelves.new d ≡ has_shelf shelves.old d }
-{
-    if let Some(old) = shelves.get_mut(at) {
-        *old = shelf;
-    }
 }

@@ -8,8 +8,10 @@ ghost use Rattle.coarsen.specs.Subtrees.{Requests};
 ghost use Rattle.coarsen.specs.Plans.{IsPlanOver};
 ghost use Rattle.coarsen.specs.Clashes.{locks_row, ModesClash};
 ghost use Rattle.workspace.specs.Overlay.{applied};
+ghost use Rattle.row_store.specs.Laws.{AreLentAlone};
 ghost use Rattle.row_store.specs.Stock.{with_rows};
 
+use crate::exchange::take_shelves;
 use crate::filling::filled;
 use crate::lending::{hold, put_back};
 use crate::loan::Loan;
@@ -87,9 +89,11 @@ impl RowStore {
     {
         locked_rows_conflict();
         clashes_are_either_way();
-        let held = hold(self.alloc, &self.catalogue, &mut self.shelves, plan)?;
+        let mut held = hold(self.alloc, &self.catalogue, &mut self.shelves, plan)?;
         let catalogue = self.catalogue.clone()?;
         self.lent.insert(no, Snapshot::of(plan))?;
+        let written = &held.written_shelves;
+        take_shelves(self.alloc, &mut self.shelves, &mut held.shelves, written);
         empty_places(&self.catalogue, &mut self.shelves, &held.written_names);
         Ok(Loan {
             alloc: self.alloc,
@@ -130,6 +134,16 @@ impl RowStore {
     {
         write(self.alloc, &self.catalogue, &mut self.shelves, writes)?;
         Ok(())
+    }
+
+    /// A law; nothing is done. A row that a plan locks to write is its loan's alone while it is lent: the store doesn't show
+    /// it, and no other plan that is lent locks its name.
+    pub fn written_rows_are_lent_alone(&self)
+        ensures { AreLentAlone self.now.tables self.now.lent }
+    {
+        // What holds of the plans that are lent says it.
+        let _lent = &self.lent;
+        locked_rows_conflict();
     }
 
     /// The catalogue.

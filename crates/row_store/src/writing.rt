@@ -5,7 +5,7 @@ ghost use Rattle.std.specs.BTreeMap as tree;
 ghost use Rattle.values.specs.declared.name.RowName.{RowName as AnyName};
 ghost use Rattle.values.specs.Database.{name_cmp};
 ghost use Rattle.footprint.specs.declared.resource.Resource.{Resource as AnyResource};
-ghost use Rattle.row_store.specs.Places.{seen_at, has_shelf, has_place, shared_row, write_at, written, is_name};
+ghost use Rattle.row_store.specs.Places.{seen_at, has_shelf, is_away, has_place, shared_row, write_at, written, is_name};
 ghost use Rattle.row_store.specs.Shelving.{shelf_of};
 
 use crate::shelves::{Shelves, fill_place, make_place};
@@ -42,6 +42,7 @@ fn add_write(
     ensures kept { (d : AnyResource) (q : AnyName) → has_place shelves.old d q ≡ true →
         has_place shelves.new d q ≡ true }
     ensures shelves { (d : AnyResource) → has_shelf shelves.old d ≡ true → has_shelf shelves.new d ≡ true }
+    ensures away { (d : AnyResource) → is_away shelves.new d ≡ is_away shelves.old d }
     ensures there { OnOk result (has_place shelves.new (shelf_of catalogue.now name) name ≡ true) }
     ensures added { OnOk result ((q : AnyName) →
         write_at writes.new q ≡ (if is_name name q then Some row else write_at writes.old q)) }
@@ -63,6 +64,7 @@ fn make_writes(
     ensures kept { (d : AnyResource) (q : AnyName) → has_place shelves.old d q ≡ true →
         has_place shelves.new d q ≡ true }
     ensures shelves { (d : AnyResource) → has_shelf shelves.old d ≡ true → has_shelf shelves.new d ≡ true }
+    ensures away { (d : AnyResource) → is_away shelves.new d ≡ is_away shelves.old d }
     ensures there { IfOk result (λ made. (q : AnyName) → is_some (write_at made q) ≡ true →
         has_place shelves.new (shelf_of catalogue.now q) q ≡ true) }
     ensures made { IfOk result (λ made. (q : AnyName) → write_at made q ≡ tree.get name_cmp writes q) }
@@ -84,6 +86,7 @@ fn put_writes(catalogue: &Catalogue, shelves: &mut Shelves, writes: Writes)
         ≡ written (write_at writes q) (seen_at shelves.old (shelf_of catalogue.now q) q) }
     ensures kept { (d : AnyResource) (q : AnyName) → has_place shelves.new d q ≡ has_place shelves.old d q }
     ensures shelves { (d : AnyResource) → has_shelf shelves.new d ≡ has_shelf shelves.old d }
+    ensures away { (d : AnyResource) → is_away shelves.new d ≡ is_away shelves.old d }
 {
     let mut left = writes;
     while let Some((name, row)) = left.pop_first() {
@@ -106,6 +109,7 @@ pub(crate) fn write(
     ensures kept { (d : AnyResource) (q : AnyName) → has_place shelves.old d q ≡ true →
         has_place shelves.new d q ≡ true }
     ensures shelves { (d : AnyResource) → has_shelf shelves.old d ≡ true → has_shelf shelves.new d ≡ true }
+    ensures away { (d : AnyResource) → is_away shelves.new d ≡ is_away shelves.old d }
 {
     let made = make_writes(alloc, catalogue, shelves, writes)?;
     put_writes(catalogue, shelves, made);

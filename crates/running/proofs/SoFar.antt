@@ -21,12 +21,10 @@ use Rattle.batch_log.specs.Log.{batches_of, first_fault, log_said, IsEnd, IsFaul
 use Rattle.report_text.specs.Texts.{digest, end_line, row_text}
 use Rattle.report_text.specs.Report.{batch_text, batch_texts, end_text, all_entries, next_batch, reply_lines, report}
 use Rattle.running.specs.Reports.{prepared_in_turn, batches_in, fault_in, report_of}
+use Rattle.running.specs.Stopped.{entries_behind}
+use Rattle.running.proofs.Reported.{Behind, Behind-next, Behind-start, entries_grown, number_grown, first_number, serial_end-append, texts_grown}
 
 -- ---- entries one by one, in two parts
-
-serial_end-append : (xs ys : List EntryShape) (db : Database) → serial_end (xs ++ ys) db ≡ serial_end ys (serial_end xs db)
-serial_end-append [] ys db = refl
-serial_end-append (x ∷ xs) ys db = serial_end-append xs ys (meaning x db).1
 
 serial_replies-append : (xs ys : List EntryShape) (db : Database) → serial_replies (xs ++ ys) db ≡ serial_replies xs db ++ serial_replies ys (serial_end xs db)
 serial_replies-append [] ys db = refl
@@ -74,6 +72,12 @@ pub record SoFar (procs : ProcsParts) (db : Database) (b m total number : ℕ) (
   pub said_is : Holds256 said (reply_lines 0 (serial_replies es db))
   pub gave_is : Appends taken gave front
   pub gone : Passes (Gone procs db b m total es front) left now
+  -- batch by batch
+  pub ran : List (List EntryShape)
+  pub es_is : es ≡ all_entries ran
+  pub front_is : front ≡ batch_texts procs.tables 1 0 db ran
+  pub batch_is : b ≡ next_batch (length ran)
+  pub behind : Passes (Behind procs db m total ran) left now
 
 to_write-more : (tables : List TableShape) (db : Database) (b : ℕ) (es batch : List EntryShape) (rest : List (List EntryShape)) (fault : Option LogFault) →
     to_write tables db b es (batch ∷ rest) fault ≡ batch_text tables b (length es) (serial_end es db) batch ++ to_write tables db (next_batch b) (es ++ batch) rest fault
@@ -153,6 +157,12 @@ SoFar-next procs db b m total next total2 number number2 rows rows2 tables calls
       said_is = rw grown at (h _ s.said_is);
       gave_is = Appends-trans taken gave given s.front _ s.gave_is (rw same at f);
       gone = Passes-trans _ _ _ _ _ _ s.gone p (λ x y z g i. Gone-next _ _ _ _ _ _ _ _ _ _ _ _ _ g i);
+      ran = s.ran ++ entries_behind db s.ran calls ∷ [];
+      es_is = sym (entries_grown s.ran (entries_behind db s.ran calls) ∙ ap (λ (es : List EntryShape). es ++ map (prepared (serial_end es db)) calls) (sym s.es_is));
+      front_is = ap (λ (es : List EntryShape). s.front ++ batch_text procs.tables b (length s.es) (serial_end s.es db) (map (prepared (serial_end es db)) calls)) s.es_is
+          ∙ texts_grown procs.tables db b s.es s.ran s.front (entries_behind db s.ran calls) s.es_is s.front_is s.batch_is;
+      batch_is = number_grown b s.ran (entries_behind db s.ran calls) s.batch_is;
+      behind = Passes-trans _ _ _ _ _ _ s.behind p (λ x y z g i. Behind-next _ _ _ _ _ _ _ _ _ _ _ g i);
     }
   where
     length_mapped : (start : Database) (calls : List Call) → length (map (prepared start) calls) ≡ length calls
@@ -167,6 +177,11 @@ nothing_ran procs db said left taken h = record {
   said_is = h;
   gave_is = Appends-nil taken;
   gone = Passes-refl _ _ (λ x. Gone-start procs db x);
+  ran = [];
+  es_is = refl;
+  front_is = refl;
+  batch_is = first_number;
+  behind = Passes-refl _ _ (λ x. Behind-start procs db x);
 }
 
 -- nothing has run
@@ -183,7 +198,7 @@ Gone-end procs db b m total es front input rest g h =
     ∙ ap (to_write procs.tables db b es []) h.fault ∙ rw append-nil refl)
 
 -- the end line that was written
-end_is : (procs : ProcsParts) (db : Database) (es : List EntryShape) (count : ℕ) (tables : List TableShape) (rows : Database) → count ≡ length es → tables ≡ procs.tables → rows ≡ serial_end es db →
+pub end_is : (procs : ProcsParts) (db : Database) (es : List EntryShape) (count : ℕ) (tables : List TableShape) (rows : Database) → count ≡ length es → tables ≡ procs.tables → rows ≡ serial_end es db →
     end_line count (digest (row_text tables rows)) (digest (reply_lines 0 (serial_replies es db))) ≡ end_text false procs.tables db es
 end_is procs db es count tables rows e t r = rw (e, t, r) refl
 

@@ -40,15 +40,15 @@ start = record { newlines = 0; begun = 0 }
 none_plus : (n : ℕ) → 0 + n ≡ n
 none_plus n = omega arith
 
-newlines_after : (taken : List ℕ) → (position_after start taken).newlines ≡ line_number (newlines_in taken)
+pub newlines_after : (taken : List ℕ) → (position_after start taken).newlines ≡ line_number (newlines_in taken)
 newlines_after [] = refl
 newlines_after (b ∷ rest) = ap line_number (none_plus (newlines_in (b ∷ rest)))
 
-begun_after : (taken : List ℕ) → (position_after start taken).begun ≡ last_line taken
+pub begun_after : (taken : List ℕ) → (position_after start taken).begun ≡ last_line taken
 begun_after [] = refl
 begun_after (b ∷ rest) = ap line_number (none_plus (length (lines_of (b ∷ rest))))
 
-next_of_number : (n : ℕ) → next_number (line_number n) ≡ next_number n
+pub next_of_number : (n : ℕ) → next_number (line_number n) ≡ next_number n
 next_of_number n = omega arith
 
 pub none_before : (left : Option (List ℕ)) → prepend_known [] left ≡ left

@@ -9,6 +9,7 @@ use Rattle.report_text.specs.Report.{all_entries}
 use Rattle.running.specs.declared.run_fault.RunFault.{RunFault}
 use Rattle.running.specs.Reports.{batches_in, fault_in, report_of}
 use Rattle.running.specs.Stops.{ends_in_io, IfOfLine, IfOfMachine, IsLineOf}
+use Rattle.running.specs.Stopped.{IsStop}
 
 -- a device as a clause sees it: its bytes, which may be unknown, and whether it has failed
 pub record Device : Type 0 where
@@ -34,3 +35,5 @@ pub record IsRunOfLog (procs : ProcsParts) (db : Database) (source spent sink fi
   -- The fault of a device comes exactly where one has failed meanwhile. Each fault names its line.
   pub devices : (spent.failed || filled.failed) ≡ ((source.failed || sink.failed) || ends_in_io result)
   pub line : source.failed ≡ false → IfErr result (λ e. IfOfMachine e (IsLineOf spent.failed source.bytes spent.bytes))
+  -- A device, memory or a thread stopped it behind the batches that it had reported, and within the next one.
+  pub stop : source.failed ≡ false → IfErr result (λ e. IfOfMachine e (λ line. IfSome source.bytes (λ log. IsStop procs db spent.failed e log sink.bytes filled.bytes line)))

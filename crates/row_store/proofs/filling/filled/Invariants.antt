@@ -1,7 +1,9 @@
-use Rattle.std.proofs.Common.{◌≡◌}
+use Rattle.std.proofs.Common.{◌≡◌, false}
 use Rattle.std.specs.FinMap.{empty}
 use Rattle.std.specs.Vec.Iter.{into_iter_items}
 use Rattle.values.specs.declared.name.RowName.{RowName}
+use Rattle.footprint.specs.declared.resource.Resource.{Resource}
+use Rattle.row_store.specs.Places.{is_away}
 use Rattle.row_store.specs.Stock.{with_rows}
 use Rattle.row_store.specs.Views.{rows_of, found}
 use Rattle.row_store.proofs.filling.filled.Given as goal
@@ -11,3 +13,4 @@ abbrev pub invariant-loop-table : goal.invariant-loop-table
 invariant-loop-table l =
     (with_rows (rows_of l.catalogue l.shelves) (into_iter_items l.table-iterator) ≡ with_rows empty l.fn.rows.items)
     × ((q : RowName) → (found l.catalogue l.shelves q).row ≡ (found l.catalogue l.shelves q).counts_as)
+    × ((d : Resource) → is_away l.shelves d ≡ false)

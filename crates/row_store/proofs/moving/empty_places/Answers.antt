@@ -21,4 +21,5 @@ loop-name-preserved c = (
       ∙ ap (λ (h : Bool). if h then emptied x else x) (sym more),
   λ d q. c.empty_place.ensures.kept d q ∙ c.loop-name.invariant.1 d q,
   λ d. c.empty_place.ensures.shelves d ∙ c.loop-name.invariant.2 d,
+  λ d. c.empty_place.ensures.away d ∙ c.loop-name.invariant.3 d,
 )

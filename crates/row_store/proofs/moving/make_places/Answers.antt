@@ -23,4 +23,5 @@ loop-name-preserved c = (
             ∙ ap (λ (d : Resource). has_place c.make_place.new.shelves d c.name-item.result) (sym c.shelf_of.ensures)
             ∙ c.in_ok-make_place.ensures.there
       ],
+  λ d. c.make_place.ensures.away d ∙ c.loop-name.invariant.4 d,
 )

@@ -1,15 +1,20 @@
-use Rattle.std.proofs.Common.{sym, ◌∙◌}
-use Rattle.row_store.specs.Places.{place_of, place_at, is_shelf, is_name}
-use Rattle.row_store.proofs.Steps.{put_some, put_none, same_place}
+use Rattle.std.proofs.Common.{◌≡◌, true, Bool, Option, None, ◌&&◌, sym, ap, ◌∙◌}
+use Rattle.row_store.specs.Places.{shared_row, seen_at, has_place, is_shelf, is_name}
+use Rattle.row_store.proofs.Steps.{some_if, none_if, put_some, put_none, same_place}
 use Rattle.row_store.proofs.moving.put_one_row.Goals as goal
 
-pub returns-in-Some-clause-places : goal.returns-in-Some-clause-places
-returns-in-Some-clause-places c = λ d q.
-    c.put_row.ensures.places d q
-    ∙ put_some (is_shelf c.args.at.now d) (is_name c.args.name.now q) (place_at c.args.shelves.now d q) (place_at c.args.from.now d q) (place_of c.in-Some.place)
-    (λ h. sym (same_place c.args.from.now c.args.at.now d c.args.name.now q h) ∙ sym c.in-Some.ensures.taken)
+pub returns-in-Some-clause-seen : goal.returns-in-Some-clause-seen
+returns-in-Some-clause-seen c = λ d q.
+    let is = some_if (has_place c.args.from.now c.args.at.now c.args.name.now) (seen_at c.args.from.now c.args.at.now c.args.name.now).row (shared_row c.in-Some.row) c.in-Some.ensures.row in
+    c.put_row.ensures.seen d q
+    ∙ put_some (is_shelf c.args.at.now d) (is_name c.args.name.now q) (has_place c.args.shelves.now d q) (has_place c.args.from.now d q) (shared_row c.in-Some.row) (seen_at c.args.from.now d q) (seen_at c.args.shelves.now d q)
+    (λ h. (
+      sym (same_place (has_place c.args.from.now) c.args.at.now d c.args.name.now q h) ∙ is.0,
+      is.1 ∙ ap (λ p. p.row) (same_place (seen_at c.args.from.now) c.args.at.now d c.args.name.now q h),
+    ))
 
-pub returns-in_default-clause-places : goal.returns-in_default-clause-places
-returns-in_default-clause-places c = λ d q.
-    put_none (is_shelf c.args.at.now d) (is_name c.args.name.now q) (place_at c.args.shelves.now d q) (place_at c.args.from.now d q)
-    (λ h. sym (same_place c.args.from.now c.args.at.now d c.args.name.now q h) ∙ sym c.in_default.ensures.taken)
+pub returns-in_default-clause-seen : goal.returns-in_default-clause-seen
+returns-in_default-clause-seen c = λ d q.
+    put_none (is_shelf c.args.at.now d) (is_name c.args.name.now q) (has_place c.args.shelves.now d q) (has_place c.args.from.now d q) (seen_at c.args.from.now d q) (seen_at c.args.shelves.now d q)
+    (λ h. sym (same_place (has_place c.args.from.now) c.args.at.now d c.args.name.now q h)
+    ∙ none_if (has_place c.args.from.now c.args.at.now c.args.name.now) (seen_at c.args.from.now c.args.at.now c.args.name.now).row c.in_default.ensures.row)

@@ -30,4 +30,5 @@ loop-name-preserved c =
           ∙ c.loop-name.invariant.1 q,
       λ d q. c.fill_place.ensures.kept d q ∙ c.loop-name.invariant.2 d q,
       λ d. c.fill_place.ensures.shelves d ∙ c.loop-name.invariant.3 d,
+      λ d. c.fill_place.ensures.away d ∙ c.loop-name.invariant.4 d,
     )

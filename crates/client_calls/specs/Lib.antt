@@ -1,0 +1,3 @@
+pub mod Calls
+pub mod Logs
+pub mod Clients

@@ -1,0 +1,135 @@
+use Rattle.std.proofs.Common.{◌≡◌, ◌<◌, ◌≤◌, ◌+◌, ◌-◌, ◌++◌, ℕ, suc, [], ◌∷◌, length, List, Option, slice_get, slice_set, slice_index_or, Some, None, IfSome, subst, sym, ap, ◌∙◌, arith}
+use Rattle.request_arena.specs.declared.node.Held.{Held}
+use Rattle.request_arena.specs.declared.node.Node.{Node}
+use Rattle.request_arena.specs.declared.node.Request.{Request}
+use Rattle.request_arena.specs.Chains.{chain, held_at, linked}
+use Rattle.request_arena.specs.Linked.{AreChains, held_in, spread, queue_of, IsLinked}
+use Rattle.request_arena.specs.Lists.{Lists, EndsChain}
+use Rattle.request_arena.specs.Nodes.{next_of, prev_of}
+use Rattle.request_arena.specs.Pushes.{appended}
+use Rattle.request_arena.proofs.Apart.{Begins}
+use Rattle.request_arena.proofs.Nodes.{node_there}
+use Rattle.request_arena.proofs.Pushing.{chains_pushed}
+use Rattle.request_arena.proofs.Linked.{linked_tail, queues_tail, held_tail, one_off}
+use Rattle.request_arena.proofs.Putting.{new_in, head_in, last_in, put, put_by, linked_put, queues_put, held_put, was_free}
+use Rattle.request_arena.proofs.Spread.{queue_in}
+use Rattle.request_arena.proofs.queues.Queues.push_back.Goals as goal
+
+ends_in : (now : Lists) {hs : List (Option Held)} (tail : Option ℕ) → now.held ≡ hs → IfSome tail (λ t. EndsChain now t)
+    → IfSome tail (λ t. (o : Request) × (slice_get hs t ≡ Some (Some (record { request = o; behind = None }))))
+ends_in now None e h = tt
+ends_in now (Some t) e h = (h.0, ap (λ l. slice_get l t) (sym e) ∙ h.1)
+
+tail_in : (ns : List Node) (c : ℕ) (now : Lists) (tail : Option ℕ) (n : ℕ) → c ≤ n → length ns ≡ n → held_in c ns ≡ now.held → IfSome tail (λ t. EndsChain now t) → IfSome tail (λ t. t < length ns)
+tail_in ns c now None n p e v h = tt
+tail_in ns c now (Some t) n p e v h = let r = node_there c ns t (Some (record { request = h.0; behind = None })) (ap (λ l. slice_get l t) v ∙ h.1) in omega (arith, r.3, p, e)
+
+pub overflow_add-head : goal.overflow_add-head
+overflow_add-head c =
+    let i = c.self.inside in let q = c.args.queue in let v = i.vacant in let m = i.free - 1 in let h : Held = record { request = c.args.request; behind = None } in
+    let in_range : q < i.queues = queue_in i.block i.nodes i.queues q c.args.self.now c.self.view_is c.requires.queue in
+    let had : IsLinked i.block i.nodes i.queues v (suc m) = subst (λ f. IsLinked i.block i.nodes i.queues v f) (one_off i.free c.if-self-eq0.false) c.self.invariant.0 in
+    omega (arith, in_range, c.self.invariant.0.fits)
+
+pub link_tail-requires : goal.link_tail-requires
+link_tail-requires c =
+    let i = c.self.inside in
+    tail_in i.block i.nodes c.args.self.now c.args.tail (i.nodes + i.queues) (omega arith) c.self.invariant.0.long (ap (λ (l : Lists). l.held) c.self.view_is) c.requires.tail
+
+pub get-rest-requires : goal.get-rest-requires
+get-rest-requires c =
+    let i = c.self.inside in let q = c.args.queue in let v = i.vacant in let m = i.free - 1 in let h : Held = record { request = c.args.request; behind = None } in
+    let in_range : q < i.queues = queue_in i.block i.nodes i.queues q c.args.self.now c.self.view_is c.requires.queue in
+    let had : IsLinked i.block i.nodes i.queues v (suc m) = subst (λ f. IsLinked i.block i.nodes i.queues v f) (one_off i.free c.if-self-eq0.false) c.self.invariant.0 in
+    rw c.link_tail.ensures.long (new_in i.block i.nodes i.queues v m had q in_range h)
+
+pub get-last-requires : goal.get-last-requires
+get-last-requires c =
+    let i = c.self.inside in let q = c.args.queue in let v = i.vacant in let m = i.free - 1 in let h : Held = record { request = c.args.request; behind = None } in
+    let in_range : q < i.queues = queue_in i.block i.nodes i.queues q c.args.self.now c.self.view_is c.requires.queue in
+    let had : IsLinked i.block i.nodes i.queues v (suc m) = subst (λ f. IsLinked i.block i.nodes i.queues v f) (one_off i.free c.if-self-eq0.false) c.self.invariant.0 in
+    rw c.link_tail.ensures.long (head_in i.block i.nodes i.queues v m had q in_range h)
+
+pub set_held-requires : goal.set_held-requires
+set_held-requires c =
+    let i = c.self.inside in let q = c.args.queue in let v = i.vacant in let m = i.free - 1 in let h : Held = record { request = c.args.request; behind = None } in
+    let in_range : q < i.queues = queue_in i.block i.nodes i.queues q c.args.self.now c.self.view_is c.requires.queue in
+    let had : IsLinked i.block i.nodes i.queues v (suc m) = subst (λ f. IsLinked i.block i.nodes i.queues v f) (one_off i.free c.if-self-eq0.false) c.self.invariant.0 in
+    rw c.link_tail.ensures.long (new_in i.block i.nodes i.queues v m had q in_range h)
+
+pub set_next-requires : goal.set_next-requires
+set_next-requires c =
+    let i = c.self.inside in let q = c.args.queue in let v = i.vacant in let m = i.free - 1 in let h : Held = record { request = c.args.request; behind = None } in
+    let in_range : q < i.queues = queue_in i.block i.nodes i.queues q c.args.self.now c.self.view_is c.requires.queue in
+    let had : IsLinked i.block i.nodes i.queues v (suc m) = subst (λ f. IsLinked i.block i.nodes i.queues v f) (one_off i.free c.if-self-eq0.false) c.self.invariant.0 in
+    let same : length c.set_held.new.block ≡ length i.block = c.set_held.ensures.long ∙ c.link_tail.ensures.long in
+    rw same (new_in i.block i.nodes i.queues v m had q in_range h)
+
+pub set_prev-requires : goal.set_prev-requires
+set_prev-requires c =
+    let i = c.self.inside in let q = c.args.queue in let v = i.vacant in let m = i.free - 1 in let h : Held = record { request = c.args.request; behind = None } in
+    let in_range : q < i.queues = queue_in i.block i.nodes i.queues q c.args.self.now c.self.view_is c.requires.queue in
+    let had : IsLinked i.block i.nodes i.queues v (suc m) = subst (λ f. IsLinked i.block i.nodes i.queues v f) (one_off i.free c.if-self-eq0.false) c.self.invariant.0 in
+    let same : length c.set_next.new.block ≡ length i.block = c.set_next.ensures.long ∙ c.set_held.ensures.long ∙ c.link_tail.ensures.long in
+    rw same (new_in i.block i.nodes i.queues v m had q in_range h)
+
+pub set_next-requires-2 : goal.set_next-requires-2
+set_next-requires-2 c =
+    let i = c.self.inside in let q = c.args.queue in let v = i.vacant in let m = i.free - 1 in let h : Held = record { request = c.args.request; behind = None } in
+    let in_range : q < i.queues = queue_in i.block i.nodes i.queues q c.args.self.now c.self.view_is c.requires.queue in
+    let had : IsLinked i.block i.nodes i.queues v (suc m) = subst (λ f. IsLinked i.block i.nodes i.queues v f) (one_off i.free c.if-self-eq0.false) c.self.invariant.0 in
+    let b0 = c.link_tail.new.block in
+    let was : IsLinked b0 i.nodes i.queues v (suc m) = subst (λ b. IsLinked b i.nodes i.queues v (suc m)) (sym c.link_tail.ensures.nodes) (linked_tail i.block i.nodes i.queues v (suc m) had c.args.tail v) in
+    let same : length c.set_prev.new.block ≡ length b0 = c.set_prev.ensures.long ∙ c.set_next.ensures.long ∙ c.set_held.ensures.long in
+    rw same (subst (λ a. a < length b0) (ap prev_of c.get-last.ensures) (last_in b0 i.nodes i.queues v m was q in_range h))
+
+pub set_prev-requires-2 : goal.set_prev-requires-2
+set_prev-requires-2 c =
+    let i = c.self.inside in let q = c.args.queue in let v = i.vacant in let m = i.free - 1 in let h : Held = record { request = c.args.request; behind = None } in
+    let in_range : q < i.queues = queue_in i.block i.nodes i.queues q c.args.self.now c.self.view_is c.requires.queue in
+    let had : IsLinked i.block i.nodes i.queues v (suc m) = subst (λ f. IsLinked i.block i.nodes i.queues v f) (one_off i.free c.if-self-eq0.false) c.self.invariant.0 in
+    let same : length c.set_next-2.new.block ≡ length i.block = c.set_next-2.ensures.long ∙ c.set_prev.ensures.long ∙ c.set_next.ensures.long ∙ c.set_held.ensures.long ∙ c.link_tail.ensures.long in
+    rw same (head_in i.block i.nodes i.queues v m had q in_range h)
+
+pub invariant_of-self : goal.invariant_of-self
+invariant_of-self c =
+    let i = c.self.inside in let q = c.args.queue in let v = i.vacant in let m = i.free - 1 in let h : Held = record { request = c.args.request; behind = None } in
+    let in_range : q < i.queues = queue_in i.block i.nodes i.queues q c.args.self.now c.self.view_is c.requires.queue in
+    let had : IsLinked i.block i.nodes i.queues v (suc m) = subst (λ f. IsLinked i.block i.nodes i.queues v f) (one_off i.free c.if-self-eq0.false) c.self.invariant.0 in
+    let b0 = c.link_tail.new.block in
+    let was : IsLinked b0 i.nodes i.queues v (suc m) = subst (λ b. IsLinked b i.nodes i.queues v (suc m)) (sym c.link_tail.ensures.nodes) (linked_tail i.block i.nodes i.queues v (suc m) had c.args.tail v) in
+    let e = put_by b0 i.nodes i.queues v m was q in_range h c.set_held.new.block c.set_next.new.block c.set_prev.new.block c.set_next-2.new.block c.set_prev-2.new.block c.get-last.result.prev
+    (sym (ap prev_of c.get-last.ensures)) c.set_held.ensures.nodes c.set_next.ensures.nodes c.set_prev.ensures.nodes c.set_next-2.ensures.nodes c.set_prev-2.ensures.nodes in
+    let free = was_free i.block i.nodes i.queues v m had q in_range h in
+    let new = chains_pushed (held_in i.nodes i.block) c.self.invariant.1 c.args.tail v c.args.request free (ends_in c.args.self.now c.args.tail (sym (ap (λ (l : Lists). l.held) c.self.view_is)) c.requires.tail) in
+    let all : held_in i.nodes c.set_prev-2.new.block ≡ slice_set (linked c.args.tail v (held_in i.nodes i.block)) v (Some h) =
+    ap (held_in i.nodes) e ∙ held_put b0 i.nodes i.queues v m was q in_range h ∙ ap (λ l. slice_set l v (Some h)) (ap (held_in i.nodes) c.link_tail.ensures.nodes ∙ held_tail i.nodes i.block c.args.tail v) in (
+      subst (λ b. IsLinked b i.nodes i.queues c.get-rest.result.next m) (sym e)
+          (subst (λ r. IsLinked (put b0 i.nodes i.queues v m was q in_range h) i.nodes i.queues r m) (ap next_of c.get-rest.ensures) (linked_put b0 i.nodes i.queues v m was q in_range h)),
+      subst AreChains (sym all) new.are,
+    )
+
+pub returns-clause-pushed : goal.returns-clause-pushed
+returns-clause-pushed c =
+    let i = c.self.inside in let q = c.args.queue in let v = i.vacant in let m = i.free - 1 in let h : Held = record { request = c.args.request; behind = None } in
+    let in_range : q < i.queues = queue_in i.block i.nodes i.queues q c.args.self.now c.self.view_is c.requires.queue in
+    let had : IsLinked i.block i.nodes i.queues v (suc m) = subst (λ f. IsLinked i.block i.nodes i.queues v f) (one_off i.free c.if-self-eq0.false) c.self.invariant.0 in
+    let b0 = c.link_tail.new.block in
+    let was : IsLinked b0 i.nodes i.queues v (suc m) = subst (λ b. IsLinked b i.nodes i.queues v (suc m)) (sym c.link_tail.ensures.nodes) (linked_tail i.block i.nodes i.queues v (suc m) had c.args.tail v) in
+    let e = put_by b0 i.nodes i.queues v m was q in_range h c.set_held.new.block c.set_next.new.block c.set_prev.new.block c.set_next-2.new.block c.set_prev-2.new.block c.get-last.result.prev
+    (sym (ap prev_of c.get-last.ensures)) c.set_held.ensures.nodes c.set_next.ensures.nodes c.set_prev.ensures.nodes c.set_next-2.ensures.nodes c.set_prev-2.ensures.nodes in
+    let free = was_free i.block i.nodes i.queues v m had q in_range h in
+    let new = chains_pushed (held_in i.nodes i.block) c.self.invariant.1 c.args.tail v c.args.request free (ends_in c.args.self.now c.args.tail (sym (ap (λ (l : Lists). l.held) c.self.view_is)) c.requires.tail) in
+    let all : held_in i.nodes c.set_prev-2.new.block ≡ slice_set (linked c.args.tail v (held_in i.nodes i.block)) v (Some h) =
+    ap (held_in i.nodes) e ∙ held_put b0 i.nodes i.queues v m was q in_range h ∙ ap (λ l. slice_set l v (Some h)) (ap (held_in i.nodes) c.link_tail.ensures.nodes ∙ held_tail i.nodes i.block c.args.tail v) in
+    let lists : spread (queue_of b0 i.nodes) i.nodes i.queues ≡ c.args.self.now.queues =
+    ap (λ b. spread (queue_of b i.nodes) i.nodes i.queues) c.link_tail.ensures.nodes ∙ queues_tail i.block i.nodes i.queues v (suc m) had c.args.tail v ∙ ap (λ (l : Lists). l.queues) c.self.view_is in
+    record {
+      fresh = ap (λ (l : Lists). slice_get l.held v) (sym c.self.view_is) ∙ free;
+      queues = ap (λ b. spread (queue_of b i.nodes) i.nodes i.queues) e ∙ queues_put b0 i.nodes i.queues v m was q in_range h ∙ ap (λ l. slice_set l q (slice_index_or l q [] ++ v ∷ [])) lists;
+      held = all ∙ ap (λ (l : Lists). slice_set (linked c.args.tail v l.held) v (Some h)) c.self.view_is;
+      chains = λ a g. ap (λ l. chain l a) all ∙ new.chains a (ap (λ (l : Lists). held_at l.held a) c.self.view_is ∙ g) ∙ ap (λ (l : Lists). appended c.args.tail v (chain l.held a)) c.self.view_is;
+      alone = ap (λ l. chain l v) all ∙ new.alone;
+      first = λ none. subst (λ l. Begins l v) (sym all) (new.first none);
+      firsts = λ a g begins. subst (λ l. Begins l a) (sym all) (new.firsts a (ap (λ (l : Lists). held_at l.held a) c.self.view_is ∙ g) (subst (λ (l : Lists). Begins l.held a) (sym c.self.view_is) begins));
+    }

@@ -1,0 +1,68 @@
+//! Writes to one node of a block.
+
+ghost use Rattle.std.specs.Prelude.{◌≡◌, ◌<◌, length, IfSome};
+ghost use Rattle.request_arena.specs.Nodes.{with_next, with_prev, with_held, with_behind, with_tail};
+ghost use Rattle.request_arena.specs.Chains.{behind_it};
+
+use crate::block::Block;
+use crate::node::{Held, Node, NodeId};
+
+pub(crate) fn set_next(block: &mut Block<Node>, place: usize, next: usize)
+    requires { place < length block.old }
+    ensures nodes { block.new ≡ with_next block.old place next }
+    ensures long { length block.new ≡ length block.old }
+{
+    let node = block.get(place);
+    block.set(place, Node { next, ..node });
+}
+
+pub(crate) fn set_prev(block: &mut Block<Node>, place: usize, prev: usize)
+    requires { place < length block.old }
+    ensures nodes { block.new ≡ with_prev block.old place prev }
+    ensures long { length block.new ≡ length block.old }
+{
+    let node = block.get(place);
+    block.set(place, Node { prev, ..node });
+}
+
+pub(crate) fn set_held(block: &mut Block<Node>, place: usize, held: Option<Held>)
+    requires { place < length block.old }
+    ensures nodes { block.new ≡ with_held block.old place held }
+    ensures long { length block.new ≡ length block.old }
+{
+    let node = block.get(place);
+    block.set(place, Node { held, ..node });
+}
+
+fn behind(held: Option<Held>, place: usize) -> Option<Held>
+    ensures { result ≡ behind_it held place }
+{
+    match held {
+        Some(held) => Some(Held {
+            behind: Some(NodeId { place }),
+            ..held
+        }),
+        None => None,
+    }
+}
+
+fn set_behind(block: &mut Block<Node>, tail: usize, place: usize)
+    requires { tail < length block.old }
+    ensures nodes { block.new ≡ with_behind block.old tail place }
+    ensures long { length block.new ≡ length block.old }
+{
+    let node = block.get(tail);
+    let held = behind(node.held, place);
+    block.set(tail, Node { held, ..node });
+}
+
+/// Puts the node at a place behind the tail of its chain, if there is one.
+pub(crate) fn link_tail(block: &mut Block<Node>, tail: Option<NodeId>, place: usize)
+    requires { IfSome tail (λ t. t < length block.old) }
+    ensures nodes { block.new ≡ with_tail block.old tail place }
+    ensures long { length block.new ≡ length block.old }
+{
+    if let Some(tail) = tail {
+        set_behind(block, tail.place, place);
+    }
+}

@@ -1,0 +1,187 @@
+//! The queues.
+
+ghost use Rattle.std.specs.Prelude.{◌≡◌, ◌≢◌, ◌+◌, ◌<◌, ◌^◌, [], ◌∷◌, length, replicate, map, Some, None, slice_get, slice_set, slice_index_or, ℕ, true, IfOk, IfErr, IfSome};
+ghost use Rattle.request_arena.specs.Following.{without};
+ghost use Rattle.request_arena.specs.Chains.{chain, chain_from, held_at};
+ghost use Rattle.request_arena.specs.Lists.{IsLive, EndsChain, BeginsChain, HoldsRequest, free_nodes};
+ghost use Rattle.request_arena.specs.Pushes.{Pushed};
+
+use crate::block::Block;
+use crate::links::{link_tail, set_held, set_next, set_prev};
+use crate::node::{Held, Node, NodeId, Request, content};
+use std::alloc::Global;
+use std::marker::Model;
+use values::NoMemory;
+
+/// There is no free node.
+#[derive(Clone, Copy, Debug, PartialEq, Eq)]
+pub struct Full;
+
+/// Queues of requests, and the chains of transactions. Contracts see the nodes of each queue, and what each node holds, from
+/// which the chains follow. The nodes lie in one block of memory, which is given back when the queues are dropped.
+#[derive(Drop)]
+pub struct Queues {
+    // The nodes, and behind them the heads of the queues.
+    block: Block<Node>,
+    nodes: usize,
+    queues: usize,
+    // The first free node, which leads to the next one.
+    vacant: usize,
+    pub(crate) free: usize,
+}
+
+impl Model for Queues {
+    ghost use Rattle.request_arena.specs.Lists.{Lists};
+    ghost use Rattle.request_arena.specs.Linked.{lists_of, IsLinked, AreChains, held_in};
+
+    ghost Value = { Lists };
+
+    ghost view = { λ q. lists_of q.block q.nodes q.queues };
+
+    ghost invariant = { λ q. IsLinked q.block q.nodes q.queues q.vacant q.free × AreChains (held_in q.nodes q.block) };
+}
+
+/// How many nodes and heads there are.
+fn places(nodes: usize, queues: usize) -> Result<usize, NoMemory>
+    ensures { IfOk result (λ total. (total ≡ nodes + queues) × (nodes + queues < 2 ^ 64)) }
+{
+    match nodes.checked_add(queues) {
+        Some(total) => Ok(total),
+        None => Err(NoMemory),
+    }
+}
+
+impl Queues {
+    /// So many free nodes, and so many empty queues. No other call takes memory.
+    pub fn with_capacity(alloc: Global, nodes: usize, queues: usize) -> Result<Queues, NoMemory>
+        ensures { IfOk result (λ q. q ≡ record { queues = replicate queues []; held = replicate nodes None }) }
+    {
+        let total = places(nodes, queues)?;
+        let blank = Node {
+            next: 0,
+            prev: 0,
+            held: None,
+        };
+        let mut block = Block::filled(alloc, total, blank)?;
+        for place in 0..total {
+            let next = if place < nodes { place + 1 } else { place };
+            set_next(&mut block, place, next);
+            set_prev(&mut block, place, place);
+        }
+        Ok(Queues {
+            block,
+            nodes,
+            queues,
+            vacant: 0,
+            free: nodes,
+        })
+    }
+
+    /// Adds a node at the back of the queue, and behind the tail in the chain of its transaction. Full exactly where no node
+    /// is free; then nothing has changed.
+    pub fn push_back(
+        &mut self,
+        queue: usize,
+        tail: Option<NodeId>,
+        request: Request,
+    ) -> Result<NodeId, Full>
+        requires queue { queue < length self.old.queues }
+        requires tail { IfSome tail (λ t. EndsChain self.old t) }
+        ensures pushed { IfOk result (λ id. Pushed self.old queue tail request id self.new) }
+        ensures full { IfErr result (λ _. (self.new ≡ self.old) × (free_nodes self.old.held ≡ 0)) }
+    {
+        if self.free == 0 {
+            return Err(Full);
+        }
+        let place = self.vacant;
+        let head = self.nodes + queue;
+        let held = Held {
+            request,
+            behind: None,
+        };
+        link_tail(&mut self.block, tail, place);
+        let rest = self.block.get(place).next;
+        let last = self.block.get(head).prev;
+        set_held(&mut self.block, place, Some(held));
+        set_next(&mut self.block, place, head);
+        set_prev(&mut self.block, place, last);
+        set_next(&mut self.block, last, place);
+        set_prev(&mut self.block, head, place);
+        self.vacant = rest;
+        self.free -= 1;
+        Ok(NodeId { place })
+    }
+
+    /// Takes a node, which is the first of its chain, and it alone, out of its queue and its chain: its request, and the next
+    /// of its chain, which is its first then.
+    pub fn remove(&mut self, id: NodeId) -> (Request, Option<NodeId>)
+        requires live { IsLive self.old id }
+        requires first { BeginsChain self.old id }
+        ensures held { slice_get self.old.held id
+            ≡ Some (Some (record { request = result.0; behind = result.1 })) }
+        ensures gone { self.new.held ≡ slice_set self.old.held id None }
+        ensures queues { self.new.queues ≡ map (without id) self.old.queues }
+        ensures rest { chain self.old.held id ≡ id ∷ chain_from self.new.held result.1 }
+        ensures chains { (a : ℕ) → a ≢ id → held_at self.old.held a ≡ true →
+            chain self.new.held a ≡ chain self.old.held a }
+        ensures begins { IfSome result.1 (λ b. IsLive self.new b × BeginsChain self.new b) }
+        ensures firsts { (a : ℕ) → BeginsChain self.old a → BeginsChain self.new a }
+    {
+        let node = self.block.get(id.place);
+        let Held { request, behind } = content(node.held);
+        set_next(&mut self.block, node.prev, node.next);
+        set_prev(&mut self.block, node.next, node.prev);
+        set_held(&mut self.block, id.place, None);
+        set_next(&mut self.block, id.place, self.vacant);
+        self.vacant = id.place;
+        self.free += 1;
+        (request, behind)
+    }
+
+    /// The first node of the queue.
+    pub fn first(&self, queue: usize) -> Option<NodeId>
+        requires { queue < length self.now.queues }
+        ensures node { result ≡ slice_get (slice_index_or self.now.queues queue []) 0 }
+        ensures live { IfSome result (λ id. IsLive self.now id) }
+    {
+        let place = self.block.get(self.nodes + queue).next;
+        if place < self.nodes {
+            Some(NodeId { place })
+        } else {
+            None
+        }
+    }
+
+    /// The next node of its queue.
+    pub fn next(&self, id: NodeId) -> Option<NodeId>
+        requires { IsLive self.now id }
+        ensures node { (q i : ℕ) → q < length self.now.queues →
+            slice_get (slice_index_or self.now.queues q []) i ≡ Some id →
+            result ≡ slice_get (slice_index_or self.now.queues q []) (i + 1) }
+        ensures live { IfSome result (λ next. IsLive self.now next) }
+    {
+        let place = self.block.get(id.place).next;
+        if place < self.nodes {
+            Some(NodeId { place })
+        } else {
+            None
+        }
+    }
+
+    /// The request of a node.
+    pub fn get(&self, id: NodeId) -> Request
+        requires { IsLive self.now id }
+        ensures { HoldsRequest self.now id result }
+    {
+        content(self.block.get(id.place).held).request
+    }
+
+    /// A node of a queue is live, and stands in no other queue and at no other place of its own.
+    pub fn nodes_stand_apart(&self)
+        ensures live { (q i a : ℕ) → slice_get (slice_index_or self.now.queues q []) i ≡ Some a → IsLive self.now a }
+        ensures apart { (q r i j a : ℕ) → slice_get (slice_index_or self.now.queues q []) i ≡ Some a →
+            slice_get (slice_index_or self.now.queues r []) j ≡ Some a → (q ≡ r) × (i ≡ j) }
+    {
+        let _nodes = self.nodes;
+    }
+}
