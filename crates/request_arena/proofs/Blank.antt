@@ -1,66 +1,20 @@
 -- The block as it is laid out: each node is free and leads to the next place, and each head leads to itself.
-use Rattle.std.proofs.Common.{◌≡◌, ◌≢◌, ℕ, zero, suc, ◌+◌, ◌<◌, ◌≤◌, ◌^◌, inl, inr, Bool, false, cond, ◌||◌, eqb, List, [], ◌∷◌, length, replicate, Option, None, is_some, refl, sym, ◌∙◌, ap, subst, arith}
+use Rattle.std.proofs.Common.{◌≡◌, ℕ, zero, suc, ◌+◌, ◌<◌, ◌≤◌, ◌^◌, inl, inr, Bool, false, cond, ◌||◌, eqb, List, [], ◌∷◌, length, replicate, Some, None, slice_get, refl, sym, ◌∙◌, ap, subst, arith}
 use Rattle.std.specs.List.{list_any}
 use Rattle.std.proofs.lemmas.Bool.Decides.{eqb_tells}
 use Rattle.request_arena.specs.declared.node.Node.{Node}
-use Rattle.request_arena.specs.declared.node.Held.{Held}
 use Rattle.request_arena.specs.Following.{follow}
 use Rattle.request_arena.specs.Linked.{spread, held_in, queue_of, Stack, IsLinked}
 use Rattle.request_arena.specs.Lists.{free_nodes}
-use Rattle.request_arena.specs.Nodes.{next, prev, live, with_next, with_prev}
+use Rattle.request_arena.specs.Nodes.{next, prev, live, next_of, prev_of}
+use Rattle.request_arena.specs.Places.{fresh, at_place, tabulated, laid}
 use Rattle.request_arena.specs.Walks.{Used}
-use Rattle.request_arena.proofs.Walks.{true_false, same_or_not}
-use Rattle.request_arena.proofs.Nodes.{long_next, long_prev, next_put, next_beside, next_of_prev, prev_of_next, prev_put, prev_beside, live_of_next, live_of_prev, held_of_next, held_of_prev}
-
--- ---- so many copies of a node that holds nothing
-
-holds_none : (o : Option Held) → o ≡ None → is_some o ≡ false
-holds_none o e = ap is_some e
-
-pub live_blank : (n : ℕ) (blank : Node) → blank.held ≡ None → (a : ℕ) → live (replicate n blank) a ≡ false
-live_blank zero blank e a = refl
-live_blank (suc n) blank e zero = holds_none blank.held e
-live_blank (suc n) blank e (suc a) = live_blank n blank e a
-
-pub held_blank : (c k : ℕ) (blank : Node) → blank.held ≡ None → held_in c (replicate (c + k) blank) ≡ replicate c None
-held_blank zero k blank e = refl
-held_blank (suc c) k blank e =
-    let one_more : suc c + k ≡ suc (c + k) = omega arith in
-    ap (λ n. held_in (suc c) (replicate n blank)) one_more ∙ ap (λ o. o ∷ held_in c (replicate (c + k) blank)) e ∙ ap (λ l. None ∷ l) (held_blank c k blank e)
+use Rattle.request_arena.proofs.Walks.{true_false}
+use Rattle.request_arena.proofs.Places.{tabulated_length, laid_get}
 
 all_free : (c : ℕ) → free_nodes (replicate c None) ≡ c
 all_free zero = refl
 all_free (suc c) = ap suc (all_free c)
-
--- ---- one turn of the loop that lays the places out
-
-module _ (ns : List Node) (at to : ℕ) (room : at < length ns) where
-  abbrev led : List Node
-  led = with_next ns at to
-
-  abbrev pub turned : List Node
-  turned = with_prev led at at
-
-  pub turned_long : length turned ≡ length ns
-  turned_long = long_prev led at at ∙ long_next ns at to
-
-  pub turned_next : (a w : ℕ) → (a ≡ at → to ≡ w) → (a ≢ at → next ns a ≡ w) → next turned a ≡ w
-  turned_next a w here there = next_of_prev led at a at ∙ elim (same_or_not a at) [
-    | inl is ↦ ap (next led) is ∙ next_put ns at to room ∙ here is
-    | inr z ↦ next_beside ns at a to z ∙ there z
-  ]
-
-  pub turned_prev : (a : ℕ) → (a ≢ at → prev ns a ≡ a) → prev turned a ≡ a
-  turned_prev a there = elim (same_or_not a at) [
-    | inl is ↦ ap (prev turned) is ∙ prev_put led at at (rw (long_next ns at to) room) ∙ sym is
-    | inr z ↦ prev_beside led at a at z ∙ prev_of_next ns at a to ∙ there z
-  ]
-
-  pub turned_live : (a : ℕ) → live turned a ≡ live ns a
-  turned_live a = live_of_prev led at a at ∙ live_of_next ns at a to
-
-  pub turned_held : (c : ℕ) → held_in c turned ≡ held_in c ns
-  turned_held c = held_of_prev c led at at ∙ held_of_next c ns at to
 
 -- ---- the layout
 
@@ -116,3 +70,45 @@ module _ (ns : List Node) (dead : (a : ℕ) → live ns a ≡ false) where
       stack = (count_up 0 c, (counted_up 0 c (omega arith), counted 0 c));
       count = ap free_nodes held ∙ all_free c;
     }
+
+-- ---- places that hold nothing
+
+all_dead : (c h k a : ℕ) → live (tabulated (at_place c []) h k) a ≡ false
+all_dead c h zero a = refl
+all_dead c h (suc k) zero = refl
+all_dead c h (suc k) (suc a) = all_dead c (suc h) k a
+
+held_none : (c h n k : ℕ) → n ≤ k → held_in n (tabulated (at_place c []) h k) ≡ replicate n None
+held_none c h zero k p = refl
+held_none c h (suc n) zero p = absurd (omega (arith, p))
+held_none c h (suc n) (suc k) p = ap (λ l. None ∷ l) (held_none c (suc h) n k (omega (arith, p)))
+
+-- ---- the block to which nothing was written
+
+module _ (c k : ℕ) where
+  abbrev blank : List Node
+  blank = laid c k []
+
+  blank_long : length blank ≡ c + k
+  blank_long = tabulated_length (at_place c []) 0 (c + k)
+
+  blank_at : (a : ℕ) → a < c + k → slice_get blank a ≡ Some (fresh c a)
+  blank_at a p = laid_get c k [] a (omega (arith, p, blank_long))
+
+  blank_low : (a : ℕ) → a < c → next blank a ≡ a + 1
+  blank_low a p = ap next_of (blank_at a (omega (arith, p))) ∙ grind (arith, p)
+
+  blank_high : (a : ℕ) → c ≤ a → a < c + k → next blank a ≡ a
+  blank_high a q p = ap next_of (blank_at a p) ∙ grind (arith, q)
+
+  blank_back : (a : ℕ) → a < c + k → prev blank a ≡ a
+  blank_back a p = ap prev_of (blank_at a p)
+
+  pub blank_dead : (a : ℕ) → live blank a ≡ false
+  blank_dead a = all_dead c 0 (c + k) a
+
+  pub blank_held : held_in c blank ≡ replicate c None
+  blank_held = held_none c 0 c (c + k) (omega arith)
+
+  pub blank_linked : c + k < 2 ^ 64 → IsLinked blank c k 0 c
+  blank_linked fits = linked_first blank blank_dead c blank_low k fits blank_long blank_high blank_back blank_held

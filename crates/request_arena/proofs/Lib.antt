@@ -3,12 +3,12 @@ pub mod Blank
 pub mod Chains
 pub mod Changed
 pub mod Extending
-pub mod Filling
 pub mod Firsts
 pub mod Holding
 pub mod Linked
 pub mod Neighbours
 pub mod Nodes
+pub mod Places
 pub mod Pushing
 pub mod Putting
 pub mod Rings

@@ -4,5 +4,6 @@ pub mod Following
 pub mod Linked
 pub mod Lists
 pub mod Nodes
+pub mod Places
 pub mod Pushes
 pub mod Walks

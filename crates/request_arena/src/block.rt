@@ -1,84 +1,134 @@
-//! A block of memory, as a row of places.
+//! The block of memory in which nodes and heads lie, as a row of places.
 
-ghost use Rattle.std.specs.Prelude.{◌≡◌, ◌<◌, length, replicate, slice_get, slice_set, Some, IfOk};
-ghost use Rattle.core.specs.Mem.Slots.{slots_items, slots_len, SamePlaces, IsFull};
+ghost use Rattle.std.specs.Prelude.{◌≡◌, ◌<◌, ◌*◌, ◌^◌, ◌+◌, ◌-◌, [], length, ℕ, slice_get, slice_set, Some, IfOk, OnOk, vec_capacity, vec_len};
+ghost use Rattle.request_arena.specs.Places.{index_of, fresh, at_place, laid};
 
-use core::slots::{Lease, Slots, release, reserve};
-use std::alloc::{AllocError, Global};
+use crate::node::Node;
+use std::alloc::Global;
 use std::marker::Model;
+use values::NoMemory;
 
-/// One block of memory, each place of which holds a value. Contracts see the list of the values.
-pub(crate) struct Block<T> {
-    alloc: Global,
-    places: Slots<T>,
-    lease: Lease<T, Global>,
+/// One block of memory with a place for each node, and behind them one for the head of each queue. Contracts see what stands at
+/// each place. Nothing is written to a place before it is used, so a large block costs as much as is used of it.
+#[derive(Drop)]
+pub(crate) struct Block {
+    written: Vec<Node>,
+    nodes: usize,
+    queues: usize,
 }
 
-impl<T> Model for Block<T> {
-    ghost use Rattle.std.specs.Prelude.{◌≡◌, List};
-    ghost use Rattle.std.specs.Coded.{coded_list};
-    ghost use Rattle.core.specs.Mem.Slots.{slots_items, slots_ptr, slots_len, lease_ptr, lease_len, lease_heap, IsFull};
+impl Model for Block {
+    ghost use Rattle.std.specs.Prelude.{List, vec_capacity};
+    ghost use Rattle.request_arena.specs.declared.node.Node.{Node as AnyNode};
+    ghost use Rattle.request_arena.specs.Places.{laid, IsRoomy};
 
-    ghost Value = { List T };
+    ghost Value = { List AnyNode };
 
-    ghost coded = { coded_list T.code };
+    ghost view = { λ b. laid b.nodes b.queues b.written.items };
 
-    ghost view = { λ b. slots_items b.places };
-
-    ghost invariant = { λ b. IsFull b.places × (lease_ptr b.lease ≡ slots_ptr b.places) × (lease_len b.lease ≡ slots_len b.places) × (lease_heap b.lease ≡ b.alloc) };
+    ghost invariant = { λ b. IsRoomy (vec_capacity b.written) b.nodes b.queues };
 }
 
-/// Puts a value in each place.
-fn fill<T: Copy + Drop>(places: &mut Slots<T>, value: T)
-    ensures places { SamePlaces places.old places.new }
-    ensures full { IsFull places.new }
-    ensures items { slots_items places.new ≡ replicate (slots_len places.old) value }
+/// Where a place lies in the block.
+fn index_of(nodes: usize, place: usize) -> usize
+    requires nodes { 2 * nodes < 2 ^ 64 }
+    requires heads { 2 * (place - nodes) + 1 < 2 ^ 64 }
+    ensures { result ≡ index_of nodes place }
 {
-    let count = places.len();
-    for place in 0..count {
-        places.put(place, value);
+    if place < nodes {
+        2 * place
+    } else {
+        2 * (place - nodes) + 1
     }
 }
 
-impl<T: Copy + Drop> Block<T> {
-    /// A block of so many places, each of which holds that value.
-    pub(crate) fn filled(alloc: Global, len: usize, value: T) -> Result<Block<T>, AllocError>
-        ensures { IfOk result (λ block. block ≡ replicate len value) }
+/// What stands at a place that nothing was written to.
+fn fresh(nodes: usize, place: usize) -> Node
+    ensures { result ≡ fresh nodes place }
+{
+    let next = if place < nodes { place + 1 } else { place };
+    Node {
+        next,
+        prev: place,
+        held: None,
+    }
+}
+
+/// The place that lies there in the block.
+fn place_at(nodes: usize, index: usize) -> usize
+    requires { 2 * nodes < 2 ^ 64 }
+    ensures { (place : ℕ) → index_of nodes place ≡ index → result ≡ place }
+{
+    if index % 2 == 0 {
+        index / 2
+    } else {
+        nodes + index / 2
+    }
+}
+
+/// Writes what stands there to the next place.
+fn write_next(written: &mut Vec<Node>, nodes: usize)
+    requires nodes { 2 * nodes < 2 ^ 64 }
+    requires room { vec_len written.old < vec_capacity written.old }
+    ensures more { vec_len written.new ≡ vec_len written.old + 1 }
+    ensures capacity { vec_capacity written.new ≡ vec_capacity written.old }
+    ensures same { (place : ℕ) → at_place nodes written.new.items place ≡ at_place nodes written.old.items place }
+{
+    let Node { next, prev, held } = fresh(nodes, place_at(nodes, written.len()));
+    written.push_reserved(Node { next, prev, held });
+}
+
+/// Writes what stands there to all places as far as one.
+fn write_up_to(written: &mut Vec<Node>, nodes: usize, index: usize)
+    requires nodes { 2 * nodes < 2 ^ 64 }
+    requires room { index < vec_capacity written.old }
+    ensures far { index < vec_len written.new }
+    ensures capacity { vec_capacity written.new ≡ vec_capacity written.old }
+    ensures same { (place : ℕ) → at_place nodes written.new.items place ≡ at_place nodes written.old.items place }
+{
+    for _ in written.len()..index + 1 {
+        write_next(written, nodes);
+    }
+}
+
+impl Block {
+    /// A block to which nothing was written.
+    pub(crate) fn with_capacity(
+        alloc: Global,
+        nodes: usize,
+        queues: usize,
+    ) -> Result<Block, NoMemory>
+        ensures fits { OnOk result (nodes + queues < 2 ^ 64) }
+        ensures laid { IfOk result (λ block. block ≡ laid nodes queues []) }
     {
-        let values = Vec::from_elem(alloc, value, len)?;
-        let (mut places, lease) = unsafe { reserve(&alloc, values.as_slice())? };
-        fill(&mut places, value);
+        let Some(room) = nodes.max(queues).checked_mul(2) else {
+            return Err(NoMemory);
+        };
         Ok(Block {
-            alloc,
-            places,
-            lease,
+            written: Vec::with_capacity(alloc, room)?,
+            nodes,
+            queues,
         })
     }
 
-    /// The value at a place.
-    pub(crate) fn get(&self, place: usize) -> T
+    /// What stands at a place.
+    pub(crate) fn get(&self, place: usize) -> Node
         requires { place < length self.now }
         ensures { slice_get self.now place ≡ Some result }
     {
-        *self.places.get(place)
+        match self.written.get(index_of(self.nodes, place)) {
+            Some(node) => *node,
+            None => fresh(self.nodes, place),
+        }
     }
 
-    /// Puts a value where another was.
-    pub(crate) fn set(&mut self, place: usize, value: T)
+    /// Writes to a place.
+    pub(crate) fn set(&mut self, place: usize, node: Node)
         requires { place < length self.old }
-        ensures { self.new ≡ slice_set self.old place value }
+        ensures { self.new ≡ slice_set self.old place node }
     {
-        self.places.put(place, value);
-    }
-}
-
-impl<T> Drop for Block<T> {
-    fn drop(self) {
-        let Block {
-            alloc,
-            places,
-            lease,
-        } = self;
-        release(&alloc, places, lease);
+        let index = index_of(self.nodes, place);
+        write_up_to(&mut self.written, self.nodes, index);
+        self.written[index] = node;
     }
 }

@@ -7,7 +7,7 @@ ghost use Rattle.request_arena.specs.Chains.{behind_it};
 use crate::block::Block;
 use crate::node::{Held, Node, NodeId};
 
-pub(crate) fn set_next(block: &mut Block<Node>, place: usize, next: usize)
+pub(crate) fn set_next(block: &mut Block, place: usize, next: usize)
     requires { place < length block.old }
     ensures nodes { block.new ≡ with_next block.old place next }
     ensures long { length block.new ≡ length block.old }
@@ -16,7 +16,7 @@ pub(crate) fn set_next(block: &mut Block<Node>, place: usize, next: usize)
     block.set(place, Node { next, ..node });
 }
 
-pub(crate) fn set_prev(block: &mut Block<Node>, place: usize, prev: usize)
+pub(crate) fn set_prev(block: &mut Block, place: usize, prev: usize)
     requires { place < length block.old }
     ensures nodes { block.new ≡ with_prev block.old place prev }
     ensures long { length block.new ≡ length block.old }
@@ -25,7 +25,7 @@ pub(crate) fn set_prev(block: &mut Block<Node>, place: usize, prev: usize)
     block.set(place, Node { prev, ..node });
 }
 
-pub(crate) fn set_held(block: &mut Block<Node>, place: usize, held: Option<Held>)
+pub(crate) fn set_held(block: &mut Block, place: usize, held: Option<Held>)
     requires { place < length block.old }
     ensures nodes { block.new ≡ with_held block.old place held }
     ensures long { length block.new ≡ length block.old }
@@ -46,7 +46,7 @@ fn behind(held: Option<Held>, place: usize) -> Option<Held>
     }
 }
 
-fn set_behind(block: &mut Block<Node>, tail: usize, place: usize)
+fn set_behind(block: &mut Block, tail: usize, place: usize)
     requires { tail < length block.old }
     ensures nodes { block.new ≡ with_behind block.old tail place }
     ensures long { length block.new ≡ length block.old }
@@ -57,7 +57,7 @@ fn set_behind(block: &mut Block<Node>, tail: usize, place: usize)
 }
 
 /// Puts the node at a place behind the tail of its chain, if there is one.
-pub(crate) fn link_tail(block: &mut Block<Node>, tail: Option<NodeId>, place: usize)
+pub(crate) fn link_tail(block: &mut Block, tail: Option<NodeId>, place: usize)
     requires { IfSome tail (λ t. t < length block.old) }
     ensures nodes { block.new ≡ with_tail block.old tail place }
     ensures long { length block.new ≡ length block.old }

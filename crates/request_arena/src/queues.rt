@@ -8,7 +8,7 @@ ghost use Rattle.request_arena.specs.Pushes.{Pushed};
 
 use crate::block::Block;
 use crate::links::{link_tail, set_held, set_next, set_prev};
-use crate::node::{Held, Node, NodeId, Request, content};
+use crate::node::{Held, NodeId, Request, content};
 use std::alloc::Global;
 use std::marker::Model;
 use values::NoMemory;
@@ -22,7 +22,7 @@ pub struct Full;
 #[derive(Drop)]
 pub struct Queues {
     // The nodes, and behind them the heads of the queues.
-    block: Block<Node>,
+    block: Block,
     nodes: usize,
     queues: usize,
     // The first free node, which leads to the next one.
@@ -41,33 +41,12 @@ impl Model for Queues {
     ghost invariant = { λ q. IsLinked q.block q.nodes q.queues q.vacant q.free × AreChains (held_in q.nodes q.block) };
 }
 
-/// How many nodes and heads there are.
-fn places(nodes: usize, queues: usize) -> Result<usize, NoMemory>
-    ensures { IfOk result (λ total. (total ≡ nodes + queues) × (nodes + queues < 2 ^ 64)) }
-{
-    match nodes.checked_add(queues) {
-        Some(total) => Ok(total),
-        None => Err(NoMemory),
-    }
-}
-
 impl Queues {
     /// So many free nodes, and so many empty queues. No other call takes memory.
     pub fn with_capacity(alloc: Global, nodes: usize, queues: usize) -> Result<Queues, NoMemory>
         ensures { IfOk result (λ q. q ≡ record { queues = replicate queues []; held = replicate nodes None }) }
     {
-        let total = places(nodes, queues)?;
-        let blank = Node {
-            next: 0,
-            prev: 0,
-            held: None,
-        };
-        let mut block = Block::filled(alloc, total, blank)?;
-        for place in 0..total {
-            let next = if place < nodes { place + 1 } else { place };
-            set_next(&mut block, place, next);
-            set_prev(&mut block, place, place);
-        }
+        let block = Block::with_capacity(alloc, nodes, queues)?;
         Ok(Queues {
             block,
             nodes,

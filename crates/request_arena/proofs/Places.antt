@@ -1,0 +1,64 @@
+-- What stands at the places of the block, and after one was written to.
+use Rattle.std.proofs.Common.{◌≡◌, ◌≢◌, ℕ, zero, suc, ◌+◌, ◌-◌, ◌*◌, ◌^◌, ◌<◌, ◌≤◌, List, [], ◌∷◌, ◌++◌, length, Some, slice_get, slice_set, slice_index_or, refl, ap, ◌∙◌, arith, get_or-set_same, get_or-set_other}
+use Rattle.request_arena.specs.declared.node.Node.{Node}
+use Rattle.request_arena.specs.Places.{index_of, fresh, at_place, tabulated, laid}
+
+pub tabulated_length : (f : ℕ → Node) (h k : ℕ) → length (tabulated f h k) ≡ k
+tabulated_length f h zero = refl
+tabulated_length f h (suc k) = ap suc (tabulated_length f (suc h) k)
+
+pub tabulated_get : (f : ℕ → Node) (h k i : ℕ) → i < k → slice_get (tabulated f h k) i ≡ Some (f (h + i))
+tabulated_get f h zero i p = absurd (omega (arith, p))
+tabulated_get f h (suc k) zero p = let e : h ≡ h + 0 = omega arith in ap (λ n. Some (f n)) e
+tabulated_get f h (suc k) (suc i) p = let e : suc h + i ≡ h + suc i = omega arith in tabulated_get f (suc h) k i (omega (arith, p)) ∙ ap (λ n. Some (f n)) e
+
+pub tabulated_same : (f g : ℕ → Node) → ((a : ℕ) → f a ≡ g a) → (h k : ℕ) → tabulated f h k ≡ tabulated g h k
+tabulated_same f g same h zero = refl
+tabulated_same f g same h (suc k) = let rest = tabulated_same f g same (suc h) k in (λ i. same h i ∷ rest i)
+
+pub tabulated_set : (f g : ℕ → Node) (h k i : ℕ) (v : Node) → i < k → g (h + i) ≡ v → ((a : ℕ) → a ≢ h + i → g a ≡ f a) → tabulated g h k ≡ slice_set (tabulated f h k) i v
+tabulated_set f g h zero i v p here there = absurd (omega (arith, p))
+tabulated_set f g h (suc k) zero v p here there =
+    let e : h ≡ h + 0 = omega arith in
+    let first : g h ≡ v = ap g e ∙ here in
+    let rest = tabulated_on f g (suc h) k (λ a q. there a (λ z. omega (arith, z, q))) in (λ j. first j ∷ rest j)
+  where
+    tabulated_on : (f g : ℕ → Node) (h k : ℕ) → ((a : ℕ) → h ≤ a → g a ≡ f a) → tabulated g h k ≡ tabulated f h k
+    tabulated_on f g h zero same = refl
+    tabulated_on f g h (suc k) same = let first = same h (omega arith) in let rest = tabulated_on f g (suc h) k (λ a q. same a (omega (arith, q))) in (λ j. first j ∷ rest j)
+tabulated_set f g h (suc k) (suc i) v p here there =
+    let e : suc h + i ≡ h + suc i = omega arith in
+    let first = there h (λ z. omega (arith, z)) in
+    let rest = tabulated_set f g (suc h) k i v (omega (arith, p)) (ap g e ∙ here) (λ a z. there a (λ w. z (omega (arith, w)))) in (λ j. first j ∷ rest j)
+
+-- one more item, which is what is read past the end
+pub pushed_default : (xs : List Node) (v d : Node) (i : ℕ) → (i ≡ length xs → v ≡ d) → slice_index_or (xs ++ v ∷ []) i d ≡ slice_index_or xs i d
+pushed_default [] v d zero is = is refl
+pushed_default [] v d (suc i) is = refl
+pushed_default (x ∷ xs) v d zero is = refl
+pushed_default (x ∷ xs) v d (suc i) is = pushed_default xs v d i (λ e. is (ap suc e))
+
+-- no two places lie at one index
+pub index_apart : (nodes p q : ℕ) → index_of nodes p ≡ index_of nodes q → p ≡ q
+index_apart nodes p q e = grind (arith, e)
+
+module _ (nodes queues : ℕ) (ws : List Node) (place : ℕ) (low : place < length (laid nodes queues ws)) where
+  pub place_low : place < nodes + queues
+  place_low = omega (arith, low, tabulated_length (at_place nodes ws) 0 (nodes + queues))
+
+  pub heads_fit : 2 * queues < 2 ^ 64 → 2 * (place - nodes) + 1 < 2 ^ 64
+  heads_fit fits = omega (arith, place_low, fits)
+
+  pub index_low : (capacity : ℕ) → 2 * nodes ≤ capacity → 2 * queues ≤ capacity → index_of nodes place < capacity
+  index_low capacity n q = grind (arith, place_low, n, q)
+
+  pub laid_get : slice_get (laid nodes queues ws) place ≡ Some (at_place nodes ws place)
+  laid_get = tabulated_get (at_place nodes ws) 0 (nodes + queues) place place_low ∙ (let e : 0 + place ≡ place = omega arith in ap (λ p. Some (at_place nodes ws p)) e)
+
+pub laid_set : (nodes queues : ℕ) (ws : List Node) (place : ℕ) (v : Node) → place < nodes + queues → index_of nodes place < length ws
+    → laid nodes queues (slice_set ws (index_of nodes place) v) ≡ slice_set (laid nodes queues ws) place v
+laid_set nodes queues ws place v low room =
+    let i = index_of nodes place in
+    tabulated_set (at_place nodes ws) (at_place nodes (slice_set ws i v)) 0 (nodes + queues) place v low
+    (let e : 0 + place ≡ place = omega arith in ap (at_place nodes (slice_set ws i v)) e ∙ get_or-set_same ws i v (fresh nodes place) room)
+    (λ a z. get_or-set_other ws i (index_of nodes a) v (fresh nodes a) (λ e. z (let w = index_apart nodes a place e in omega (arith, w))))
