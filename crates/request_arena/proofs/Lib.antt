@@ -2,6 +2,7 @@ pub mod Apart
 pub mod Blank
 pub mod Chains
 pub mod Changed
+pub mod Deeds
 pub mod Extending
 pub mod Firsts
 pub mod Holding

@@ -1,6 +1,7 @@
 -- What stands at the places of the block, and after one was written to.
 use Rattle.std.proofs.Common.{◌≡◌, ◌≢◌, ℕ, zero, suc, ◌+◌, ◌-◌, ◌*◌, ◌^◌, ◌<◌, ◌≤◌, List, [], ◌∷◌, ◌++◌, length, Some, slice_get, slice_set, slice_index_or, refl, ap, ◌∙◌, arith, get_or-set_same, get_or-set_other}
 use Rattle.request_arena.specs.declared.node.Node.{Node}
+use Rattle.request_arena.proofs.Changed.{none_some, some_same}
 use Rattle.request_arena.specs.Places.{index_of, fresh, at_place, tabulated, laid}
 
 pub tabulated_length : (f : ℕ → Node) (h k : ℕ) → length (tabulated f h k) ≡ k
@@ -62,3 +63,14 @@ laid_set nodes queues ws place v low room =
     tabulated_set (at_place nodes ws) (at_place nodes (slice_set ws i v)) 0 (nodes + queues) place v low
     (let e : 0 + place ≡ place = omega arith in ap (at_place nodes (slice_set ws i v)) e ∙ get_or-set_same ws i v (fresh nodes place) room)
     (λ a z. get_or-set_other ws i (index_of nodes a) v (fresh nodes a) (λ e. z (let w = index_apart nodes a place e in omega (arith, w))))
+
+-- what is read of a list is the item there, or else what is read past its end
+pub read_item : (xs : List Node) (i : ℕ) (v d : Node) → slice_get xs i ≡ Some v → slice_index_or xs i d ≡ v
+read_item [] i v d e = absurd (none_some v e)
+read_item (x ∷ xs) zero v d e = some_same x v e
+read_item (x ∷ xs) (suc i) v d e = read_item xs i v d e
+
+pub read_past : (xs : List Node) (i : ℕ) (d : Node) → length xs ≤ i → slice_index_or xs i d ≡ d
+read_past [] i d p = refl
+read_past (x ∷ xs) zero d p = absurd (omega (arith, p))
+read_past (x ∷ xs) (suc i) d p = read_past xs i d (omega (arith, p))

@@ -3,7 +3,9 @@ pub mod Firsts
 pub mod Following
 pub mod Linked
 pub mod Lists
+pub mod Memory
 pub mod Nodes
 pub mod Places
 pub mod Pushes
+pub mod Rows
 pub mod Walks

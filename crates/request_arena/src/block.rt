@@ -1,9 +1,10 @@
 //! The block of memory in which nodes and heads lie, as a row of places.
 
-ghost use Rattle.std.specs.Prelude.{◌≡◌, ◌<◌, ◌*◌, ◌^◌, ◌+◌, ◌-◌, [], length, ℕ, slice_get, slice_set, Some, IfOk, OnOk, vec_capacity, vec_len};
+ghost use Rattle.std.specs.Prelude.{◌≡◌, ◌<◌, ◌*◌, ◌^◌, ◌+◌, ◌-◌, [], length, ℕ, slice_get, slice_set, Some, IfOk, OnOk};
 ghost use Rattle.request_arena.specs.Places.{index_of, fresh, at_place, laid};
 
 use crate::node::Node;
+use crate::row::Row;
 use std::alloc::Global;
 use std::marker::Model;
 use values::NoMemory;
@@ -12,13 +13,13 @@ use values::NoMemory;
 /// each place. Nothing is written to a place before it is used, so a large block costs as much as is used of it.
 #[derive(Drop)]
 pub(crate) struct Block {
-    written: Vec<Node>,
+    written: Row,
     nodes: usize,
     queues: usize,
 }
 
 impl Model for Block {
-    ghost use Rattle.std.specs.Prelude.{List, vec_capacity};
+    ghost use Rattle.std.specs.Prelude.{List};
     ghost use Rattle.request_arena.specs.declared.node.Node.{Node as AnyNode};
     ghost use Rattle.request_arena.specs.Places.{laid, IsRoomy};
 
@@ -26,7 +27,7 @@ impl Model for Block {
 
     ghost view = { λ b. laid b.nodes b.queues b.written.items };
 
-    ghost invariant = { λ b. IsRoomy (vec_capacity b.written) b.nodes b.queues };
+    ghost invariant = { λ b. IsRoomy b.written.room b.nodes b.queues };
 }
 
 /// Where a place lies in the block.
@@ -67,23 +68,24 @@ fn place_at(nodes: usize, index: usize) -> usize
 }
 
 /// Writes what stands there to the next place.
-fn write_next(written: &mut Vec<Node>, nodes: usize)
+fn write_next(written: &mut Row, nodes: usize)
     requires nodes { 2 * nodes < 2 ^ 64 }
-    requires room { vec_len written.old < vec_capacity written.old }
-    ensures more { vec_len written.new ≡ vec_len written.old + 1 }
-    ensures capacity { vec_capacity written.new ≡ vec_capacity written.old }
+    requires room { length written.old.items < written.old.room }
+    ensures more { length written.new.items ≡ length written.old.items + 1 }
+    ensures capacity { written.new.room ≡ written.old.room }
     ensures same { (place : ℕ) → at_place nodes written.new.items place ≡ at_place nodes written.old.items place }
 {
     let Node { next, prev, held } = fresh(nodes, place_at(nodes, written.len()));
-    written.push_reserved(Node { next, prev, held });
+    written.push(Node { next, prev, held });
 }
 
 /// Writes what stands there to all places as far as one.
-fn write_up_to(written: &mut Vec<Node>, nodes: usize, index: usize)
+fn write_up_to(written: &mut Row, nodes: usize, index: usize)
     requires nodes { 2 * nodes < 2 ^ 64 }
-    requires room { index < vec_capacity written.old }
-    ensures far { index < vec_len written.new }
-    ensures capacity { vec_capacity written.new ≡ vec_capacity written.old }
+    requires room { index < written.old.room }
+    requires fits { index + 1 < 2 ^ 64 }
+    ensures far { index < length written.new.items }
+    ensures capacity { written.new.room ≡ written.old.room }
     ensures same { (place : ℕ) → at_place nodes written.new.items place ≡ at_place nodes written.old.items place }
 {
     for _ in written.len()..index + 1 {
@@ -105,7 +107,7 @@ impl Block {
             return Err(NoMemory);
         };
         Ok(Block {
-            written: Vec::with_capacity(alloc, room)?,
+            written: Row::with_capacity(alloc, room)?,
             nodes,
             queues,
         })
@@ -116,9 +118,11 @@ impl Block {
         requires { place < length self.now }
         ensures { slice_get self.now place ≡ Some result }
     {
-        match self.written.get(index_of(self.nodes, place)) {
-            Some(node) => *node,
-            None => fresh(self.nodes, place),
+        let index = index_of(self.nodes, place);
+        if index < self.written.len() {
+            self.written.get(index)
+        } else {
+            fresh(self.nodes, place)
         }
     }
 
@@ -129,6 +133,6 @@ impl Block {
     {
         let index = index_of(self.nodes, place);
         write_up_to(&mut self.written, self.nodes, index);
-        self.written[index] = node;
+        self.written.set(index, node);
     }
 }

@@ -5,10 +5,13 @@
 mod block;
 #[cfg(test)]
 mod comparison;
+mod deed;
 mod links;
+mod memory;
 mod node;
 mod queues;
 mod room;
+mod row;
 #[cfg(test)]
 mod rows;
 
