@@ -1,0 +1,66 @@
+//! Transactions that all ask for one resource.
+
+ghost use Rattle.std.specs.Prelude.{◌≡◌, length};
+
+use coarsen::Plan;
+use lock_tree::{EnqueueFault, LockTree};
+use std::alloc::Global;
+use std::marker::Model;
+use values::NoMemory;
+
+/// A lock tree, and which of the numbers from 0 on are those of transactions in it. Contracts see the latter.
+#[derive(Drop)]
+pub(crate) struct Crowd {
+    tree: LockTree,
+    there: Vec<bool>,
+}
+
+impl Model for Crowd {
+    ghost use Rattle.std.specs.Prelude.{List, Bool};
+    ghost use Rattle.lock_costs.specs.Crowds.{IsCrowd};
+
+    ghost Value = { List Bool };
+
+    ghost view = { λ c. c.there.items };
+
+    ghost invariant = { λ c. IsCrowd c.there.items c.tree.waiting };
+}
+
+impl Crowd {
+    /// No transaction, and room for so many requests.
+    pub(crate) fn new(alloc: Global, most: usize) -> Result<Crowd, NoMemory> {
+        Ok(Crowd {
+            tree: LockTree::new(alloc, most)?,
+            there: Vec::new(alloc),
+        })
+    }
+
+    /// Enqueues the next transaction.
+    #[tactic(auto, using(crate::proofs::Crowds::one_more))]
+    pub(crate) fn enqueue(&mut self, plan: &Plan) -> Result<(), EnqueueFault> {
+        if self.there.reserve(1).is_err() {
+            return Err(EnqueueFault::NoMemory);
+        }
+        self.tree.enqueue(self.there.len() as u64, plan)?;
+        self.there.push_reserved(true);
+        Ok(())
+    }
+
+    /// Releases the transaction with a number, if it is there.
+    #[tactic(auto, using(crate::proofs::Crowds::one_less))]
+    pub(crate) fn release(&mut self, no: usize) {
+        if no < self.there.len() && self.there[no] {
+            self.there[no] = false;
+            self.tree.release(no as u64);
+        }
+    }
+
+    /// The next number from one on, or else from 0 on, of a transaction that is there.
+    pub(crate) fn next_from(&self, first: usize) -> Option<usize> {
+        let (front, back) = self.there.split_at(first.min(self.there.len()));
+        match back.iter().position(|there| *there) {
+            Some(place) => first.checked_add(place),
+            None => front.iter().position(|there| *there),
+        }
+    }
+}
