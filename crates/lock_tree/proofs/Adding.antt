@@ -1,5 +1,5 @@
 -- A request that comes to the back of a queue.
-use Rattle.std.proofs.Common.{◌≡◌, ℕ, ◌+◌, ◌<◌, ◌^◌, List, [], ◌∷◌, ◌++◌, length, Option, None, Some, refl, sym, ◌∙◌, ap, subst, arith}
+use Rattle.std.proofs.Common.{◌≡◌, ℕ, ◌+◌, ◌<◌, ◌^◌, List, [], ◌∷◌, ◌++◌, length, Option, None, Some, sym, ◌∙◌, ap, subst, arith}
 use Rattle.std.specs.Prelude.{slice_get, slice_set}
 use Rattle.std.specs.Option.{option_or}
 use Rattle.std.specs.Vec.{vec_capacity}
@@ -7,7 +7,7 @@ use Rattle.std.proofs.lemmas.Option.{slice_get_within}
 use Rattle.request_arena.specs.declared.node.Held.{Held}
 use Rattle.request_arena.specs.declared.node.Request.{Request}
 use Rattle.request_arena.specs.Chains.{linked}
-use Rattle.request_arena.specs.Lists.{Lists, free_nodes}
+use Rattle.request_arena.specs.Lists.{free_nodes}
 use Rattle.request_arena.specs.Pushes.{Pushed}
 use Rattle.lock_tree.specs.declared.line.Line.{Line}
 use Rattle.lock_tree.specs.Queues.{Queue, granted}
@@ -16,7 +16,7 @@ use Rattle.lock_tree.specs.Open.{AreRising}
 use Rattle.lock_tree.specs.Numbered.{IsNumbered}
 use Rattle.lock_tree.specs.Granted.{IsFront, IsLine, AreGranted}
 use Rattle.lock_tree.specs.Steps.{AreLive}
-use Rattle.lock_tree.proofs.Positions.{some_is, none_is, get_set_same, get_set_other}
+use Rattle.lock_tree.proofs.Positions.{some_is, get_set_same, get_set_other}
 use Rattle.lock_tree.proofs.Counting.{linked_length, pushed_asks, pushed_free, queue_few}
 use Rattle.lock_tree.proofs.Asking.{same_requests, requests_end}
 use Rattle.lock_tree.proofs.Vacancies.{or_other, added, added_here, added_elsewhere}

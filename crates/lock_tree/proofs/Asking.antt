@@ -1,14 +1,14 @@
 -- The requests that nodes hold.
-use Rattle.std.proofs.Common.{◌≡◌, ℕ, ◌+◌, ◌<◌, ◌≤◌, zero, suc, nat_lt, Bool, true, false, List, [], ◌∷◌, ◌++◌, length, map, get_or, Option, None, Some, option_map, refl, sym, ◌∙◌, ap, arith}
+use Rattle.std.proofs.Common.{◌≡◌, ℕ, zero, suc, List, [], ◌∷◌, ◌++◌, length, get_or, Option, None, Some, option_map, refl, ◌∙◌, ap, arith}
 use Rattle.std.specs.Prelude.{slice_get, slice_set}
 use Rattle.std.specs.List.{remove}
-use Rattle.std.proofs.lemmas.Option.{slice_get-map, get_or_from_slice_get, slice_get_within}
+use Rattle.std.proofs.lemmas.Option.{slice_get-map, get_or_from_slice_get}
 use Rattle.std.proofs.lemmas.List.{length-map, map_push}
 use Rattle.modes.specs.declared.mode.Mode.{Mode}
 use Rattle.request_arena.specs.declared.node.Held.{Held}
 use Rattle.request_arena.specs.Following.{without}
 use Rattle.lock_tree.specs.Lines.{asked, request_at, requests}
-use Rattle.lock_tree.proofs.Positions.{some_is, none_is, get_set_other, without_at, Absent}
+use Rattle.lock_tree.proofs.Positions.{get_set_other, without_at, Absent}
 
 abbrev Nodes : Type 0
 Nodes = List (Option Held)

@@ -1,5 +1,5 @@
 -- The chains of transactions, as queues change.
-use Rattle.std.proofs.Common.{◌≡◌, ◌≢◌, ℕ, ◌+◌, ◌<◌, ◌⊎◌, inl, inr, zero, suc, eqb, Bool, true, false, cond, ◌||◌, List, [], ◌∷◌, ◌++◌, length, map, drop, get_or, add-one, Option, None, Some, IfSome, refl, sym, ◌∙◌, ap, subst, arith}
+use Rattle.std.proofs.Common.{◌≡◌, ℕ, ◌+◌, ◌<◌, zero, suc, eqb, Bool, true, false, cond, ◌||◌, List, [], ◌∷◌, ◌++◌, length, map, drop, get_or, add-one, Option, None, Some, IfSome, refl, sym, ◌∙◌, ap, subst, arith}
 use Rattle.std.specs.Prelude.{slice_get, slice_set}
 use Rattle.std.specs.BTreeMap.{get}
 use Rattle.std.specs.Option.{option_flatten, option_or}
@@ -12,17 +12,14 @@ use Rattle.footprint.specs.declared.resource.Resource.{Resource}
 use Rattle.modes.specs.declared.mode.Mode.{Mode}
 use Rattle.coarsen.specs.Subtrees.{Requests}
 use Rattle.request_arena.specs.declared.node.Held.{Held}
-use Rattle.request_arena.specs.declared.node.Request.{Request}
 use Rattle.request_arena.specs.Following.{without, follow}
-use Rattle.request_arena.specs.Chains.{chain, chain_from, held_at, holds, linked, step}
+use Rattle.request_arena.specs.Chains.{chain, chain_from, held_at, holds, step}
 use Rattle.request_arena.specs.Lists.{Lists, IsLive, BeginsChain, EndsChain}
-use Rattle.request_arena.specs.Pushes.{Pushed, appended}
 use Rattle.lock_tree.specs.declared.enqueued.Enqueued.{Enqueued}
 use Rattle.lock_tree.specs.Lines.{Lines, request_at, nodes_of, number_of, asked}
-use Rattle.lock_tree.specs.Numbered.{IsNumbered}
-use Rattle.lock_tree.specs.Chained.{IsPlaced, ArePlaced, Begins, Chains, IsChained, AreChained, IsTail, head_or}
-use Rattle.lock_tree.specs.Steps.{AreLive, StandApart, IsRemoved, OthersChained, IsLonger, IsShorter}
-use Rattle.lock_tree.proofs.Positions.{some_is, none_is, get_front, get_last, get_set_same, get_set_other, ends_with, stands_still}
+use Rattle.lock_tree.specs.Chained.{IsPlaced, ArePlaced, Chains, IsChained, AreChained, IsTail, head_or}
+use Rattle.lock_tree.specs.Steps.{IsRemoved, OthersChained, IsShorter}
+use Rattle.lock_tree.proofs.Positions.{get_set_other, stands_still}
 
 -- ---- placed requests stay placed
 

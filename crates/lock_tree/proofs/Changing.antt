@@ -1,5 +1,5 @@
 -- The queue of one resource that changes.
-use Rattle.std.proofs.Common.{◌≡◌, ℕ, Bool, true, false, cond, Option, None, Some, refl, sym, ◌∙◌, ap, subst}
+use Rattle.std.proofs.Common.{◌≡◌, ℕ, true, false, cond, Option, None, Some, refl, sym, ◌∙◌, ap, subst}
 use Rattle.std.specs.BTreeMap.{get}
 use Rattle.std.specs.Option.{option_flatten}
 use Rattle.footprint.specs.declared.resource.Resource.{Resource}

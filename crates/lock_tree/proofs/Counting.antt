@@ -1,7 +1,6 @@
 -- How many queues have nodes, and how many nodes are free.
-use Rattle.std.proofs.Common.{◌≡◌, ℕ, ◌+◌, ◌<◌, ◌≤◌, zero, suc, List, [], ◌∷◌, ◌++◌, length, get_or, Option, None, Some, refl, sym, ◌∙◌, ap, arith}
+use Rattle.std.proofs.Common.{◌≡◌, ℕ, ◌+◌, ◌<◌, ◌≤◌, zero, suc, List, [], ◌∷◌, ◌++◌, length, get_or, Option, None, Some, refl, ◌∙◌, ap, arith}
 use Rattle.std.specs.Prelude.{slice_get, slice_set}
-use Rattle.modes.specs.declared.mode.Mode.{Mode}
 use Rattle.request_arena.specs.declared.node.Held.{Held}
 use Rattle.request_arena.specs.Following.{changed}
 use Rattle.request_arena.specs.Chains.{linked, behind_it}

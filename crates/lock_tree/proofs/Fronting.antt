@@ -1,10 +1,10 @@
 -- What is granted of each queue, as nodes come and leave.
-use Rattle.std.proofs.Common.{◌≡◌, ℕ, ◌+◌, ◌-◌, ◌<◌, ◌≤◌, ◌⊎◌, inl, inr, zero, suc, nat_lt, Bool, true, false, List, [], ◌∷◌, ◌++◌, length, take, get_or, Option, None, Some, refl, sym, ◌∙◌, ap, subst, arith}
+use Rattle.std.proofs.Common.{◌≡◌, ℕ, ◌+◌, ◌-◌, ◌<◌, ◌≤◌, inl, inr, zero, suc, nat_lt, true, false, List, [], ◌∷◌, ◌++◌, length, take, get_or, Option, None, Some, refl, sym, ◌∙◌, ap, subst, arith}
 use Rattle.std.specs.Prelude.{slice_get, slice_set}
 use Rattle.std.specs.List.{list_all, remove}
 use Rattle.std.specs.Option.{option_or}
 use Rattle.std.proofs.lemmas.List.{length-map, length-take-le}
-use Rattle.std.proofs.lemmas.Option.{slice_get_within, slice_get_past, get_or_from_slice_get}
+use Rattle.std.proofs.lemmas.Option.{slice_get_within}
 use Rattle.std.proofs.lemmas.Bool.Decides.{nat_tests}
 use Rattle.modes.specs.declared.mode.Mode.{Mode}
 use Rattle.modes.specs.Modes.{are_compatible}
@@ -12,12 +12,12 @@ use Rattle.request_arena.specs.declared.node.Held.{Held as HeldNode}
 use Rattle.request_arena.specs.Following.{without}
 use Rattle.lock_tree.specs.declared.line.Line.{Line}
 use Rattle.lock_tree.specs.Queues.{Queue, granted, has_number}
-use Rattle.lock_tree.specs.Lines.{Lines, request_at, requests, nodes_of, in_order, others, numbers_of, modes_of}
-use Rattle.lock_tree.specs.Open.{AreRising, places_before}
+use Rattle.lock_tree.specs.Lines.{Lines, request_at, requests, nodes_of, others, numbers_of, modes_of}
+use Rattle.lock_tree.specs.Open.{AreRising}
 use Rattle.lock_tree.specs.Held.{AreHeld, times}
 use Rattle.lock_tree.specs.Granted.{IsFront, IsLine, IsEmpty, Stays, AreGranted}
-use Rattle.lock_tree.proofs.Positions.{some_is, none_is, get_front, get_last, get_either, get_set, without_at, removed_before, removed_behind}
-use Rattle.lock_tree.proofs.Asking.{request_there, requests_length, requests_end, requests_without}
+use Rattle.lock_tree.proofs.Positions.{none_is, get_either, without_at, removed_before, removed_behind}
+use Rattle.lock_tree.proofs.Asking.{request_there, requests_length, requests_without}
 use Rattle.lock_tree.proofs.Leaving.{granted_length, granted_front, stay_within}
 use Rattle.lock_tree.proofs.Extending.{next_fits, next_bars, times_more, front_longer}
 use Rattle.lock_tree.proofs.Standing.{rising_at, places_of, has_front, granted_nowhere, leaves_front, stays_front, one_leaves, stay_front, rising_others, times_removed, times_there}

@@ -1,6 +1,6 @@
 -- The chains of transactions, as a request comes.
-use Rattle.std.proofs.Common.{◌≡◌, ℕ, ◌<◌, zero, suc, eqb, Bool, true, false, cond, List, [], ◌∷◌, ◌++◌, length, Option, None, Some, IfSome, refl, sym, ◌∙◌, ap, subst, arith}
-use Rattle.std.specs.Prelude.{slice_get, slice_set}
+use Rattle.std.proofs.Common.{◌≡◌, ℕ, ◌<◌, zero, suc, eqb, cond, List, [], ◌∷◌, ◌++◌, length, Option, None, Some, IfSome, refl, sym, ◌∙◌, ap, subst, arith}
+use Rattle.std.specs.Prelude.{slice_get}
 use Rattle.std.specs.BTreeMap.{get}
 use Rattle.std.specs.Option.{option_flatten}
 use Rattle.std.specs.List.{list_any}
@@ -8,14 +8,12 @@ use Rattle.std.proofs.lemmas.Option.{slice_get_within}
 use Rattle.footprint.specs.declared.resource.Resource.{Resource}
 use Rattle.footprint.specs.Tree.{resource_cmp}
 use Rattle.modes.specs.declared.mode.Mode.{Mode}
-use Rattle.coarsen.specs.Subtrees.{Requests}
 use Rattle.request_arena.specs.declared.node.Held.{Held}
 use Rattle.request_arena.specs.declared.node.Request.{Request}
 use Rattle.request_arena.specs.Following.{changed}
-use Rattle.request_arena.specs.Chains.{chain, chain_from, linked, behind_it}
-use Rattle.request_arena.specs.Lists.{Lists, IsLive, BeginsChain, EndsChain}
+use Rattle.request_arena.specs.Chains.{chain, linked, behind_it}
+use Rattle.request_arena.specs.Lists.{IsLive}
 use Rattle.request_arena.specs.Pushes.{Pushed, appended}
-use Rattle.lock_tree.specs.declared.enqueued.Enqueued.{Enqueued}
 use Rattle.lock_tree.specs.Lines.{Lines, request_at, nodes_of, number_of}
 use Rattle.lock_tree.specs.Numbered.{IsNumbered}
 use Rattle.lock_tree.specs.Chained.{IsPlaced, ArePlaced, Chains, IsTail, head_or}

@@ -1,12 +1,12 @@
 -- A node that leaves its queue.
-use Rattle.std.proofs.Common.{◌≡◌, ℕ, ◌+◌, ◌<◌, ◌^◌, List, [], ◌∷◌, ◌++◌, length, Option, None, Some, refl, sym, ◌∙◌, ap, subst, arith}
+use Rattle.std.proofs.Common.{◌≡◌, ℕ, ◌+◌, ◌<◌, ◌^◌, List, length, Option, None, Some, sym, ◌∙◌, ap, subst, arith}
 use Rattle.std.specs.Prelude.{slice_get, slice_set}
 use Rattle.std.specs.Vec.{vec_capacity}
 use Rattle.std.proofs.lemmas.Option.{slice_get_within}
 use Rattle.request_arena.specs.Following.{without}
 use Rattle.request_arena.specs.Lists.{free_nodes}
 use Rattle.lock_tree.specs.declared.line.Line.{Line}
-use Rattle.lock_tree.specs.Queues.{Queue, granted}
+use Rattle.lock_tree.specs.Queues.{granted}
 use Rattle.lock_tree.specs.Lines.{Lines, request_at, requests, nodes_of, in_order, others, numbers_of}
 use Rattle.lock_tree.specs.Open.{AreRising}
 use Rattle.lock_tree.specs.Numbered.{IsNumbered}

@@ -1,5 +1,5 @@
 -- Resources, and what is noted of them.
-use Rattle.std.proofs.Common.{◌≡◌, ℕ, Bool, true, false, cond, [], Option, None, Some, IsSome, refl, sym, ◌∙◌, ap, subst, Ordering, Less, Equal, Greater}
+use Rattle.std.proofs.Common.{◌≡◌, ℕ, Bool, true, false, cond, Option, None, Some, IsSome, refl, sym, ◌∙◌, ap, subst, Ordering, Less, Equal, Greater}
 use Rattle.std.specs.Ordering.{is_eq, ordering_reverse}
 use Rattle.std.specs.Option.{option_flatten}
 use Rattle.footprint.specs.declared.resource.Resource.{Resource}

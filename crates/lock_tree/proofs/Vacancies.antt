@@ -1,7 +1,6 @@
 -- The numbers of queues, as they are taken and given back.
-use Rattle.std.proofs.Common.{◌≡◌, ℕ, ◌+◌, ◌<◌, ◌≤◌, ◌^◌, ◌⊎◌, inl, inr, zero, suc, eqb, Bool, true, false, cond, List, [], ◌∷◌, ◌++◌, length, replicate, get_or, Option, None, Some, refl, sym, ◌∙◌, ap, subst, arith}
+use Rattle.std.proofs.Common.{◌≡◌, ℕ, ◌+◌, ◌<◌, ◌≤◌, ◌^◌, ◌⊎◌, inl, inr, zero, suc, eqb, true, false, cond, List, [], ◌∷◌, ◌++◌, length, replicate, get_or, Option, None, Some, refl, sym, ◌∙◌, ap, subst, arith}
 use Rattle.std.specs.Prelude.{slice_get, slice_set}
-use Rattle.std.specs.List.{remove}
 use Rattle.std.specs.Vec.{vec_capacity}
 use Rattle.std.specs.BTreeMap.{get}
 use Rattle.std.specs.Map.{lookup}
@@ -17,10 +16,10 @@ use Rattle.request_arena.specs.Following.{without}
 use Rattle.request_arena.specs.Chains.{linked}
 use Rattle.request_arena.specs.Lists.{Lists, free_nodes}
 use Rattle.lock_tree.specs.declared.line.Line.{Line}
-use Rattle.lock_tree.specs.Lines.{Lines, line, number_of, nodes_of, numbered, requests, is_same, HasRoom}
-use Rattle.lock_tree.specs.Numbered.{some, none, occupied, total, gap, IsNumbered}
+use Rattle.lock_tree.specs.Lines.{Lines, line, number_of, nodes_of, numbered, requests, is_same}
+use Rattle.lock_tree.specs.Numbered.{none, occupied, total, IsNumbered}
 use Rattle.lock_tree.proofs.Positions.{some_is, none_is, get_front, get_last, get_either, without_at, removed_length}
-use Rattle.lock_tree.proofs.Counting.{occupied_set, total_set, occupied_few, queue_few, one_or_none, one_more, more_than_none, some_there, none_if_empty, none_if_some, linked_length, pushed_free, given_free}
+use Rattle.lock_tree.proofs.Counting.{occupied_set, total_set, occupied_few, one_or_none, one_more, more_than_none, some_there, none_if_empty, none_if_some, linked_length, pushed_free, given_free}
 use Rattle.lock_tree.proofs.Resources.{itself, same_or_not, noted_here, noted_elsewhere}
 
 is_number : (a b : ℕ) → eqb a b ≡ true → a ≡ b

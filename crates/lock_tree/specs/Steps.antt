@@ -1,6 +1,6 @@
 -- Of the code: invariants and steps; owner promise rests on these words.
 -- What a step of the code leaves of the queues.
-use Rattle.std.specs.Prelude.{◌≡◌, ◌≢◌, ◌<◌, ◌+◌, ℕ, true, false, List, [], ◌∷◌, ◌++◌, length, map, Option, Some, None, IfSome, slice_get, slice_set}
+use Rattle.std.specs.Prelude.{◌≡◌, ◌≢◌, ◌<◌, ◌+◌, ℕ, true, List, [], ◌∷◌, ◌++◌, length, map, Option, Some, None, IfSome, slice_get, slice_set}
 use Rattle.std.specs.BTreeMap.{get}
 use Rattle.footprint.specs.declared.resource.Resource.{Resource}
 use Rattle.footprint.specs.Tree.{resource_cmp}
@@ -12,7 +12,6 @@ use Rattle.request_arena.specs.Chains.{chain, chain_from, held_at}
 use Rattle.request_arena.specs.Lists.{Lists, IsLive, BeginsChain, free_nodes}
 use Rattle.request_arena.specs.Pushes.{Pushed}
 use Rattle.lock_tree.specs.declared.enqueued.Enqueued.{Enqueued}
-use Rattle.lock_tree.specs.Queues.{Queue}
 use Rattle.lock_tree.specs.Lines.{Lines, line, number_of, nodes_of, in_order, others, HasRoom}
 use Rattle.lock_tree.specs.Numbered.{IsNumbered}
 use Rattle.lock_tree.specs.Granted.{AreGranted}

@@ -1,12 +1,12 @@
 use Rattle.std.proofs.Common.{◌≡◌, length, Some, refl, sym, ap, ◌∙◌, subst}
-use Rattle.std.specs.Prelude.{slice_get, slice_set, slice_index_or}
+use Rattle.std.specs.Prelude.{slice_set}
 use Rattle.std.specs.Option.{option_or}
 use Rattle.std.specs.Vec.{with_item}
-use Rattle.std.proofs.lemmas.Option.{slice_get_read, slice_get_within}
-use Rattle.std.proofs.lemmas.List.{length-set, get_or_default}
+use Rattle.std.proofs.lemmas.Option.{slice_get_read}
+use Rattle.std.proofs.lemmas.List.{length-set}
 use Rattle.lock_tree.specs.declared.line.Line.{Line}
 use Rattle.lock_tree.specs.Lines.{Lines, nodes_of, in_order}
-use Rattle.lock_tree.specs.Granted.{IsFront, IsLine}
+use Rattle.lock_tree.specs.Granted.{IsFront}
 use Rattle.lock_tree.proofs.Positions.{some_is, get_set_same}
 use Rattle.lock_tree.proofs.Adding.{now_numbered, now_few, now_free, order_here, order_elsewhere, front_here, now_granted}
 use Rattle.lock_tree.proofs.granting.add.Goals as goal

@@ -1,8 +1,7 @@
-use Rattle.std.proofs.Common.{◌≡◌, ◌+◌, ◌<◌, ◌∷◌, ℕ, take, length, get_or, Some, refl, sym, ap, ◌∙◌, subst, arith}
+use Rattle.std.proofs.Common.{◌+◌, take, length, refl, sym, ap, arith}
 use Rattle.std.proofs.lemmas.Option.{slice_get_read, slice_get_within}
-use Rattle.modes.specs.declared.mode.Mode.{Mode}
-use Rattle.lock_tree.specs.Lines.{requests, request_at, nodes_of, in_order, modes_of, asked}
-use Rattle.lock_tree.proofs.Fronting.{next_there, next_near, stops, goes_on, one_more_held, front_few, all_granted}
+use Rattle.lock_tree.specs.Lines.{requests, nodes_of, modes_of, asked}
+use Rattle.lock_tree.proofs.Fronting.{next_there, stops, goes_on, one_more_held, front_few, all_granted}
 use Rattle.lock_tree.proofs.granting.extended.Goals as goal
 
 pub loop-line-init : goal.loop-line-init

@@ -1,13 +1,12 @@
-use Rattle.std.proofs.Common.{◌≡◌, length, get_or, Some, refl, sym, ap, ◌∙◌, subst, arith}
-use Rattle.std.specs.Prelude.{slice_get, slice_set}
+use Rattle.std.proofs.Common.{◌≡◌, length, get_or, refl, sym, ◌∙◌, subst, arith}
+use Rattle.std.specs.Prelude.{slice_set}
 use Rattle.std.specs.Vec.{with_item}
 use Rattle.std.proofs.lemmas.Option.{slice_get-get_or}
 use Rattle.std.proofs.lemmas.List.{length-set}
-use Rattle.lock_tree.specs.declared.line.Line.{Line}
 use Rattle.lock_tree.specs.Lines.{Lines, nodes_of, in_order}
 use Rattle.lock_tree.specs.Granted.{IsFront}
 use Rattle.lock_tree.proofs.Positions.{some_is, get_set_same}
-use Rattle.lock_tree.proofs.Parting.{now_numbered, now_here, now_few, now_free, order_here, order_elsewhere, front_here, now_granted}
+use Rattle.lock_tree.proofs.Parting.{now_numbered, now_few, now_free, order_here, order_elsewhere, front_here, now_granted}
 use Rattle.lock_tree.proofs.granting.leave.Goals as goal
 
 pub without-line-requires-clause-queue : goal.without-line-requires-clause-queue

@@ -1,10 +1,10 @@
-use Rattle.std.proofs.Common.{◌≡◌, ◌-◌, ◌<◌, ◌∷◌, ℕ, Some, List, length, refl, sym, ap, ◌∙◌, subst, arith}
+use Rattle.std.proofs.Common.{◌≡◌, ◌-◌, ◌<◌, ◌∷◌, ℕ, Some, length, refl, ap, ◌∙◌, subst, arith}
 use Rattle.std.specs.Prelude.{slice_get}
 use Rattle.std.proofs.lemmas.Option.{slice_get_read}
 use Rattle.modes.specs.declared.mode.Mode.{Mode}
 use Rattle.lock_tree.specs.Queues.{granted}
 use Rattle.lock_tree.specs.Held.{times}
-use Rattle.lock_tree.specs.Lines.{nodes_of, in_order, modes_of, asked, request_at}
+use Rattle.lock_tree.specs.Lines.{nodes_of, in_order, modes_of, asked}
 use Rattle.lock_tree.specs.Granted.{IsLine}
 use Rattle.lock_tree.proofs.Fronting.{if_granted, if_waits, if_first, if_not_first, held_all, is_there, stays_before, stays_first, stays_behind}
 use Rattle.lock_tree.proofs.granting.without.Goals as goal

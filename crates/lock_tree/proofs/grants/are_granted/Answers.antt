@@ -1,11 +1,11 @@
-use Rattle.std.proofs.Common.{◌≡◌, ◌∙◌, ◌+◌, ◌<◌, ◌&&◌, ◌∷◌, [], ℕ, Bool, true, false, List, length, drop, get_or, refl, sym, ap, subst, arith}
+use Rattle.std.proofs.Common.{◌≡◌, ◌∙◌, ◌+◌, ◌<◌, ◌&&◌, ◌∷◌, [], ℕ, Bool, true, false, List, length, drop, get_or, sym, ap, subst, arith}
 use Rattle.std.proofs.lemmas.List.{drop_all}
 use Rattle.footprint.specs.declared.resource.Resource.{Resource}
 use Rattle.modes.specs.declared.mode.Mode.{Mode}
 use Rattle.coarsen.specs.Subtrees.{Requests}
 use Rattle.request_arena.specs.Chains.{chain_from}
 use Rattle.lock_tree.specs.Queues.{Queue, granted, has_number}
-use Rattle.lock_tree.specs.Lines.{line, numbered, in_order}
+use Rattle.lock_tree.specs.Lines.{line, numbered}
 use Rattle.lock_tree.specs.Known.{granted_in}
 use Rattle.lock_tree.specs.Chained.{IsPlaced, ArePlaced}
 use Rattle.lock_tree.proofs.Chaining.{placed_at, placed_length}

@@ -1,10 +1,10 @@
-use Rattle.std.proofs.Common.{◌≡◌, List, [], ◌∷◌, ◌++◌, ◌∙◌, ap, sym, subst}
+use Rattle.std.proofs.Common.{◌≡◌, List, [], ◌++◌, ◌∙◌, ap, sym, subst}
 use Rattle.footprint.specs.declared.resource.Resource.{Resource}
 use Rattle.coarsen.specs.Subtrees.{Requests}
 use Rattle.lock_tree.specs.declared.enqueued.Enqueued.{Enqueued}
 use Rattle.lock_tree.specs.Queues.{asks, mode_on}
 use Rattle.lock_tree.specs.Lines.{line}
-use Rattle.lock_tree.specs.Known.{granted_in, AreKnown}
+use Rattle.lock_tree.specs.Known.{AreKnown}
 use Rattle.lock_tree.specs.Chained.{Chains, AreChained}
 use Rattle.lock_tree.proofs.Queueing.{known_before, knows_exactly, known_and}
 use Rattle.lock_tree.proofs.Chaining.{chained_below, chained_and}

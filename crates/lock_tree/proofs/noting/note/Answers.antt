@@ -1,4 +1,4 @@
-use Rattle.std.proofs.Common.{◌≡◌, ◌<◌, Some, length, sym, ap, ◌∙◌, subst}
+use Rattle.std.proofs.Common.{◌≡◌, Some, sym, ap, ◌∙◌, subst}
 use Rattle.lock_tree.specs.declared.enqueued.Enqueued.{Enqueued}
 use Rattle.lock_tree.specs.Placing.{place_of}
 use Rattle.lock_tree.specs.Views.{all_waiting}

@@ -1,4 +1,4 @@
-use Rattle.std.proofs.Common.{◌≡◌, ◌-◌, drop, length, slice_get}
+use Rattle.std.proofs.Common.{◌≡◌, ◌-◌, drop, slice_get}
 use Rattle.lock_tree.specs.Queues.{granted}
 use Rattle.lock_tree.specs.Lines.{line, nodes_of, in_order}
 use Rattle.lock_tree.specs.Indexed.{IsIndexed}

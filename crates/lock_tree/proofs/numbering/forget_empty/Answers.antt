@@ -1,4 +1,4 @@
-use Rattle.std.proofs.Common.{◌≡◌, ◌<◌, ℕ, ◌∙◌, List, [], ◌∷◌, Option, Some, None, is_some, Bool, true, false, not, refl, sym, ap, arith}
+use Rattle.std.proofs.Common.{◌≡◌, ℕ, List, [], ◌∷◌, Option, is_some, true, false, refl, ap, arith}
 use Rattle.std.specs.Prelude.{slice_get}
 use Rattle.lock_tree.specs.Lines.{Lines, nodes_of}
 use Rattle.lock_tree.proofs.Vacancies.{closed, vacant_room, gone_here, forgotten, forgotten_lines, forgotten_kept}

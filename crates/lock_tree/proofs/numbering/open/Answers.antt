@@ -1,10 +1,10 @@
-use Rattle.std.proofs.Common.{◌≡◌, [], ℕ, ◌∙◌, cond, Some, None, is_some, true, Option, Result, Ok, Err, sym, ap, subst}
+use Rattle.std.proofs.Common.{◌≡◌, [], ℕ, ◌∙◌, Some, None, is_some, true, Option, Result, Ok, Err, sym, ap, subst}
 use Rattle.std.specs.Result.{OnOk, OnErr}
 use Rattle.std.specs.Option.{option_flatten}
 use Rattle.std.specs.BTreeMap.{BTreeMap, get}
 use Rattle.footprint.specs.declared.resource.Resource.{Resource}
 use Rattle.footprint.specs.Tree.{resource_cmp}
-use Rattle.lock_tree.specs.Lines.{Lines, line, number_of, nodes_of, numbered, is_same}
+use Rattle.lock_tree.specs.Lines.{Lines, number_of, nodes_of, numbered, is_same}
 use Rattle.lock_tree.proofs.Positions.{none_is}
 use Rattle.lock_tree.proofs.Resources.{noted_still}
 use Rattle.lock_tree.proofs.Vacancies.{number_here, opened, opened_kept, opened_lines}

@@ -1,4 +1,4 @@
-use Rattle.std.proofs.Common.{◌≡◌, ◌∙◌, ◌<◌, ◌++◌, [], ◌∷◌, ℕ, eqb, cond, true, Option, None, Some, IfSome, ap, sym, subst}
+use Rattle.std.proofs.Common.{◌≡◌, ◌∙◌, ◌++◌, [], ◌∷◌, ℕ, eqb, cond, true, Option, None, Some, IfSome, ap, sym, subst}
 use Rattle.request_arena.specs.Lists.{Lists, EndsChain}
 use Rattle.lock_tree.specs.Queues.{Queue}
 use Rattle.std.specs.List.{list_any}

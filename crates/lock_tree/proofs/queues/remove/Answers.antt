@@ -1,7 +1,5 @@
-use Rattle.std.proofs.Common.{◌≡◌, ◌∙◌, ◌<◌, ◌++◌, ap, sym, subst, length, Some, arith}
-use Rattle.footprint.specs.declared.resource.Resource.{Resource}
-use Rattle.lock_tree.specs.Queues.{granted}
-use Rattle.lock_tree.specs.Lines.{line, numbered, in_order, is_same, others}
+use Rattle.std.proofs.Common.{◌∙◌}
+use Rattle.lock_tree.specs.Lines.{others}
 use Rattle.lock_tree.proofs.Changing.{line_changed}
 use Rattle.lock_tree.proofs.Chaining.{left_others, left_own, chained_noted, noted_still}
 use Rattle.lock_tree.proofs.queues.remove.Goals as goal

@@ -1,5 +1,5 @@
-use Rattle.std.proofs.Common.{◌≡◌, ◌∙◌, true, false, Option, None, Some, is_some, refl, sym, ap}
-use Rattle.std.specs.BTreeMap.{get, get_by}
+use Rattle.std.proofs.Common.{◌≡◌, ◌∙◌, false, Option, None, Some, is_some, refl, sym, ap}
+use Rattle.std.specs.BTreeMap.{get}
 use Rattle.std.specs.Map.{lookup}
 use Rattle.std.specs.Ordering.{is_eq}
 use Rattle.std.specs.Option.{option_flatten}

@@ -1,4 +1,3 @@
-use Rattle.lock_tree.specs.Lines.{Lines}
 use Rattle.lock_tree.proofs.Vacancies.{all_free, none_numbered}
 use Rattle.lock_tree.proofs.lines.Lines.new.Goals as goal
 
