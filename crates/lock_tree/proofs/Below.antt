@@ -1,5 +1,5 @@
 -- Transactions that are ready.
-use Rattle.std.proofs.Common.{◌≡◌, ℕ, Bool, true, List, Option, None, Some, is_some, refl}
+use Rattle.std.proofs.Common.{◌≡◌, ℕ, true, List, Option, None, Some, is_some, refl}
 use Rattle.coarsen.specs.Subtrees.{Requests}
 use Rattle.lock_tree.specs.Locks.{Waiting, plan_of}
 use Rattle.lock_tree.specs.Ready.{ready, all_granted}

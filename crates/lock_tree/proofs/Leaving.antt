@@ -14,7 +14,7 @@ use Rattle.lock_tree.specs.Lines.{is_same, others}
 use Rattle.lock_tree.specs.Known.{granted_in, Knows, AreKnown}
 use Rattle.lock_tree.specs.Views.{all_waiting}
 use Rattle.footprint.proofs.Resources.{resources_total}
-use Rattle.lock_tree.proofs.Lines.{same_resource}
+use Rattle.lock_tree.proofs.Resources.{same_resource}
 
 both : (a b : Bool) → (a && b) ≡ true → (a ≡ true) × (b ≡ true)
 both true b h = (refl, h)

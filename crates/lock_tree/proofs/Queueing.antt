@@ -18,7 +18,7 @@ use Rattle.lock_tree.specs.Lines.{Lines, HasRoom, is_same, numbers_of, AllUnder}
 use Rattle.lock_tree.specs.Known.{granted_in, Knows, AreKnown}
 use Rattle.lock_tree.specs.Views.{all_waiting}
 use Rattle.footprint.proofs.Resources.{resources_total}
-use Rattle.lock_tree.proofs.Lines.{same_resource}
+use Rattle.lock_tree.proofs.Resources.{same_resource}
 
 -- ---- the resources of a plan stand once each
 

@@ -95,7 +95,7 @@ one_leaves k (x ∷ q) (suc i) d rising near same =
     ap (λ v. cond (not v) (x ∷ others k q) (others k q)) (apart x.0 k (λ e. absurd (omega (arith, above, same, e)))) ∙ ap (λ xs. x ∷ xs) (one_leaves k q i d rising.1 (omega arith) same)
 
 -- a number that stands before or behind all others
-rising_at : (q : Queue) (i j : ℕ) (d e : ℕ × Mode) → AreRising (numbers_of q) → i < j → j < length q → (get_or q i d).0 < (get_or q j e).0
+pub rising_at : (q : Queue) (i j : ℕ) (d e : ℕ × Mode) → AreRising (numbers_of q) → i < j → j < length q → (get_or q i d).0 < (get_or q j e).0
 rising_at [] i j d e r lt near = absurd (omega arith)
 rising_at (x ∷ q) i zero d e r lt near = absurd (omega arith)
 rising_at (x ∷ q) zero (suc j) d e r lt near = over_at x.0 q j e r.0 (omega arith)

@@ -1,5 +1,5 @@
 -- The queues of the transactions, and what each knows, as transactions come, are marked and go.
-use Rattle.std.proofs.Common.{◌≡◌, ℕ, ◌+◌, ◌-◌, ◌<◌, ◌≤◌, ◌==◌, ◌⊎◌, inl, inr, zero, suc, Bool, true, false, cond, not, ◌&&◌, List, [], ◌∷◌, ◌++◌, length, Option, None, Some, option_map, refl, sym, ◌∙◌, ap, subst, arith, slice_set, add-one}
+use Rattle.std.proofs.Common.{◌≡◌, ℕ, ◌+◌, ◌<◌, ◌==◌, ◌⊎◌, inl, inr, zero, suc, Bool, true, false, cond, not, ◌&&◌, List, [], ◌∷◌, ◌++◌, length, Option, None, Some, option_map, refl, sym, ◌∙◌, ap, subst, arith, slice_set, add-one}
 use Rattle.std.specs.List.{AllByRecursion, remove}
 use Rattle.std.proofs.lemmas.Bool.Decides.{nat_tests}
 use Rattle.footprint.specs.declared.resource.Resource.{Resource}
@@ -14,7 +14,12 @@ use Rattle.lock_tree.specs.Ready.{ready, all_granted}
 use Rattle.lock_tree.specs.Placing.{place_of}
 use Rattle.lock_tree.specs.Views.{waiting_of, all_waiting}
 use Rattle.lock_tree.specs.Lines.{Lines, line, others}
+use Rattle.request_arena.specs.Lists.{free_nodes}
+use Rattle.lock_tree.specs.Numbered.{IsNumbered}
+use Rattle.lock_tree.specs.Granted.{AreGranted}
+use Rattle.lock_tree.specs.Chained.{IsChained, AreChained}
 use Rattle.lock_tree.specs.Sound.{IsTree}
+use Rattle.lock_tree.proofs.Chaining.{chained_same, chained_marked}
 use Rattle.lock_tree.specs.Known.{granted_in, Knows, AreKnown}
 use Rattle.lock_tree.proofs.Places.{at, plan_at, marked_at, number_kept, plan_kept, same_numbers, some_one, none_some, later_place, used_end, used_marked}
 
@@ -188,53 +193,66 @@ pub known_as_before : (old new : Lines) (es seen : List Enqueued) → ((r : Reso
 known_as_before old new es seen same items known = subst (AreKnown (line new) []) (sym items) (known_same (line old) (line new) (λ r. sym (same r)) es known)
 
 -- more room for queues and transactions
-pub same_tree : (arena free : ℕ) (ts seen : Transactions) (old new : Lines) → ((r : Resource) → line new r ≡ line old r) → seen.entries.items ≡ ts.entries.items → IsIndexed seen → IsTree arena free ts old → IsTree arena free seen new
-same_tree arena free ts seen old new same items indexed tree = record {
-  room = (let e : used (all_waiting seen.entries.items) ≡ used (all_waiting ts.entries.items) = ap (λ (xs : List Enqueued). used (all_waiting xs)) items in let r = tree.room in omega (arith, e, r));
+pub same_tree : (arena : ℕ) (ts seen : Transactions) (old new : Lines) → IsNumbered new None → AreGranted new → free_nodes new.nodes.held ≡ free_nodes old.nodes.held → ((r : Resource) → line new r ≡ line old r)
+    → ((e : Enqueued) → IsChained old e → IsChained new e) → seen.entries.items ≡ ts.entries.items → IsIndexed seen → IsTree arena ts old → IsTree arena seen new
+same_tree arena ts seen old new numbered granted free same chained items indexed tree = record {
+  room = (let e : used (all_waiting seen.entries.items) ≡ used (all_waiting ts.entries.items) = ap (λ (xs : List Enqueued). used (all_waiting xs)) items in let r = tree.room in omega (arith, e, r, free));
   indexed = indexed;
+  numbered = numbered;
+  granted = granted;
   lines = λ r. same r ∙ tree.lines r ∙ ap (λ (xs : List Enqueued). queue r (all_waiting xs)) (sym items);
+  chained = subst (AreChained new) (sym items) (chained_same old new chained ts.entries.items tree.chained);
   known = known_as_before old new ts.entries.items seen.entries.items same items tree.known;
 }
 
 -- one more transaction
-pub joined_tree : (arena free size : ℕ) (ts seen new : Transactions) (e : Enqueued) (old lender lines : Lines) → IsTree arena free ts old → seen.entries.items ≡ ts.entries.items → ((r : Resource) → line lender r ≡ line old r)
-    → size ≡ length e.plan.items → size ≤ free → IsIndexed new
-    → ((r : Resource) → line lines r ≡ line lender r ++ asks e.no (mode_on r e.plan.items) []) → all_waiting new.entries.items ≡ all_waiting seen.entries.items ++ waiting_of e ∷ [] → AreKnown (line lines) [] new.entries.items
-    → IsTree arena (free - size) new lines
-joined_tree arena free size ts seen new e old lender lines tree items same n room indexed joined waiting known =
+pub joined_tree : (arena : ℕ) (ts seen new : Transactions) (e : Enqueued) (old lender lines : Lines) → IsTree arena ts old → seen.entries.items ≡ ts.entries.items → ((r : Resource) → line lender r ≡ line old r)
+    → free_nodes lender.nodes.held ≡ free_nodes old.nodes.held → IsIndexed new → ((r : Resource) → line lines r ≡ line lender r ++ asks e.no (mode_on r e.plan.items) [])
+    → all_waiting new.entries.items ≡ all_waiting seen.entries.items ++ waiting_of e ∷ [] → AreKnown (line lines) [] new.entries.items
+    → IsNumbered lines None → AreGranted lines → free_nodes lines.nodes.held + length e.plan.items ≡ free_nodes lender.nodes.held → AreChained lines new.entries.items → IsTree arena new lines
+joined_tree arena ts seen new e old lender lines tree items same free indexed joined waiting known numbered granted taken chained =
     let ws = all_waiting ts.entries.items in
     let w = waiting_of e in
     let is : all_waiting new.entries.items ≡ ws ++ w ∷ [] = waiting ∙ ap (λ (xs : List Enqueued). all_waiting xs ++ w ∷ []) items in
     let more : used (all_waiting new.entries.items) ≡ used ws + length w.plan = ap used is ∙ used_end ws w in
     record {
-      room = (let r = tree.room in omega (arith, more, n, room, r));
+      room = (let r = tree.room in omega (arith, more, free, taken, r));
       indexed = indexed;
+      numbered = numbered;
+      granted = granted;
       lines = λ r. joined r ∙ ap (λ q. q ++ asks e.no (mode_on r e.plan.items) []) (same r ∙ tree.lines r) ∙ sym (queue_end r ws w) ∙ ap (queue r) (sym is);
+      chained = chained;
       known = known;
     }
 
 -- one transaction less
-pub left_tree : (arena free size k : ℕ) (ts new : Transactions) (old lines : Lines) → IsTree arena free ts old → used (all_waiting ts.entries.items) ≡ size + used (without k (all_waiting ts.entries.items))
+pub left_tree : (arena size k : ℕ) (ts new : Transactions) (old lines : Lines) → IsTree arena ts old → used (all_waiting ts.entries.items) ≡ size + used (without k (all_waiting ts.entries.items))
     → all_waiting new.entries.items ≡ without k (all_waiting ts.entries.items) → IsIndexed new → ((r : Resource) → line lines r ≡ others k (line old r)) → AreKnown (line lines) [] new.entries.items
-    → IsTree arena (free + size) new lines
-left_tree arena free size k ts new old lines tree freed is indexed left known =
+    → IsNumbered lines None → AreGranted lines → free_nodes lines.nodes.held ≡ free_nodes old.nodes.held + size → AreChained lines new.entries.items → IsTree arena new lines
+left_tree arena size k ts new old lines tree freed is indexed left known numbered granted given chained =
     let ws = all_waiting ts.entries.items in
     record {
-      room = (let e : used (all_waiting new.entries.items) ≡ used (without k ws) = ap used is in let r = tree.room in omega (arith, e, freed, r));
+      room = (let e : used (all_waiting new.entries.items) ≡ used (without k ws) = ap used is in let r = tree.room in omega (arith, e, freed, given, r));
       indexed = indexed;
+      numbered = numbered;
+      granted = granted;
       lines = λ r. left r ∙ ap (others k) (tree.lines r) ∙ sym (queue_without r k ws) ∙ ap (queue r) (sym is);
+      chained = chained;
       known = known;
     }
 
 -- a mark
-pub marked_tree : (arena free k : ℕ) (m : Bool) (ts new : Transactions) (lines : Lines) → IsTree arena free ts lines → all_waiting new.entries.items ≡ with_mark k m (all_waiting ts.entries.items) → IsIndexed new
-    → AreKnown (line lines) [] new.entries.items → IsTree arena free new lines
-marked_tree arena free k m ts new lines tree is indexed known =
+pub marked_tree : (arena k : ℕ) (m : Bool) (ts new : Transactions) (lines : Lines) → IsTree arena ts lines → all_waiting new.entries.items ≡ with_mark k m (all_waiting ts.entries.items) → IsIndexed new
+    → AreKnown (line lines) [] new.entries.items → AreChained lines new.entries.items → IsTree arena new lines
+marked_tree arena k m ts new lines tree is indexed known chained =
     let ws = all_waiting ts.entries.items in
     record {
       room = (let e : used (all_waiting new.entries.items) ≡ used ws = ap used is ∙ used_marked k m ws in let r = tree.room in omega (arith, e, r));
       indexed = indexed;
+      numbered = tree.numbered;
+      granted = tree.granted;
       lines = λ r. tree.lines r ∙ sym (queue_marked r k m ws) ∙ ap (queue r) (sym is);
+      chained = chained;
       known = known;
     }
 
@@ -255,3 +273,8 @@ pub marked_known : (queues : Resource → Queue) (i : ℕ) (m : Bool) (es seen n
 marked_known queues i m es seen new same l is known =
     let d = some_entry es i (let n = ap length same in omega (arith, l, n)) in
     subst (AreKnown queues []) (sym (is d)) (known_marked queues es i d m known)
+
+pub marked_chained : (lines : Lines) (i : ℕ) (m : Bool) (es seen new : List Enqueued) → seen ≡ es → i < length seen → Marked i m es new → AreChained lines es → AreChained lines new
+marked_chained lines i m es seen new same l is chained =
+    let d = some_entry es i (let n = ap length same in omega (arith, l, n)) in
+    subst (AreChained lines) (sym (is d)) (chained_marked lines es i d m chained)

@@ -5,10 +5,12 @@ pub mod Laws
 pub mod Views
 pub mod Placing
 pub mod Enqueues
-pub mod LineParts
 pub mod Lines
 pub mod Held
-pub mod Kept
+pub mod Granted
+pub mod Numbered
+pub mod Chained
+pub mod Steps
 pub mod Known
 pub mod Sound
 pub mod Open

@@ -1,36 +1,56 @@
 -- Of the code: invariants and steps; no promise rests on these words.
 -- The code's queues as the queues that contracts see.
-use Rattle.std.specs.Prelude.{◌≡◌, ◌<◌, ◌==◌, ℕ, Bool, not, ⊤, List, [], ◌∷◌, map, filter, Option, Some, None}
+use Rattle.std.specs.Prelude.{◌<◌, ◌==◌, ℕ, Bool, not, ⊤, List, [], ◌∷◌, map, filter, Option, Some, None, IsSome, slice_get, slice_index_or}
+use Rattle.std.specs.Option.{option_flatten}
 use Rattle.std.specs.Ordering.{eq_by_cmp}
-use Rattle.std.specs.BTreeMap.{BTreeMap, get}
+use Rattle.std.specs.BTreeMap.{get}
 use Rattle.footprint.specs.declared.resource.Resource.{Resource}
 use Rattle.footprint.specs.Tree.{resource_cmp}
 use Rattle.modes.specs.declared.mode.Mode.{Mode}
+use Rattle.modes.specs.declared.mode.Mode.TheVariants.{IntentionShared}
+use Rattle.request_arena.specs.declared.node.Held.{Held}
+use Rattle.request_arena.specs.Lists.{Lists}
+use Rattle.lock_tree.specs.declared.lines.Lines.{Lines as CodeLines}
 use Rattle.lock_tree.specs.Queues.{Queue}
-use Rattle.lock_tree.specs.LineParts.{LineOf}
 
 abbrev pub Lines : Type 0
-Lines = BTreeMap Resource LineOf
+Lines = CodeLines
 
-abbrev pub requests_in : Option LineOf → Queue
-requests_in None = []
-requests_in (Some line) = line.requests
+-- the request that a node holds
+abbrev pub asked : Option (Option Held) → ℕ × Mode
+asked None = (0, IntentionShared)
+asked (Some None) = (0, IntentionShared)
+asked (Some (Some h)) = (h.request.no, h.request.mode)
+
+abbrev pub request_at : List (Option Held) → ℕ → ℕ × Mode
+request_at held a = asked (slice_get held a)
+
+-- the requests that these nodes hold
+abbrev pub requests : List (Option Held) → List ℕ → Queue
+requests held nodes = map (request_at held) nodes
+
+-- the nodes of the queue with a number, and their requests
+abbrev pub nodes_of : Lists → ℕ → List ℕ
+nodes_of lists number = slice_index_or lists.queues number []
+
+abbrev pub in_order : Lists → ℕ → Queue
+in_order lists number = requests lists.held (nodes_of lists number)
+
+abbrev pub numbered : Lists → Option ℕ → Queue
+numbered lists None = []
+numbered lists (Some number) = in_order lists number
+
+-- the number of a resource's queue, if anyone asks for the resource
+abbrev pub number_of : Lines → Resource → Option ℕ
+number_of lines resource = option_flatten (get resource_cmp lines.numbers resource)
 
 -- the queue of a resource
 abbrev pub line : Lines → Resource → Queue
-line lines resource = requests_in (get resource_cmp lines resource)
+line lines resource = numbered lines.nodes (number_of lines resource)
 
-abbrev pub HasPlace : Option LineOf → Type 0
-HasPlace None = ⊥
-HasPlace (Some line) = 0 < line.room
-
--- one more request fits into the queue of a resource
+-- a number can be noted for a resource
 abbrev pub HasRoom : Lines → Resource → Type 0
-HasRoom lines resource = HasPlace (get resource_cmp lines resource)
-
--- nothing is kept of a resource that none asks for
-abbrev pub IsKeptForRequests : Lines → Resource → Type 0
-IsKeptForRequests lines resource = line lines resource ≡ [] → get resource_cmp lines resource ≡ None
+HasRoom lines resource = IsSome (get resource_cmp lines.numbers resource)
 
 abbrev pub is_same : Resource → Resource → Bool
 is_same a b = eq_by_cmp resource_cmp a b

@@ -1,19 +1,26 @@
 -- Of the code: invariants and steps; no promise rests on these words.
 -- What the parts of the code's lock tree have to do with each other.
-use Rattle.std.specs.Prelude.{◌≡◌, ℕ, ◌+◌, []}
+use Rattle.std.specs.Prelude.{◌≡◌, ℕ, ◌+◌, [], None}
 use Rattle.footprint.specs.declared.resource.Resource.{Resource}
+use Rattle.request_arena.specs.Lists.{free_nodes}
 use Rattle.lock_tree.specs.declared.transactions.Transactions.{Transactions}
 use Rattle.lock_tree.specs.Locks.{used}
 use Rattle.lock_tree.specs.Queues.{queue}
 use Rattle.lock_tree.specs.Views.{all_waiting}
 use Rattle.lock_tree.specs.Lines.{Lines, line}
 use Rattle.lock_tree.specs.Indexed.{IsIndexed}
+use Rattle.lock_tree.specs.Numbered.{IsNumbered}
+use Rattle.lock_tree.specs.Granted.{AreGranted}
+use Rattle.lock_tree.specs.Chained.{AreChained}
 use Rattle.lock_tree.specs.Known.{AreKnown}
 
 -- free room and requests fill the arena, later transactions have greater numbers and the open ones are noted, the queues are those of the transactions,
--- and each transaction knows whether it is ready
-pub record IsTree (arena free : ℕ) (transactions : Transactions) (queues : Lines) : Type 0 where
-  pub room : free + used (all_waiting transactions.entries.items) ≡ arena
+-- each request is chained to the next of its transaction, and each transaction knows whether it is ready
+pub record IsTree (arena : ℕ) (transactions : Transactions) (queues : Lines) : Type 0 where
+  pub room : free_nodes queues.nodes.held + used (all_waiting transactions.entries.items) ≡ arena
   pub indexed : IsIndexed transactions
+  pub numbered : IsNumbered queues None
+  pub granted : AreGranted queues
   pub lines : (resource : Resource) → line queues resource ≡ queue resource (all_waiting transactions.entries.items)
+  pub chained : AreChained queues transactions.entries.items
   pub known : AreKnown (line queues) [] transactions.entries.items

@@ -1,10 +1,12 @@
 //! The transactions that are enqueued and not released.
 
-ghost use Rattle.std.specs.Prelude.{◌≡◌, false, IfOk};
+ghost use Rattle.std.specs.Prelude.{◌≡◌, ◌≤◌, [], length, false, IfOk};
+ghost use Rattle.std.specs.Vec.{vec_capacity};
 ghost use Rattle.lock_tree.specs.Views.{waiting_of};
 
 use footprint::Resource;
 use modes::Mode;
+use request_arena::NodeId;
 use std::alloc::Global;
 use values::NoMemory;
 
@@ -13,24 +15,31 @@ use values::NoMemory;
 pub(crate) struct Enqueued {
     pub(crate) no: u64,
     pub(crate) plan: Vec<(Resource, Mode)>,
+    /// The number of each request's queue, in the order of the plan.
+    pub(crate) numbers: Vec<usize>,
+    /// The node of the first request, from which a chain leads to those of the others.
+    pub(crate) head: Option<NodeId>,
     pub(crate) marked: bool,
     pub(crate) ready: bool,
 }
 
 impl Enqueued {
-    /// A transaction without a mark.
+    /// A transaction without a mark, and room to note its queues.
     pub(crate) fn new(
         alloc: Global,
         no: u64,
         plan: &[(Resource, Mode)],
     ) -> Result<Enqueued, NoMemory>
-        ensures { IfOk result (λ entry.
+        ensures waiting { IfOk result (λ entry.
             waiting_of entry ≡ record { no = no; plan = plan.now; marked = false }) }
+        ensures numbers { IfOk result (λ entry. entry.numbers.items ≡ []) }
+        ensures room { IfOk result (λ entry. length plan.now ≤ vec_capacity entry.numbers) }
     {
-        let plan = Vec::from_slice(alloc, plan)?;
         Ok(Enqueued {
             no,
-            plan,
+            plan: Vec::from_slice(alloc, plan)?,
+            numbers: Vec::with_capacity(alloc, plan.len())?,
+            head: None,
             marked: false,
             ready: false,
         })

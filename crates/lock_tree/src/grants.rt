@@ -1,19 +1,25 @@
 //! What is granted.
 
-ghost use Rattle.std.specs.Prelude.{◌≡◌};
+ghost use Rattle.std.specs.Prelude.{◌≡◌, None};
 ghost use Rattle.lock_tree.specs.Lines.{line};
 ghost use Rattle.lock_tree.specs.Known.{granted_in};
+ghost use Rattle.lock_tree.specs.Numbered.{IsNumbered};
+ghost use Rattle.lock_tree.specs.Granted.{AreGranted};
+ghost use Rattle.lock_tree.specs.Chained.{IsChained};
 
-use crate::queues::{Queues, is_granted};
-use footprint::Resource;
-use modes::Mode;
+use crate::enqueued::Enqueued;
+use crate::granting::is_granted;
+use crate::lines::Lines;
 
-/// Whether each request of a plan is granted to the transaction.
-pub(crate) fn are_granted(queues: &Queues, plan: &[(Resource, Mode)], no: u64) -> bool
-    ensures { result ≡ granted_in (line queues.now) no plan.now }
+/// Whether each request of a transaction is granted.
+pub(crate) fn are_granted(lines: &Lines, entry: &Enqueued) -> bool
+    requires numbered { IsNumbered lines.now None }
+    requires granted { AreGranted lines.now }
+    requires chained { IsChained lines.now entry.now }
+    ensures { result ≡ granted_in (line lines.now) entry.now.no entry.now.plan.items }
 {
-    for (resource, _) in plan {
-        if !is_granted(queues, resource, no) {
+    for number in &entry.numbers {
+        if !is_granted(lines, *number, entry.no) {
             return false;
         }
     }

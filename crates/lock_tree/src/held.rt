@@ -1,6 +1,6 @@
 //! The modes that are held on a resource.
 
-ghost use Rattle.std.specs.Prelude.{◌≡◌, ◌<◌, ◌^◌, [], ◌∷◌, length, List};
+ghost use Rattle.std.specs.Prelude.{◌≡◌, ◌<◌, ◌+◌, ◌^◌, [], ◌∷◌, length, List};
 ghost use Rattle.std.specs.List.{list_all};
 ghost use Rattle.modes.specs.declared.mode.Mode.{Mode as AnyMode};
 ghost use Rattle.modes.specs.Modes.{are_compatible};
@@ -9,7 +9,7 @@ ghost use Rattle.lock_tree.specs.Held.{AreHeld, times, spares};
 use modes::{Mode, compatible};
 
 /// How many requests are granted in each mode.
-#[derive(Drop)]
+#[derive(Clone, Copy)]
 pub(crate) struct Held {
     intention_shared: usize,
     intention_exclusive: usize,
@@ -50,7 +50,7 @@ impl Held {
 
     /// One more request is granted in a mode.
     pub(crate) fn add(&mut self, mode: Mode)
-        requires { (held : List AnyMode) × AreHeld self.old held × (length held < 2 ^ 63) }
+        requires { (held : List AnyMode) × AreHeld self.old held × (length held + 1 < 2 ^ 64) }
         ensures { (held more : List AnyMode) → AreHeld self.old held →
             ((m : AnyMode) → times m more ≡ times m (mode ∷ held)) → AreHeld self.new more }
     {

@@ -1,13 +1,20 @@
 //! Transactions that join the queues of their plans.
 
-ghost use Rattle.std.specs.Prelude.{◌≡◌, [], ◌∷◌, ◌++◌, OnOk};
+ghost use Rattle.std.specs.Prelude.{◌≡◌, ◌≤◌, ◌+◌, [], ◌∷◌, ◌++◌, length, None, OnOk};
 ghost use Rattle.std.specs.List.{AllByRecursion};
 ghost use Rattle.std.specs.Map.{keys_of};
+ghost use Rattle.std.specs.Vec.{vec_capacity};
 ghost use Rattle.std.specs.List.Sorted.{IsStrictlySortedBy};
 ghost use Rattle.footprint.specs.declared.resource.Resource.{Resource as AnyResource};
 ghost use Rattle.footprint.specs.Tree.{resource_cmp};
+ghost use Rattle.request_arena.specs.Lists.{free_nodes};
+ghost use Rattle.lock_tree.specs.declared.enqueued.Enqueued.{Enqueued as AnyEnqueued};
 ghost use Rattle.lock_tree.specs.Queues.{asks, mode_on};
 ghost use Rattle.lock_tree.specs.Lines.{line, HasRoom, AllUnder, numbers_of};
+ghost use Rattle.lock_tree.specs.Numbered.{IsNumbered};
+ghost use Rattle.lock_tree.specs.Granted.{AreGranted};
+ghost use Rattle.lock_tree.specs.Chained.{Chains, IsChained, AreChained};
+ghost use Rattle.lock_tree.specs.Steps.{OthersChained};
 ghost use Rattle.lock_tree.specs.Enqueues.{AreBelow};
 ghost use Rattle.lock_tree.specs.Indexed.{IsIndexed, HasPlace};
 ghost use Rattle.lock_tree.specs.Known.{AreKnown};
@@ -15,59 +22,95 @@ ghost use Rattle.lock_tree.specs.Views.{waiting_of, all_waiting};
 
 use crate::enqueued::Enqueued;
 use crate::grants::are_granted;
-use crate::queues::{Queues, make_room, push};
+use crate::lines::Lines;
+use crate::queues::push;
 use crate::transactions::Transactions;
 use footprint::Resource;
 use modes::Mode;
-use std::alloc::Global;
+use request_arena::{NodeId, Request};
 use values::NoMemory;
 
 /// Makes room for each request of a plan.
-pub(crate) fn make_room_for(
-    alloc: Global,
-    queues: &mut Queues,
-    plan: &[(Resource, Mode)],
-) -> Result<(), NoMemory>
-    ensures same { (other : AnyResource) → line queues.new other ≡ line queues.old other }
-    ensures room { OnOk result (AllByRecursion (λ request. HasRoom queues.new request.0) plan.now) }
+pub(crate) fn make_room_for(lines: &mut Lines, plan: &[(Resource, Mode)]) -> Result<(), NoMemory>
+    requires numbered { IsNumbered lines.old None }
+    requires granted { AreGranted lines.old }
+    ensures numbered { IsNumbered lines.new None }
+    ensures granted { AreGranted lines.new }
+    ensures same { (other : AnyResource) → line lines.new other ≡ line lines.old other }
+    ensures free { free_nodes lines.new.nodes.held ≡ free_nodes lines.old.nodes.held }
+    ensures chained { (entry : AnyEnqueued) → IsChained lines.old entry → IsChained lines.new entry }
+    ensures room { OnOk result (AllByRecursion (λ request. HasRoom lines.new request.0) plan.now) }
 {
     for (resource, _) in plan {
-        make_room(alloc, queues, *resource)?;
+        lines.make_room(*resource)?;
     }
     Ok(())
 }
 
-/// Puts a transaction behind the others in the queues of its plan.
-fn join_all(queues: &mut Queues, plan: &[(Resource, Mode)], no: u64)
-    requires room { AllByRecursion (λ request. HasRoom queues.old request.0) plan.now }
+/// Puts a transaction behind the others in the queues of its plan: the first node of its chain. The numbers of the queues
+/// come behind those that are there.
+fn join_all(
+    lines: &mut Lines,
+    plan: &[(Resource, Mode)],
+    no: u64,
+    numbers: &mut Vec<usize>,
+) -> Option<NodeId>
+    requires numbered { IsNumbered lines.old None }
+    requires granted { AreGranted lines.old }
+    requires free { length plan.now ≤ free_nodes lines.old.nodes.held }
+    requires room { AllByRecursion (λ request. HasRoom lines.old request.0) plan.now }
     requires apart { IsStrictlySortedBy resource_cmp (keys_of plan.now) }
-    requires above { AllByRecursion (λ request. AllUnder no (numbers_of (line queues.old request.0))) plan.now }
-    ensures { (other : AnyResource) →
-        line queues.new other ≡ line queues.old other ++ asks no (mode_on other plan.now) [] }
+    requires above { AllByRecursion (λ request. AllUnder no (numbers_of (line lines.old request.0))) plan.now }
+    requires numbers { numbers.old.items ≡ [] }
+    requires capacity { length plan.now ≤ vec_capacity numbers.old }
+    ensures numbered { IsNumbered lines.new None }
+    ensures granted { AreGranted lines.new }
+    ensures free { free_nodes lines.new.nodes.held + length plan.now ≡ free_nodes lines.old.nodes.held }
+    ensures joined { (other : AnyResource) →
+        line lines.new other ≡ line lines.old other ++ asks no (mode_on other plan.now) [] }
+    ensures others { OthersChained no lines.old lines.new }
+    ensures chained { Chains lines.new no plan.now numbers.new.items result }
 {
+    let mut head = None;
+    let mut tail = None;
     for (resource, mode) in plan {
-        push(queues, resource, no, *mode);
+        let request = Request { no, mode: *mode };
+        let (number, node) = push(lines, resource, tail, request);
+        numbers.push_reserved(number);
+        head = head.or(Some(node));
+        tail = Some(node);
     }
+    head
 }
 
 /// Puts a transaction behind all others. There is room for it.
-pub(crate) fn join(queues: &mut Queues, transactions: &mut Transactions, mut entry: Enqueued)
-    requires room { AllByRecursion (λ request. HasRoom queues.old request.0) entry.plan.items }
+pub(crate) fn join(lines: &mut Lines, transactions: &mut Transactions, mut entry: Enqueued)
+    requires numbered { IsNumbered lines.old None }
+    requires granted { AreGranted lines.old }
+    requires free { length entry.plan.items ≤ free_nodes lines.old.nodes.held }
+    requires room { AllByRecursion (λ request. HasRoom lines.old request.0) entry.plan.items }
+    requires numbers { entry.numbers.items ≡ [] }
+    requires capacity { length entry.plan.items ≤ vec_capacity entry.numbers }
     requires indexed { IsIndexed transactions.old }
     requires place { HasPlace transactions.old }
     requires apart { IsStrictlySortedBy resource_cmp (keys_of entry.plan.items) }
     requires below { AreBelow entry.no (all_waiting transactions.old.entries.items) }
     requires above { AllByRecursion (λ request.
-        AllUnder entry.no (numbers_of (line queues.old request.0))) entry.plan.items }
-    requires known { AreKnown (line queues.old) [] transactions.old.entries.items }
+        AllUnder entry.no (numbers_of (line lines.old request.0))) entry.plan.items }
+    requires known { AreKnown (line lines.old) [] transactions.old.entries.items }
+    requires chained { AreChained lines.old transactions.old.entries.items }
+    ensures numbered { IsNumbered lines.new None }
+    ensures granted { AreGranted lines.new }
+    ensures free { free_nodes lines.new.nodes.held + length entry.plan.items ≡ free_nodes lines.old.nodes.held }
     ensures indexed { IsIndexed transactions.new }
     ensures joined { (other : AnyResource) →
-        line queues.new other ≡ line queues.old other ++ asks entry.no (mode_on other entry.plan.items) [] }
+        line lines.new other ≡ line lines.old other ++ asks entry.no (mode_on other entry.plan.items) [] }
     ensures waiting { all_waiting transactions.new.entries.items ≡ all_waiting transactions.old.entries.items
         ++ waiting_of entry ∷ [] }
-    ensures known { AreKnown (line queues.new) [] transactions.new.entries.items }
+    ensures known { AreKnown (line lines.new) [] transactions.new.entries.items }
+    ensures chained { AreChained lines.new transactions.new.entries.items }
 {
-    join_all(queues, entry.plan.as_slice(), entry.no);
-    entry.ready = are_granted(queues, entry.plan.as_slice(), entry.no);
+    entry.head = join_all(lines, entry.plan.as_slice(), entry.no, &mut entry.numbers);
+    entry.ready = are_granted(lines, &entry);
     transactions.push(entry);
 }

@@ -2,14 +2,17 @@
 #![tactic(auto)]
 
 mod enqueued;
+mod granting;
 mod grants;
 mod held;
 mod joining;
 mod laws;
+mod line;
+mod lines;
 mod noting;
+mod numbering;
 mod opening;
 mod queues;
-mod request_line;
 mod room;
 mod transactions;
 mod tree;

@@ -1,88 +1,147 @@
 //! Transactions that leave their queues, and who gets ready.
 
-ghost use Rattle.std.specs.Prelude.{◌≡◌, drop, [], ◌∷◌, ◌==◌, false, None, if◌then◌else◌};
+ghost use Rattle.std.specs.Prelude.{◌≡◌, ◌<◌, ◌+◌, drop, length, [], ◌∷◌, ◌==◌, false, None, Some, slice_get, if◌then◌else◌};
 ghost use Rattle.std.specs.List.{AllByRecursion};
 ghost use Rattle.footprint.specs.declared.resource.Resource.{Resource as AnyResource};
 ghost use Rattle.modes.specs.declared.mode.Mode.{Mode as AnyMode};
+ghost use Rattle.request_arena.specs.Lists.{free_nodes};
 ghost use Rattle.lock_tree.specs.Indexed.{IsIndexed};
 ghost use Rattle.lock_tree.specs.Queues.{Queue, granted, mode_on};
-ghost use Rattle.lock_tree.specs.Lines.{line, is_same, others};
+ghost use Rattle.lock_tree.specs.Lines.{line, nodes_of, in_order, is_same, others};
+ghost use Rattle.lock_tree.specs.Numbered.{IsNumbered};
+ghost use Rattle.lock_tree.specs.Granted.{AreGranted};
+ghost use Rattle.lock_tree.specs.Chained.{Chains, AreChained, IsPlaced, Begins};
+ghost use Rattle.lock_tree.specs.Steps.{IsShorter};
 ghost use Rattle.lock_tree.specs.Known.{AreKnown};
 ghost use Rattle.lock_tree.specs.Views.{all_waiting};
 
 use crate::grants::are_granted;
-use crate::queues::{Queues, granted_at, remove};
+use crate::lines::Lines;
+use crate::queues::remove;
 use crate::transactions::{Transactions, place_of};
 use footprint::Resource;
 use modes::Mode;
+use request_arena::NodeId;
 
 /// Notes whether a transaction is ready.
-fn note(queues: &Queues, transactions: &mut Transactions, no: u64)
-    requires { IsIndexed transactions.old }
+fn note(lines: &Lines, transactions: &mut Transactions, no: u64)
+    requires numbered { IsNumbered lines.now None }
+    requires granted { AreGranted lines.now }
+    requires indexed { IsIndexed transactions.old }
+    requires chained { AreChained lines.now transactions.old.entries.items }
     ensures indexed { IsIndexed transactions.new }
     ensures same { all_waiting transactions.new.entries.items ≡ all_waiting transactions.old.entries.items }
     ensures noted { (mode : AnyMode) (lately : Queue) →
-        AreKnown (line queues.now) ((no, mode) ∷ lately) transactions.old.entries.items →
-        AreKnown (line queues.now) lately transactions.new.entries.items }
+        AreKnown (line lines.now) ((no, mode) ∷ lately) transactions.old.entries.items →
+        AreKnown (line lines.now) lately transactions.new.entries.items }
+    ensures chained { AreChained lines.now transactions.new.entries.items }
 {
     if let Some(place) = place_of(&transactions.entries, no) {
-        let ready = are_granted(queues, transactions.entries[place].plan.as_slice(), no);
+        let ready = are_granted(lines, &transactions.entries[place]);
         transactions.set_ready(place, ready);
     }
 }
 
-/// Notes which of the transactions are ready whose requests on a resource are granted, from a place on.
-fn note_granted(queues: &Queues, transactions: &mut Transactions, resource: &Resource, first: usize)
+/// Notes which of the transactions are ready whose requests in a queue are granted, from a place on, where a node stands.
+fn note_granted(
+    lines: &Lines,
+    transactions: &mut Transactions,
+    number: usize,
+    mut place: usize,
+    mut first: Option<NodeId>,
+)
+    requires numbered { IsNumbered lines.now None }
+    requires granted { AreGranted lines.now }
+    requires within { number < length lines.now.lines.items }
+    requires first { first ≡ slice_get (nodes_of lines.now.nodes number) place }
     requires indexed { IsIndexed transactions.old }
-    requires known { AreKnown (line queues.now)
-        (drop first (granted (line queues.now resource.now))) transactions.old.entries.items }
+    requires known { AreKnown (line lines.now)
+        (drop place (granted (in_order lines.now.nodes number))) transactions.old.entries.items }
+    requires chained { AreChained lines.now transactions.old.entries.items }
     ensures indexed { IsIndexed transactions.new }
     ensures same { all_waiting transactions.new.entries.items ≡ all_waiting transactions.old.entries.items }
-    ensures known { AreKnown (line queues.now) [] transactions.new.entries.items }
+    ensures known { AreKnown (line lines.now) [] transactions.new.entries.items }
+    ensures chained { AreChained lines.now transactions.new.entries.items }
 {
-    let mut place = first;
-    while let Some(no) = granted_at(queues, resource, place) {
-        note(queues, transactions, no);
+    lines.nodes.nodes_stand_apart();
+    let granted = lines.lines[number].granted;
+    while place < granted {
+        let Some(node) = first else { unreachable!() };
+        note(lines, transactions, lines.nodes.get(node).no);
+        first = lines.nodes.next(node);
         place += 1;
     }
 }
 
-/// Takes a transaction off a resource's queue, and notes who gets ready.
-fn leave_one(queues: &mut Queues, transactions: &mut Transactions, resource: &Resource, no: u64)
+/// Takes the first node of a transaction's chain out of the queue of its resource, and notes who gets ready: the next of
+/// the chain.
+fn leave_one(
+    lines: &mut Lines,
+    transactions: &mut Transactions,
+    resource: &Resource,
+    number: usize,
+    node: NodeId,
+    no: u64,
+) -> Option<NodeId>
+    requires numbered { IsNumbered lines.old None }
+    requires granted { AreGranted lines.old }
+    requires placed { IsPlaced lines.old no resource.now number node }
+    requires begins { Begins lines.old (Some node) }
     requires indexed { IsIndexed transactions.old }
     requires others { AllByRecursion (λ waiting.
         (waiting.no == no) ≡ false) (all_waiting transactions.old.entries.items) }
-    requires known { AreKnown (line queues.old) [] transactions.old.entries.items }
+    requires known { AreKnown (line lines.old) [] transactions.old.entries.items }
+    requires chained { AreChained lines.old transactions.old.entries.items }
+    ensures numbered { IsNumbered lines.new None }
+    ensures granted { AreGranted lines.new }
+    ensures free { free_nodes lines.new.nodes.held ≡ free_nodes lines.old.nodes.held + 1 }
     ensures left { (other : AnyResource) →
-        line queues.new other ≡ (if is_same other resource.now then others no (line queues.old other)
-        else line queues.old other) }
+        line lines.new other ≡ (if is_same other resource.now then others no (line lines.old other)
+        else line lines.old other) }
+    ensures shorter { IsShorter no node result lines.old lines.new }
     ensures indexed { IsIndexed transactions.new }
     ensures same { all_waiting transactions.new.entries.items ≡ all_waiting transactions.old.entries.items }
-    ensures known { AreKnown (line queues.new) [] transactions.new.entries.items }
+    ensures known { AreKnown (line lines.new) [] transactions.new.entries.items }
+    ensures chained { AreChained lines.new transactions.new.entries.items }
 {
-    let stay = remove(queues, resource, no);
-    note_granted(queues, transactions, resource, stay);
+    let left = remove(lines, resource, number, node, no);
+    note_granted(lines, transactions, number, left.stay, left.first);
+    left.behind
 }
 
-/// Takes a transaction off the queues of a plan, and notes who gets ready.
+/// Takes a transaction off the queues of its plan, whose numbers are given, node by node along its chain, and notes who gets
+/// ready.
 pub(crate) fn leave_all(
-    queues: &mut Queues,
+    lines: &mut Lines,
     transactions: &mut Transactions,
     plan: &[(Resource, Mode)],
+    numbers: &[usize],
+    mut head: Option<NodeId>,
     no: u64,
 )
+    requires numbered { IsNumbered lines.old None }
+    requires granted { AreGranted lines.old }
+    requires chain { Chains lines.old no plan.now numbers.now head }
     requires indexed { IsIndexed transactions.old }
     requires others { AllByRecursion (λ waiting.
         (waiting.no == no) ≡ false) (all_waiting transactions.old.entries.items) }
-    requires known { AreKnown (line queues.old) [] transactions.old.entries.items }
+    requires known { AreKnown (line lines.old) [] transactions.old.entries.items }
+    requires chained { AreChained lines.old transactions.old.entries.items }
     requires elsewhere { (other : AnyResource) → mode_on other plan.now ≡ None →
-        others no (line queues.old other) ≡ line queues.old other }
-    ensures left { (other : AnyResource) → line queues.new other ≡ others no (line queues.old other) }
+        others no (line lines.old other) ≡ line lines.old other }
+    ensures numbered { IsNumbered lines.new None }
+    ensures granted { AreGranted lines.new }
+    ensures free { free_nodes lines.new.nodes.held ≡ free_nodes lines.old.nodes.held + length plan.now }
+    ensures left { (other : AnyResource) → line lines.new other ≡ others no (line lines.old other) }
     ensures indexed { IsIndexed transactions.new }
     ensures same { all_waiting transactions.new.entries.items ≡ all_waiting transactions.old.entries.items }
-    ensures known { AreKnown (line queues.new) [] transactions.new.entries.items }
+    ensures known { AreKnown (line lines.new) [] transactions.new.entries.items }
+    ensures chained { AreChained lines.new transactions.new.entries.items }
 {
+    let mut place = 0;
     for (resource, _) in plan {
-        leave_one(queues, transactions, resource, no);
+        let Some(node) = head else { unreachable!() };
+        head = leave_one(lines, transactions, resource, numbers[place], node, no);
+        place += 1;
     }
 }

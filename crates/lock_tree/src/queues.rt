@@ -1,119 +1,81 @@
-//! The queues of resources.
+//! Requests that come into the queue of a resource and leave it.
 
-ghost use Rattle.std.specs.Prelude.{◌≡◌, ◌<◌, ◌+◌, ◌^◌, [], ◌∷◌, ◌++◌, ◌==◌, false, length, slice_get, option_map, IfSome, OnOk, if◌then◌else◌};
+ghost use Rattle.std.specs.Prelude.{◌≡◌, ◌<◌, ◌+◌, [], ◌∷◌, ◌++◌, ◌==◌, ℕ, Some, None, IfSome, length, slice_get, if◌then◌else◌};
+ghost use Rattle.std.specs.BTreeMap.{get};
 ghost use Rattle.footprint.specs.declared.resource.Resource.{Resource as AnyResource};
-ghost use Rattle.lock_tree.specs.Queues.{granted, has_number};
-ghost use Rattle.lock_tree.specs.Lines.{line, HasRoom, AllUnder, numbers_of, is_same, others, IsKeptForRequests};
+ghost use Rattle.footprint.specs.Tree.{resource_cmp};
+ghost use Rattle.request_arena.specs.Lists.{free_nodes, EndsChain};
+ghost use Rattle.lock_tree.specs.Queues.{granted};
+ghost use Rattle.lock_tree.specs.Lines.{line, nodes_of, in_order, request_at, HasRoom, AllUnder, numbers_of, is_same, others};
+ghost use Rattle.lock_tree.specs.Numbered.{IsNumbered};
+ghost use Rattle.lock_tree.specs.Granted.{AreGranted};
+ghost use Rattle.lock_tree.specs.Chained.{IsPlaced, Begins};
+ghost use Rattle.lock_tree.specs.Steps.{OthersChained, IsLonger, IsShorter};
 
-use crate::request_line::RequestLine;
+use crate::granting::{Left, add, leave};
+use crate::lines::Lines;
+use crate::numbering::{forget_empty, number_for};
 use footprint::Resource;
-use modes::Mode;
-use std::alloc::Global;
-use std::collections::BTreeMap;
-use values::NoMemory;
+use request_arena::{NodeId, Request};
 
-/// The requests on each resource, in order. A resource that none asks for may have an empty queue.
-pub(crate) type Queues = BTreeMap<Resource, RequestLine>;
-
-/// Whether a transaction's request on a resource is granted.
-pub(crate) fn is_granted(queues: &Queues, resource: &Resource, no: u64) -> bool
-    ensures { result ≡ has_number no (granted (line queues.now resource.now)) }
-{
-    match queues.get(resource) {
-        Some(line) => line.is_granted(no),
-        None => false,
-    }
-}
-
-/// The number of the granted request at a place of a resource's queue, `None` where none is granted there.
-pub(crate) fn granted_at(queues: &Queues, resource: &Resource, place: usize) -> Option<u64>
-    ensures within { IfSome result (λ _. place + 1 < 2 ^ 64) }
-    ensures number { result ≡ option_map (λ request.
-        request.0) (slice_get (granted (line queues.now resource.now)) place) }
-{
-    match queues.get(resource) {
-        Some(line) => line.granted_at(place),
-        None => None,
-    }
-}
-
-/// Makes room for one more request on a resource.
-pub(crate) fn make_room(
-    alloc: Global,
-    queues: &mut Queues,
-    resource: Resource,
-) -> Result<(), NoMemory>
-    ensures same { (other : AnyResource) → line queues.new other ≡ line queues.old other }
-    ensures room { OnOk result (HasRoom queues.new resource) }
-    ensures kept { (other : AnyResource) → HasRoom queues.old other → HasRoom queues.new other }
-{
-    if let Some(line) = queues.get_mut(&resource) {
-        line.make_place()?;
-        return Ok(());
-    }
-    let line = RequestLine::with_place(alloc)?;
-    queues.insert(resource, line)?;
-    Ok(())
-}
-
-/// Puts a request behind the others on its resource.
-pub(crate) fn push(queues: &mut Queues, resource: &Resource, no: u64, mode: Mode)
-    requires room { HasRoom queues.old resource.now }
-    requires above { AllUnder no (numbers_of (line queues.old resource.now)) }
+/// Puts a request behind the others on its resource, and behind the tail of its transaction's chain: the number of its
+/// queue, and its node. There is room for it.
+pub(crate) fn push(
+    lines: &mut Lines,
+    resource: &Resource,
+    tail: Option<NodeId>,
+    request: Request,
+) -> (usize, NodeId)
+    requires numbered { IsNumbered lines.old None }
+    requires granted { AreGranted lines.old }
+    requires free { 0 < free_nodes lines.old.nodes.held }
+    requires room { HasRoom lines.old resource.now }
+    requires above { AllUnder request.no (numbers_of (line lines.old resource.now)) }
+    requires tail { IfSome tail (λ t. EndsChain lines.old.nodes t
+        × ((request_at lines.old.nodes.held t).0 ≡ request.no)) }
+    ensures numbered { IsNumbered lines.new None }
+    ensures granted { AreGranted lines.new }
+    ensures free { free_nodes lines.new.nodes.held + 1 ≡ free_nodes lines.old.nodes.held }
     ensures pushed { (other : AnyResource) →
-        line queues.new other ≡ (if is_same other resource.now then line queues.old other ++ (no, mode) ∷ []
-        else line queues.old other) }
-    ensures room { (other : AnyResource) → is_same other resource.now ≡ false → HasRoom queues.old other →
-        HasRoom queues.new other }
+        line lines.new other ≡ (if is_same other resource.now then line lines.old other ++ (request.no, request.mode) ∷ []
+        else line lines.old other) }
+    ensures room { (other : AnyResource) → HasRoom lines.old other → HasRoom lines.new other }
+    ensures others { OthersChained request.no lines.old lines.new }
+    ensures longer { IsLonger request.no resource.now result.0 tail result.1 lines.old lines.new }
 {
-    if let Some(line) = queues.get_mut(resource) {
-        line.push(no, mode);
-    }
+    let number = number_for(lines, resource);
+    let node = add(lines, number, tail, request);
+    (number, node)
 }
 
-/// Takes a transaction off a resource's queue: how many of the others were granted before.
-fn leave_line(queues: &mut Queues, resource: &Resource, no: u64) -> usize
+/// Takes the first node of a transaction's chain out of the queue of its resource, and forgets the resource where none asks
+/// for it.
+pub(crate) fn remove(
+    lines: &mut Lines,
+    resource: &Resource,
+    number: usize,
+    node: NodeId,
+    no: u64,
+) -> Left
+    requires numbered { IsNumbered lines.old None }
+    requires granted { AreGranted lines.old }
+    requires placed { IsPlaced lines.old no resource.now number node }
+    requires begins { Begins lines.old (Some node) }
+    ensures numbered { IsNumbered lines.new None }
+    ensures granted { AreGranted lines.new }
+    ensures within { number < length lines.new.lines.items }
+    ensures free { free_nodes lines.new.nodes.held ≡ free_nodes lines.old.nodes.held + 1 }
     ensures left { (other : AnyResource) →
-        line queues.new other ≡ (if is_same other resource.now then others no (line queues.old other)
-        else line queues.old other) }
-    ensures stay { result ≡ length (others no (granted (line queues.old resource.now))) }
+        line lines.new other ≡ (if is_same other resource.now then others no (line lines.old other)
+        else line lines.old other) }
+    ensures here { in_order lines.new.nodes number ≡ others no (line lines.old resource.now) }
+    ensures stay { result.stay ≡ length (others no (granted (line lines.old resource.now))) }
+    ensures first { result.first ≡ slice_get (nodes_of lines.new.nodes number) result.stay }
+    ensures kept { line lines.new resource.now ≡ [] → get resource_cmp lines.new.numbers resource.now ≡ None }
+    ensures others { OthersChained no lines.old lines.new }
+    ensures shorter { IsShorter no node result.behind lines.old lines.new }
 {
-    match queues.get_mut(resource) {
-        Some(line) => line.leave(no),
-        None => 0,
-    }
-}
-
-/// Whether none asks for a resource.
-fn is_unasked(queues: &Queues, resource: &Resource) -> bool
-    ensures { result ≡ (length (line queues.now resource.now) == 0) }
-{
-    match queues.get(resource) {
-        Some(line) => line.is_empty(),
-        None => true,
-    }
-}
-
-/// Forgets a resource that none asks for.
-fn forget_empty(queues: &mut Queues, resource: &Resource)
-    ensures same { (other : AnyResource) → line queues.new other ≡ line queues.old other }
-    ensures kept { IsKeptForRequests queues.new resource.now }
-{
-    if is_unasked(queues, resource) {
-        queues.remove(resource);
-    }
-}
-
-/// Takes a transaction off a resource's queue, and forgets the resource where none asks for it: how many of the others
-/// were granted before.
-pub(crate) fn remove(queues: &mut Queues, resource: &Resource, no: u64) -> usize
-    ensures left { (other : AnyResource) →
-        line queues.new other ≡ (if is_same other resource.now then others no (line queues.old other)
-        else line queues.old other) }
-    ensures stay { result ≡ length (others no (granted (line queues.old resource.now))) }
-    ensures kept { IsKeptForRequests queues.new resource.now }
-{
-    let stay = leave_line(queues, resource, no);
-    forget_empty(queues, resource);
-    stay
+    let left = leave(lines, number, node, no);
+    forget_empty(lines, resource, number);
+    left
 }

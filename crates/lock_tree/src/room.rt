@@ -11,6 +11,6 @@ impl LockTree {
     pub fn has_room(&self, plan: &Plan) -> bool
         ensures { result ≡ nat_le (used self.now.waiting + length plan.now) self.now.arena }
     {
-        plan.requests().len() <= self.free
+        plan.requests().len() <= self.lines.nodes.free()
     }
 }

@@ -7,9 +7,9 @@ ghost use Rattle.lock_tree.specs.Enqueues.{AreBelow};
 
 use crate::enqueued::Enqueued;
 use crate::joining::{join, make_room_for};
+use crate::lines::Lines;
 use crate::noting::leave_all;
 use crate::opening::least;
-use crate::queues::Queues;
 use crate::transactions::{Transactions, place_of};
 use coarsen::Plan;
 use std::alloc::Global;
@@ -30,9 +30,8 @@ pub enum EnqueueFault {
 pub struct LockTree {
     alloc: Global,
     arena: usize,
-    pub(crate) free: usize,
     transactions: Transactions,
-    queues: Queues,
+    pub(crate) lines: Lines,
 }
 
 impl Model for LockTree {
@@ -49,7 +48,7 @@ impl Model for LockTree {
 
     ghost use Rattle.lock_tree.specs.Sound.{IsTree};
 
-    ghost invariant = { λ t. IsTree t.arena t.free t.transactions t.queues };
+    ghost invariant = { λ t. IsTree t.arena t.transactions t.lines };
 }
 
 impl LockTree {
@@ -60,9 +59,8 @@ impl LockTree {
         Ok(LockTree {
             alloc,
             arena,
-            free: arena,
             transactions: Transactions::new(alloc),
-            queues: Queues::new(alloc),
+            lines: Lines::new(alloc, arena)?,
         })
     }
 
@@ -78,15 +76,13 @@ impl LockTree {
         ensures full { (result ≡ Err EnqueueFault.Full) ↔ (self.old.arena < used self.old.waiting + length plan.now) }
         ensures err { OnErr result (self.new ≡ self.old) }
     {
-        let size = plan.requests().len();
-        if size > self.free {
+        if plan.requests().len() > self.lines.nodes.free() {
             return Err(EnqueueFault::Full);
         }
         let entry = Enqueued::new(self.alloc, no, plan.requests())?;
         self.transactions.make_place()?;
-        make_room_for(self.alloc, &mut self.queues, plan.requests())?;
-        join(&mut self.queues, &mut self.transactions, entry);
-        self.free -= size;
+        make_room_for(&mut self.lines, plan.requests())?;
+        join(&mut self.lines, &mut self.transactions, entry);
         Ok(())
     }
 
@@ -138,11 +134,12 @@ impl LockTree {
     {
         if let Some(place) = place_of(&self.transactions.entries, no) {
             let entry = self.transactions.remove(place);
-            self.free += entry.plan.len();
             leave_all(
-                &mut self.queues,
+                &mut self.lines,
                 &mut self.transactions,
                 entry.plan.as_slice(),
+                entry.numbers.as_slice(),
+                entry.head,
                 no,
             );
         }

@@ -4,5 +4,5 @@ use Rattle.lock_tree.specs.Known.{granted_in}
 use Rattle.lock_tree.proofs.grants.are_granted.Given as goal
 
 -- what is left decides
-abbrev pub invariant-loop-resource : goal.invariant-loop-resource
-invariant-loop-resource l = granted_in (line l.queues) l.no (drop l.resource-index l.plan) ≡ granted_in (line l.queues) l.no l.plan
+abbrev pub invariant-loop-number : goal.invariant-loop-number
+invariant-loop-number l = granted_in (line l.lines) l.entry.no (drop l.number-index l.entry.plan.items) ≡ granted_in (line l.lines) l.entry.no l.entry.plan.items

@@ -1,4 +1,4 @@
-use Rattle.std.proofs.Common.{◌≡◌, ℕ, ap, ◌∙◌, sym, subst, length}
+use Rattle.std.proofs.Common.{◌≡◌, ℕ, ap, ◌∙◌, sym, subst, length, arith}
 use Rattle.std.specs.List.{AllByRecursion}
 use Rattle.coarsen.specs.Subtrees.{Requests}
 use Rattle.lock_tree.specs.Locks.{Locks, Waiting}
@@ -7,31 +7,47 @@ use Rattle.lock_tree.specs.Lines.{line, HasRoom}
 use Rattle.lock_tree.specs.Views.{all_waiting}
 use Rattle.lock_tree.proofs.Queueing.{plan_under_next}
 use Rattle.lock_tree.proofs.Trees.{same_tree, known_as_before, joined_tree}
+use Rattle.lock_tree.specs.Chained.{AreChained}
+use Rattle.lock_tree.proofs.Chaining.{chained_same}
 use Rattle.lock_tree.proofs.tree.LockTree.enqueue.Goals as goal
 
 pub invariant_of-self-in_err-make_room_for : goal.invariant_of-self-in_err-make_room_for
 invariant_of-self-in_err-make_room_for c =
-    same_tree c.self.inside.arena c.self.inside.free c.self.inside.transactions c.make_place.new.self c.self.inside.queues c.make_room_for.new.queues c.make_room_for.ensures.same c.make_place.ensures.same c.make_place.ensures.indexed c.self.invariant
+    let made = c.in_err-make_room_for.ensures in
+    same_tree c.self.inside.arena c.self.inside.transactions c.make_place.new.self c.self.inside.lines c.make_room_for.new.lines made.numbered made.granted made.free made.same made.chained
+    c.make_place.ensures.same c.make_place.ensures.indexed c.self.invariant
 
 pub join-requires-clause-known : goal.join-requires-clause-known
 join-requires-clause-known c =
-    known_as_before c.self.inside.queues c.make_room_for.new.queues c.self.inside.transactions.entries.items c.make_place.new.self.entries.items c.make_room_for.ensures.same c.make_place.ensures.same c.self.invariant.known
+    known_as_before c.self.inside.lines c.make_room_for.new.lines c.self.inside.transactions.entries.items c.make_place.new.self.entries.items c.make_room_for.ensures.same c.make_place.ensures.same c.self.invariant.known
+
+pub join-requires-clause-chained : goal.join-requires-clause-chained
+join-requires-clause-chained c =
+    subst (AreChained c.make_room_for.new.lines) (sym c.make_place.ensures.same) (chained_same c.self.inside.lines c.make_room_for.new.lines c.make_room_for.ensures.chained c.self.inside.transactions.entries.items c.self.invariant.chained)
 
 pub join-requires-clause-above : goal.join-requires-clause-above
 join-requires-clause-above c =
-    plan_under_next c.in_ok-entry.entry.no (line c.make_room_for.new.queues) (all_waiting c.self.inside.transactions.entries.items) (λ r. c.make_room_for.ensures.same r ∙ c.self.invariant.lines r)
+    plan_under_next c.in_ok-entry.entry.no (line c.make_room_for.new.lines) (all_waiting c.self.inside.transactions.entries.items) (λ r. c.make_room_for.ensures.same r ∙ c.self.invariant.lines r)
     (subst (AreBelow c.in_ok-entry.entry.no) (sym (ap (λ (l : Locks). l.waiting) c.self.view_is))
-    (subst (λ (n : ℕ). AreBelow n c.args.self.now.waiting) (sym (ap (λ (w : Waiting). w.no) c.in_ok-entry.ensures)) c.requires)) c.in_ok-entry.entry.plan.items
-
-pub invariant_of-self-2 : goal.invariant_of-self-2
-invariant_of-self-2 c =
-    let e = c.in_ok-entry.entry in
-    let plan : e.plan.items ≡ c.requests.result.now = ap (λ (w : Waiting). w.plan) c.in_ok-entry.ensures in
-    joined_tree c.self.inside.arena c.self.inside.free _ c.self.inside.transactions c.make_place.new.self c.join.new.transactions e c.self.inside.queues c.make_room_for.new.queues c.join.new.queues
-    c.self.invariant c.make_place.ensures.same c.make_room_for.ensures.same (ap length (c.requests-size.ensures.same ∙ sym c.requests.ensures.same ∙ sym plan)) c.if-size-self.false
-    c.join.ensures.indexed c.join.ensures.joined c.join.ensures.waiting c.join.ensures.known
+    (subst (λ (n : ℕ). AreBelow n c.args.self.now.waiting) (sym (ap (λ (w : Waiting). w.no) c.in_ok-entry.ensures.waiting)) c.requires)) c.in_ok-entry.entry.plan.items
 
 pub join-requires-clause-room : goal.join-requires-clause-room
 join-requires-clause-room c =
-    let plan : c.in_ok-entry.entry.plan.items ≡ c.requests.result.now = ap (λ (w : Waiting). w.plan) c.in_ok-entry.ensures in
-    subst (λ (plan : Requests). AllByRecursion (λ request. HasRoom c.make_room_for.new.queues request.0) plan) (c.requests-2.ensures.same ∙ sym c.requests.ensures.same ∙ sym plan) c.in_ok-make_room_for.ensures.room
+    let plan : c.in_ok-entry.entry.plan.items ≡ c.requests-2.result.now = ap (λ (w : Waiting). w.plan) c.in_ok-entry.ensures.waiting in
+    subst (λ (plan : Requests). AllByRecursion (λ request. HasRoom c.make_room_for.new.lines request.0) plan) (c.requests-3.ensures.same ∙ sym c.requests-2.ensures.same ∙ sym plan) c.in_ok-make_room_for.ensures.room
+
+pub join-requires-clause-free : goal.join-requires-clause-free
+join-requires-clause-free c =
+    let plan : c.in_ok-entry.entry.plan.items ≡ c.requests-2.result.now = ap (λ (w : Waiting). w.plan) c.in_ok-entry.ensures.waiting in
+    let n : length c.in_ok-entry.entry.plan.items ≡ length c.requests.result.now = ap length (plan ∙ c.requests-2.ensures.same ∙ sym c.requests.ensures.same) in
+    let few = c.if-requests-free.false in let free = c.free.ensures.free in let same = c.make_room_for.ensures.free in omega (arith, n, few, free, same)
+
+pub join-requires-clause-capacity : goal.join-requires-clause-capacity
+join-requires-clause-capacity c =
+    let n : length c.in_ok-entry.entry.plan.items ≡ length c.requests-2.result.now = ap length (ap (λ (w : Waiting). w.plan) c.in_ok-entry.ensures.waiting) in let room = c.in_ok-entry.ensures.room in omega (arith, n, room)
+
+pub invariant_of-self-2 : goal.invariant_of-self-2
+invariant_of-self-2 c =
+    joined_tree c.self.inside.arena c.self.inside.transactions c.make_place.new.self c.join.new.transactions c.in_ok-entry.entry c.self.inside.lines c.make_room_for.new.lines c.join.new.lines
+    c.self.invariant c.make_place.ensures.same c.make_room_for.ensures.same c.make_room_for.ensures.free
+    c.join.ensures.indexed c.join.ensures.joined c.join.ensures.waiting c.join.ensures.known c.join.ensures.numbered c.join.ensures.granted c.join.ensures.free c.join.ensures.chained

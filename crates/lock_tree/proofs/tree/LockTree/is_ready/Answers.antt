@@ -8,7 +8,7 @@ use Rattle.lock_tree.proofs.tree.LockTree.is_ready.Goals as goal
 
 pub returns-in-Some : goal.returns-in-Some
 returns-in-Some c =
-    ready_flag c.self.inside.queues c.self.inside.transactions.entries.items c.self.inside.transactions.entries.items c.args.self.now.waiting c.args.no c.in-Some.place c.index.result.now refl
+    ready_flag c.self.inside.lines c.self.inside.transactions.entries.items c.self.inside.transactions.entries.items c.args.self.now.waiting c.args.no c.in-Some.place c.index.result.now refl
     (ap (λ (l : Locks). l.waiting) c.self.view_is) c.self.invariant.lines c.self.invariant.known c.in-Some.ensures.exact c.in-Some.ensures.within c.index.ensures
 
 pub returns-in-None : goal.returns-in-None

@@ -7,5 +7,5 @@ use Rattle.lock_tree.proofs.tree.LockTree.next_ready.Goals as goal
 pub returns : goal.returns
 returns c =
     subst (IsNextReady c.args.self.now.waiting) (sym c.least.ensures)
-    (next_is c.self.inside.queues c.self.inside.transactions.entries.items c.args.self.now.waiting (ap (λ (l : Locks). l.waiting) c.self.view_is) c.self.invariant.indexed.rising c.self.invariant.lines c.self.invariant.known
+    (next_is c.self.inside.lines c.self.inside.transactions.entries.items c.args.self.now.waiting (ap (λ (l : Locks). l.waiting) c.self.view_is) c.self.invariant.indexed.rising c.self.invariant.lines c.self.invariant.known
     c.self.inside.transactions.open.items c.self.invariant.indexed.open_ones)

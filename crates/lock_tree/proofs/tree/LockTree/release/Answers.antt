@@ -8,7 +8,10 @@ use Rattle.lock_tree.specs.Lines.{line, others}
 use Rattle.lock_tree.specs.Known.{AreKnown}
 use Rattle.lock_tree.specs.Queues.{mode_on}
 use Rattle.lock_tree.proofs.Places.{at, plan_at, removed_at, no_without, used_at}
-use Rattle.lock_tree.proofs.Trees.{queue_elsewhere, others_without, known_removed, left_tree}
+use Rattle.coarsen.specs.Subtrees.{Requests}
+use Rattle.lock_tree.proofs.Trees.{number_at, queue_elsewhere, others_without, known_removed, left_tree}
+use Rattle.lock_tree.specs.Chained.{IsChained, Chains, AreChained}
+use Rattle.lock_tree.proofs.Chaining.{chained_at, chained_removed}
 use Rattle.lock_tree.proofs.tree.LockTree.release.Goals as goal
 
 -- the entries without the one that is released
@@ -28,13 +31,6 @@ plan_taken : (k i : ℕ) (es seen : List Enqueued) (d : Enqueued) → seen ≡ e
 plan_taken k i es seen d same h is =
     plan_at k es i d (ap (λ (xs : List Enqueued). place_of k (all_waiting xs)) (sym same) ∙ h) ∙ ap (λ (x : Enqueued). Some x.plan.items) (sym is)
 
-pub overflow_add-self : goal.overflow_add-self
-overflow_add-self c =
-    let u = freed c.args.no c.in-Some.place c.self.inside.transactions.entries.items c.self.inside.transactions.entries.items c.remove-entry.result refl c.self.invariant.indexed.rising (sym c.in-Some.ensures.exact) c.remove-entry.ensures.value in
-    let n : c.len.result ≡ length c.remove-entry.result.plan.items = c.len.ensures ∙ c.remove-entry.result.plan.ok.0 in
-    let all = c.self.invariant.room in
-    omega (arith, u, n, all, c.self.ranges)
-
 pub leave_all-requires-clause-others : goal.leave_all-requires-clause-others
 leave_all-requires-clause-others c =
     let same = left c.args.no c.in-Some.place c.self.inside.transactions.entries.items c.self.inside.transactions.entries.items c.remove-entry.new.self.entries.items refl c.self.invariant.indexed.rising (sym c.in-Some.ensures.exact) c.remove-entry.ensures.entries in
@@ -42,7 +38,7 @@ leave_all-requires-clause-others c =
 
 pub leave_all-requires-clause-known : goal.leave_all-requires-clause-known
 leave_all-requires-clause-known c =
-    subst (AreKnown (line c.self.inside.queues) []) (sym c.remove-entry.ensures.entries) (known_removed (line c.self.inside.queues) c.self.inside.transactions.entries.items c.in-Some.place c.self.invariant.known)
+    subst (AreKnown (line c.self.inside.lines) []) (sym c.remove-entry.ensures.entries) (known_removed (line c.self.inside.lines) c.self.inside.transactions.entries.items c.in-Some.place c.self.invariant.known)
 
 pub leave_all-requires-clause-elsewhere : goal.leave_all-requires-clause-elsewhere
 leave_all-requires-clause-elsewhere c = λ other none.
@@ -53,13 +49,28 @@ leave_all-requires-clause-elsewhere c = λ other none.
     ∙ queue_elsewhere other k ws c.remove-entry.result.plan.items c.self.invariant.indexed.rising plan (ap (mode_on other) (sym c.as_slice.ensures.value) ∙ none)
     ∙ sym (c.self.invariant.lines other)
 
+pub leave_all-requires-clause-chain : goal.leave_all-requires-clause-chain
+leave_all-requires-clause-chain c =
+    let l = c.self.inside.lines in let es = c.self.inside.transactions.entries.items in let e = c.remove-entry.result in let i = c.in-Some.place in
+    let one : IsChained l e = subst (IsChained l) (sym c.remove-entry.ensures.value) (chained_at l es i e c.in-Some.ensures.within c.self.invariant.chained) in
+    let number : e.no ≡ c.args.no = ap (λ (x : Enqueued). x.no) c.remove-entry.ensures.value ∙ number_at c.args.no es i e (sym c.in-Some.ensures.exact) in
+    subst (λ (n : ℕ). Chains l n c.as_slice.result.now c.as_slice-in-Some.result.now e.head) number
+    (subst (λ (p : Requests). Chains l e.no p c.as_slice-in-Some.result.now e.head) (sym c.as_slice.ensures.value)
+    (subst (λ (ns : List ℕ). Chains l e.no e.plan.items ns e.head) (sym c.as_slice-in-Some.ensures.value) (record { begins = one.begins; placed = one.placed })))
+
+pub leave_all-requires-clause-chained : goal.leave_all-requires-clause-chained
+leave_all-requires-clause-chained c =
+    subst (AreChained c.self.inside.lines) (sym c.remove-entry.ensures.entries) (chained_removed c.self.inside.lines c.self.inside.transactions.entries.items c.in-Some.place c.self.invariant.chained)
+
 pub invariant_of-self : goal.invariant_of-self
 invariant_of-self c =
-    let same = left c.args.no c.in-Some.place c.self.inside.transactions.entries.items c.self.inside.transactions.entries.items c.remove-entry.new.self.entries.items refl c.self.invariant.indexed.rising (sym c.in-Some.ensures.exact) c.remove-entry.ensures.entries in
-    let u = freed c.args.no c.in-Some.place c.self.inside.transactions.entries.items c.self.inside.transactions.entries.items c.remove-entry.result refl c.self.invariant.indexed.rising (sym c.in-Some.ensures.exact) c.remove-entry.ensures.value in
-    let n : c.len.result ≡ length c.remove-entry.result.plan.items = c.len.ensures ∙ c.remove-entry.result.plan.ok.0 in
-    left_tree c.self.inside.arena c.self.inside.free c.len.result c.args.no c.self.inside.transactions c.leave_all.new.transactions c.self.inside.queues c.leave_all.new.queues c.self.invariant
+    let es = c.self.inside.transactions.entries.items in
+    let same = left c.args.no c.in-Some.place es es c.remove-entry.new.self.entries.items refl c.self.invariant.indexed.rising (sym c.in-Some.ensures.exact) c.remove-entry.ensures.entries in
+    let u = freed c.args.no c.in-Some.place es es c.remove-entry.result refl c.self.invariant.indexed.rising (sym c.in-Some.ensures.exact) c.remove-entry.ensures.value in
+    let n : length c.as_slice.result.now ≡ length c.remove-entry.result.plan.items = ap length c.as_slice.ensures.value in
+    left_tree c.self.inside.arena (length c.as_slice.result.now) c.args.no c.self.inside.transactions c.leave_all.new.transactions c.self.inside.lines c.leave_all.new.lines c.self.invariant
     (omega (arith, u, n)) (c.leave_all.ensures.same ∙ same) c.leave_all.ensures.indexed c.leave_all.ensures.left c.leave_all.ensures.known
+    c.leave_all.ensures.numbered c.leave_all.ensures.granted c.leave_all.ensures.free c.leave_all.ensures.chained
 
 pub returns-in-Some : goal.returns-in-Some
 returns-in-Some c =

@@ -3,15 +3,16 @@ use Rattle.lock_tree.specs.Locks.{Locks, Waiting, with_mark}
 use Rattle.lock_tree.specs.Views.{all_waiting}
 use Rattle.lock_tree.specs.Lines.{line}
 use Rattle.lock_tree.proofs.Places.{no_mark}
-use Rattle.lock_tree.proofs.Trees.{marked_tree, marked_seen, marked_known}
+use Rattle.lock_tree.proofs.Trees.{marked_tree, marked_seen, marked_known, marked_chained}
 use Rattle.lock_tree.proofs.tree.LockTree.set_mark.Goals as goal
 
 pub invariant_of-self : goal.invariant_of-self
 invariant_of-self c =
-    marked_tree c.self.inside.arena c.self.inside.free c.args.no c.args.mark c.self.inside.transactions c.set_mark.new.self c.self.inside.queues c.self.invariant
+    marked_tree c.self.inside.arena c.args.no c.args.mark c.self.inside.transactions c.set_mark.new.self c.self.inside.lines c.self.invariant
     (marked_seen c.args.no c.in-Some.place c.args.mark c.self.inside.transactions.entries.items c.self.inside.transactions.entries.items c.set_mark.new.self.entries.items refl c.self.invariant.indexed.rising c.in-Some.ensures.exact c.in-Some.ensures.within c.set_mark.ensures.entries)
     c.set_mark.ensures.indexed
-    (marked_known (line c.self.inside.queues) c.in-Some.place c.args.mark c.self.inside.transactions.entries.items c.self.inside.transactions.entries.items c.set_mark.new.self.entries.items refl c.in-Some.ensures.within c.set_mark.ensures.entries c.self.invariant.known)
+    (marked_known (line c.self.inside.lines) c.in-Some.place c.args.mark c.self.inside.transactions.entries.items c.self.inside.transactions.entries.items c.set_mark.new.self.entries.items refl c.in-Some.ensures.within c.set_mark.ensures.entries c.self.invariant.known)
+    (marked_chained c.self.inside.lines c.in-Some.place c.args.mark c.self.inside.transactions.entries.items c.self.inside.transactions.entries.items c.set_mark.new.self.entries.items refl c.in-Some.ensures.within c.set_mark.ensures.entries c.self.invariant.chained)
 
 pub returns-in-Some : goal.returns-in-Some
 returns-in-Some c =

@@ -1,0 +1,400 @@
+-- The numbers of queues, as they are taken and given back.
+use Rattle.std.proofs.Common.{◌≡◌, ℕ, ◌+◌, ◌<◌, ◌≤◌, ◌^◌, ◌⊎◌, inl, inr, zero, suc, eqb, true, false, cond, List, [], ◌∷◌, ◌++◌, length, replicate, get_or, Option, None, Some, refl, sym, ◌∙◌, ap, subst, arith}
+use Rattle.std.specs.Prelude.{slice_get, slice_set}
+use Rattle.std.specs.Vec.{vec_capacity}
+use Rattle.std.specs.BTreeMap.{get}
+use Rattle.std.specs.Map.{lookup}
+use Rattle.std.specs.Ordering.{is_eq}
+use Rattle.std.specs.Option.{option_flatten}
+use Rattle.std.proofs.lemmas.Bool.Decides.{nat_tests}
+use Rattle.std.proofs.lemmas.List.{length-set, get_or-set_same, get_or-set_other, length_push, length-replicate}
+use Rattle.std.proofs.lemmas.Option.{slice_get_within}
+use Rattle.footprint.specs.declared.resource.Resource.{Resource}
+use Rattle.footprint.specs.Tree.{resource_cmp}
+use Rattle.request_arena.specs.declared.node.Held.{Held}
+use Rattle.request_arena.specs.Following.{without}
+use Rattle.request_arena.specs.Chains.{linked}
+use Rattle.request_arena.specs.Lists.{Lists, free_nodes}
+use Rattle.lock_tree.specs.declared.line.Line.{Line}
+use Rattle.lock_tree.specs.Lines.{Lines, line, number_of, nodes_of, numbered, requests, is_same}
+use Rattle.lock_tree.specs.Numbered.{none, occupied, total, IsNumbered}
+use Rattle.lock_tree.proofs.Positions.{some_is, none_is, get_front, get_last, get_either, without_at, removed_length}
+use Rattle.lock_tree.proofs.Counting.{occupied_set, total_set, occupied_few, one_or_none, one_more, more_than_none, some_there, none_if_empty, none_if_some, linked_length, pushed_free, given_free}
+use Rattle.lock_tree.proofs.Resources.{itself, same_or_not, noted_here, noted_elsewhere}
+
+is_number : (a b : ℕ) → eqb a b ≡ true → a ≡ b
+is_number a b h = grind (arith, nat_tests)
+
+not_number : (a b : ℕ) → eqb a b ≡ false → a ≡ b → ⊥
+not_number a b h e = let t : eqb a b ≡ true = grind (arith, nat_tests) in absurd (cc)
+
+pub or_other : (a b : ℕ) (P : Type 0) → (a ≡ b → P) → ((a ≡ b → ⊥) → P) → P
+or_other a b P same other = elim (eqb a b) as (λ v. eqb a b ≡ v → P) [
+  | true ↦ λ e. same (is_number a b e)
+  | false ↦ λ e. other (not_number a b e)
+] refl
+
+-- ---- a number is taken
+
+pub taken_vacant : (was now : Lines) (q : ℕ) → IsNumbered was None → was.vacant.items ≡ now.vacant.items ++ q ∷ [] → vec_capacity now.vacant ≡ vec_capacity was.vacant
+    → IsNumbered (record was { vacant = now.vacant }) (Some q) × (nodes_of was.nodes q ≡ []) × (q < length was.lines.items)
+taken_vacant was now q ok is capacity =
+    let last : slice_get was.vacant.items (length now.vacant.items) ≡ Some q = ap (λ xs. slice_get xs (length now.vacant.items)) is ∙ get_last now.vacant.items q in
+    let there = ok.vacant (length now.vacant.items) q last in
+    let before = λ (i n : ℕ) (h : slice_get now.vacant.items i ≡ Some n). ap (λ xs. slice_get xs i) is ∙ get_front now.vacant.items (q ∷ []) i n h in (
+      record {
+        few = ok.few;
+        many = ok.many;
+        small = ok.small;
+        named = λ r n e. ((ok.named r n e).0, λ empty. absurd (none_is n ((ok.named r n e).1 empty)));
+        unique = ok.unique;
+        fresh = ok.fresh;
+        vacant = λ i n h. (
+          (ok.vacant i n (before i n h)).0,
+          (ok.vacant i n (before i n h)).1,
+          λ e.
+              let same : q ≡ n = some_is q n e in
+              let at : i ≡ length now.vacant.items = ok.apart i (length now.vacant.items) n (before i n h) (last ∙ e) in
+              let near = slice_get_within now.vacant.items i n h in
+              omega (arith, at, near),
+        );
+        apart = λ i j n h k. ok.apart i j n (before i n h) (before j n k);
+        count = (let n = ok.count in let m : length was.vacant.items ≡ length now.vacant.items + 1 = ap length is ∙ length_push now.vacant.items q in let g = none_if_empty (nodes_of was.nodes q) there.1 in omega (arith, n, m, g));
+        room = ok.room;
+        lines_fit = ok.lines_fit;
+        vacant_fit = (let n = ok.vacant_fit in omega (arith, n, capacity));
+      },
+      there.1,
+      there.0,
+    )
+
+pub number_left : (l : Lines) → IsNumbered l None → 0 < free_nodes l.nodes.held → l.vacant.items ≡ [] → length l.lines.items < length l.nodes.held
+number_left l ok free none_vacant =
+    let few = occupied_few l.nodes.queues in let n = ok.count in let v = ap length none_vacant in let room = ok.room in omega (arith, few, n, v, room, free)
+
+pub taken_fresh : (was now : Lines) (x : Line) → IsNumbered was None → 0 < free_nodes was.nodes.held → was.vacant.items ≡ [] → now.vacant.items ≡ [] → vec_capacity now.vacant ≡ vec_capacity was.vacant
+    → now.lines.items ≡ was.lines.items ++ x ∷ [] → vec_capacity now.lines ≡ vec_capacity was.lines
+    → IsNumbered (record was { vacant = now.vacant; lines = now.lines }) (Some (length was.lines.items)) × (nodes_of was.nodes (length was.lines.items) ≡ []) × (length was.lines.items < length now.lines.items)
+taken_fresh was now x ok free none_vacant still vacant_capacity is capacity =
+    let left = number_left was ok free none_vacant in
+    let n : length now.lines.items ≡ length was.lines.items + 1 = ap length is ∙ length_push was.lines.items x in
+    let empty = ok.fresh (length was.lines.items) (omega arith) in (
+      record {
+        few = omega (arith, left, n);
+        many = ok.many;
+        small = ok.small;
+        named = λ r m e. (let l = (ok.named r m e).0 in omega (arith, l, n), λ none_there. absurd (none_is m ((ok.named r m e).1 none_there)));
+        unique = ok.unique;
+        fresh = λ m le. ok.fresh m (omega (arith, le, n));
+        vacant = λ i m h. absurd (none_is m (sym (ap (λ xs. slice_get xs i) still) ∙ h));
+        apart = λ i j m h k. absurd (none_is m (sym (ap (λ xs. slice_get xs i) still) ∙ h));
+        count = (let c = ok.count in let v = ap length none_vacant in let w = ap length still in let g = none_if_empty (nodes_of was.nodes (length was.lines.items)) empty in omega (arith, c, v, w, g, n));
+        room = ok.room;
+        lines_fit = (let f = ok.lines_fit in omega (arith, f, capacity));
+        vacant_fit = (let f = ok.vacant_fit in omega (arith, f, vacant_capacity));
+      },
+      empty,
+      omega (arith, n),
+    )
+
+-- ---- and noted
+
+module _ (l now : Lines) (r : Resource) (q : ℕ) (updates : (s : Resource) → get resource_cmp now.numbers s ≡ cond (is_same r s) (Some (Some q)) (get resource_cmp l.numbers s)) where
+  pub number_here : number_of (record l { numbers = now.numbers }) r ≡ Some q
+  number_here = ap option_flatten (noted_here (get resource_cmp l.numbers r) (get resource_cmp now.numbers r) r (Some (Some q)) (updates r))
+
+  pub number_elsewhere : (s : Resource) → is_same r s ≡ false → number_of (record l { numbers = now.numbers }) s ≡ number_of l s
+  number_elsewhere s other = ap option_flatten (noted_elsewhere (get resource_cmp l.numbers s) (get resource_cmp now.numbers s) (is_same r s) (Some (Some q)) other (updates s))
+
+  module _ (ok : IsNumbered l (Some q)) (within : q < length l.lines.items) (empty : nodes_of l.nodes q ≡ []) (unnamed : (s : Resource) → number_of l s ≡ Some q → ⊥) (none_yet : number_of l r ≡ None) where
+    abbrev there : Lines
+    there = record l { numbers = now.numbers }
+
+    pub opened : IsNumbered there (Some q)
+    opened = record {
+      few = ok.few;
+      many = ok.many;
+      small = ok.small;
+      named = λ s n e. same_or_not r s ((n < length l.lines.items) × (nodes_of l.nodes n ≡ [] → Some q ≡ Some n))
+          (λ same. let is : q ≡ n = some_is q n (sym number_here ∙ ap (number_of there) same ∙ e) in (subst (λ (k : ℕ). k < length l.lines.items) is within, λ _. ap Some is))
+          (λ other. ok.named s n (sym (number_elsewhere s other) ∙ e));
+      unique = λ s t n e f. same_or_not r s (s ≡ t)
+          (λ same. same_or_not r t (s ≡ t) (λ also. sym same ∙ also)
+          (λ other. let is : q ≡ n = some_is q n (sym number_here ∙ ap (number_of there) same ∙ e) in absurd (unnamed t (sym (number_elsewhere t other) ∙ f ∙ ap Some (sym is)))))
+          (λ apart. same_or_not r t (s ≡ t)
+          (λ same. let is : q ≡ n = some_is q n (sym number_here ∙ ap (number_of there) same ∙ f) in absurd (unnamed s (sym (number_elsewhere s apart) ∙ e ∙ ap Some (sym is))))
+          (λ other. ok.unique s t n (sym (number_elsewhere s apart) ∙ e) (sym (number_elsewhere t other) ∙ f)));
+      fresh = ok.fresh;
+      vacant = ok.vacant;
+      apart = ok.apart;
+      count = ok.count;
+      room = ok.room;
+      lines_fit = ok.lines_fit;
+      vacant_fit = ok.vacant_fit;
+    }
+
+    pub opened_kept : (s : Resource) (n : ℕ) → number_of l s ≡ Some n → number_of there s ≡ Some n
+    opened_kept s n e = same_or_not r s (number_of there s ≡ Some n) (λ same. absurd (none_is n (sym none_yet ∙ ap (number_of l) same ∙ e))) (λ other. number_elsewhere s other ∙ e)
+
+    pub opened_lines : (s : Resource) → line there s ≡ line l s
+    opened_lines s = same_or_not r s (line there s ≡ line l s)
+        (λ same. let e : line there r ≡ line l r = ap (numbered l.nodes) number_here ∙ ap (requests l.nodes.held) empty ∙ sym (ap (numbered l.nodes) none_yet) in
+        subst (λ (t : Resource). line there t ≡ line l t) same e)
+        (λ other. ap (numbered l.nodes) (number_elsewhere s other))
+
+-- ---- a number is given back
+
+-- the queue that was open has a node
+pub closed : (l : Lines) (q : ℕ) → IsNumbered l (Some q) → (nodes_of l.nodes q ≡ [] → ⊥) → IsNumbered l None
+closed l q ok filled = record {
+  few = ok.few;
+  many = ok.many;
+  small = ok.small;
+  named = λ r n e. ((ok.named r n e).0, λ empty. absurd (filled (ap (nodes_of l.nodes) (some_is q n ((ok.named r n e).1 empty)) ∙ empty)));
+  unique = ok.unique;
+  fresh = ok.fresh;
+  vacant = λ i n h. ((ok.vacant i n h).0, (ok.vacant i n h).1, λ e. none_is n e);
+  apart = ok.apart;
+  count = (let c = ok.count in let g = none_if_some (nodes_of l.nodes q) filled in omega (arith, c, g));
+  room = ok.room;
+  lines_fit = ok.lines_fit;
+  vacant_fit = ok.vacant_fit;
+}
+
+pub vacant_room : (l : Lines) (q : ℕ) → IsNumbered l (Some q) → nodes_of l.nodes q ≡ [] → length l.vacant.items < vec_capacity l.vacant
+vacant_room l q ok empty = let c = ok.count in let g = none_if_empty (nodes_of l.nodes q) empty in let f = ok.vacant_fit in let n = ok.few in omega (arith, c, g, f, n)
+
+module _ (l now : Lines) (r : Resource) (q : ℕ) (updates : (s : Resource) → get resource_cmp now.numbers s ≡ cond (is_same r s) None (get resource_cmp l.numbers s))
+    (ok : IsNumbered l (Some q)) (named : number_of l r ≡ Some q) (empty : nodes_of l.nodes q ≡ []) (is : now.vacant.items ≡ l.vacant.items ++ q ∷ []) (capacity : vec_capacity now.vacant ≡ vec_capacity l.vacant) where
+  abbrev after : Lines
+  after = record l { numbers = now.numbers; vacant = now.vacant }
+
+  pub gone_here : get resource_cmp now.numbers r ≡ None
+  gone_here = updates r ∙ ap (λ v. cond v None (get resource_cmp l.numbers r)) (itself r)
+
+  still_elsewhere : (s : Resource) → is_same r s ≡ false → number_of after s ≡ number_of l s
+  still_elsewhere s other = ap option_flatten (updates s ∙ ap (λ v. cond v None (get resource_cmp l.numbers s)) other)
+
+  -- a number that is noted afterwards was noted before, and is another
+  noted : (s : Resource) (n : ℕ) → number_of after s ≡ Some n → (number_of l s ≡ Some n) × (q ≡ n → ⊥)
+  noted s n e = same_or_not r s ((number_of l s ≡ Some n) × (q ≡ n → ⊥))
+      (λ same. absurd (none_is n (sym (ap option_flatten gone_here) ∙ ap (number_of after) same ∙ e)))
+      (λ other.
+      let was : number_of l s ≡ Some n = sym (still_elsewhere s other) ∙ e in
+      (was, λ k. let t : r ≡ s = ok.unique r s n (named ∙ ap Some k) was in not_itself r s t other))
+    where
+      not_itself : (r s : Resource) → r ≡ s → is_same r s ≡ false → ⊥
+      not_itself r s t other = let yes : is_same r s ≡ true = sym (ap (is_same r) t) ∙ itself r in absurd (cc)
+
+  pub forgotten : IsNumbered after None
+  forgotten = record {
+    few = ok.few;
+    many = ok.many;
+    small = ok.small;
+    named = λ s n e. let was = noted s n e in ((ok.named s n was.0).0, λ none_there. absurd (was.1 (some_is q n ((ok.named s n was.0).1 none_there))));
+    unique = λ s t n e f. ok.unique s t n (noted s n e).0 (noted t n f).0;
+    fresh = ok.fresh;
+    vacant = λ i n h. elim (get_either l.vacant.items q i n (sym (ap (λ xs. slice_get xs i) is) ∙ h)) [
+      | inl before ↦ ((ok.vacant i n before).0, (ok.vacant i n before).1, λ e. none_is n e)
+      | inr last ↦ (subst (λ (k : ℕ). k < length l.lines.items) (sym last.1) (ok.named r q named).0, ap (nodes_of l.nodes) last.1 ∙ empty, λ e. none_is n e)
+    ];
+    apart = λ i j n h k. two i j n (get_either l.vacant.items q i n (sym (ap (λ xs. slice_get xs i) is) ∙ h)) (get_either l.vacant.items q j n (sym (ap (λ xs. slice_get xs j) is) ∙ k));
+    count = (let c = ok.count in let g = none_if_empty (nodes_of l.nodes q) empty in let n : length now.vacant.items ≡ length l.vacant.items + 1 = ap length is ∙ length_push l.vacant.items q in omega (arith, c, g, n));
+    room = ok.room;
+    lines_fit = ok.lines_fit;
+    vacant_fit = (let f = ok.vacant_fit in omega (arith, f, capacity));
+  }
+    where
+      two : (i j n : ℕ) → (slice_get l.vacant.items i ≡ Some n) ⊎ ((i ≡ length l.vacant.items) × (n ≡ q)) → (slice_get l.vacant.items j ≡ Some n) ⊎ ((j ≡ length l.vacant.items) × (n ≡ q)) → i ≡ j
+      two i j n (inl h) (inl k) = ok.apart i j n h k
+      two i j n (inl h) (inr k) = absurd ((ok.vacant i n h).2 (ap Some (sym k.1)))
+      two i j n (inr h) (inl k) = absurd ((ok.vacant j n k).2 (ap Some (sym h.1)))
+      two i j n (inr h) (inr k) = h.0 ∙ sym k.0
+
+  pub forgotten_lines : (s : Resource) → line after s ≡ line l s
+  forgotten_lines s = same_or_not r s (line after s ≡ line l s)
+      (λ same. let e : line after r ≡ line l r = ap (numbered l.nodes) (ap option_flatten gone_here) ∙ sym (ap (requests l.nodes.held) empty) ∙ sym (ap (numbered l.nodes) named) in
+      subst (λ (t : Resource). line after t ≡ line l t) same e)
+      (λ other. ap (numbered l.nodes) (still_elsewhere s other))
+
+  pub forgotten_kept : (s : Resource) (n i a : ℕ) → number_of l s ≡ Some n → slice_get (nodes_of l.nodes n) i ≡ Some a → number_of after s ≡ Some n
+  forgotten_kept s n i a e there = same_or_not r s (number_of after s ≡ Some n)
+      (λ same. let is_q : q ≡ n = some_is q n (sym named ∙ ap (number_of l) same ∙ e) in absurd (none_is a (sym (ap (λ xs. slice_get xs i) (sym (ap (nodes_of l.nodes) is_q) ∙ empty)) ∙ there)))
+      (λ other. still_elsewhere s other ∙ e)
+
+-- ---- a node comes
+
+module _ (was now : Lines) (q id : ℕ) (tail : Option ℕ) (h : Held) (ok : IsNumbered was (Some q)) (within : q < length was.lines.items)
+    (many : length now.lines.items ≡ length was.lines.items) (capacity : vec_capacity now.lines ≡ vec_capacity was.lines) (free : slice_get was.nodes.held id ≡ Some None)
+    (queues : now.nodes.queues ≡ slice_set was.nodes.queues q (nodes_of was.nodes q ++ id ∷ [])) (held : now.nodes.held ≡ slice_set (linked tail id was.nodes.held) id (Some h)) where
+  near : q < length was.nodes.queues
+  near = let a = ok.few in let b = ok.many in omega (arith, a, b, within)
+
+  pub added_here : nodes_of now.nodes q ≡ nodes_of was.nodes q ++ id ∷ []
+  added_here = ap (λ (qs : List (List ℕ)). get_or qs q []) queues ∙ get_or-set_same was.nodes.queues q (nodes_of was.nodes q ++ id ∷ []) [] near
+
+  pub added_elsewhere : (n : ℕ) → (n ≡ q → ⊥) → nodes_of now.nodes n ≡ nodes_of was.nodes n
+  added_elsewhere n other = ap (λ (qs : List (List ℕ)). get_or qs n []) queues ∙ get_or-set_other was.nodes.queues q n (nodes_of was.nodes q ++ id ∷ []) [] other
+
+  pub added_nodes : length now.nodes.held ≡ length was.nodes.held
+  added_nodes = ap length held ∙ length-set (linked tail id was.nodes.held) id (Some h) ∙ linked_length tail id was.nodes.held
+
+  filled : nodes_of now.nodes q ≡ [] → ⊥
+  filled e = more_than_none (nodes_of was.nodes q) id (sym added_here ∙ e)
+
+  pub added : IsNumbered (record was { nodes = now.nodes; lines = now.lines }) None
+  added = record {
+    few = (let a = ok.few in let n = added_nodes in omega (arith, a, many, n));
+    many = (let m = ok.many in let n = added_nodes in let k : length now.nodes.queues ≡ length was.nodes.queues = ap length queues ∙ length-set was.nodes.queues q (nodes_of was.nodes q ++ id ∷ []) in omega (arith, m, n, k));
+    small = (let s = ok.small in let n = added_nodes in subst (λ (k : ℕ). k < 2 ^ 64) (sym n) s);
+    named = λ r n e. (
+      (let l = (ok.named r n e).0 in omega (arith, l, many)),
+      λ empty. or_other n q (None ≡ Some n) (λ same. absurd (filled (ap (nodes_of now.nodes) (sym same) ∙ empty)))
+          (λ other. absurd (other (sym (some_is q n ((ok.named r n e).1 (sym (added_elsewhere n other) ∙ empty)))))),
+    );
+    unique = ok.unique;
+    fresh = λ n le. let m : length was.lines.items ≤ n = omega (arith, le, many) in added_elsewhere n (λ e. absurd (omega (arith, m, e, within))) ∙ ok.fresh n m;
+    vacant = λ i n there. let v = ok.vacant i n there in (
+      (let l = v.0 in omega (arith, l, many)),
+      added_elsewhere n (λ e. v.2 (ap Some (sym e))) ∙ v.1,
+      λ e. none_is n e,
+    );
+    apart = ok.apart;
+    count = (let c = ok.count in let s = occupied_set was.nodes.queues q (nodes_of was.nodes q ++ id ∷ []) near in let one = (one_more (nodes_of was.nodes q) id).0 in let sum = one_or_none (nodes_of was.nodes q) in
+        let o = ap occupied queues in omega (arith, c, s, one, sum, o, many));
+    room = (let c = ok.room in let s = total_set was.nodes.queues q (nodes_of was.nodes q ++ id ∷ []) near in let one = (one_more (nodes_of was.nodes q) id).1 in let o = ap total queues in
+        let f = pushed_free was.nodes.held now.nodes.held tail id h free held in let n = added_nodes in omega (arith, c, s, one, o, f, n));
+    lines_fit = (let f = ok.lines_fit in let n = added_nodes in omega (arith, f, n, capacity));
+    vacant_fit = (let f = ok.vacant_fit in let n = added_nodes in omega (arith, f, n));
+  }
+
+-- ---- a node leaves
+
+module _ (was now : Lines) (q i a : ℕ) (h : Held) (ok : IsNumbered was None) (within : q < length was.lines.items)
+    (many : length now.lines.items ≡ length was.lines.items) (capacity : vec_capacity now.lines ≡ vec_capacity was.lines) (there : slice_get (nodes_of was.nodes q) i ≡ Some a)
+    (once : (j : ℕ) → slice_get (nodes_of was.nodes q) j ≡ Some a → i ≡ j) (live : slice_get was.nodes.held a ≡ Some (Some h))
+    (queues : now.nodes.queues ≡ slice_set was.nodes.queues q (without a (nodes_of was.nodes q))) (held : now.nodes.held ≡ slice_set was.nodes.held a None) where
+  near_left : q < length was.nodes.queues
+  near_left = let a = ok.few in let b = ok.many in omega (arith, a, b, within)
+
+  pub left_here : nodes_of now.nodes q ≡ without a (nodes_of was.nodes q)
+  left_here = ap (λ (qs : List (List ℕ)). get_or qs q []) queues ∙ get_or-set_same was.nodes.queues q (without a (nodes_of was.nodes q)) [] near_left
+
+  pub left_elsewhere : (n : ℕ) → (n ≡ q → ⊥) → nodes_of now.nodes n ≡ nodes_of was.nodes n
+  left_elsewhere n other = ap (λ (qs : List (List ℕ)). get_or qs n []) queues ∙ get_or-set_other was.nodes.queues q n (without a (nodes_of was.nodes q)) [] other
+
+  pub left_nodes : length now.nodes.held ≡ length was.nodes.held
+  left_nodes = ap length held ∙ length-set was.nodes.held a None
+
+  one_less : length (without a (nodes_of was.nodes q)) + 1 ≡ length (nodes_of was.nodes q)
+  one_less = ap (λ (xs : List ℕ). length xs + 1) (without_at a (nodes_of was.nodes q) i there once) ∙ removed_length (nodes_of was.nodes q) i (slice_get_within (nodes_of was.nodes q) i a there)
+
+  pub left : IsNumbered (record was { nodes = now.nodes; lines = now.lines }) (Some q)
+  left = record {
+    few = (let a = ok.few in let n = left_nodes in omega (arith, a, many, n));
+    many = (let m = ok.many in let n = left_nodes in let k : length now.nodes.queues ≡ length was.nodes.queues = ap length queues ∙ length-set was.nodes.queues q (without a (nodes_of was.nodes q)) in omega (arith, m, n, k));
+    small = (let s = ok.small in let n = left_nodes in subst (λ (k : ℕ). k < 2 ^ 64) (sym n) s);
+    named = λ r n e. (
+      (let l = (ok.named r n e).0 in omega (arith, l, many)),
+      λ empty. or_other n q (Some q ≡ Some n) (λ same. ap Some (sym same)) (λ other. absurd (none_is n ((ok.named r n e).1 (sym (left_elsewhere n other) ∙ empty)))),
+    );
+    unique = ok.unique;
+    fresh = λ n le. let m : length was.lines.items ≤ n = omega (arith, le, many) in left_elsewhere n (λ e. absurd (omega (arith, m, e, within))) ∙ ok.fresh n m;
+    vacant = λ j n h. let v = ok.vacant j n h in let other : n ≡ q → ⊥ = λ e. (some_there (nodes_of was.nodes q) i a there).1 (ap (nodes_of was.nodes) (sym e) ∙ v.1) in (
+      (let l = v.0 in omega (arith, l, many)),
+      left_elsewhere n other ∙ v.1,
+      λ e. other (sym (some_is q n e)),
+    );
+    apart = ok.apart;
+    count = (let c = ok.count in let s = occupied_set was.nodes.queues q (without a (nodes_of was.nodes q)) near_left in let one = (some_there (nodes_of was.nodes q) i a there).0 in let sum = one_or_none (without a (nodes_of was.nodes q)) in
+        let o = ap occupied queues in let g = ap none left_here in omega (arith, c, s, one, sum, o, g, many));
+    room = (let c = ok.room in let s = total_set was.nodes.queues q (without a (nodes_of was.nodes q)) near_left in let one = one_less in let o = ap total queues in
+        let f = given_free was.nodes.held a h live in let e = ap free_nodes held in let n = left_nodes in omega (arith, c, s, one, o, f, e, n));
+    lines_fit = (let f = ok.lines_fit in let n = left_nodes in omega (arith, f, n, capacity));
+    vacant_fit = (let f = ok.vacant_fit in let n = left_nodes in omega (arith, f, n));
+  }
+
+-- ---- a queue that is open again
+
+pub reopened : (l : Lines) (r : Resource) (q : ℕ) → IsNumbered l None → number_of l r ≡ Some q → IsNumbered l (Some q)
+reopened l r q ok named =
+    let filled : nodes_of l.nodes q ≡ [] → ⊥ = λ e. none_is q ((ok.named r q named).1 e) in
+    record {
+      few = ok.few;
+      many = ok.many;
+      small = ok.small;
+      named = λ s n e. ((ok.named s n e).0, λ empty. absurd (none_is n ((ok.named s n e).1 empty)));
+      unique = ok.unique;
+      fresh = ok.fresh;
+      vacant = λ i n h. ((ok.vacant i n h).0, (ok.vacant i n h).1, λ e. filled (ap (nodes_of l.nodes) (some_is q n e) ∙ (ok.vacant i n h).1));
+      apart = ok.apart;
+      count = (let c = ok.count in let g = none_if_some (nodes_of l.nodes q) filled in omega (arith, c, g));
+      room = ok.room;
+      lines_fit = ok.lines_fit;
+      vacant_fit = ok.vacant_fit;
+    }
+
+-- ---- the same numbers of the same resources
+
+module _ (l now : Lines) (same : (s : Resource) → number_of (record l { numbers = now.numbers }) s ≡ number_of l s) where
+  pub renumbered : IsNumbered l None → IsNumbered (record l { numbers = now.numbers }) None
+  renumbered ok = record {
+    few = ok.few;
+    many = ok.many;
+    small = ok.small;
+    named = λ r n e. ok.named r n (sym (same r) ∙ e);
+    unique = λ r s n e f. ok.unique r s n (sym (same r) ∙ e) (sym (same s) ∙ f);
+    fresh = ok.fresh;
+    vacant = ok.vacant;
+    apart = ok.apart;
+    count = ok.count;
+    room = ok.room;
+    lines_fit = ok.lines_fit;
+    vacant_fit = ok.vacant_fit;
+  }
+
+-- ---- no request yet
+
+free_all : (n : ℕ) → free_nodes (replicate n None) ≡ n
+free_all zero = refl
+free_all (suc n) = ap suc (free_all n)
+
+occupied_none : (n : ℕ) → occupied (replicate n []) ≡ 0
+occupied_none zero = refl
+occupied_none (suc n) = let h = occupied_none n in omega (arith, h)
+
+total_none : (n : ℕ) → total (replicate n []) ≡ 0
+total_none zero = refl
+total_none (suc n) = let h = total_none n in omega (arith, h)
+
+empty_at : (n q : ℕ) → get_or {A = List ℕ} (replicate n []) q [] ≡ []
+empty_at zero q = refl
+empty_at (suc n) zero = refl
+empty_at (suc n) (suc q) = empty_at n q
+
+abbrev pub blank : ℕ → Lists
+blank n = record { queues = replicate n []; held = replicate n None }
+
+pub all_free : (lists : Lists) (n : ℕ) → lists ≡ blank n → free_nodes lists.held ≡ n
+all_free lists n is = ap (λ (x : Lists). free_nodes x.held) is ∙ free_all n
+
+pub none_numbered : (l : Lines) (n : ℕ) → n < 2 ^ 64 → l.nodes ≡ blank n → l.numbers.entries ≡ [] → l.lines.items ≡ [] → l.vacant.items ≡ [] → n ≤ vec_capacity l.lines → n ≤ vec_capacity l.vacant → IsNumbered l None
+none_numbered l n small is no_number no_line no_vacant lines_fit vacant_fit =
+    let held : length l.nodes.held ≡ n = ap (λ (x : Lists). length x.held) is ∙ length-replicate n None in
+    let queues : length l.nodes.queues ≡ n = ap (λ (x : Lists). length x.queues) is ∙ length-replicate n [] in
+    let unnamed : (r : Resource) (q : ℕ) → number_of l r ≡ Some q → ⊥ = λ r q e. none_is q (sym (ap (λ es. option_flatten (lookup (λ k. is_eq (resource_cmp r k)) es)) no_number) ∙ e) in
+    let lines : length l.lines.items ≡ 0 = ap length no_line in let vacant : length l.vacant.items ≡ 0 = ap length no_vacant in
+    record {
+      few = omega (arith, held, lines);
+      many = omega (arith, held, queues);
+      small = subst (λ (k : ℕ). k < 2 ^ 64) (sym held) small;
+      named = λ r q e. absurd (unnamed r q e);
+      unique = λ r s q e f. absurd (unnamed r q e);
+      fresh = λ q le. ap (λ (x : Lists). get_or x.queues q []) is ∙ empty_at n q;
+      vacant = λ i q h. absurd (none_is q (sym (ap (λ xs. slice_get xs i) no_vacant) ∙ h));
+      apart = λ i j q h k. absurd (none_is q (sym (ap (λ xs. slice_get xs i) no_vacant) ∙ h));
+      count = (let o : occupied l.nodes.queues ≡ 0 = ap (λ (x : Lists). occupied x.queues) is ∙ occupied_none n in omega (arith, o, lines, vacant));
+      room = (let t : total l.nodes.queues ≡ 0 = ap (λ (x : Lists). total x.queues) is ∙ total_none n in let f = all_free l.nodes n is in omega (arith, t, f, held));
+      lines_fit = omega (arith, held, lines_fit);
+      vacant_fit = omega (arith, held, vacant_fit);
+    }
