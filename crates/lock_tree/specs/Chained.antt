@@ -1,4 +1,4 @@
--- Of the code: invariants and steps; owner promise rests on these words.
+-- Of the code: invariants and steps; no promise rests on these words.
 -- The requests of a transaction, each in its queue, chained in the order of the plan.
 use Rattle.std.specs.Prelude.{◌≡◌, ℕ, ⊤, true, List, [], ◌∷◌, Option, Some, None, IfSome, eqb, slice_get}
 use Rattle.std.specs.List.{AllByRecursion, list_any}
