@@ -1,4 +1,4 @@
--- Of the code: invariants and steps; owner promise rests on these words.
+-- Of the code: invariants and steps; no promise rests on these words.
 -- What a step of the code leaves of the queues.
 use Rattle.std.specs.Prelude.{◌≡◌, ◌≢◌, ◌<◌, ◌+◌, ℕ, true, List, [], ◌∷◌, ◌++◌, length, map, Option, Some, None, IfSome, slice_get, slice_set}
 use Rattle.std.specs.BTreeMap.{get}
@@ -28,7 +28,7 @@ pub record IsOpened (was : Lines) (resource : Resource) (number : ℕ) (now : Li
   pub same : (other : Resource) → line now other ≡ line was other
   pub room : (other : Resource) → HasRoom was other → HasRoom now other
 
--- where its queue is empty, a resource has owner number
+-- where its queue is empty, a resource has no number
 pub record IsForgotten (was : Lines) (resource : Resource) (number : ℕ) (now : Lines) : Type 0 where
   pub numbered : IsNumbered now None
   pub granted : AreGranted now
@@ -42,7 +42,7 @@ pub record IsForgotten (was : Lines) (resource : Resource) (number : ℕ) (now :
 abbrev pub AreLive : Lists → Type 0
 AreLive lists = (q i a : ℕ) → slice_get (nodes_of lists q) i ≡ Some a → IsLive lists a
 
--- a node of a queue stands in owner other queue, and at owner other place
+-- a node of a queue stands in no other queue, and at no other place
 abbrev pub StandApart : Lists → Type 0
 StandApart lists = (q r i j a : ℕ) → slice_get (nodes_of lists q) i ≡ Some a → slice_get (nodes_of lists r) j ≡ Some a → (q ≡ r) × (i ≡ j)
 
