@@ -43,7 +43,7 @@ pub(crate) fn run_log_alone<R: Wait, S: Source, K: Sink>(
         ensures run { IsExecution engine.old batch result engine.new }
         ensures threadless { IfErr result (λ fault. ¬ IsSpawn fault) }
     { engine.run_alone(rt, alloc, batch, &[]) };
-    run_log(alloc, &executor, setup, settings, source, sink)
+    run_log(rt, alloc, &executor, setup, settings, source, sink)
 }
 
 /// Runs the log that a source gives on a setup, on worker threads, and writes its report into a sink.
@@ -66,7 +66,7 @@ pub(crate) fn run_log_on_workers<R: Threads + Wait + Sync, G: Gate, S: Source, K
         requires { AreOver (tables_of engine.old) (items_of batch) }
         ensures { IsExecution engine.old batch result engine.new }
     { engine.execute(rt, alloc, batch, gate) };
-    run_log(alloc, &executor, setup, settings, source, sink)
+    run_log(rt, alloc, &executor, setup, settings, source, sink)
 }
 
 /// Runs the log that a source gives on a setup, on worker threads, and writes its report into a sink: for each batch a reply

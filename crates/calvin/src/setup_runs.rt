@@ -51,7 +51,7 @@ fn run_telling<R: Wait, S: Source, K: Sink, E: Sink>(
         }
         done
     };
-    run_log_on(alloc, &executor, engine, source, sink)
+    run_log_on(rt, alloc, &executor, engine, source, sink)
 }
 
 /// Runs the log that a source gives on a setup, on one thread, and writes its report into a sink. At the end of each batch a
@@ -106,7 +106,7 @@ fn run_to_end<R: Threads + Wait + Sync, S: Source, K: Sink>(
         requires { AreOver (tables_of engine.old) (items_of batch) }
         ensures { IsExecution engine.old batch result engine.new }
     { engine.execute(rt, alloc, batch, &OpenGate) };
-    let ended = run_log_on(alloc, &executor, engine, source, sink);
+    let ended = run_log_on(rt, alloc, &executor, engine, source, sink);
     end.come();
     ended
 }

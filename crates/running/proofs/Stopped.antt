@@ -1,5 +1,5 @@
 -- Where a run stopped.
-use Rattle.std.proofs.Common.{◌≡◌, ℕ, ◌+◌, ◌≤◌, ◌^◌, List, [], ◌∷◌, ◌++◌, append_assoc, length, map, Bool, true, false, Option, Some, None, if◌then◌else◌, arith, refl, sym, ◌∙◌, ap}
+use Rattle.std.proofs.Common.{◌≡◌, ℕ, ◌+◌, List, [], ◌∷◌, ◌++◌, append_assoc, length, map, Bool, true, false, Option, Some, None, if◌then◌else◌, arith, refl, sym, ◌∙◌, ap}
 use Rattle.std.specs.Prelude.{⊤}
 use Rattle.std.proofs.lemmas.List.{append_cancel_right}
 use Rattle.std.specs.Option.{IfSome}
@@ -9,7 +9,7 @@ use Rattle.sha2.specs.declared.Sha256.{Sha256}
 use Rattle.devices.specs.Devices.{AppendsFront, Passes}
 use Rattle.devices.specs.Lines.{line_number, newlines_in, next_number}
 use Rattle.devices.specs.LineReader.{Position}
-use Rattle.devices.proofs.Passing.{Passes-refl, Passes-weaken}
+use Rattle.devices.proofs.Passing.{Passes-weaken}
 use Rattle.catalogue.specs.Shapes.{TableShape}
 use Rattle.values.specs.Database.{Database}
 use Rattle.requests.specs.ProcLists.{ProcsParts}
@@ -19,7 +19,7 @@ use Rattle.meaning.specs.Serial.{serial_end, serial_replies}
 use Rattle.sequencer.specs.Entries.{prepared}
 use Rattle.batch_log.specs.Log.{log_said, IsEnd, IsNextBatch}
 use Rattle.batch_log.specs.Moves.{Moves}
-use Rattle.batch_log.proofs.Moves.{Moves-none, Moves-trans}
+use Rattle.batch_log.proofs.Moves.{Moves-trans}
 use Rattle.batch_log.specs.Taken.{TakesCalls}
 use Rattle.batch_log.proofs.Taken.{TakesCalls-none}
 use Rattle.report_text.specs.Texts.{digest, end_line, row_text}
@@ -127,14 +127,6 @@ SoFar-stopped_reading failed procs db b m total number next line rows said left 
   where
     plus_none : (n : ℕ) → n ≡ n + 0
     plus_none n = omega arith
-
--- a run that stopped before the reader was called again
-pub SoFar-stopped_between : (procs : ProcsParts) (db : Database) (b m total number line : ℕ) (rows : Database) (said : Sha256) (left now taken gave : Option (List ℕ)) (p : Position) →
-    (s : SoFar procs db b m total number rows said left now taken gave) → Moves left now start p → m ≡ p.newlines → total ≡ number → total ≤ 2 ^ 48 → line ≡ p.begun →
-    IfSome left (λ log. IsStoppedAt reading procs db false log taken gave line)
-SoFar-stopped_between procs db b m total number line rows said left now taken gave p s h em et room line_is =
-    SoFar-stopped_reading false procs db b m total number m line rows said left now now taken gave p p s h (Moves-none now p) em em et
-    (Passes-refl _ now (λ x. TakesCalls-none procs.procs total false x room)) line_is
 
 -- a run that stopped before anything was read
 pub nothing_stopped : (procs : ProcsParts) (db : Database) (left taken : Option (List ℕ)) → IfSome left (λ log. IsStoppedAt reading procs db false log taken taken 0)

@@ -28,6 +28,7 @@ use engine::{BatchDone, Engine, ExecFault, Settings};
 use requests::{Request, Setup};
 use sequencer::{Batch, BatchFault};
 use std::alloc::Global;
+use std::sync::Wait;
 
 /// The fault of a run whose batch the engine holds.
 fn exec_fault(fault: &ExecFault, line: u64) -> RunFault
@@ -135,7 +136,13 @@ fn finish<K: Sink>(
 }
 
 /// Runs the batches of a log, of which nothing was read, and writes its report into a sink.
-fn run_batches<X: Fn(&mut Engine, Batch) -> Result<BatchDone, ExecFault>, S: Source, K: Sink>(
+fn run_batches<
+    R: Wait,
+    X: Fn(&mut Engine, Batch) -> Result<BatchDone, ExecFault>,
+    S: Source,
+    K: Sink,
+>(
+    rt: &R,
     alloc: Global,
     executor: &X,
     engine: &mut Engine,
@@ -156,7 +163,7 @@ fn run_batches<X: Fn(&mut Engine, Batch) -> Result<BatchDone, ExecFault>, S: Sou
     ensures threads { IfErr result (λ e. IfOfThread e (HasAnswered X.Fn executor.now ExecFault.Spawn)) }
 {
     let mut transcript = Transcript::new();
-    'batches: for _ in 0..u64::MAX {
+    'batches: for _ in rt.forever() {
         let requests = match reader.next_batch(alloc, engine.procs()) {
             Ok(Some(requests)) => requests,
             Ok(None) => return finish(alloc, engine, transcript, sink, reader.last_line()),
@@ -176,11 +183,17 @@ fn run_batches<X: Fn(&mut Engine, Batch) -> Result<BatchDone, ExecFault>, S: Sou
             Err(fault) => return Err(fault),
         }
     }
-    Err(RunFault::at(LogFaultKind::Memory, reader.last_line()))
+    unreachable!()
 }
 
 /// Runs the log that a source gives on an engine that has run none, as `run_log` does on a new one.
-pub fn run_log_on<X: Fn(&mut Engine, Batch) -> Result<BatchDone, ExecFault>, S: Source, K: Sink>(
+pub fn run_log_on<
+    R: Wait,
+    X: Fn(&mut Engine, Batch) -> Result<BatchDone, ExecFault>,
+    S: Source,
+    K: Sink,
+>(
+    rt: &R,
     alloc: Global,
     executor: &X,
     engine: &mut Engine,
@@ -199,7 +212,7 @@ pub fn run_log_on<X: Fn(&mut Engine, Batch) -> Result<BatchDone, ExecFault>, S: 
     ensures threads { IfErr result (λ e. IfOfThread e (HasAnswered X.Fn executor.now ExecFault.Spawn)) }
 {
     let mut reader = LogReader::new(source);
-    let ended = run_batches(alloc, executor, engine, &mut reader, sink);
+    let ended = run_batches(rt, alloc, executor, engine, &mut reader, sink);
     let _source = reader.into_source();
     ended
 }
@@ -211,7 +224,13 @@ pub fn run_log_on<X: Fn(&mut Engine, Batch) -> Result<BatchDone, ExecFault>, S: 
 /// A batch is read whole before it runs, and its report is written after it ended. A fault ends the run: one of a line of
 /// the log (31 to 35), a failed device (36), want of memory (37), or a thread that was refused to the executor (38). What
 /// was written then is a beginning of the report.
-pub fn run_log<X: Fn(&mut Engine, Batch) -> Result<BatchDone, ExecFault>, S: Source, K: Sink>(
+pub fn run_log<
+    R: Wait,
+    X: Fn(&mut Engine, Batch) -> Result<BatchDone, ExecFault>,
+    S: Source,
+    K: Sink,
+>(
+    rt: &R,
     alloc: Global,
     executor: &X,
     setup: Setup,
@@ -229,7 +248,7 @@ pub fn run_log<X: Fn(&mut Engine, Batch) -> Result<BatchDone, ExecFault>, S: Sou
     ensures threads { IfErr result (λ e. IfOfThread e (HasAnswered X.Fn executor.now ExecFault.Spawn)) }
 {
     match Engine::new(alloc, setup, settings) {
-        Ok(mut engine) => run_log_on(alloc, executor, &mut engine, source, sink),
+        Ok(mut engine) => run_log_on(rt, alloc, executor, &mut engine, source, sink),
         Err(_) => Err(RunFault::at(LogFaultKind::Memory, 0)),
     }
 }

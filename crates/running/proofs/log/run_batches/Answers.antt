@@ -1,4 +1,4 @@
-use Rattle.std.proofs.Common.{◌≡◌, ◌∙◌, ◌+◌, ◌≤◌, ◌^◌, List, ℕ, length, false, arith, rules, refl, sym, ap}
+use Rattle.std.proofs.Common.{◌≡◌, ◌∙◌, ◌+◌, List, ℕ, length, false, rules, refl, sym, ap}
 use Rattle.devices.specs.LineReader.{Position}
 use Rattle.requests.specs.ProcLists.{ProcsParts}
 use Rattle.meaning.specs.Serial.{serial_replies}
@@ -7,22 +7,18 @@ use Rattle.batch_log.specs.Reader.{came, position_of}
 use Rattle.batch_log.proofs.Moves.{Moves-none, Moves-trans}
 use Rattle.report_text.specs.Report.{reply_lines}
 use Rattle.engine.specs.Engines.{tables_of}
-use Rattle.running.specs.Stopped.{at_end, in_batch, reading}
-use Rattle.running.proofs.SoFar.{SoFar-start, SoFar-next, SoFar-front, SoFar-front_in_batch}
-use Rattle.running.proofs.Stopped.{SoFar-stopped, SoFar-stopped_between, SoFar-stopped_reading, SoFar-text_at_end, SoFar-text_in_batch, stop_of_machine}
+use Rattle.running.specs.Stopped.{at_end, in_batch}
+use Rattle.running.proofs.SoFar.{SoFar-start, SoFar-next, SoFar-front_in_batch}
+use Rattle.running.proofs.Stopped.{SoFar-stopped, SoFar-stopped_reading, SoFar-text_at_end, SoFar-text_in_batch, stop_of_machine}
 use Rattle.running.proofs.Stopping.{start}
 use Rattle.running.proofs.RunEnds.{or_nothing, run_ends, run_faults, run_stops}
 use Rattle.running.proofs.log.run_batches.Goals as goal
-
-few_calls : (n : ℕ) → n ≡ 0 → n ≤ 2 ^ 48
-few_calls n e = omega arith
 
 pub batches-init : goal.batches-init
 batches-init g c = record {
   idle = c.requires.idle;
   same = refl;
   transactions = c.requires.unread.1 ∙ sym c.requires.unused;
-  few = few_calls _ c.requires.unread.1;
   no_fault = c.requires.unread.2;
   moves = rw c.requires.unread.0 (Moves-none _ start);
   source_works = refl;
@@ -84,7 +80,6 @@ batches-preserved g c =
       idle = c.in-Ok.ensures.idle;
       same = search rules;
       transactions = (rw c.in-Ok-Some.field-0-is at c.in-Ok-Some.ensures.counted) ∙ ap (λ n. n + length c.in-Ok-Some.requests.items) c.batches.invariant.transactions ∙ sym c.in-Ok.ensures.next;
-      few = c.next_batch.ensures.room;
       no_fault = search rules;
       moves = Moves-trans _ _ _ _ _ _ c.batches.invariant.moves c.next_batch.ensures.moves;
       source_works = c.in-Ok-Some.ensures.fails c.batches.invariant.no_fault ∙ sym (or_nothing _) ∙ c.batches.invariant.source_works;
@@ -93,11 +88,3 @@ batches-preserved g c =
       so_far = rw c.in-Ok.ensures.batch (SoFar-next _ _ _ _ _ _ _ _ _ _ _ _ _ _ _ _ _ _ _ _ _ s t (rw pe at (rw c.in-Ok-Some.field-0-is at c.in-Ok-Some.ensures.batch))
           c.in-Ok.ensures.text c.in-Ok.ensures.next c.in-Ok.ensures.rows c.in-Ok.ensures.said);
     }
-
-pub returns-clause-run : goal.returns-clause-run
-returns-clause-run g c =
-    run_stops c.at.result _ _ _ _ _ _ (came c.batches.reader) (position_of c.batches.reader) c.last_line-2.result _ _ _ _ _
-    (SoFar-front _ _ _ _ _ _ _ _ _ _ _ _ c.batches.invariant.so_far) (rw c.at.ensures (tt, refl)) c.batches.invariant.source_works c.batches.invariant.sink_works
-    (rw c.at.ensures (or_nothing _)) c.last_line-2.ensures c.batches.invariant.moves
-    (stop_of_machine reading false c.at.result _ _ _ _ _ c.last_line-2.result (rw c.at.ensures (tt, refl)) (rw c.at.ensures (refl, tt))
-    (SoFar-stopped_between _ _ _ _ _ _ _ _ _ _ _ _ _ _ c.batches.invariant.so_far c.batches.invariant.moves refl c.batches.invariant.transactions c.batches.invariant.few c.last_line-2.ensures))

@@ -1,4 +1,4 @@
-use Rattle.std.proofs.Common.{◌≡◌, ◌≤◌, ◌^◌, None, false}
+use Rattle.std.proofs.Common.{◌≡◌, None, false}
 use Rattle.batch_log.specs.Reader.{calls_read, fault_of, newlines_taken, position_of, source_name, source_of, unread}
 use Rattle.batch_log.specs.Moves.{Moves}
 use Rattle.engine.specs.Engines.{is_busy}
@@ -13,7 +13,6 @@ invariant-batches g l = record {
   idle : is_busy l.engine ≡ false;
   same : source_name l.reader ≡ source_name l.fn.reader;
   transactions : calls_read l.reader ≡ l.engine.next;
-  few : calls_read l.reader ≤ 2 ^ 48;
   no_fault : fault_of l.reader ≡ None;
   moves : Moves (unread g.S.Source.left l.fn.reader) (unread g.S.Source.left l.reader) start (position_of l.reader);
   source_works : g.S.Source.failed (source_of l.reader) ≡ g.S.Source.failed (source_of l.fn.reader);
