@@ -1,11 +1,11 @@
 //! Calls whose outcomes were worked out by hand, run by many lists of choices.
 
-use crate::test_world::{batch_of, engine, executed, replies};
 use engine::Settings;
 use std::alloc::Global;
 use std::sync::Wait;
 use std::test::Fail;
 use test_bank::{Call, TWO_PAYS};
+use test_engines::{batch_of, engine, executed, replies};
 
 /// How many lists of choices are tried with each setting.
 const SEEDS: u32 = 64;

@@ -1,11 +1,11 @@
 //! Jobs that meet at a gate, or don't.
 
-use crate::test_world::execute;
 use engine::{Gate, Settings};
 use std::sync::atomic::{AtomicBool, AtomicU64, Ordering};
 use std::test::Fail;
 use std::thread;
 use test_bank::Call;
+use test_engines::execute;
 
 /// Holds the job 0 until another comes, for so many turns at most, and notes whether it came.
 #[derive(Drop)]

@@ -11,7 +11,3 @@ mod plain;
 mod plain_comparison;
 #[cfg(test)]
 mod resuming;
-#[cfg(test)]
-mod test_world;
-#[cfg(test)]
-mod watching;

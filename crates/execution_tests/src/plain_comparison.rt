@@ -6,7 +6,6 @@ ghost use Rattle.sequencer.specs.Batches.{items_of, AreOver};
 
 use crate::choices::{after, choices};
 use crate::plain::run_serially;
-use crate::test_world::{engine, executed};
 use catalogue::Catalogue;
 use engine::{Batch, Engine, Settings};
 use meaning::Outcome;
@@ -17,6 +16,7 @@ use std::alloc::Global;
 use std::sync::Wait;
 use std::test::Fail;
 use test_bank::{CallsFault, bank, batch_over, request};
+use test_engines::{engine, executed};
 use values::{Key, TableNo};
 use workspace::RowView;
 

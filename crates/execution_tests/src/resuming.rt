@@ -2,12 +2,12 @@
 //!
 //! In a usual run nothing is refused. With each allocation refused in turn a batch is held at each of its stages.
 
-use crate::test_world::{batch_of, engine, executed, replies};
 use engine::{BatchDone, Engine, ExecFault, OpenGate, Settings};
 use std::sync::Wait;
 use std::test::Fail;
 use std::thread::Threads;
 use test_bank::TWO_PAYS;
+use test_engines::{batch_of, engine, executed, replies};
 
 /// What came of a batch, which is gone on with where a thread or memory was refused.
 fn executed_in_the_end<R: Threads + Wait + Sync + AllocGlobal>(

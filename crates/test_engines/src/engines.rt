@@ -12,19 +12,19 @@ use std::thread::Threads;
 use test_bank::{Call, bank, batch, push_outcome};
 
 /// An engine on the bank.
-pub(crate) fn engine(alloc: Global, settings: Settings) -> Result<Engine, Fail> {
+pub fn engine(alloc: Global, settings: Settings) -> Result<Engine, Fail> {
     Ok(Engine::new(alloc, bank(alloc)?, settings)?)
 }
 
 /// The batch of calls of an engine's procedures.
-pub(crate) fn batch_of(alloc: Global, engine: &Engine, calls: &[Call<'_>]) -> Result<Batch, Fail>
+pub fn batch_of(alloc: Global, engine: &Engine, calls: &[Call<'_>]) -> Result<Batch, Fail>
     ensures { IfOk result (λ batch. AreOver (tables_of engine.now) (items_of batch)) }
 {
     Ok(batch(alloc, engine.procs(), calls)?)
 }
 
 /// What a batch came to, which was executed.
-pub(crate) fn executed(done: Result<BatchDone, ExecFault>) -> Result<BatchDone, Fail> {
+pub fn executed(done: Result<BatchDone, ExecFault>) -> Result<BatchDone, Fail> {
     match done {
         Ok(done) => Ok(done),
         Err(_) => Err(Fail::from("not executed")),
@@ -32,7 +32,7 @@ pub(crate) fn executed(done: Result<BatchDone, ExecFault>) -> Result<BatchDone, 
 }
 
 /// Executes calls on worker threads, and says what came of them.
-pub(crate) fn execute<R: Threads + Wait + Sync + AllocGlobal, G: Gate>(
+pub fn execute<R: Threads + Wait + Sync + AllocGlobal, G: Gate>(
     rt: &R,
     settings: Settings,
     calls: &[Call<'_>],
@@ -45,7 +45,7 @@ pub(crate) fn execute<R: Threads + Wait + Sync + AllocGlobal, G: Gate>(
 }
 
 /// The outcomes of a batch, in order.
-pub(crate) fn replies(alloc: Global, done: &BatchDone) -> Result<String, Fail> {
+pub fn replies(alloc: Global, done: &BatchDone) -> Result<String, Fail> {
     let mut text = String::new(alloc);
     for reply in &done.replies {
         push_outcome(&mut text, &reply.outcome)?;

@@ -4,7 +4,6 @@ ghost use Rattle.std.specs.Prelude.{◌≡◌};
 ghost use Rattle.sequencer.specs.Batches.{items_of, AreOver};
 ghost use Rattle.engine.specs.Engines.{tables_of};
 
-use crate::test_world::{batch_of, engine, executed};
 use engine::{Batch, BatchDone, Engine, ExecFault, Gate, OpenGate, Settings, Tally, Watcher};
 use progress::Progress;
 use std::alloc::Global;
@@ -13,6 +12,7 @@ use std::sync::{Mutex, Wait};
 use std::test::Fail;
 use std::thread::{Threads, join};
 use test_bank::Call;
+use test_engines::{batch_of, engine, executed};
 
 /// How often a thread watches.
 const LOOKS: u32 = 2_000;
