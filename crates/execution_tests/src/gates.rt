@@ -82,7 +82,7 @@ const MEETINGS: [Met<'static>; 9] = [
     ),
     (&FOUR, (2, 8), (3, 1_000_000), FOUR_READ, true),
     (&FOUR, (2, 2), (3, 1_000_000), FOUR_READ, true),
-    (&FOUR, (2, 1), (3, 1_000), FOUR_READ, false),
+    (&FOUR, (2, 1), (3, 1_000_000), FOUR_READ, false),
     (
         &[PEEK, ("peek", &[2])],
         (1, 8),
