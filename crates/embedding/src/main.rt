@@ -3,13 +3,13 @@
 #![tactic(auto)]
 
 mod calls;
-mod running;
+mod executing;
 mod stock;
 
 use calls::{Call, batch_of};
 use calvin::{Engine, Reply, Settings, Setup, read_setup};
+use executing::executed;
 use report_text::push_reply_line;
-use running::executed;
 use std::alloc::{AllocError, Global};
 use std::sync::Wait;
 use std::thread::Threads;
