@@ -1,0 +1,5 @@
+pub mod Answered
+pub mod Served
+pub mod Executed
+pub mod Owned
+pub mod Apart

@@ -1,0 +1,56 @@
+-- Of the code: invariants and steps; no promise rests on these words.
+-- Steps of a server, and what they come to.
+use Rattle.std.specs.Prelude.{◌≡◌, ◌≢◌, ◌+◌, ◌<◌, ◌^◌, ◌⊎◌, List, ◌++◌, length, map, Ok, Err, IsSomeAnd, Vec}
+use Rattle.std.specs.declared.alloc.Global.{Global}
+use Rattle.sequencer.specs.declared.batch.Batch.{Batch}
+use Rattle.sequencer.specs.Batches.{items_of}
+use Rattle.intake.specs.declared.view.History.{History}
+use Rattle.intake.specs.declared.passes.DrawPass.{DrawPass}
+use Rattle.intake.specs.Histories.{HasAll, IsNumbered}
+use Rattle.intake.specs.Passes.{drawn_by}
+use Rattle.engine.specs.Engines.{EngineParts}
+use Rattle.client_calls.specs.declared.call.ClientCall.{ClientCall}
+use Rattle.client_calls.specs.Calls.{CallItem}
+use Rattle.serving.specs.declared.told.Told.{Told}
+use Rattle.serving.specs.declared.told.ServeFault.{ServeFault}
+use Rattle.serving.specs.declared.told.ServeFault.TheVariants.{LogFull, Spawn, NoMemory}
+use Rattle.serving.specs.declared.owner.Owner.{Owner}
+use Rattle.serving.specs.Services.{Served, Serves}
+
+-- an engine holds a batch, and its rows and its count are those before it
+pub record Holds (old new : EngineParts) (batch : Batch) : Type 0 where
+  pub held : IsSomeAnd new.unfinished (λ unfinished. unfinished.batch ≡ batch)
+  pub rows : new.rows ≡ old.rows
+  pub next : new.next ≡ old.next
+
+-- why a batch was not executed, and what the engine is then
+abbrev pub IsStopped : EngineParts → EngineParts → Batch → ServeFault → Type 0
+IsStopped old new batch LogFull = (2 ^ 48 < old.next + length (items_of batch)) × (new ≡ old)
+IsStopped old new batch Spawn = Holds old new batch
+IsStopped old new batch NoMemory = Holds old new batch
+
+-- the calls of batches as lists
+abbrev pub items_in : List (Vec CallItem Global) → List (List CallItem)
+items_in batches = map (λ (b : Vec CallItem Global). b.items) batches
+
+-- a pass has drawn on
+abbrev pub DrawsOn : DrawPass ClientCall → DrawPass ClientCall → Type 0
+DrawsOn old new = (more : List CallItem) × (drawn_by new ≡ drawn_by old ++ more)
+
+-- what the owner has drawn in between was served
+pub record HasServed (old new : Owner) (ended : Served) : Type 0 where
+  pub drawn : List CallItem
+  pub grows : drawn_by new.pass ≡ drawn_by old.pass ++ drawn
+  pub serves : Serves drawn ended old.engine new.engine old.told.items new.told.items
+
+-- further calls are served, or nothing is done any more
+abbrev pub GoesOn : Served → List CallItem → Served → EngineParts → EngineParts → List Told → List Told → Type 0
+GoesOn (Ok done) drawn ended old new before after = Serves drawn ended old new before after
+GoesOn (Err fault) drawn ended old new before after = (new ≡ old) × (after ≡ before) × ((ended ≡ Err fault) ⊎ (ended ≡ Err NoMemory))
+
+-- and then what the clients had left was drawn
+pub record IsServedToTheEnd (old : Owner) (served : Served) (clients : List (History ClientCall)) (new : EngineParts) (told : List Told) (ended : Served) : Type 0 where
+  pub drawn : List CallItem
+  pub numbered : IsNumbered (drawn_by old.pass ++ drawn)
+  pub all : ended ≢ Err NoMemory → HasAll (drawn_by old.pass ++ drawn) clients
+  pub goes_on : GoesOn served drawn ended old.engine new old.told.items told

@@ -1,0 +1,88 @@
+//! Answering a batch of calls.
+
+ghost use Rattle.std.specs.Prelude.{◌≡◌, ◌+◌, ◌≤◌, ◌++◌, map, vec_len, vec_capacity, IfOk, IfErr, false};
+ghost use Rattle.sequencer.specs.Batches.{items_of, AreOver};
+ghost use Rattle.engine.specs.Engines.{tables_of, is_busy};
+ghost use Rattle.engine.specs.Executions.{IsExecutionOf, KeepsSetting};
+ghost use Rattle.engine.specs.Replies.{reply_of};
+ghost use Rattle.serving.specs.Serving.{said_of, answers_to};
+ghost use Rattle.serving.specs.Services.{Serves};
+ghost use Rattle.serving.specs.Steps.{IsStopped};
+
+use crate::told::{ServeFault, Told};
+use client_calls::{Asked, CallItem, take_in};
+use engine::{BatchDone, Engine, ExecFault, OpenGate, Reply};
+use sequencer::{Batch, Batched};
+use std::alloc::Global;
+use std::sync::Wait;
+use std::thread::Threads;
+
+/// Answers those who asked: why a call is no request, and to the others the replies, one after another. The answers find room in
+/// the list.
+fn answer(told: &mut Vec<Told>, asked: Vec<Asked>, replies: Vec<Reply>)
+    requires { vec_len told.old + vec_len asked ≤ vec_capacity told.old }
+    ensures { map said_of told.new.items ≡ map said_of told.old.items
+        ++ answers_to asked.items (map reply_of replies.items) }
+{
+    let mut replies = replies.into_iter();
+    for asked in asked {
+        let Asked {
+            client,
+            number,
+            refused,
+        } = asked;
+        let answer = match refused {
+            Some(fault) => Err(fault),
+            None => match replies.next() {
+                Some(reply) => Ok(reply.outcome),
+                None => return,
+            },
+        };
+        told.push_reserved(Told {
+            client,
+            number,
+            answer,
+        });
+    }
+}
+
+/// Executes a batch on workers.
+fn execute<R: Threads + Wait + Sync>(
+    rt: &R,
+    alloc: Global,
+    engine: &mut Engine,
+    batch: Batch,
+) -> Result<BatchDone, ServeFault>
+    requires idle { is_busy engine.old ≡ false }
+    requires over { AreOver (tables_of engine.old) (items_of batch) }
+    ensures same { KeepsSetting engine.old engine.new }
+    ensures done { IfOk result (IsExecutionOf engine.old engine.new batch) }
+    ensures stopped { IfErr result (IsStopped engine.old engine.new batch) }
+{
+    match engine.execute(rt, alloc, batch, &OpenGate) {
+        Ok(done) => Ok(done),
+        Err(ExecFault::Busy(_)) => unreachable!(),
+        Err(ExecFault::LogFull(_)) => Err(ServeFault::LogFull),
+        Err(ExecFault::Spawn) => Err(ServeFault::Spawn),
+        Err(ExecFault::NoMemory) => Err(ServeFault::NoMemory),
+    }
+}
+
+/// Executes drawn calls as a batch on workers, and answers them. Room for the answers is made first, so the batch is answered whole
+/// or not at all.
+pub(crate) fn answer_batch<R: Threads + Wait + Sync>(
+    rt: &R,
+    alloc: Global,
+    engine: &mut Engine,
+    told: &mut Vec<Told>,
+    items: Vec<CallItem>,
+) -> Result<(), ServeFault>
+    requires { is_busy engine.old ≡ false }
+    ensures { Serves items.items result engine.old engine.new told.old.items told.new.items }
+{
+    let (requests, asked) = take_in(alloc, engine.procs(), items)?;
+    told.reserve(asked.len())?;
+    let done = execute(rt, alloc, engine, Batch::of_items(requests))?;
+    answer(told, asked, done.replies);
+    Ok(())
+}
