@@ -7,7 +7,7 @@ use Rattle.engine.specs.Engines.{EngineParts}
 use Rattle.engine.specs.Executions.{KeepsSetting}
 use Rattle.client_calls.specs.Calls.{CallItem, request_of, request_item, requests_of}
 use Rattle.serving.specs.declared.told.Told.{Told}
-use Rattle.serving.specs.Serving.{Said, said_of, batch_said, batch_end, all_said, all_end}
+use Rattle.serving.specs.Serving.{said_of, batch_said, batch_end, all_said, all_end}
 use Rattle.serving.specs.Services.{Answers, calls_in}
 
 pub calls_append : (ls bs : List (List CallItem)) → calls_in (ls ++ bs) ≡ calls_in ls ++ calls_in bs

@@ -1,5 +1,5 @@
 -- What is said to a client, where what is said to others was set apart before.
-use Rattle.std.proofs.Common.{◌≡◌, ◌≢◌, ℕ, ◌+◌, ◌<◌, ◌==◌, not, Bool, true, false, eqb, List, [], ◌∷◌, ◌++◌, length, map, filter, Vec, Global, refl, sym, ap, ◌∙◌, subst, ⊎_elim, arith}
+use Rattle.std.proofs.Common.{◌≡◌, ◌≢◌, ℕ, ◌+◌, ◌==◌, not, Bool, true, false, eqb, List, [], ◌∷◌, ◌++◌, length, map, filter, Vec, Global, refl, sym, ap, ◌∙◌, ⊎_elim, arith}
 use Rattle.std.proofs.lemmas.Bool.Decides.{eqb_tells}
 use Rattle.std.proofs.lemmas.Bool.{ne_eqb}
 use Rattle.serving.specs.declared.told.Told.{Told}

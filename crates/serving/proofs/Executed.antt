@@ -1,5 +1,5 @@
 -- A batch that was executed, or was not.
-use Rattle.std.proofs.Common.{◌≡◌, ◌+◌, ◌<◌, ◌^◌, List, [], ◌∷◌, ◌++◌, length, map, Option, Some, None, Result, Ok, Err, IfSome, IsSomeAnd, IsErrAnd, is_some, true, false, refl, sym, ap, ◌∙◌, subst}
+use Rattle.std.proofs.Common.{◌≡◌, ◌+◌, ◌<◌, ◌^◌, List, [], ◌++◌, length, map, Option, Some, None, Ok, Err, IsSomeAnd, IsErrAnd, is_some, false, sym, ap, ◌∙◌, subst}
 use Rattle.std.proofs.lemmas.List.{append-nil}
 use Rattle.requests.specs.ProcLists.{ProcsParts}
 use Rattle.meaning.specs.Serial.{serial_end, serial_replies}
@@ -42,7 +42,7 @@ stopped_ends : (calls : List CallItem) (batch : Batch) (fault : ServeFault) (old
 stopped_ends calls batch LogFull old new same kept idle h = (
   ap is_busy h.1 ∙ idle,
   subst (λ (e : EngineParts). IsTooLong e calls) (sym h.1)
-  (record { first = calls; others = []; begins = sym (append-nil calls); long = subst (λ (l : List RequestItem). 2 ^ 48 < old.next + length l) same h.0 }),
+      (record { first = calls; others = []; begins = sym (append-nil calls); long = subst (λ (l : List RequestItem). 2 ^ 48 < old.next + length l) same h.0 }),
 )
 stopped_ends calls batch Spawn old new same kept idle h = held_ends calls batch old new same kept h
 stopped_ends calls batch NoMemory old new same kept idle h = held_so new.procs calls new.unfinished (held_ends calls batch old new same kept h)

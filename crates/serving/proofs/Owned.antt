@@ -1,5 +1,5 @@
 -- What an owner has drawn and answered.
-use Rattle.std.proofs.Common.{◌≡◌, ◌≢◌, List, [], ◌∷◌, ◌++◌, map, Vec, Global, Result, Ok, Err, OnOk, is_err, false, refl, sym, ap, ◌∙◌, subst, append_assoc, ◌⊎◌, inl, inr, ⊎_elim}
+use Rattle.std.proofs.Common.{◌≡◌, ◌≢◌, List, [], ◌∷◌, ◌++◌, map, Vec, Global, Result, Ok, Err, OnOk, is_err, false, refl, sym, ap, ◌∙◌, subst, append_assoc, inr, ⊎_elim}
 use Rattle.std.proofs.lemmas.List.{append-nil}
 use Rattle.intake.specs.declared.view.History.{History}
 use Rattle.intake.specs.declared.passes.DrawPass.{DrawPass}
@@ -15,7 +15,7 @@ use Rattle.serving.specs.declared.told.ServeFault.{ServeFault}
 use Rattle.serving.specs.declared.told.ServeFault.TheVariants.{NoMemory}
 use Rattle.serving.specs.declared.owner.Owner.{Owner}
 use Rattle.serving.specs.Serving.{said_of}
-use Rattle.serving.specs.Services.{Served, Answers, Serves, IsService, calls_in}
+use Rattle.serving.specs.Services.{Served, Serves, IsService, calls_in}
 use Rattle.serving.specs.Steps.{DrawsOn, HasServed, GoesOn, IsServedToTheEnd, items_in}
 use Rattle.serving.proofs.Answered.{none_answered}
 use Rattle.serving.proofs.Served.{holds_none, none_served, nothing_served, then_served, more_dropped, refused_besides}

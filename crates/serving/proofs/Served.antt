@@ -1,19 +1,14 @@
 -- What came of calls that were drawn.
-use Rattle.std.proofs.Common.{◌≡◌, ◌≢◌, ◌+◌, ◌<◌, ◌^◌, List, [], ◌∷◌, ◌++◌, length, map, Vec, Global, Option, Some, None, Result, Ok, Err, IfSome, IsSomeAnd, is_some, true, false, refl, sym, ap, ◌∙◌, subst, append_assoc, ◌⊎◌, ⊎_elim}
+use Rattle.std.proofs.Common.{◌≡◌, List, [], ◌∷◌, ◌++◌, Option, Some, None, Ok, Err, IfSome, IsSomeAnd, is_some, false, refl, sym, ap, ◌∙◌, append_assoc}
 use Rattle.std.proofs.lemmas.List.{append-nil}
 use Rattle.requests.specs.ProcLists.{ProcsParts}
-use Rattle.sequencer.specs.declared.batch.Batch.{Batch}
-use Rattle.sequencer.specs.Batches.{items_of}
 use Rattle.engine.specs.Engines.{EngineParts, Unfinished, is_busy}
-use Rattle.engine.specs.Executions.{KeepsSetting}
-use Rattle.client_calls.specs.Calls.{CallItem, requests_of}
+use Rattle.client_calls.specs.Calls.{CallItem}
 use Rattle.serving.specs.declared.told.Told.{Told}
 use Rattle.serving.specs.declared.told.ServeFault.{ServeFault}
 use Rattle.serving.specs.declared.told.ServeFault.TheVariants.{LogFull, Spawn, NoMemory}
-use Rattle.serving.specs.Serving.{said_of, batch_said, batch_end}
 use Rattle.serving.specs.Services.{Served, Answers, EndsSo, IsOfFirst, IsTooLong, Serves, calls_in}
-use Rattle.serving.specs.Steps.{Holds, IsStopped}
-use Rattle.serving.proofs.Answered.{calls_append, none_answered, one_answered, then_answered}
+use Rattle.serving.proofs.Answered.{calls_append, none_answered, then_answered}
 
 -- an engine that is not busy holds nothing
 pub holds_none : (procs : ProcsParts) (calls : List CallItem) (held : Option Unfinished) → is_some held ≡ false → IfSome held (IsOfFirst procs calls)

@@ -1,4 +1,4 @@
-use Rattle.std.proofs.Common.{◌≡◌, ◌∙◌, Ok, Err, refl}
+use Rattle.std.proofs.Common.{◌∙◌, Ok, Err, refl}
 use Rattle.serving.proofs.Owned.{none_had, then_had, then_away}
 use Rattle.serving.proofs.owner.attend.Goals as goal
 

@@ -1,4 +1,4 @@
-use Rattle.std.proofs.Common.{◌≡◌, ◌∙◌, ◌++◌, Ok, Err, refl, sym, ap, subst, map, is_err, false, inl, rules}
+use Rattle.std.proofs.Common.{◌≡◌, ◌∙◌, ◌++◌, Err, refl, sym, ap, subst, map, is_err, false, inl, rules}
 use Rattle.intake.specs.Histories.{HasAll}
 use Rattle.intake.specs.Passes.{own_history, drawn_by}
 use Rattle.serving.specs.Services.{calls_in}
