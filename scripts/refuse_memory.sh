@@ -7,26 +7,30 @@
 # refusals were met, one a run: how many of these runs answered so, how many were right all the same, and how many were wrong.
 # The last runs of a step meet no refusal. It ends with status 1 where an answer is wrong or one is missing.
 #
-# The refusals are those of the toolchain's `try`, which also looks for bad accesses. All runs share one build: the program
-# makes some allocations of its own before the step, so that the one that is refused, always the one with the same number in the
-# whole run, is the first of the step, the second, and so on. A run takes a second or so, and the steps have some thousands of
-# allocations. With EVERY=25 in the environment, only each 25th of them is refused.
+# All runs share one build: the program makes some allocations of its own before the step, so that the one that is refused, always
+# the one with the same number in the whole run, is the first of the step, the second, and so on. With EVERY=25 in the environment,
+# only each 25th of them is refused.
 #
 # With --built the proved program is built, and a library that the script has `cc` make and that is loaded in front of the
-# system's refuses the allocation. Such a run takes some milliseconds. The steps `resume` and `resume_alone`, in which a thread is
-# refused first, and then an allocation while the batch is gone on with, are tried so alone. With --left it is the program that an
+# system's refuses the allocation. A run takes some milliseconds, and as many are made side by side as there are processors. The
+# steps `resume` and `resume_alone`, in which a thread is refused first, and then an allocation while the batch is gone on with, are
+# tried so alone; and of the steps on five batches each thread is refused in turn, too. With --left it is the program that an
 # earlier run of the toolchain left built.
+#
+# Without either, the refusals are those of the toolchain's `try`, which also looks for bad accesses. A run takes a second or so,
+# and the steps have some thousands of allocations.
 set -euo pipefail
 cd -- "$(dirname -- "$0")/../crates/memory_refusals"
 
 # The number of the allocation that is refused, which is that of src/refusal.rt.
-refused=5000
+refused=20000
 # Runs with threads don't always make the same number of allocations: so many more are tried.
 spare=10
 every=${EVERY:-1}
 
 folder=$(mktemp -d)
 trap 'rm -rf -- "$folder"' EXIT
+: > "$folder/said"
 
 built=false
 left=false
@@ -44,7 +48,12 @@ if ! $built; then
     mapfile -t steps < <(printf '%s\n' "${steps[@]}" | grep -v '^resume')
 fi
 
-# Builds the program where that is asked for, and writes the library that refuses one allocation.
+# The log of five batches is that of the stored case.
+for pair in setup.json:setup.json log:log report:stdout; do
+    cmp -- "data/${pair%:*}" "../stored_cases/data/settings/calls-that-clash/${pair#*:}"
+done
+
+# Builds the program where that is asked for, and writes the library that refuses one allocation or one thread.
 build() {
     $left || rt run > "$folder/said" 2>&1 || {
         cat -- "$folder/said" >&2
@@ -57,58 +66,77 @@ build() {
 #include <pthread.h>
 #include <stdatomic.h>
 #include <stdlib.h>
+#include <unistd.h>
 
 static atomic_long made, started;
+static long refused, refused_thread;
 
-static int is_the_one(atomic_long *asked, const char *name) {
-    const char *refused = getenv(name);
-    return atomic_fetch_add(asked, 1) + 1 == (refused ? atol(refused) : 0);
+static long number_in(const char *name) {
+    const char *text = getenv(name);
+    return text ? atol(text) : 0;
+}
+
+__attribute__((constructor)) static void begin(void) {
+    refused = number_in("REFUSED");
+    refused_thread = number_in("REFUSED_THREAD");
+    alarm(60);
+}
+
+static int is_the_one(atomic_long *asked, long which) {
+    return atomic_fetch_add(asked, 1) + 1 == which;
 }
 
 void *malloc(size_t size) {
     static void *(*next)(size_t);
     if (!next) next = (void *(*)(size_t))dlsym(RTLD_NEXT, "malloc");
-    return is_the_one(&made, "REFUSED") ? NULL : next(size);
+    return is_the_one(&made, refused) ? NULL : next(size);
 }
 
 void *realloc(void *block, size_t size) {
     static void *(*next)(void *, size_t);
     if (!next) next = (void *(*)(void *, size_t))dlsym(RTLD_NEXT, "realloc");
-    return is_the_one(&made, "REFUSED") ? NULL : next(block, size);
+    return is_the_one(&made, refused) ? NULL : next(block, size);
 }
 
 int pthread_create(pthread_t *thread, const pthread_attr_t *attributes, void *(*begin)(void *), void *given) {
     static int (*next)(pthread_t *, const pthread_attr_t *, void *(*)(void *), void *);
     if (!next) next = (int (*)(pthread_t *, const pthread_attr_t *, void *(*)(void *), void *))dlsym(RTLD_NEXT, "pthread_create");
-    return is_the_one(&started, "REFUSED_THREAD") ? EAGAIN : next(thread, attributes, begin, given);
+    return is_the_one(&started, refused_thread) ? EAGAIN : next(thread, attributes, begin, given);
 }
 SOURCE
 }
 
-# Writes the case of a step, with so many allocations before it, into a folder.
-write_case() {
-    : > "$1/$2.$3"
-    printf '%s:%06d\n' "$2" "$3" > "$1/$2.$3.args"
-}
-
-# Runs the program once for each line, where the thread with this number is refused, if there is one.
+# Runs the program once for each line of a file, `STEP BEFORE`: with so many allocations before the step; or `STEP 0 THREAD`: where
+# the thread with this number is refused, and no allocation.
 run_built() {
-    xargs -r -n 1 timeout 60 env REFUSED="$refused" REFUSED_THREAD="$1" LD_PRELOAD="$folder/refuse.so" out/memory_refusals || true
+    mkdir -- "$folder/shares"
+    awk -v refused="$refused" '{
+        thread = $3 ? $3 : $1 ~ /^resume/ ? 2 : 0
+        printf "REFUSED=%d REFUSED_THREAD=%d ../out/memory_refusals %s:%06d\n", $3 ? 0 : refused, thread, $1, $2
+    }' "$1" | split -n "r/$(nproc)" - "$folder/shares/"
+    for share in "$folder"/shares/*; do
+        (cd data && xargs -r -L 1 env LD_PRELOAD="$folder/refuse.so" < "$share" > "$share.said" || true) &
+    done
+    wait
+    cat -- "$folder"/shares/*.said
+    rm -r -- "$folder/shares"
 }
 
-# Runs the cases in a folder, and gives what the program printed.
-run_cases() {
-    if $built; then
-        find "$1" -name 'resume*.args' -exec cat {} + | run_built 2
-        find "$1" -name '*.args' ! -name 'resume*' -exec cat {} + | run_built 0
-    else
-        rt try --fail-alloc "$refused" --cases "$1" 2> "$folder/said"
-    fi
+# The same by the toolchain's `try`.
+run_tried() {
+    mkdir -- "$folder/cases"
+    while read -r step before; do
+        : > "$folder/cases/$step.$before"
+        printf '%s:%06d\n' "$step" "$before" > "$folder/cases/$step.$before.args"
+    done < "$1"
+    rt try --fail-alloc "$refused" --data setup.json=data/setup.json --data log=data/log --data report=data/report \
+        --cases "$folder/cases" 2> "$folder/said"
+    rm -r -- "$folder/cases"
 }
 
-# The lines of the steps among them.
+# The lines of the steps among what the runs print.
 answers() {
-    run_cases "$1" | grep -E '^[a-z_0-9]+ (right|refused|wrong|untried) ' || {
+    { if $built; then run_built "$1"; else run_tried "$1"; fi; } | grep -E '^[a-z_0-9]+ (right|refused|wrong|untried) ' || {
         cat -- "$folder/said" >&2
         return 1
     }
@@ -117,11 +145,9 @@ answers() {
 if $built; then build; fi
 
 # How many allocations can be made until one is refused, from the beginning of each step on, and from its end on.
-mkdir -- "$folder/measured" "$folder/cases"
 for step in "${steps[@]}"; do
-    write_case "$folder/measured" "$step" 0
-    write_case "$folder/measured" "$step" 999999
-done
+    printf '%s 0\n%s 999999\n' "$step" "$step"
+done > "$folder/measured"
 answers "$folder/measured" > "$folder/rooms"
 
 declare -A runs
@@ -131,12 +157,12 @@ for step in "${steps[@]}"; do
     runs[$step]=0
     for ((before = beginning; before > end - spare && before >= 0; before--)); do
         if ((before <= end || (beginning - before) % every == 0)); then
-            write_case "$folder/cases" "$step" "$before"
+            echo "$step $before"
             runs[$step]=$((runs[$step] + 1))
         fi
-    done
+    done >> "$folder/refusals"
 done
-answers "$folder/cases" > "$folder/answers"
+answers "$folder/refusals" > "$folder/answers"
 
 failed=0
 for step in "${steps[@]}"; do
@@ -149,4 +175,31 @@ for step in "${steps[@]}"; do
             exit wrong != 0 || met == 0 || met == answered || said["refused"] != said_then["refused"]
         }' "$folder/answers" || failed=1
 done
+
+# Each thread of the steps on five batches, each of which starts a thread a worker; and a few behind the last.
+threads_refused() {
+    for step in "${steps[@]}"; do
+        workers=$(cut -d_ -f2 <<< "$step")
+        for ((thread = 1; thread <= 5 * workers + 3; thread++)); do
+            if ((thread > 5 * workers || thread % every == 1 % every)); then
+                echo "$step 0 $thread"
+            fi
+        done
+    done
+}
+
+mapfile -t steps < <(printf '%s\n' "${steps[@]}" | grep -E '^(batches|report)_' || true)
+if $built && [ ${#steps[@]} -ne 0 ]; then
+    threads_refused > "$folder/refusals"
+    answers "$folder/refusals" > "$folder/answers"
+    for step in "${steps[@]}"; do
+        awk -v step="$step" -v runs="$(grep -c "^$step " "$folder/refusals")" '
+            $1 == step { said[$2]++ }
+            END {
+                wrong = runs - said["right"] - said["refused"]
+                printf "%s: %d threads refused, %d wrong or missing; %d runs met none\n", step, said["refused"], wrong, said["right"]
+                exit wrong != 0 || said["refused"] == 0 || said["right"] == 0
+            }' "$folder/answers" || failed=1
+    done
+fi
 exit "$failed"

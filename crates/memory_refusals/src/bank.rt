@@ -47,13 +47,12 @@ pub(crate) fn bank(alloc: Global) -> Option<Setup> {
     read_setup(alloc, BANK.as_bytes()).ok()
 }
 
-/// The requests of the log, with those of a text between its halves.
-pub(crate) fn requests(alloc: Global, procs: &Procs, between: &str) -> Option<Vec<Request>>
+/// The requests of the first batch of a log; `None` where it has none, or memory is refused.
+fn requests_in(alloc: Global, procs: &Procs, log: &str) -> Option<Vec<Request>>
     ensures tables { IfSome result (λ requests.
         AllByRecursion (λ request. request.proc.tables ≡ procs.now.tables) requests.items) }
     ensures few { IfSome result (λ requests. length requests.items ≤ 4096) }
 {
-    let log = log_text(alloc, between).ok()?;
     let mut source = ReadSource::new(log.as_bytes());
     let mut reader = LogReader::new(&mut source);
     reader.next_batch(alloc, procs).ok()?
@@ -70,12 +69,20 @@ pub(crate) fn batch_of(alloc: Global, _procs: &Procs, requests: Vec<Request>) ->
     }
 }
 
+/// The first batch of a log; `None` where it has none, or memory is refused.
+pub(crate) fn batch_in(alloc: Global, procs: &Procs, log: &str) -> Option<Batch>
+    ensures { IfSome result (λ batch. AreOver procs.now.tables (items_of batch)) }
+{
+    let requests = requests_in(alloc, procs, log)?;
+    batch_of(alloc, procs, requests)
+}
+
 /// The batch of the log, with the calls of a text between its halves.
 pub(crate) fn batch_with(alloc: Global, procs: &Procs, between: &str) -> Option<Batch>
     ensures { IfSome result (λ batch. AreOver procs.now.tables (items_of batch)) }
 {
-    let requests = requests(alloc, procs, between)?;
-    batch_of(alloc, procs, requests)
+    let log = log_text(alloc, between).ok()?;
+    batch_in(alloc, procs, log.as_str())
 }
 
 /// The batch of the log.

@@ -20,21 +20,25 @@ fn engine_on(alloc: Global, setup: Setup, workers: usize) -> Option<Engine> {
     Engine::new(alloc, setup, settings).ok()
 }
 
-/// The reply lines of a batch. A reply that isn't of the log's one client gives a line more.
-fn reply_lines(alloc: Global, replies: &[Reply]) -> Result<String, AllocError> {
-    let mut lines = String::new(alloc);
+/// Appends the reply lines of a batch. A reply that isn't of the log's one client gives a line more.
+pub(crate) fn push_replies(
+    alloc: Global,
+    lines: &mut String,
+    replies: &[Reply],
+) -> Result<(), AllocError> {
     for reply in replies {
-        if reply.client != 0 || reply.number != reply.no {
+        if reply.client != 0 {
             lines.push_str("of another client\n")?;
         }
-        push_reply_line(alloc, &mut lines, reply.no, &reply.outcome)?;
+        push_reply_line(alloc, lines, reply.no, &reply.outcome)?;
     }
-    Ok(lines)
+    Ok(())
 }
 
 /// Whether the log was run as it was reckoned, to its end.
 fn is_run(alloc: Global, engine: &Engine, done: &BatchDone) -> Option<bool> {
-    let lines = reply_lines(alloc, &done.replies).ok()?;
+    let mut lines = String::new(alloc);
+    push_replies(alloc, &mut lines, &done.replies).ok()?;
     if engine.is_busy() || engine.transactions() != CALLS || done.first != 0 {
         return Some(false);
     }
@@ -60,7 +64,7 @@ pub(crate) enum Then {
 }
 
 impl Then {
-    fn go_on<R: Threads + Wait + Sync + AllocGlobal>(
+    pub(crate) fn go_on<R: Threads + Wait + Sync + AllocGlobal>(
         self,
         rt: &R,
         engine: &mut Engine,

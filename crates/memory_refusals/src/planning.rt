@@ -1,5 +1,8 @@
 //! The footprints of calls, declared and found, and the plans for them.
 
+ghost use Rattle.std.specs.Prelude.{◌≡◌};
+ghost use Rattle.interp.specs.Touched.{ShowsEachName};
+
 use crate::answer::Answer;
 use crate::bank::{bank, batch_with};
 use crate::refusal::Refusal;
@@ -8,10 +11,14 @@ use crate::texts::{FOUND_CALL, PLANS};
 use calvin::Setup;
 use catalogue::Catalogue;
 use coarsen::Plan;
+use footprint::Footprint;
+use interp::{RowView, recon};
+use proclang::Request;
 use report_text::push_plan;
 use row_store::{RowStore, all_is_free_with_nothing_lent};
 use sequencer::{Entry, prepare};
 use std::alloc::Global;
+use values::{Text, Value};
 
 /// The entries of the log's calls and of one whose footprint is found, and the catalogue. Where memory is refused, they are
 /// made again.
@@ -60,6 +67,41 @@ fn plan_all(alloc: Global, entries: &[Entry], plans: &mut Vec<Plan>) -> Answer {
     answer
 }
 
+/// The footprint that reconnaissance finds for a request. Where memory is refused, it is found again.
+fn found_for<V: RowView>(
+    alloc: Global,
+    catalogue: &Catalogue,
+    request: &Request,
+    view: &V,
+) -> Option<(Answer, Footprint)>
+    requires tables { request.now.proc.tables ≡ catalogue.now }
+    requires view { V.tables view.now ≡ catalogue.now }
+    requires shows { ShowsEachName (V.shows view.now) }
+{
+    if let Ok(footprint) = recon(alloc, catalogue, request.proc(), request.args(), view) {
+        return Some((Answer::Right, footprint));
+    }
+    let footprint = recon(alloc, catalogue, request.proc(), request.args(), view).ok()?;
+    Some((Answer::Refused, footprint))
+}
+
+/// The footprint that reconnaissance finds for the call that has its footprint found, on the starting rows.
+fn found_of_bank(alloc: Global, refusal: &mut Refusal) -> Option<(Answer, Footprint)> {
+    let Setup {
+        catalogue,
+        procs,
+        rows,
+    } = bank(alloc)?;
+    let text = Value::Text(Text::new(alloc, "x").ok()?);
+    let request = Request::new(&procs, "renew", vec![in alloc; text].ok()?).ok()?;
+    let store = RowStore::new(alloc, &catalogue, rows).ok()?;
+    all_is_free_with_nothing_lent();
+    refusal.approach();
+    let found = found_for(alloc, &catalogue, &request, &store);
+    refusal.pass();
+    found
+}
+
 /// Whether these are the plans of the calls.
 fn are_plans(alloc: Global, catalogue: &Catalogue, plans: &[Plan]) -> Option<bool> {
     let mut text = String::new(alloc);
@@ -89,5 +131,22 @@ pub(crate) fn try_plan(alloc: Global, refusal: &mut Refusal) -> Option<Answer> {
     refusal.approach();
     let answer = plan_all(alloc, &entries, &mut plans);
     refusal.pass();
+    Some(answer.if_right(are_plans(alloc, &catalogue, &plans)?))
+}
+
+/// The place of the call whose footprint is found, between the halves of the log.
+const FOUND: usize = 50;
+
+/// The footprint that reconnaissance finds. Its plan stands among those of the calls.
+pub(crate) fn try_recon(alloc: Global, refusal: &mut Refusal) -> Option<Answer> {
+    let (answer, footprint) = found_of_bank(alloc, refusal)?;
+    let plan = Plan::new(alloc, &footprint, 64, 65_536).ok()?;
+    let mut elsewhere = Refusal::elsewhere(alloc);
+    let (_, catalogue, entries) = entries_of_bank(alloc, &mut elsewhere)?;
+    let mut plans = Vec::new(alloc);
+    if plan_all(alloc, &entries, &mut plans) != Answer::Right {
+        return None;
+    }
+    *plans.get_mut(FOUND)? = plan;
     Some(answer.if_right(are_plans(alloc, &catalogue, &plans)?))
 }

@@ -4,7 +4,7 @@ use std::alloc::Global;
 use std::fmt;
 
 /// More allocations than a step and what it stands on make.
-const MOST: u64 = 5_000;
+const MOST: u64 = 20_000;
 
 /// Makes so many allocations, one after another, and lets each go. Says how many were made until one was refused.
 fn allocate(alloc: Global, most: u64) -> u64 {

@@ -1,25 +1,25 @@
-//! The program's calls: reports of the log.
+//! The program's calls: reports of logs.
 
 use crate::answer::Answer;
 use crate::bank::{bank, log_text};
 use crate::refusal::Refusal;
 use crate::texts::{CALLS, REPORT};
 use calvin::{
-    LogFault, LogFaultKind, OpenGate, ReadSource, RunFault, Settings, WriteSink, run_text,
+    LogFault, LogFaultKind, OpenGate, ReadSource, RunFault, Settings, Setup, WriteSink, run_text,
 };
-use std::alloc::Global;
 use std::sync::Wait;
 use std::thread::Threads;
 
-/// The log is run, and its report is written.
-pub(crate) fn try_text<R: Threads + Wait + Sync + AllocGlobal>(
+/// A log of so many calls is run on a setup, and its report is written.
+pub(crate) fn try_report<R: Threads + Wait + Sync + AllocGlobal>(
     rt: &R,
     refusal: &mut Refusal,
+    setup: Setup,
+    settings: Settings,
+    [log, report]: [&str; 2],
+    calls: u64,
 ) -> Option<Answer> {
     let alloc = rt.alloc();
-    let setup = bank(alloc)?;
-    let settings = Settings::new(2, 8, 64, 65_536).ok()?;
-    let log = log_text(alloc, "[\"cut\"]\n").ok()?;
     let mut source = ReadSource::new(log.as_bytes());
     // (room for all of the report, so that a write takes no memory)
     let mut out = WriteSink::new(Vec::with_capacity(alloc, 65_536).ok()?);
@@ -29,7 +29,7 @@ pub(crate) fn try_text<R: Threads + Wait + Sync + AllocGlobal>(
     let written = out.into_inner();
     let answer = match ended {
         Ok(count) => {
-            Answer::Right.if_right(count == CALLS && written.as_slice() == REPORT.as_bytes())
+            Answer::Right.if_right(count == calls && written.as_slice() == report.as_bytes())
         }
         Err(
             RunFault::Spawn { .. }
@@ -42,5 +42,17 @@ pub(crate) fn try_text<R: Threads + Wait + Sync + AllocGlobal>(
         ) => Answer::Refused,
         Err(_) => Answer::Wrong,
     };
-    Some(answer.if_right(REPORT.as_bytes().starts_with(&written)))
+    Some(answer.if_right(report.as_bytes().starts_with(&written)))
+}
+
+/// The log is run, as two batches, and its report is written.
+pub(crate) fn try_text<R: Threads + Wait + Sync + AllocGlobal>(
+    rt: &R,
+    refusal: &mut Refusal,
+) -> Option<Answer> {
+    let alloc = rt.alloc();
+    let setup = bank(alloc)?;
+    let settings = Settings::new(2, 8, 64, 65_536).ok()?;
+    let log = log_text(alloc, "[\"cut\"]\n").ok()?;
+    try_report(rt, refusal, setup, settings, [log.as_str(), REPORT], CALLS)
 }

@@ -1,0 +1,130 @@
+//! A log of 200 calls in five batches, whose setup, text and report stand in `data/`: its batches are executed one after another,
+//! and gone on with, and its report is written.
+
+ghost use Rattle.std.specs.Prelude.{IfSome};
+ghost use Rattle.sequencer.specs.Batches.{items_of, AreOver};
+
+use crate::answer::Answer;
+use crate::bank::batch_in;
+use crate::executing::{Then, push_replies};
+use crate::refusal::Refusal;
+use crate::reporting::try_report;
+use calvin::{Batch, BatchDone, Engine, OpenGate, Settings, read_setup};
+use proclang::Procs;
+use report_text::{digest_text, rows_digest};
+use row_store::all_is_free_with_nothing_lent;
+use std::alloc::Global;
+use std::sync::Wait;
+use std::thread::Threads;
+use std::{fs, rt};
+
+/// How many calls there are.
+const CALLS: u64 = 200;
+
+/// What stands behind each batch but the last.
+const CUT: &str = "[\"cut\"]\n";
+
+/// A file of `data/`.
+fn text<R: rt::Files + AllocGlobal>(rt: &R, name: &str) -> Option<String> {
+    fs::read_to_string(rt, name).ok()
+}
+
+/// The settings with so many workers and this threshold.
+fn settings(workers: usize, threshold: usize) -> Option<Settings> {
+    Settings::new(workers, 8, threshold, 65_536).ok()
+}
+
+/// The first batch of a log. Where memory is refused, it is read again.
+fn batch_read(alloc: Global, procs: &Procs, log: &str) -> Option<Batch>
+    ensures { IfSome result (λ batch. AreOver procs.now.tables (items_of batch)) }
+{
+    match batch_in(alloc, procs, log) {
+        Some(batch) => Some(batch),
+        None => batch_in(alloc, procs, log),
+    }
+}
+
+/// Executes the first batch of a log. Where memory or a thread is refused, the answer says so, and it is gone on with.
+fn execute_first<R: Threads + Wait + Sync + AllocGlobal>(
+    rt: &R,
+    engine: &mut Engine,
+    log: &str,
+    then: Then,
+    answer: &mut Answer,
+) -> Option<BatchDone> {
+    let alloc = rt.alloc();
+    let batch = batch_read(alloc, engine.procs(), log)?;
+    match engine.execute(rt, alloc, batch, &OpenGate) {
+        Ok(done) => Some(done),
+        Err(_) if engine.is_busy() => {
+            *answer = Answer::Refused;
+            then.go_on(rt, engine).ok()
+        }
+        Err(_) => None,
+    }
+}
+
+/// Whether the end line of a report says what the calls have replied, and the rows that they left.
+fn is_end(alloc: Global, report: &str, engine: &Engine, done: &[BatchDone]) -> Option<bool> {
+    let mut lines = String::new(alloc);
+    for batch in done {
+        push_replies(alloc, &mut lines, &batch.replies).ok()?;
+    }
+    if engine.is_busy() {
+        return Some(false);
+    }
+    let store = engine.rows();
+    all_is_free_with_nothing_lent();
+    let rows = rows_digest(alloc, store.catalogue(), store).ok()?;
+    let replies = digest_text(alloc, lines.as_bytes()).ok()?;
+    let count = engine.transactions();
+    let end = format!(in alloc; "\nend {count} rows {rows} replies {replies}\n").ok()?;
+    Some(report.ends_with(end.as_str()))
+}
+
+/// The batches are executed on so many workers, with this threshold.
+pub(crate) fn try_batches<R: Threads + Wait + Sync + rt::Files + AllocGlobal>(
+    rt: &R,
+    refusal: &mut Refusal,
+    workers: usize,
+    threshold: usize,
+    then: Then,
+) -> Option<Answer> {
+    let alloc = rt.alloc();
+    let setup = text(rt, "setup.json")?;
+    let (log, report) = (text(rt, "log")?, text(rt, "report")?);
+    let setup = read_setup(alloc, setup.as_bytes()).ok()?;
+    let mut engine = Engine::new(alloc, setup, settings(workers, threshold)?).ok()?;
+    let mut done = Vec::with_capacity(alloc, 8).ok()?;
+    let mut answer = Answer::Right;
+    refusal.approach();
+    for batch in log.split(CUT).filter(|batch| !batch.is_empty()) {
+        match execute_first(rt, &mut engine, batch, then, &mut answer) {
+            Some(batch) => done.push(batch).ok()?,
+            None => return Some(Answer::Wrong),
+        }
+    }
+    refusal.pass();
+    Some(answer.if_right(is_end(alloc, report.as_str(), &engine, &done)?))
+}
+
+/// The report is written, on so many workers, with this threshold.
+pub(crate) fn try_report_of_batches<R: Threads + Wait + Sync + rt::Files + AllocGlobal>(
+    rt: &R,
+    refusal: &mut Refusal,
+    workers: usize,
+    threshold: usize,
+) -> Option<Answer> {
+    let setup = text(rt, "setup.json")?;
+    let (log, report) = (text(rt, "log")?, text(rt, "report")?);
+    let setup = read_setup(rt.alloc(), setup.as_bytes()).ok()?;
+    let settings = settings(workers, threshold)?;
+    try_report(
+        rt,
+        refusal,
+        setup,
+        settings,
+        [log.as_str(), report.as_str()],
+        CALLS,
+    )
+}
