@@ -1,10 +1,13 @@
-//! Whole programs over devices that give and take a byte a call, and fail, and over files for which there is no memory.
+//! Runs of a log, commands and whole programs over devices that give and take a byte a call, and fail, and over files for which
+//! there is no memory.
 
 use crate::test_world::{
-    BANK, Folder, NO_ROWS, NOTHING, Narrow, ONE_BATCH, Slow, TWO_BATCH_REPORT, TWO_BATCHES,
-    left_with,
+    BANK, EACH, Folder, NO_ROWS, NOTHING, Narrow, ONE_BATCH, Slow, TWO_BATCH_REPORT, TWO_BATCHES,
+    Tried,
 };
+use std::sync::Wait;
 use std::test::Fail;
+use std::thread::Threads;
 
 /// How many bytes of the log its first batch has, with the line of its cut.
 const FIRST_BATCH: usize = 32;
@@ -22,34 +25,70 @@ fn newlines(text: &[u8]) -> u64 {
     count
 }
 
-#[test]
-fn a_read_that_fails_ends_the_run(rt: HostRuntime) -> Result<(), Fail> {
+/// A command that reads the log; what it has written when the first batch is read; and whether it reads on then.
+type Reading<'a> = (&'a str, &'a str, bool);
+
+const READINGS: [Reading<'static>; 4] = [
+    ("run bank.json", ONE_BATCH, true),
+    ("run --alone bank.json", ONE_BATCH, true),
+    ("locks --coarsen 0 bank.json", "0 IX db\n0 X acct\n", false),
+    ("replicas bank.json report.txt", "", true),
+];
+
+/// Whether a call ends as it must where the read fails that comes behind so many bytes of the log.
+fn ends_at_a_read<R: Threads + Wait + Sync + AllocGlobal>(
+    rt: &R,
+    tried: Tried,
+    (line, first, reads_on): Reading<'_>,
+    taken: usize,
+) -> Result<bool, Fail> {
     let alloc = rt.alloc();
+    let files = Folder {
+        setup: BANK,
+        report: NOTHING,
+        is_full: false,
+    };
+    let log = TWO_BATCHES.as_bytes();
+    let mut source = Slow::new(log, (taken as u64).saturating_add(1));
+    let out = Narrow::new(alloc, 1000, false);
+    let left = tried.leaves(rt, line, &files, &mut source, out)?;
+    if taken >= FIRST_BATCH && !reads_on {
+        return Ok(left.is(0, first.as_bytes(), b"") && !source.failed);
+    }
+    let at = newlines(log.get(..taken).unwrap_or(log)).saturating_add(1);
+    let fault = format!(in alloc; "fault 36 line {at}\n")?;
+    let written = if taken < FIRST_BATCH { "" } else { first };
+    Ok(left.is(4, written.as_bytes(), fault.as_bytes()) && source.failed)
+}
+
+#[test]
+fn a_read_that_fails_ends_the_command(rt: HostRuntime) -> Result<(), Fail> {
+    for reading in READINGS {
+        for tried in EACH {
+            if tried.serves(reading.0) {
+                for taken in 0..=TWO_BATCHES.len() {
+                    let ends = ends_at_a_read(&rt, tried, reading, taken)?;
+                    assert!(rt; ends, "{tried:?} {} behind {taken} bytes", reading.0);
+                }
+            }
+        }
+    }
+    Ok(())
+}
+
+#[test]
+fn a_log_may_come_byte_by_byte(rt: HostRuntime) -> Result<(), Fail> {
     let files = Folder {
         setup: BANK,
         report: "",
         is_full: false,
     };
-    let log = TWO_BATCHES.as_bytes();
-    let mut call: u64 = 1;
-    for taken in 0..=log.len() {
-        let mut source = Slow::new(log, call);
-        let out = Narrow::new(alloc, 1000, false);
-        let left = left_with(&rt, "run bank.json", &files, &mut source, out)?;
-        let line = newlines(&log[..taken]).saturating_add(1);
-        let fault = format!(in alloc; "fault 36 line {line}\n")?;
-        let report = if taken < FIRST_BATCH { "" } else { ONE_BATCH };
-        assert!(rt;
-            left.is(4, report.as_bytes(), fault.as_bytes()),
-            "at call {call}"
-        );
-        assert!(rt; source.failed);
-        call = call.saturating_add(1);
+    for tried in EACH {
+        let mut source = Slow::new(TWO_BATCHES.as_bytes(), 0);
+        let out = Narrow::new(rt.alloc(), 1000, false);
+        let left = tried.leaves(&rt, "run bank.json", &files, &mut source, out)?;
+        assert!(rt; left.is(0, TWO_BATCH_REPORT.as_bytes(), b""), "{tried:?}");
     }
-    let mut source = Slow::new(log, 0);
-    let out = Narrow::new(alloc, 1000, false);
-    let left = left_with(&rt, "run bank.json", &files, &mut source, out)?;
-    assert!(rt; left.is(0, TWO_BATCH_REPORT.as_bytes(), b""));
     Ok(())
 }
 
@@ -57,7 +96,7 @@ fn a_read_that_fails_ends_the_run(rt: HostRuntime) -> Result<(), Fail> {
 /// and the faults of a write that fails among those and behind them.
 const COMMANDS: [(&str, [&str; 3], &str, usize, [&str; 2]); 5] = [
     (
-        "run bank.json",
+        "run --workers 1 bank.json",
         [BANK, TWO_BATCHES, ""],
         TWO_BATCH_REPORT,
         ONE_BATCH.len(),
@@ -93,23 +132,45 @@ const COMMANDS: [(&str, [&str; 3], &str, usize, [&str; 2]); 5] = [
     ),
 ];
 
+/// Whether a call ends so where the write fails that comes behind so many bytes, or takes none.
+fn ends_at_a_write<R: Threads + Wait + Sync + AllocGlobal>(
+    rt: &R,
+    tried: Tried,
+    line: &str,
+    [setup, log, report]: [&str; 3],
+    written: &[u8],
+    fault: &[u8],
+) -> Result<bool, Fail> {
+    let files = Folder {
+        setup,
+        report,
+        is_full: false,
+    };
+    let mut ends = true;
+    for takes_none in [false, true] {
+        let mut source = Slow::new(log.as_bytes(), 0);
+        let out = Narrow::new(rt.alloc(), written.len(), takes_none);
+        let left = tried.leaves(rt, line, &files, &mut source, out)?;
+        ends = left.is(4, written, fault) && ends;
+    }
+    Ok(ends)
+}
+
 #[test]
 fn a_write_that_fails_ends_the_command(rt: HostRuntime) -> Result<(), Fail> {
-    let alloc = rt.alloc();
-    for (line, [setup, log, report], answer, first, [early, late]) in COMMANDS {
-        let files = Folder {
-            setup,
-            report,
-            is_full: false,
-        };
-        let (answer, early, late) = (answer.as_bytes(), early.as_bytes(), late.as_bytes());
-        for room in 0..answer.len() {
-            let fault = if room < first { early } else { late };
-            for takes_none in [false, true] {
-                let mut source = Slow::new(log.as_bytes(), 0);
-                let out = Narrow::new(alloc, room, takes_none);
-                let left = left_with(&rt, line, &files, &mut source, out)?;
-                assert!(rt; left.is(4, &answer[..room], fault), "{line} at room {room}");
+    for (line, inputs, answer, first, [early, late]) in COMMANDS {
+        for tried in EACH {
+            if tried.serves(line) {
+                for room in 0..answer.len() {
+                    let (written, _) = answer.as_bytes().split_at(room);
+                    let fault = if room < first {
+                        early.as_bytes()
+                    } else {
+                        late.as_bytes()
+                    };
+                    let ends = ends_at_a_write(&rt, tried, line, inputs, written, fault)?;
+                    assert!(rt; ends, "{tried:?} {line} at room {room}");
+                }
             }
         }
     }
@@ -126,7 +187,7 @@ fn a_file_without_memory_is_fault_47(rt: HostRuntime) -> Result<(), Fail> {
         };
         let mut source = Slow::new(log.as_bytes(), 0);
         let out = Narrow::new(rt.alloc(), 1000, false);
-        let left = left_with(&rt, line, &files, &mut source, out)?;
+        let left = Tried::Program.leaves(&rt, line, &files, &mut source, out)?;
         assert!(rt; left.is(3, b"", b"fault 47\n"), "{line}");
     }
     Ok(())

@@ -2,8 +2,11 @@
 
 ghost use Rattle.std.specs.Prelude.{None, ⊤};
 
-use calvin::{DeviceFailed, FileFault, Files, Sink, Source, program};
-use std::alloc::Global;
+use calvin::{
+    DeviceFailed, FileFault, Files, OpenGate, Settings, Sink, Source, command, program, read_line,
+    read_setup, run_text,
+};
+use std::alloc::{AllocError, Global};
 use std::sync::Wait;
 use std::test::Fail;
 use std::thread::Threads;
@@ -169,19 +172,16 @@ impl Left {
     }
 }
 
-/// What the program leaves with the words of a line, these files, this source and this output.
-pub(crate) fn left_with<R: Threads + Wait + Sync + AllocGlobal>(
-    rt: &R,
-    line: &str,
-    files: &Folder<'_>,
-    source: &mut Slow<'_>,
-    out: Narrow,
-) -> Result<Left, Fail> {
-    let err = Narrow::new(rt.alloc(), 1000, false);
-    left_on(rt, line, files, source, out, err, false)
+fn words_of(alloc: Global, line: &str) -> Result<Vec<String>, AllocError> {
+    let mut words = Vec::new(alloc);
+    for word in line.split_whitespace() {
+        words.push(String::from_str(alloc, word)?)?;
+    }
+    Ok(words)
 }
 
-/// The same, with this error output, which may be a terminal.
+/// What the program leaves with the words of a line, these files, this source, this output and this error output, which may be
+/// a terminal.
 pub(crate) fn left_on<R: Threads + Wait + Sync + AllocGlobal>(
     rt: &R,
     line: &str,
@@ -192,10 +192,7 @@ pub(crate) fn left_on<R: Threads + Wait + Sync + AllocGlobal>(
     err_is_terminal: bool,
 ) -> Result<Left, Fail> {
     let alloc = rt.alloc();
-    let mut words = Vec::new(alloc);
-    for word in line.split_whitespace() {
-        words.push(String::from_str(alloc, word)?)?;
-    }
+    let words = words_of(alloc, line)?;
     let status = program(
         rt,
         alloc,
@@ -211,4 +208,85 @@ pub(crate) fn left_on<R: Threads + Wait + Sync + AllocGlobal>(
         out: out.taken,
         err: err.taken,
     })
+}
+
+/// What a command leaves that the words of a line ask for.
+fn left_by_command<R: Threads + Wait + Sync + AllocGlobal>(
+    rt: &R,
+    line: &str,
+    files: &Folder<'_>,
+    source: &mut Slow<'_>,
+    mut out: Narrow,
+) -> Result<Left, Fail> {
+    let alloc = rt.alloc();
+    let line = read_line(alloc, &words_of(alloc, line)?)?;
+    let mut err = Narrow::new(alloc, 1000, false);
+    let status = command(rt, alloc, &line, false, files, source, &mut out, &mut err);
+    Ok(Left {
+        status,
+        out: out.taken,
+        err: err.taken,
+    })
+}
+
+/// What the run of the log leaves, with the status and the line of its fault that the program would leave.
+fn left_by_run_text<R: Threads + Wait + Sync + AllocGlobal>(
+    rt: &R,
+    files: &Folder<'_>,
+    source: &mut Slow<'_>,
+    mut out: Narrow,
+) -> Result<Left, Fail> {
+    let alloc = rt.alloc();
+    let setup = read_setup(alloc, files.setup.as_bytes())?;
+    let settings = Settings::new(1, 8, 64, 65_536)?;
+    let mut err = Vec::new(alloc);
+    let mut status = 0;
+    if let Err(fault) = run_text(rt, alloc, setup, settings, &OpenGate, source, &mut out) {
+        err.extend_from_slice(format!(in alloc; "{fault}\n")?.as_bytes())?;
+        status = 4;
+    }
+    Ok(Left {
+        status,
+        out: out.taken,
+        err,
+    })
+}
+
+/// The call that is tried.
+#[derive(Clone, Copy, Debug)]
+pub(crate) enum Tried {
+    RunText,
+    Command,
+    Program,
+}
+
+pub(crate) const EACH: [Tried; 3] = [Tried::RunText, Tried::Command, Tried::Program];
+
+impl Tried {
+    /// Whether it does what a line asks for.
+    pub(crate) fn serves(self, line: &str) -> bool {
+        match self {
+            Tried::RunText => line.starts_with("run ") && !line.contains("--alone"),
+            Tried::Command | Tried::Program => true,
+        }
+    }
+
+    /// What it leaves with the words of a line, these files, this source and this output.
+    pub(crate) fn leaves<R: Threads + Wait + Sync + AllocGlobal>(
+        self,
+        rt: &R,
+        line: &str,
+        files: &Folder<'_>,
+        source: &mut Slow<'_>,
+        out: Narrow,
+    ) -> Result<Left, Fail> {
+        match self {
+            Tried::RunText => left_by_run_text(rt, files, source, out),
+            Tried::Command => left_by_command(rt, line, files, source, out),
+            Tried::Program => {
+                let err = Narrow::new(rt.alloc(), 1000, false);
+                left_on(rt, line, files, source, out, err, false)
+            }
+        }
+    }
 }
