@@ -17,9 +17,10 @@ pub mod Knowing
 pub mod Dropping
 pub mod Queueing
 pub mod Trees
-pub mod Numbers
+pub mod Named
 pub mod Opens
 pub mod Marks
+pub mod Changed
 pub mod Nexts
 pub mod Below
 pub mod Holding

@@ -20,11 +20,6 @@ removed_few [] (suc i) = omega arith
 removed_few (e ∷ es) zero = omega arith
 removed_few (e ∷ es) (suc i) = let h = removed_few es i in omega (arith, h)
 
-pub set_at : (es : List Enqueued) (i : ℕ) (d f : Enqueued) → i < length es → at (slice_set es i f) i d ≡ f
-set_at [] i d f l = absurd (omega (arith, l))
-set_at (e ∷ es) zero d f l = refl
-set_at (e ∷ es) (suc i) d f l = set_at es i d f (omega (arith, l))
-
 pub rising_numbers : (xs : List ℕ) (es : List Enqueued) → xs ≡ open_of es → IsRising (all_waiting es) → AreRising xs
 rising_numbers xs es is rising = subst AreRising (sym is) (open_rising es rising)
 
@@ -57,23 +52,7 @@ rising_set [] i d f l same rising = tt
 rising_set (e ∷ es) zero d f l same rising = (subst (λ n. AreAbove n (all_waiting es)) (sym same) rising.0, rising.1)
 rising_set (e ∷ es) (suc i) d f l same rising = (above_set e.no es i d f (omega (arith, l)) same rising.0, rising_set es i d f (omega (arith, l)) same rising.1)
 
--- the same, of the transaction as the code reads it again
-pub room_at : (xs : List ℕ) (es : List Enqueued) (i capacity : ℕ) (m f seen : Enqueued) → xs ≡ open_of es → IsRising (all_waiting es) → i < length es → m ≡ at es i m → f.no ≡ m.no → seen ≡ at (slice_set es i f) i seen
-    → length es ≤ capacity → is_open seen ≡ true → length (placed seen.no true xs) ≤ capacity
-room_at xs es i capacity m f seen is rising l item same again room open_one =
-    let it : seen ≡ f = again ∙ set_at es i seen f l in
-    subst (λ (e : Enqueued). length (placed e.no true xs) ≤ capacity) (sym it)
-    (room_to_note xs es i capacity m f is rising l (same ∙ ap (λ (e : Enqueued). e.no) item) room (sym (ap is_open it) ∙ open_one))
-
-pub noted_again : (xs new : List ℕ) (es : List Enqueued) (i : ℕ) (m f seen : Enqueued) → xs ≡ open_of es → IsRising (all_waiting es) → i < length es → m ≡ at es i m → f.no ≡ m.no → seen ≡ at (slice_set es i f) i seen
-    → new ≡ placed seen.no (is_open seen) xs → new ≡ open_of (slice_set es i f)
-noted_again xs new es i m f seen is rising l item same again now =
-    noted_set xs new es i m f is rising l (same ∙ ap (λ (e : Enqueued). e.no) item) (now ∙ ap (λ (e : Enqueued). placed e.no (is_open e) xs) (again ∙ set_at es i seen f l))
-
-pub rising_again : (es : List Enqueued) (i : ℕ) (m f : Enqueued) → i < length es → m ≡ at es i m → f.no ≡ m.no → IsRising (all_waiting es) → IsRising (all_waiting (slice_set es i f))
-rising_again es i m f l item same rising = rising_set es i m f l (same ∙ ap (λ (e : Enqueued). e.no) item) rising
-
-waiting_end : (es : List Enqueued) (e : Enqueued) → all_waiting (es ++ e ∷ []) ≡ all_waiting es ++ waiting_of e ∷ []
+pub waiting_end : (es : List Enqueued) (e : Enqueued) → all_waiting (es ++ e ∷ []) ≡ all_waiting es ++ waiting_of e ∷ []
 waiting_end [] e = refl
 waiting_end (f ∷ es) e = ap (λ ws. waiting_of f ∷ ws) (waiting_end es e)
 

@@ -11,8 +11,7 @@ use Rattle.lock_tree.specs.Lines.{Lines, line}
 use Rattle.lock_tree.specs.Known.{AreKnown}
 use Rattle.lock_tree.specs.Open.{is_open, open_of}
 use Rattle.lock_tree.proofs.Places.{at, entry_there}
-use Rattle.lock_tree.proofs.Numbers.{before_member}
-use Rattle.lock_tree.proofs.Trees.{item_flag}
+use Rattle.lock_tree.proofs.Trees.{member_above, item_flag}
 
 -- an entry that stands at a place
 pub record StandsAt (es : List Enqueued) (i : ℕ) (e : Enqueued) : Type 0 where
@@ -64,7 +63,7 @@ first_open (f ∷ es) n ns rising is = elim (is_open f) as (λ v. is_open f ≡ 
         least = λ i e s o. elim (first_or_behind f es i e s) [
           | inl it ↦ (let k = ap (λ (x : Enqueued). x.no) it in omega (arith, k, same))
           | inr b ↦
-              (let above = before_member f.no es b.0 e rising.0 b.2.within in
+              (let above = member_above f.no es b.0 e rising.0 b.2.within in
               let k = ap (λ (x : Enqueued). x.no) b.2.there in
               omega (arith, above, k, same))
         ];

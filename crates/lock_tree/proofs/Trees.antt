@@ -12,7 +12,7 @@ use Rattle.lock_tree.specs.Locks.{Waiting, used, plan_of, without, with_mark, Ar
 use Rattle.lock_tree.specs.Queues.{Queue, mode_on, asks, queue, granted, has_number}
 use Rattle.lock_tree.specs.Ready.{ready, all_granted}
 use Rattle.lock_tree.specs.Placing.{place_of}
-use Rattle.lock_tree.specs.Views.{waiting_of, all_waiting}
+use Rattle.lock_tree.specs.Views.{waiting_of, all_waiting, enqueued}
 use Rattle.lock_tree.specs.Lines.{Lines, line, others}
 use Rattle.request_arena.specs.Lists.{free_nodes}
 use Rattle.lock_tree.specs.Numbered.{IsNumbered}
@@ -21,7 +21,7 @@ use Rattle.lock_tree.specs.Chained.{IsChained, AreChained}
 use Rattle.lock_tree.specs.Sound.{IsTree}
 use Rattle.lock_tree.proofs.Chaining.{chained_same, chained_marked}
 use Rattle.lock_tree.specs.Known.{granted_in, Knows, AreKnown}
-use Rattle.lock_tree.proofs.Places.{at, plan_at, marked_at, number_kept, plan_kept, same_numbers, some_one, none_some, later_place, used_end, used_marked}
+use Rattle.lock_tree.proofs.Places.{at, plan_at, marked_at, no_mark, number_kept, plan_kept, same_numbers, some_one, none_some, later_place, used_end, used_marked}
 
 -- ---- queues
 
@@ -161,7 +161,7 @@ same_itself k = grind (arith, nat_tests)
 less_other : (i k : ℕ) → i < k → (i == k) ≡ false
 less_other i k h = grind (arith, nat_tests)
 
-member_above : (n : ℕ) (es : List Enqueued) (i : ℕ) (d : Enqueued) → AreAbove n (all_waiting es) → i < length es → n < (at es i d).no
+pub member_above : (n : ℕ) (es : List Enqueued) (i : ℕ) (d : Enqueued) → AreAbove n (all_waiting es) → i < length es → n < (at es i d).no
 member_above n [] i d above l = absurd (omega (arith, l))
 member_above n (e ∷ es) zero d above l = above.0
 member_above n (e ∷ es) (suc i) d above l = member_above n es i d above.1 (omega (arith, l))
@@ -194,27 +194,27 @@ known_as_before old new es seen same items known = subst (AreKnown (line new) []
 
 -- more room for queues and transactions
 pub same_tree : (arena : ℕ) (ts seen : Transactions) (old new : Lines) → IsNumbered new None → AreGranted new → free_nodes new.nodes.held ≡ free_nodes old.nodes.held → ((r : Resource) → line new r ≡ line old r)
-    → ((e : Enqueued) → IsChained old e → IsChained new e) → seen.entries.items ≡ ts.entries.items → IsIndexed seen → IsTree arena ts old → IsTree arena seen new
+    → ((e : Enqueued) → IsChained old e → IsChained new e) → (enqueued seen) ≡ (enqueued ts) → IsIndexed seen → IsTree arena ts old → IsTree arena seen new
 same_tree arena ts seen old new numbered granted free same chained items indexed tree = record {
-  room = (let e : used (all_waiting seen.entries.items) ≡ used (all_waiting ts.entries.items) = ap (λ (xs : List Enqueued). used (all_waiting xs)) items in let r = tree.room in omega (arith, e, r, free));
+  room = (let e : used (all_waiting (enqueued seen)) ≡ used (all_waiting (enqueued ts)) = ap (λ (xs : List Enqueued). used (all_waiting xs)) items in let r = tree.room in omega (arith, e, r, free));
   indexed = indexed;
   numbered = numbered;
   granted = granted;
   lines = λ r. same r ∙ tree.lines r ∙ ap (λ (xs : List Enqueued). queue r (all_waiting xs)) (sym items);
-  chained = subst (AreChained new) (sym items) (chained_same old new chained ts.entries.items tree.chained);
-  known = known_as_before old new ts.entries.items seen.entries.items same items tree.known;
+  chained = subst (AreChained new) (sym items) (chained_same old new chained (enqueued ts) tree.chained);
+  known = known_as_before old new (enqueued ts) (enqueued seen) same items tree.known;
 }
 
 -- one more transaction
-pub joined_tree : (arena : ℕ) (ts seen new : Transactions) (e : Enqueued) (old lender lines : Lines) → IsTree arena ts old → seen.entries.items ≡ ts.entries.items → ((r : Resource) → line lender r ≡ line old r)
+pub joined_tree : (arena : ℕ) (ts seen new : Transactions) (e : Enqueued) (old lender lines : Lines) → IsTree arena ts old → (enqueued seen) ≡ (enqueued ts) → ((r : Resource) → line lender r ≡ line old r)
     → free_nodes lender.nodes.held ≡ free_nodes old.nodes.held → IsIndexed new → ((r : Resource) → line lines r ≡ line lender r ++ asks e.no (mode_on r e.plan.items) [])
-    → all_waiting new.entries.items ≡ all_waiting seen.entries.items ++ waiting_of e ∷ [] → AreKnown (line lines) [] new.entries.items
-    → IsNumbered lines None → AreGranted lines → free_nodes lines.nodes.held + length e.plan.items ≡ free_nodes lender.nodes.held → AreChained lines new.entries.items → IsTree arena new lines
+    → all_waiting (enqueued new) ≡ all_waiting (enqueued seen) ++ waiting_of e ∷ [] → AreKnown (line lines) [] (enqueued new)
+    → IsNumbered lines None → AreGranted lines → free_nodes lines.nodes.held + length e.plan.items ≡ free_nodes lender.nodes.held → AreChained lines (enqueued new) → IsTree arena new lines
 joined_tree arena ts seen new e old lender lines tree items same free indexed joined waiting known numbered granted taken chained =
-    let ws = all_waiting ts.entries.items in
+    let ws = all_waiting (enqueued ts) in
     let w = waiting_of e in
-    let is : all_waiting new.entries.items ≡ ws ++ w ∷ [] = waiting ∙ ap (λ (xs : List Enqueued). all_waiting xs ++ w ∷ []) items in
-    let more : used (all_waiting new.entries.items) ≡ used ws + length w.plan = ap used is ∙ used_end ws w in
+    let is : all_waiting (enqueued new) ≡ ws ++ w ∷ [] = waiting ∙ ap (λ (xs : List Enqueued). all_waiting xs ++ w ∷ []) items in
+    let more : used (all_waiting (enqueued new)) ≡ used ws + length w.plan = ap used is ∙ used_end ws w in
     record {
       room = (let r = tree.room in omega (arith, more, free, taken, r));
       indexed = indexed;
@@ -226,13 +226,13 @@ joined_tree arena ts seen new e old lender lines tree items same free indexed jo
     }
 
 -- one transaction less
-pub left_tree : (arena size k : ℕ) (ts new : Transactions) (old lines : Lines) → IsTree arena ts old → used (all_waiting ts.entries.items) ≡ size + used (without k (all_waiting ts.entries.items))
-    → all_waiting new.entries.items ≡ without k (all_waiting ts.entries.items) → IsIndexed new → ((r : Resource) → line lines r ≡ others k (line old r)) → AreKnown (line lines) [] new.entries.items
-    → IsNumbered lines None → AreGranted lines → free_nodes lines.nodes.held ≡ free_nodes old.nodes.held + size → AreChained lines new.entries.items → IsTree arena new lines
+pub left_tree : (arena size k : ℕ) (ts new : Transactions) (old lines : Lines) → IsTree arena ts old → used (all_waiting (enqueued ts)) ≡ size + used (without k (all_waiting (enqueued ts)))
+    → all_waiting (enqueued new) ≡ without k (all_waiting (enqueued ts)) → IsIndexed new → ((r : Resource) → line lines r ≡ others k (line old r)) → AreKnown (line lines) [] (enqueued new)
+    → IsNumbered lines None → AreGranted lines → free_nodes lines.nodes.held ≡ free_nodes old.nodes.held + size → AreChained lines (enqueued new) → IsTree arena new lines
 left_tree arena size k ts new old lines tree freed is indexed left known numbered granted given chained =
-    let ws = all_waiting ts.entries.items in
+    let ws = all_waiting (enqueued ts) in
     record {
-      room = (let e : used (all_waiting new.entries.items) ≡ used (without k ws) = ap used is in let r = tree.room in omega (arith, e, freed, given, r));
+      room = (let e : used (all_waiting (enqueued new)) ≡ used (without k ws) = ap used is in let r = tree.room in omega (arith, e, freed, given, r));
       indexed = indexed;
       numbered = numbered;
       granted = granted;
@@ -242,12 +242,12 @@ left_tree arena size k ts new old lines tree freed is indexed left known numbere
     }
 
 -- a mark
-pub marked_tree : (arena k : ℕ) (m : Bool) (ts new : Transactions) (lines : Lines) → IsTree arena ts lines → all_waiting new.entries.items ≡ with_mark k m (all_waiting ts.entries.items) → IsIndexed new
-    → AreKnown (line lines) [] new.entries.items → AreChained lines new.entries.items → IsTree arena new lines
+pub marked_tree : (arena k : ℕ) (m : Bool) (ts new : Transactions) (lines : Lines) → IsTree arena ts lines → all_waiting (enqueued new) ≡ with_mark k m (all_waiting (enqueued ts)) → IsIndexed new
+    → AreKnown (line lines) [] (enqueued new) → AreChained lines (enqueued new) → IsTree arena new lines
 marked_tree arena k m ts new lines tree is indexed known chained =
-    let ws = all_waiting ts.entries.items in
+    let ws = all_waiting (enqueued ts) in
     record {
-      room = (let e : used (all_waiting new.entries.items) ≡ used ws = ap used is ∙ used_marked k m ws in let r = tree.room in omega (arith, e, r));
+      room = (let e : used (all_waiting (enqueued new)) ≡ used ws = ap used is ∙ used_marked k m ws in let r = tree.room in omega (arith, e, r));
       indexed = indexed;
       numbered = tree.numbered;
       granted = tree.granted;
@@ -256,25 +256,31 @@ marked_tree arena k m ts new lines tree is indexed known chained =
       known = known;
     }
 
-some_entry : (es : List Enqueued) (i : ℕ) → i < length es → Enqueued
-some_entry [] i l = absurd (omega (arith, l))
-some_entry (e ∷ es) i l = e
+-- the one that has a number is marked, if there is one
+pub record IsMarked (k : ℕ) (m : Bool) (es new : List Enqueued) : Type 0 where
+  pub there : (i : ℕ) (d : Enqueued) → place_of k (all_waiting es) ≡ Some i → new ≡ slice_set es i (record (at es i d) { marked = m })
+  pub none : place_of k (all_waiting es) ≡ None → new ≡ es
 
-abbrev Marked : ℕ → Bool → List Enqueued → List Enqueued → Type 0
-Marked i m es new = (d : Enqueued) → new ≡ slice_set es i (record (at es i d) { marked = m })
+one_of : (k i : ℕ) (es : List Enqueued) → place_of k (all_waiting es) ≡ Some i → Enqueued
+one_of k i [] h = absurd (none_some i h)
+one_of k i (e ∷ es) h = e
 
-pub marked_seen : (k i : ℕ) (m : Bool) (es seen new : List Enqueued) → seen ≡ es → IsRising (all_waiting es) → Some i ≡ place_of k (all_waiting seen) → i < length seen → Marked i m es new
-    → all_waiting new ≡ with_mark k m (all_waiting es)
-marked_seen k i m es seen new same rising found l is =
-    let d = some_entry es i (let n = ap length same in omega (arith, l, n)) in
-    ap all_waiting (is d) ∙ marked_at k m es i d rising (sym (found ∙ ap (λ (xs : List Enqueued). place_of k (all_waiting xs)) same))
+-- what holds of all with the mark set holds of them now
+marked_so : (k : ℕ) (m : Bool) (es new : List Enqueued) (P : List Enqueued → Type 0) → IsMarked k m es new → P es → ((i : ℕ) (d : Enqueued) → P (slice_set es i (record (at es i d) { marked = m }))) → P new
+marked_so k m es new P is old there = elim (place_of k (all_waiting es)) as (λ o. place_of k (all_waiting es) ≡ o → P new) [
+  | None ↦ λ h. subst P (sym (is.none h)) old
+  | Some i ↦ λ h. subst P (sym (is.there i (one_of k i es h) h)) (there i (one_of k i es h))
+] refl
 
-pub marked_known : (queues : Resource → Queue) (i : ℕ) (m : Bool) (es seen new : List Enqueued) → seen ≡ es → i < length seen → Marked i m es new → AreKnown queues [] es → AreKnown queues [] new
-marked_known queues i m es seen new same l is known =
-    let d = some_entry es i (let n = ap length same in omega (arith, l, n)) in
-    subst (AreKnown queues []) (sym (is d)) (known_marked queues es i d m known)
+module _ (k : ℕ) (m : Bool) (es new : List Enqueued) (is : IsMarked k m es new) where
+  pub marked_seen : IsRising (all_waiting es) → all_waiting new ≡ with_mark k m (all_waiting es)
+  marked_seen rising = elim (place_of k (all_waiting es)) as (λ o. place_of k (all_waiting es) ≡ o → all_waiting new ≡ with_mark k m (all_waiting es)) [
+    | None ↦ λ h. ap all_waiting (is.none h) ∙ sym (no_mark k m (all_waiting es) h)
+    | Some i ↦ λ h. ap all_waiting (is.there i (one_of k i es h) h) ∙ marked_at k m es i (one_of k i es h) rising h
+  ] refl
 
-pub marked_chained : (lines : Lines) (i : ℕ) (m : Bool) (es seen new : List Enqueued) → seen ≡ es → i < length seen → Marked i m es new → AreChained lines es → AreChained lines new
-marked_chained lines i m es seen new same l is chained =
-    let d = some_entry es i (let n = ap length same in omega (arith, l, n)) in
-    subst (AreChained lines) (sym (is d)) (chained_marked lines es i d m chained)
+  pub marked_known : (queues : Resource → Queue) → AreKnown queues [] es → AreKnown queues [] new
+  marked_known queues known = marked_so k m es new (AreKnown queues []) is known (λ i d. known_marked queues es i d m known)
+
+  pub marked_chained : (lines : Lines) → AreChained lines es → AreChained lines new
+  marked_chained lines chained = marked_so k m es new (AreChained lines) is chained (λ i d. chained_marked lines es i d m chained)

@@ -3,11 +3,6 @@
 use Rattle.std.specs.Prelude.{◌<◌, ⊤, ℕ, ◌+◌, Bool, ◌&&◌, not, nat_lt, ◌==◌, if◌then◌else◌, List, [], ◌∷◌}
 use Rattle.lock_tree.specs.declared.enqueued.Enqueued.{Enqueued}
 
--- how many transactions have lesser numbers, where numbers rise
-abbrev pub place_from : ℕ → List Enqueued → ℕ
-place_from number [] = 0
-place_from number (e ∷ es) = if nat_lt e.no number then place_from number es + 1 else 0
-
 abbrev pub is_open : Enqueued → Bool
 is_open e = not e.marked && e.ready
 

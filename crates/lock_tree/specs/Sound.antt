@@ -6,7 +6,7 @@ use Rattle.request_arena.specs.Lists.{free_nodes}
 use Rattle.lock_tree.specs.declared.transactions.Transactions.{Transactions}
 use Rattle.lock_tree.specs.Locks.{used}
 use Rattle.lock_tree.specs.Queues.{queue}
-use Rattle.lock_tree.specs.Views.{all_waiting}
+use Rattle.lock_tree.specs.Views.{all_waiting, enqueued}
 use Rattle.lock_tree.specs.Lines.{Lines, line}
 use Rattle.lock_tree.specs.Indexed.{IsIndexed}
 use Rattle.lock_tree.specs.Numbered.{IsNumbered}
@@ -17,10 +17,10 @@ use Rattle.lock_tree.specs.Known.{AreKnown}
 -- free room and requests fill the arena, later transactions have greater numbers and the open ones are noted, the queues are those of the transactions,
 -- each request is chained to the next of its transaction, and each transaction knows whether it is ready
 pub record IsTree (arena : ℕ) (transactions : Transactions) (queues : Lines) : Type 0 where
-  pub room : free_nodes queues.nodes.held + used (all_waiting transactions.entries.items) ≡ arena
+  pub room : free_nodes queues.nodes.held + used (all_waiting (enqueued transactions)) ≡ arena
   pub indexed : IsIndexed transactions
   pub numbered : IsNumbered queues None
   pub granted : AreGranted queues
-  pub lines : (resource : Resource) → line queues resource ≡ queue resource (all_waiting transactions.entries.items)
-  pub chained : AreChained queues transactions.entries.items
-  pub known : AreKnown (line queues) [] transactions.entries.items
+  pub lines : (resource : Resource) → line queues resource ≡ queue resource (all_waiting (enqueued transactions))
+  pub chained : AreChained queues (enqueued transactions)
+  pub known : AreKnown (line queues) [] (enqueued transactions)

@@ -1,11 +1,13 @@
 -- Of the code: invariants and steps; no promise rests on these words.
 -- The code's entries as the transactions that contracts see.
 use Rattle.std.specs.Prelude.{ℕ, Bool, List, map, refl}
+use Rattle.std.specs.Map.{values_of}
 use Rattle.std.specs.Coded.{Coded, code_by, coded×, coded_list, coded_ℕ, coded_bool}
 use Rattle.footprint.specs.contracts.resource.Resource as resource
 use Rattle.modes.specs.contracts.mode.Mode as mode
 use Rattle.coarsen.specs.Subtrees.{Requests}
 use Rattle.lock_tree.specs.declared.enqueued.Enqueued.{Enqueued}
+use Rattle.lock_tree.specs.declared.transactions.Transactions.{Transactions}
 use Rattle.lock_tree.specs.Locks.{Waiting, Locks}
 
 abbrev pub waiting_of : Enqueued → Waiting
@@ -13,6 +15,10 @@ waiting_of e = record { no = e.no; plan = e.plan.items; marked = e.marked }
 
 abbrev pub all_waiting : List Enqueued → List Waiting
 all_waiting es = map waiting_of es
+
+-- the transactions, in the order of their numbers
+abbrev pub enqueued : Transactions → List Enqueued
+enqueued t = values_of t.entries.entries
 
 abbrev pub requests_code : Coded Requests
 requests_code = coded_list (coded× resource.the_row.coded mode.the_row.coded)

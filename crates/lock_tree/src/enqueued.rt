@@ -24,7 +24,7 @@ pub(crate) struct Enqueued {
 }
 
 impl Enqueued {
-    /// A transaction without a mark, and room to note its queues.
+    /// A transaction without a mark that waits, and room to note its queues.
     pub(crate) fn new(
         alloc: Global,
         no: u64,
@@ -32,6 +32,7 @@ impl Enqueued {
     ) -> Result<Enqueued, NoMemory>
         ensures waiting { IfOk result (λ entry.
             waiting_of entry ≡ record { no = no; plan = plan.now; marked = false }) }
+        ensures waits { IfOk result (λ entry. entry.ready ≡ false) }
         ensures numbers { IfOk result (λ entry. entry.numbers.items ≡ []) }
         ensures room { IfOk result (λ entry. length plan.now ≤ vec_capacity entry.numbers) }
     {

@@ -1,6 +1,6 @@
 //! Transactions that join the queues of their plans.
 
-ghost use Rattle.std.specs.Prelude.{◌≡◌, ◌≤◌, ◌+◌, [], ◌∷◌, ◌++◌, length, None, OnOk};
+ghost use Rattle.std.specs.Prelude.{◌≡◌, ◌≤◌, ◌+◌, [], ◌∷◌, ◌++◌, length, false, None, OnOk, OnErr};
 ghost use Rattle.std.specs.List.{AllByRecursion};
 ghost use Rattle.std.specs.Map.{keys_of};
 ghost use Rattle.std.specs.Vec.{vec_capacity};
@@ -17,14 +17,14 @@ ghost use Rattle.lock_tree.specs.Chained.{Chains, IsChained, AreChained};
 ghost use Rattle.lock_tree.specs.Steps.{OthersChained};
 ghost use Rattle.lock_tree.specs.Enqueues.{AreBelow};
 ghost use Rattle.lock_tree.specs.Indexed.{IsIndexed, HasPlace};
-ghost use Rattle.lock_tree.specs.Known.{AreKnown};
-ghost use Rattle.lock_tree.specs.Views.{waiting_of, all_waiting};
+ghost use Rattle.lock_tree.specs.Known.{granted_in, AreKnown};
+ghost use Rattle.lock_tree.specs.Views.{waiting_of, all_waiting, enqueued};
 
 use crate::enqueued::Enqueued;
 use crate::grants::are_granted;
 use crate::lines::Lines;
 use crate::queues::push;
-use crate::transactions::Transactions;
+use crate::transactions::{Transactions, push_open};
 use footprint::Resource;
 use modes::Mode;
 use request_arena::{NodeId, Request};
@@ -83,34 +83,72 @@ fn join_all(
     head
 }
 
-/// Puts a transaction behind all others. There is room for it.
-pub(crate) fn join(lines: &mut Lines, transactions: &mut Transactions, mut entry: Enqueued)
+/// Puts a transaction behind the others in the queues of its plan, and notes where its requests stand and whether it is ready.
+fn join_queues(lines: &mut Lines, entry: &mut Enqueued)
+    requires numbered { IsNumbered lines.old None }
+    requires granted { AreGranted lines.old }
+    requires free { length entry.old.plan.items ≤ free_nodes lines.old.nodes.held }
+    requires room { AllByRecursion (λ request. HasRoom lines.old request.0) entry.old.plan.items }
+    requires numbers { entry.old.numbers.items ≡ [] }
+    requires capacity { length entry.old.plan.items ≤ vec_capacity entry.old.numbers }
+    requires apart { IsStrictlySortedBy resource_cmp (keys_of entry.old.plan.items) }
+    requires above { AllByRecursion (λ request.
+        AllUnder entry.old.no (numbers_of (line lines.old request.0))) entry.old.plan.items }
+    ensures numbered { IsNumbered lines.new None }
+    ensures granted { AreGranted lines.new }
+    ensures free { free_nodes lines.new.nodes.held + length entry.old.plan.items ≡ free_nodes lines.old.nodes.held }
+    ensures joined { (other : AnyResource) →
+        line lines.new other ≡ line lines.old other ++ asks entry.old.no (mode_on other entry.old.plan.items) [] }
+    ensures others { OthersChained entry.old.no lines.old lines.new }
+    ensures same { waiting_of entry.new ≡ waiting_of entry.old }
+    ensures chained { IsChained lines.new entry.new }
+    ensures ready { entry.new.ready ≡ granted_in (line lines.new) entry.new.no entry.new.plan.items }
+{
+    entry.head = join_all(lines, entry.plan.as_slice(), entry.no, &mut entry.numbers);
+    entry.ready = are_granted(lines, entry);
+}
+
+/// Puts a transaction that is not ready behind all others. There is room for its requests. On an error nothing has changed.
+pub(crate) fn join(
+    lines: &mut Lines,
+    transactions: &mut Transactions,
+    entry: Enqueued,
+) -> Result<(), NoMemory>
     requires numbered { IsNumbered lines.old None }
     requires granted { AreGranted lines.old }
     requires free { length entry.plan.items ≤ free_nodes lines.old.nodes.held }
     requires room { AllByRecursion (λ request. HasRoom lines.old request.0) entry.plan.items }
     requires numbers { entry.numbers.items ≡ [] }
     requires capacity { length entry.plan.items ≤ vec_capacity entry.numbers }
+    requires waits { entry.ready ≡ false }
     requires indexed { IsIndexed transactions.old }
     requires place { HasPlace transactions.old }
     requires apart { IsStrictlySortedBy resource_cmp (keys_of entry.plan.items) }
-    requires below { AreBelow entry.no (all_waiting transactions.old.entries.items) }
+    requires below { AreBelow entry.no (all_waiting (enqueued transactions.old)) }
     requires above { AllByRecursion (λ request.
         AllUnder entry.no (numbers_of (line lines.old request.0))) entry.plan.items }
-    requires known { AreKnown (line lines.old) [] transactions.old.entries.items }
-    requires chained { AreChained lines.old transactions.old.entries.items }
+    requires known { AreKnown (line lines.old) [] (enqueued transactions.old) }
+    requires chained { AreChained lines.old (enqueued transactions.old) }
     ensures numbered { IsNumbered lines.new None }
     ensures granted { AreGranted lines.new }
-    ensures free { free_nodes lines.new.nodes.held + length entry.plan.items ≡ free_nodes lines.old.nodes.held }
     ensures indexed { IsIndexed transactions.new }
-    ensures joined { (other : AnyResource) →
-        line lines.new other ≡ line lines.old other ++ asks entry.no (mode_on other entry.plan.items) [] }
-    ensures waiting { all_waiting transactions.new.entries.items ≡ all_waiting transactions.old.entries.items
-        ++ waiting_of entry ∷ [] }
-    ensures known { AreKnown (line lines.new) [] transactions.new.entries.items }
-    ensures chained { AreChained lines.new transactions.new.entries.items }
+    ensures known { AreKnown (line lines.new) [] (enqueued transactions.new) }
+    ensures chained { AreChained lines.new (enqueued transactions.new) }
+    ensures free { OnOk result
+        (free_nodes lines.new.nodes.held + length entry.plan.items ≡ free_nodes lines.old.nodes.held) }
+    ensures joined { OnOk result ((other : AnyResource) →
+        line lines.new other ≡ line lines.old other ++ asks entry.no (mode_on other entry.plan.items) []) }
+    ensures waiting { OnOk result (all_waiting (enqueued transactions.new) ≡ all_waiting (enqueued transactions.old)
+        ++ waiting_of entry ∷ []) }
+    ensures err { OnErr result ((lines.new ≡ lines.old)
+        × (enqueued transactions.new ≡ enqueued transactions.old)) }
 {
-    entry.head = join_all(lines, entry.plan.as_slice(), entry.no, &mut entry.numbers);
-    entry.ready = are_granted(lines, &entry);
-    transactions.push(entry);
+    let no = entry.no;
+    transactions.push(entry)?;
+    let Some(entry) = transactions.entries.get_mut(&no) else {
+        unreachable!()
+    };
+    join_queues(lines, entry);
+    push_open(&mut transactions.open, entry);
+    Ok(())
 }

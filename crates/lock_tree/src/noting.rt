@@ -13,12 +13,12 @@ ghost use Rattle.lock_tree.specs.Granted.{AreGranted};
 ghost use Rattle.lock_tree.specs.Chained.{Chains, AreChained, IsPlaced, Begins};
 ghost use Rattle.lock_tree.specs.Steps.{IsShorter};
 ghost use Rattle.lock_tree.specs.Known.{AreKnown};
-ghost use Rattle.lock_tree.specs.Views.{all_waiting};
+ghost use Rattle.lock_tree.specs.Views.{all_waiting, enqueued};
 
 use crate::grants::are_granted;
 use crate::lines::Lines;
 use crate::queues::remove;
-use crate::transactions::{Transactions, place_of};
+use crate::transactions::Transactions;
 use footprint::Resource;
 use modes::Mode;
 use request_arena::NodeId;
@@ -28,17 +28,17 @@ fn note(lines: &Lines, transactions: &mut Transactions, no: u64)
     requires numbered { IsNumbered lines.now None }
     requires granted { AreGranted lines.now }
     requires indexed { IsIndexed transactions.old }
-    requires chained { AreChained lines.now transactions.old.entries.items }
+    requires chained { AreChained lines.now (enqueued transactions.old) }
     ensures indexed { IsIndexed transactions.new }
-    ensures same { all_waiting transactions.new.entries.items ≡ all_waiting transactions.old.entries.items }
+    ensures same { all_waiting (enqueued transactions.new) ≡ all_waiting (enqueued transactions.old) }
     ensures noted { (mode : AnyMode) (lately : Queue) →
-        AreKnown (line lines.now) ((no, mode) ∷ lately) transactions.old.entries.items →
-        AreKnown (line lines.now) lately transactions.new.entries.items }
-    ensures chained { AreChained lines.now transactions.new.entries.items }
+        AreKnown (line lines.now) ((no, mode) ∷ lately) (enqueued transactions.old) →
+        AreKnown (line lines.now) lately (enqueued transactions.new) }
+    ensures chained { AreChained lines.now (enqueued transactions.new) }
 {
-    if let Some(place) = place_of(&transactions.entries, no) {
-        let ready = are_granted(lines, &transactions.entries[place]);
-        transactions.set_ready(place, ready);
+    if let Some(entry) = transactions.get(no) {
+        let ready = are_granted(lines, entry);
+        transactions.set_ready(no, ready);
     }
 }
 
@@ -56,12 +56,12 @@ fn note_granted(
     requires first { first ≡ slice_get (nodes_of lines.now.nodes number) place }
     requires indexed { IsIndexed transactions.old }
     requires known { AreKnown (line lines.now)
-        (drop place (granted (in_order lines.now.nodes number))) transactions.old.entries.items }
-    requires chained { AreChained lines.now transactions.old.entries.items }
+        (drop place (granted (in_order lines.now.nodes number))) (enqueued transactions.old) }
+    requires chained { AreChained lines.now (enqueued transactions.old) }
     ensures indexed { IsIndexed transactions.new }
-    ensures same { all_waiting transactions.new.entries.items ≡ all_waiting transactions.old.entries.items }
-    ensures known { AreKnown (line lines.now) [] transactions.new.entries.items }
-    ensures chained { AreChained lines.now transactions.new.entries.items }
+    ensures same { all_waiting (enqueued transactions.new) ≡ all_waiting (enqueued transactions.old) }
+    ensures known { AreKnown (line lines.now) [] (enqueued transactions.new) }
+    ensures chained { AreChained lines.now (enqueued transactions.new) }
 {
     lines.nodes.nodes_stand_apart();
     let granted = lines.lines[number].granted;
@@ -89,9 +89,9 @@ fn leave_one(
     requires begins { Begins lines.old (Some node) }
     requires indexed { IsIndexed transactions.old }
     requires others { AllByRecursion (λ waiting.
-        (waiting.no == no) ≡ false) (all_waiting transactions.old.entries.items) }
-    requires known { AreKnown (line lines.old) [] transactions.old.entries.items }
-    requires chained { AreChained lines.old transactions.old.entries.items }
+        (waiting.no == no) ≡ false) (all_waiting (enqueued transactions.old)) }
+    requires known { AreKnown (line lines.old) [] (enqueued transactions.old) }
+    requires chained { AreChained lines.old (enqueued transactions.old) }
     ensures numbered { IsNumbered lines.new None }
     ensures granted { AreGranted lines.new }
     ensures free { free_nodes lines.new.nodes.held ≡ free_nodes lines.old.nodes.held + 1 }
@@ -100,9 +100,9 @@ fn leave_one(
         else line lines.old other) }
     ensures shorter { IsShorter no node result lines.old lines.new }
     ensures indexed { IsIndexed transactions.new }
-    ensures same { all_waiting transactions.new.entries.items ≡ all_waiting transactions.old.entries.items }
-    ensures known { AreKnown (line lines.new) [] transactions.new.entries.items }
-    ensures chained { AreChained lines.new transactions.new.entries.items }
+    ensures same { all_waiting (enqueued transactions.new) ≡ all_waiting (enqueued transactions.old) }
+    ensures known { AreKnown (line lines.new) [] (enqueued transactions.new) }
+    ensures chained { AreChained lines.new (enqueued transactions.new) }
 {
     let left = remove(lines, resource, number, node, no);
     note_granted(lines, transactions, number, left.stay, left.first);
@@ -124,9 +124,9 @@ pub(crate) fn leave_all(
     requires chain { Chains lines.old no plan.now numbers.now head }
     requires indexed { IsIndexed transactions.old }
     requires others { AllByRecursion (λ waiting.
-        (waiting.no == no) ≡ false) (all_waiting transactions.old.entries.items) }
-    requires known { AreKnown (line lines.old) [] transactions.old.entries.items }
-    requires chained { AreChained lines.old transactions.old.entries.items }
+        (waiting.no == no) ≡ false) (all_waiting (enqueued transactions.old)) }
+    requires known { AreKnown (line lines.old) [] (enqueued transactions.old) }
+    requires chained { AreChained lines.old (enqueued transactions.old) }
     requires elsewhere { (other : AnyResource) → mode_on other plan.now ≡ None →
         others no (line lines.old other) ≡ line lines.old other }
     ensures numbered { IsNumbered lines.new None }
@@ -134,9 +134,9 @@ pub(crate) fn leave_all(
     ensures free { free_nodes lines.new.nodes.held ≡ free_nodes lines.old.nodes.held + length plan.now }
     ensures left { (other : AnyResource) → line lines.new other ≡ others no (line lines.old other) }
     ensures indexed { IsIndexed transactions.new }
-    ensures same { all_waiting transactions.new.entries.items ≡ all_waiting transactions.old.entries.items }
-    ensures known { AreKnown (line lines.new) [] transactions.new.entries.items }
-    ensures chained { AreChained lines.new transactions.new.entries.items }
+    ensures same { all_waiting (enqueued transactions.new) ≡ all_waiting (enqueued transactions.old) }
+    ensures known { AreKnown (line lines.new) [] (enqueued transactions.new) }
+    ensures chained { AreChained lines.new (enqueued transactions.new) }
 {
     let mut place = 0;
     for (resource, _) in plan {

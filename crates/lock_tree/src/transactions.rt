@@ -1,47 +1,24 @@
-//! The transactions that are enqueued and not released, in the order of their numbers.
+//! The transactions that are enqueued and not released, by their numbers.
 
-ghost use Rattle.std.specs.Prelude.{◌≡◌, ◌<◌, ◌≤◌, [], ◌∷◌, ◌++◌, if◌then◌else◌, true, length, IfSome, OnOk, slice_set, slice_index_or, remove};
+ghost use Rattle.std.specs.Prelude.{◌≡◌, ◌∷◌, [], ◌++◌, ◌≤◌, ◌<◌, true, length, IfSome, IfNone, OnOk, OnErr, if◌then◌else◌, false, None, Some, ℕ, slice_set, slice_index_or, remove};
 ghost use Rattle.std.specs.VecDeque.{deque_len, deque_capacity};
 ghost use Rattle.lock_tree.specs.declared.enqueued.Enqueued.{Enqueued as AnyEnqueued};
-ghost use Rattle.lock_tree.specs.Locks.{IsRising};
 ghost use Rattle.lock_tree.specs.Enqueues.{AreBelow};
 ghost use Rattle.lock_tree.specs.Placing.{place_of};
-ghost use Rattle.lock_tree.specs.Views.{all_waiting};
-ghost use Rattle.lock_tree.specs.Open.{place_from, is_open, placed, AreRising};
+ghost use Rattle.lock_tree.specs.Views.{all_waiting, enqueued};
+ghost use Rattle.lock_tree.specs.Open.{is_open, placed, AreRising};
 
 use crate::enqueued::Enqueued;
 use crate::opening::{put, take_out};
 use std::alloc::Global;
-use std::collections::VecDeque;
+use std::collections::{BTreeMap, VecDeque};
 use values::NoMemory;
 
-/// The transactions, and the numbers of the open ones: those that are ready and not marked.
+/// The transactions, each under its number, and the numbers of the open ones: those that are ready and not marked.
 #[derive(Drop)]
 pub(crate) struct Transactions {
-    pub(crate) entries: VecDeque<Enqueued>,
+    pub(crate) entries: BTreeMap<u64, Enqueued>,
     pub(crate) open: VecDeque<u64>,
-}
-
-/// How many transactions have lesser numbers.
-fn place_from(entries: &VecDeque<Enqueued>, no: u64) -> usize
-    requires { IsRising (all_waiting entries.now.items) }
-    ensures exact { result ≡ place_from no entries.now.items }
-    ensures within { result ≤ length entries.now.items }
-{
-    entries.partition_point(|entry| entry.no < no)
-}
-
-/// The place of the transaction with a number, `None` exactly where none has it.
-pub(crate) fn place_of(entries: &VecDeque<Enqueued>, no: u64) -> Option<usize>
-    requires { IsRising (all_waiting entries.now.items) }
-    ensures exact { result ≡ place_of no (all_waiting entries.now.items) }
-    ensures within { IfSome result (λ place. place < length entries.now.items) }
-{
-    let place = place_from(entries, no);
-    if place < entries.len() && entries[place].no == no {
-        return Some(place);
-    }
-    None
 }
 
 /// Notes whether a transaction is open.
@@ -60,7 +37,7 @@ fn note_open(numbers: &mut VecDeque<u64>, entry: &Enqueued)
 }
 
 /// Notes whether a transaction that comes behind the others is open.
-fn push_open(numbers: &mut VecDeque<u64>, entry: &Enqueued)
+pub(crate) fn push_open(numbers: &mut VecDeque<u64>, entry: &Enqueued)
     requires { deque_len numbers.old < deque_capacity numbers.old }
     ensures items { numbers.new.items ≡ numbers.old.items ++ (if is_open entry.now then entry.now.no ∷ [] else []) }
     ensures capacity { deque_capacity numbers.new ≡ deque_capacity numbers.old }
@@ -71,84 +48,96 @@ fn push_open(numbers: &mut VecDeque<u64>, entry: &Enqueued)
 }
 
 impl Transactions {
-    ghost use Rattle.lock_tree.specs.Indexed.{IsIndexed, HasPlace};
+    ghost use Rattle.lock_tree.specs.Indexed.{IsIndexed, HasPlace, IsFound};
 
     /// No transaction.
     pub(crate) fn new(alloc: Global) -> Transactions
         ensures indexed { IsIndexed result }
-        ensures entries { result.entries.items ≡ [] }
+        ensures entries { enqueued result ≡ [] }
     {
         Transactions {
-            entries: VecDeque::new(alloc),
+            entries: BTreeMap::new(alloc),
             open: VecDeque::new(alloc),
         }
     }
 
-    /// Makes room for one more transaction.
+    /// Makes room for one more number among the open ones.
     pub(crate) fn make_place(&mut self) -> Result<(), NoMemory>
         requires { IsIndexed self.old }
         ensures indexed { IsIndexed self.new }
-        ensures same { self.new.entries.items ≡ self.old.entries.items }
+        ensures same { enqueued self.new ≡ enqueued self.old }
         ensures place { OnOk result (HasPlace self.new) }
     {
-        self.entries.reserve(1)?;
         let missing = self.entries.len() + 1 - self.open.len();
         self.open.reserve(missing)?;
         Ok(())
     }
 
-    /// Puts a transaction behind the others. There is room for it.
-    pub(crate) fn push(&mut self, entry: Enqueued)
+    /// The transaction with a number, `None` exactly where none has it.
+    pub(crate) fn get(&self, no: u64) -> Option<&Enqueued>
+        requires { IsIndexed self.now }
+        ensures found { IfSome result (λ entry. IsFound (enqueued self.now) no entry.now) }
+        ensures none { IfNone result (place_of no (all_waiting (enqueued self.now)) ≡ None) }
+    {
+        self.entries.get(&no)
+    }
+
+    /// Puts a transaction that is not ready behind the others. There is room for it among the open ones.
+    pub(crate) fn push(&mut self, entry: Enqueued) -> Result<(), NoMemory>
         requires indexed { IsIndexed self.old }
         requires place { HasPlace self.old }
-        requires below { AreBelow entry.no (all_waiting self.old.entries.items) }
+        requires waits { is_open entry ≡ false }
+        requires below { AreBelow entry.no (all_waiting (enqueued self.old)) }
         ensures indexed { IsIndexed self.new }
-        ensures entries { self.new.entries.items ≡ self.old.entries.items ++ entry ∷ [] }
+        ensures entries { OnOk result (enqueued self.new ≡ enqueued self.old ++ entry ∷ []) }
+        ensures err { OnErr result (enqueued self.new ≡ enqueued self.old) }
     {
-        push_open(&mut self.open, &entry);
-        self.entries.push_back_reserved(entry);
+        self.entries.insert(entry.no, entry)?;
+        Ok(())
     }
 
-    /// Notes whether the transaction at a place is ready.
-    pub(crate) fn set_ready(&mut self, place: usize, ready: bool)
-        requires indexed { IsIndexed self.old }
-        requires within { place < length self.old.entries.items }
+    /// Marks the transaction with a number, or takes its mark off.
+    pub(crate) fn set_mark(&mut self, no: u64, mark: bool)
+        requires { IsIndexed self.old }
         ensures indexed { IsIndexed self.new }
-        ensures entries { (d : AnyEnqueued) →
-            self.new.entries.items
-            ≡ slice_set self.old.entries.items place
-            (record (slice_index_or self.old.entries.items place d) { ready = ready }) }
+        ensures there { (place : ℕ) (d : AnyEnqueued) → place_of no (all_waiting (enqueued self.old)) ≡ Some place →
+            enqueued self.new
+            ≡ slice_set (enqueued self.old) place (record (slice_index_or (enqueued self.old) place d) { marked = mark }) }
+        ensures none { place_of no (all_waiting (enqueued self.old)) ≡ None → enqueued self.new ≡ enqueued self.old }
     {
-        self.entries[place].ready = ready;
-        note_open(&mut self.open, &self.entries[place]);
+        if let Some(entry) = self.entries.get_mut(&no) {
+            entry.marked = mark;
+            note_open(&mut self.open, entry);
+        }
     }
 
-    /// Marks the transaction at a place, or takes its mark off.
-    pub(crate) fn set_mark(&mut self, place: usize, mark: bool)
-        requires indexed { IsIndexed self.old }
-        requires within { place < length self.old.entries.items }
+    /// Notes whether the transaction with a number is ready.
+    pub(crate) fn set_ready(&mut self, no: u64, ready: bool)
+        requires { IsIndexed self.old }
         ensures indexed { IsIndexed self.new }
-        ensures entries { (d : AnyEnqueued) →
-            self.new.entries.items
-            ≡ slice_set self.old.entries.items place
-            (record (slice_index_or self.old.entries.items place d) { marked = mark }) }
+        ensures there { (place : ℕ) (d : AnyEnqueued) → place_of no (all_waiting (enqueued self.old)) ≡ Some place →
+            enqueued self.new
+            ≡ slice_set (enqueued self.old) place (record (slice_index_or (enqueued self.old) place d) { ready = ready }) }
+        ensures none { place_of no (all_waiting (enqueued self.old)) ≡ None → enqueued self.new ≡ enqueued self.old }
     {
-        self.entries[place].marked = mark;
-        note_open(&mut self.open, &self.entries[place]);
+        if let Some(entry) = self.entries.get_mut(&no) {
+            entry.ready = ready;
+            note_open(&mut self.open, entry);
+        }
     }
 
-    /// Takes out the transaction at a place.
-    pub(crate) fn remove(&mut self, place: usize) -> Enqueued
-        requires indexed { IsIndexed self.old }
-        requires within { place < length self.old.entries.items }
+    /// Takes out the transaction with a number, `None` exactly where none has it.
+    pub(crate) fn remove(&mut self, no: u64) -> Option<Enqueued>
+        requires { IsIndexed self.old }
         ensures indexed { IsIndexed self.new }
-        ensures value { result ≡ slice_index_or self.old.entries.items place result }
-        ensures entries { self.new.entries.items ≡ remove self.old.entries.items place }
+        ensures found { IfSome result (IsFound (enqueued self.old) no) }
+        ensures entries { (place : ℕ) → place_of no (all_waiting (enqueued self.old)) ≡ Some place →
+            enqueued self.new ≡ remove (enqueued self.old) place }
+        ensures none { IfNone result ((place_of no (all_waiting (enqueued self.old)) ≡ None)
+            × (enqueued self.new ≡ enqueued self.old)) }
     {
-        let Some(entry) = self.entries.remove(place) else {
-            unreachable!()
-        };
-        take_out(&mut self.open, entry.no);
-        entry
+        let entry = self.entries.remove(&no)?;
+        take_out(&mut self.open, no);
+        Some(entry)
     }
 }

@@ -10,7 +10,7 @@ use crate::joining::{join, make_room_for};
 use crate::lines::Lines;
 use crate::noting::leave_all;
 use crate::opening::least;
-use crate::transactions::{Transactions, place_of};
+use crate::transactions::Transactions;
 use coarsen::Plan;
 use std::alloc::Global;
 use std::marker::Model;
@@ -40,11 +40,11 @@ impl Model for LockTree {
 
     ghost Value = { Locks };
 
-    ghost use Rattle.lock_tree.specs.Views.{all_waiting, locks_code};
+    ghost use Rattle.lock_tree.specs.Views.{all_waiting, enqueued, locks_code};
 
     ghost coded = { locks_code };
 
-    ghost view = { λ t. record { arena = t.arena; waiting = all_waiting t.transactions.entries.items } };
+    ghost view = { λ t. record { arena = t.arena; waiting = all_waiting (enqueued t.transactions) } };
 
     ghost use Rattle.lock_tree.specs.Sound.{IsTree};
 
@@ -82,7 +82,7 @@ impl LockTree {
         let entry = Enqueued::new(self.alloc, no, plan.requests())?;
         self.transactions.make_place()?;
         make_room_for(&mut self.lines, plan.requests())?;
-        join(&mut self.lines, &mut self.transactions, entry);
+        join(&mut self.lines, &mut self.transactions, entry)?;
         Ok(())
     }
 
@@ -90,8 +90,8 @@ impl LockTree {
     pub fn is_ready(&self, no: u64) -> bool
         ensures { result ≡ ready self.now.waiting no }
     {
-        match place_of(&self.transactions.entries, no) {
-            Some(place) => self.transactions.entries[place].ready,
+        match self.transactions.get(no) {
+            Some(entry) => entry.ready,
             None => false,
         }
     }
@@ -122,9 +122,7 @@ impl LockTree {
     fn set_mark(&mut self, no: u64, mark: bool)
         ensures { self.new ≡ record self.old { waiting = with_mark no mark self.old.waiting } }
     {
-        if let Some(place) = place_of(&self.transactions.entries, no) {
-            self.transactions.set_mark(place, mark);
-        }
+        self.transactions.set_mark(no, mark);
     }
 
     /// Takes a transaction out of the tree.
@@ -132,8 +130,7 @@ impl LockTree {
         requires { IsSome (plan_of self.old.waiting no) }
         ensures { self.new ≡ record self.old { waiting = without no self.old.waiting } }
     {
-        if let Some(place) = place_of(&self.transactions.entries, no) {
-            let entry = self.transactions.remove(place);
+        if let Some(entry) = self.transactions.remove(no) {
             leave_all(
                 &mut self.lines,
                 &mut self.transactions,

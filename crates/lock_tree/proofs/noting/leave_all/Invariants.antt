@@ -8,7 +8,7 @@ use Rattle.lock_tree.specs.Granted.{AreGranted}
 use Rattle.lock_tree.specs.Chained.{Chains, AreChained}
 use Rattle.lock_tree.specs.Indexed.{IsIndexed}
 use Rattle.lock_tree.specs.Known.{AreKnown}
-use Rattle.lock_tree.specs.Views.{all_waiting}
+use Rattle.lock_tree.specs.Views.{all_waiting, enqueued}
 use Rattle.lock_tree.proofs.noting.leave_all.Given as goal
 
 -- the transaction has left the queues of all resources but those that are left of the plan
@@ -21,8 +21,8 @@ invariant-loop-resource l = record {
   free : free_nodes l.lines.nodes.held ≡ free_nodes l.fn.lines.nodes.held + l.resource-index;
   rest : (other : Resource) → others l.no (line l.lines other) ≡ others l.no (line l.fn.lines other);
   left : (other : Resource) → mode_on other (drop l.resource-index l.plan) ≡ None → line l.lines other ≡ others l.no (line l.fn.lines other);
-  same : all_waiting l.transactions.entries.items ≡ all_waiting l.fn.transactions.entries.items;
+  same : all_waiting (enqueued l.transactions) ≡ all_waiting (enqueued l.fn.transactions);
   indexed : IsIndexed l.transactions;
-  known : AreKnown (line l.lines) [] l.transactions.entries.items;
-  chained : AreChained l.lines l.transactions.entries.items;
+  known : AreKnown (line l.lines) [] (enqueued l.transactions);
+  chained : AreChained l.lines (enqueued l.transactions);
 }

@@ -6,6 +6,7 @@ use Rattle.lock_tree.specs.Queues.{Queue, granted}
 use Rattle.lock_tree.specs.Lines.{line, nodes_of, in_order, asked, request_at}
 use Rattle.lock_tree.specs.Granted.{IsLine}
 use Rattle.lock_tree.specs.Known.{AreKnown}
+use Rattle.lock_tree.specs.Views.{enqueued}
 use Rattle.lock_tree.proofs.Leaving.{granted_length}
 use Rattle.lock_tree.proofs.Standing.{front_at}
 use Rattle.lock_tree.proofs.Asking.{request_there, requests_length}
@@ -39,7 +40,7 @@ loop-place-preserved c =
       first = c.next-first.ensures.node c.args.number i (omega (arith, many, few, w)) there;
       same = c.note.ensures.same ∙ inv.same;
       indexed = c.note.ensures.indexed;
-      known = c.note.ensures.noted next.0 (drop (i + 1) (granted q)) (subst (λ (ys : Queue). AreKnown (line c.args.lines.now) ys c.loop-place.transactions.entries.items) next.2 inv.known);
+      known = c.note.ensures.noted next.0 (drop (i + 1) (granted q)) (subst (λ (ys : Queue). AreKnown (line c.args.lines.now) ys (enqueued c.loop-place.transactions)) next.2 inv.known);
       chained = c.note.ensures.chained;
     }
 
@@ -47,4 +48,4 @@ pub returns-clause-known : goal.returns-clause-known
 returns-clause-known c =
     let ok = line_ok ((goal.at.returns-clause-known c).After-index) in let q = in_order c.args.lines.now.nodes c.args.number in
     let past : length (granted q) ≤ c.loop-place.place = (let a = ok.all in let l = c.loop-place-test.false in omega (arith, a, l)) in
-    subst (λ (ys : Queue). AreKnown (line c.args.lines.now) ys c.loop-place.transactions.entries.items) (drop_all c.loop-place.place (granted q) past) c.loop-place.invariant.known
+    subst (λ (ys : Queue). AreKnown (line c.args.lines.now) ys (enqueued c.loop-place.transactions)) (drop_all c.loop-place.place (granted q) past) c.loop-place.invariant.known

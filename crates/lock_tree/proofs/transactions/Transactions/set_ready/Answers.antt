@@ -1,22 +1,36 @@
-use Rattle.std.proofs.Common.{refl, arith}
-use Rattle.lock_tree.proofs.Marks.{rising_numbers, room_at, noted_again, rising_again, set_few}
+use Rattle.std.proofs.Common.{refl, sym, ap, ◌∙◌, slice_set}
+use Rattle.lock_tree.specs.declared.enqueued.Enqueued.{Enqueued}
+use Rattle.lock_tree.specs.Views.{enqueued}
+use Rattle.lock_tree.proofs.Places.{none_some}
+use Rattle.lock_tree.proofs.Marks.{rising_numbers}
+use Rattle.lock_tree.proofs.Named.{found, absent}
+use Rattle.lock_tree.proofs.Changed.{it_stands, not_absent, room_to_change, changed_at, changed_index}
 use Rattle.lock_tree.proofs.transactions.Transactions.set_ready.Goals as goal
 
 pub note_open-requires-clause-rising : goal.note_open-requires-clause-rising
-note_open-requires-clause-rising c = rising_numbers c.args.self.now.open.items c.args.self.now.entries.items c.requires.indexed.open_ones c.requires.indexed.rising
+note_open-requires-clause-rising c = rising_numbers c.args.self.now.open.items (enqueued c.args.self.now) c.requires.open_ones c.requires.rising
 
 pub note_open-requires-clause-room : goal.note_open-requires-clause-room
-note_open-requires-clause-room c =
-    room_at c.args.self.now.open.items c.args.self.now.entries.items c.args.place _ c.index_mut.result.now (record c.index_mut.result.now { ready = c.args.ready }) c.index.result.now
-    c.requires.indexed.open_ones c.requires.indexed.rising c.requires.within c.index_mut.ensures.value refl c.index.ensures c.requires.indexed.room
+note_open-requires-clause-room c = room_to_change c.args.self.now c.args.no c.in-Some.entry.now c.requires (sym c.in-Some.ensures.value) (record c.in-Some.entry.now { ready = c.args.ready }) refl
 
-pub returns-clause-indexed : goal.returns-clause-indexed
-returns-clause-indexed c =
-    let es = c.args.self.now.entries.items in
-    let m = c.index_mut.result.now in
-    record {
-      rising = rising_again es c.args.place m (record m { ready = c.args.ready }) c.requires.within c.index_mut.ensures.value refl c.requires.indexed.rising;
-      open_ones = noted_again c.args.self.now.open.items c.note_open.new.numbers.items es c.args.place m (record m { ready = c.args.ready }) c.index.result.now
-          c.requires.indexed.open_ones c.requires.indexed.rising c.requires.within c.index_mut.ensures.value refl c.index.ensures c.note_open.ensures.items;
-      room = let few = set_few es c.args.place _ (record m { ready = c.args.ready }) c.requires.indexed.room in let more = c.note_open.ensures.capacity in omega (arith, few, more);
-    }
+pub returns-in-Some-clause-indexed : goal.returns-in-Some-clause-indexed
+returns-in-Some-clause-indexed c =
+    let e = c.in-Some.entry.now in let w : Enqueued = record e { ready = c.args.ready } in
+    changed_index c.args.self.now c.args.no e c.requires (sym c.in-Some.ensures.value)
+    (record { entries = c.get_mut.follows.lender w; «open» = c.note_open.new.numbers }) w refl (c.get_mut.follows.holds w).0 c.note_open.ensures.items c.note_open.ensures.capacity
+
+pub returns-in-Some-clause-there : goal.returns-in-Some-clause-there
+returns-in-Some-clause-there c = λ place d h.
+    let e = c.in-Some.entry.now in let w : Enqueued = record e { ready = c.args.ready } in let t = c.args.self.now in
+    changed_at t c.args.no e c.requires (sym c.in-Some.ensures.value) w (c.get_mut.follows.lender w).entries place (c.get_mut.follows.holds w).0 h
+    ∙ ap (λ (x : Enqueued). slice_set (enqueued t) place (record x { ready = c.args.ready }))
+    (it_stands c.args.no (enqueued t) e place d (found c.args.no t.entries.entries e c.requires.named (sym c.in-Some.ensures.value)) h)
+
+pub returns-in-Some-clause-none : goal.returns-in-Some-clause-none
+returns-in-Some-clause-none c = λ none.
+    let t = c.args.self.now in
+    absurd (not_absent c.args.no (enqueued t) c.in-Some.entry.now (found c.args.no t.entries.entries c.in-Some.entry.now c.requires.named (sym c.in-Some.ensures.value)) none)
+
+pub returns-in_default-clause-there : goal.returns-in_default-clause-there
+returns-in_default-clause-there c = λ place d h.
+    absurd (none_some place (sym (absent c.args.no c.args.self.now.entries.entries c.requires.named (sym c.in_default.ensures.value)) ∙ h))

@@ -4,7 +4,7 @@ use Rattle.coarsen.specs.Subtrees.{Requests}
 use Rattle.lock_tree.specs.Locks.{Locks, Waiting}
 use Rattle.lock_tree.specs.Enqueues.{AreBelow}
 use Rattle.lock_tree.specs.Lines.{line, HasRoom}
-use Rattle.lock_tree.specs.Views.{all_waiting}
+use Rattle.lock_tree.specs.Views.{all_waiting, enqueued}
 use Rattle.lock_tree.proofs.Queueing.{plan_under_next}
 use Rattle.lock_tree.proofs.Trees.{same_tree, known_as_before, joined_tree}
 use Rattle.lock_tree.specs.Chained.{AreChained}
@@ -19,15 +19,15 @@ invariant_of-self-in_err-make_room_for c =
 
 pub join-requires-clause-known : goal.join-requires-clause-known
 join-requires-clause-known c =
-    known_as_before c.self.inside.lines c.make_room_for.new.lines c.self.inside.transactions.entries.items c.make_place.new.self.entries.items c.make_room_for.ensures.same c.make_place.ensures.same c.self.invariant.known
+    known_as_before c.self.inside.lines c.make_room_for.new.lines (enqueued c.self.inside.transactions) (enqueued c.make_place.new.self) c.make_room_for.ensures.same c.make_place.ensures.same c.self.invariant.known
 
 pub join-requires-clause-chained : goal.join-requires-clause-chained
 join-requires-clause-chained c =
-    subst (AreChained c.make_room_for.new.lines) (sym c.make_place.ensures.same) (chained_same c.self.inside.lines c.make_room_for.new.lines c.make_room_for.ensures.chained c.self.inside.transactions.entries.items c.self.invariant.chained)
+    subst (AreChained c.make_room_for.new.lines) (sym c.make_place.ensures.same) (chained_same c.self.inside.lines c.make_room_for.new.lines c.make_room_for.ensures.chained (enqueued c.self.inside.transactions) c.self.invariant.chained)
 
 pub join-requires-clause-above : goal.join-requires-clause-above
 join-requires-clause-above c =
-    plan_under_next c.in_ok-entry.entry.no (line c.make_room_for.new.lines) (all_waiting c.self.inside.transactions.entries.items) (λ r. c.make_room_for.ensures.same r ∙ c.self.invariant.lines r)
+    plan_under_next c.in_ok-entry.entry.no (line c.make_room_for.new.lines) (all_waiting (enqueued c.self.inside.transactions)) (λ r. c.make_room_for.ensures.same r ∙ c.self.invariant.lines r)
     (subst (AreBelow c.in_ok-entry.entry.no) (sym (ap (λ (l : Locks). l.waiting) c.self.view_is))
     (subst (λ (n : ℕ). AreBelow n c.args.self.now.waiting) (sym (ap (λ (w : Waiting). w.no) c.in_ok-entry.ensures.waiting)) c.requires)) c.in_ok-entry.entry.plan.items
 
@@ -50,4 +50,4 @@ pub invariant_of-self-2 : goal.invariant_of-self-2
 invariant_of-self-2 c =
     joined_tree c.self.inside.arena c.self.inside.transactions c.make_place.new.self c.join.new.transactions c.in_ok-entry.entry c.self.inside.lines c.make_room_for.new.lines c.join.new.lines
     c.self.invariant c.make_place.ensures.same c.make_room_for.ensures.same c.make_room_for.ensures.free
-    c.join.ensures.indexed c.join.ensures.joined c.join.ensures.waiting c.join.ensures.known c.join.ensures.numbered c.join.ensures.granted c.join.ensures.free c.join.ensures.chained
+    c.join.ensures.indexed c.in_ok-join.ensures.joined c.in_ok-join.ensures.waiting c.join.ensures.known c.join.ensures.numbered c.join.ensures.granted c.in_ok-join.ensures.free c.join.ensures.chained

@@ -3,7 +3,7 @@ use Rattle.std.specs.List.{AllByRecursion, remove}
 use Rattle.lock_tree.specs.declared.enqueued.Enqueued.{Enqueued}
 use Rattle.lock_tree.specs.Locks.{Locks, Waiting, used, plan_of, without, IsRising}
 use Rattle.lock_tree.specs.Placing.{place_of}
-use Rattle.lock_tree.specs.Views.{all_waiting}
+use Rattle.lock_tree.specs.Views.{all_waiting, enqueued}
 use Rattle.lock_tree.specs.Lines.{line, others}
 use Rattle.lock_tree.specs.Known.{AreKnown}
 use Rattle.lock_tree.specs.Queues.{mode_on}
@@ -33,41 +33,41 @@ plan_taken k i es seen d same h is =
 
 pub leave_all-requires-clause-others : goal.leave_all-requires-clause-others
 leave_all-requires-clause-others c =
-    let same = left c.args.no c.in-Some.place c.self.inside.transactions.entries.items c.self.inside.transactions.entries.items c.remove-entry.new.self.entries.items refl c.self.invariant.indexed.rising (sym c.in-Some.ensures.exact) c.remove-entry.ensures.entries in
-    subst (AllByRecursion (λ (w : Waiting). (w.no == c.args.no) ≡ false)) (sym same) (others_without c.args.no (all_waiting c.self.inside.transactions.entries.items))
+    let same = left c.args.no c.in-Some.ensures.found.place (enqueued c.self.inside.transactions) (enqueued c.self.inside.transactions) (enqueued c.remove.new.self) refl c.self.invariant.indexed.rising c.in-Some.ensures.found.exact (c.remove.ensures.entries c.in-Some.ensures.found.place c.in-Some.ensures.found.exact) in
+    subst (AllByRecursion (λ (w : Waiting). (w.no == c.args.no) ≡ false)) (sym same) (others_without c.args.no (all_waiting (enqueued c.self.inside.transactions)))
 
 pub leave_all-requires-clause-known : goal.leave_all-requires-clause-known
 leave_all-requires-clause-known c =
-    subst (AreKnown (line c.self.inside.lines) []) (sym c.remove-entry.ensures.entries) (known_removed (line c.self.inside.lines) c.self.inside.transactions.entries.items c.in-Some.place c.self.invariant.known)
+    subst (AreKnown (line c.self.inside.lines) []) (sym (c.remove.ensures.entries c.in-Some.ensures.found.place c.in-Some.ensures.found.exact)) (known_removed (line c.self.inside.lines) (enqueued c.self.inside.transactions) c.in-Some.ensures.found.place c.self.invariant.known)
 
 pub leave_all-requires-clause-elsewhere : goal.leave_all-requires-clause-elsewhere
 leave_all-requires-clause-elsewhere c = λ other none.
     let k = c.args.no in
-    let ws = all_waiting c.self.inside.transactions.entries.items in
-    let plan = plan_taken k c.in-Some.place c.self.inside.transactions.entries.items c.self.inside.transactions.entries.items c.remove-entry.result refl (sym c.in-Some.ensures.exact) c.remove-entry.ensures.value in
+    let ws = all_waiting (enqueued c.self.inside.transactions) in
+    let plan = plan_taken k c.in-Some.ensures.found.place (enqueued c.self.inside.transactions) (enqueued c.self.inside.transactions) c.in-Some.entry refl c.in-Some.ensures.found.exact c.in-Some.ensures.found.there in
     ap (others k) (c.self.invariant.lines other)
-    ∙ queue_elsewhere other k ws c.remove-entry.result.plan.items c.self.invariant.indexed.rising plan (ap (mode_on other) (sym c.as_slice.ensures.value) ∙ none)
+    ∙ queue_elsewhere other k ws c.in-Some.entry.plan.items c.self.invariant.indexed.rising plan (ap (mode_on other) (sym c.as_slice.ensures.value) ∙ none)
     ∙ sym (c.self.invariant.lines other)
 
 pub leave_all-requires-clause-chain : goal.leave_all-requires-clause-chain
 leave_all-requires-clause-chain c =
-    let l = c.self.inside.lines in let es = c.self.inside.transactions.entries.items in let e = c.remove-entry.result in let i = c.in-Some.place in
-    let one : IsChained l e = subst (IsChained l) (sym c.remove-entry.ensures.value) (chained_at l es i e c.in-Some.ensures.within c.self.invariant.chained) in
-    let number : e.no ≡ c.args.no = ap (λ (x : Enqueued). x.no) c.remove-entry.ensures.value ∙ number_at c.args.no es i e (sym c.in-Some.ensures.exact) in
+    let l = c.self.inside.lines in let es = (enqueued c.self.inside.transactions) in let e = c.in-Some.entry in let i = c.in-Some.ensures.found.place in
+    let one : IsChained l e = subst (IsChained l) (sym c.in-Some.ensures.found.there) (chained_at l es i e c.in-Some.ensures.found.within c.self.invariant.chained) in
+    let number : e.no ≡ c.args.no = ap (λ (x : Enqueued). x.no) c.in-Some.ensures.found.there ∙ number_at c.args.no es i e c.in-Some.ensures.found.exact in
     subst (λ (n : ℕ). Chains l n c.as_slice.result.now c.as_slice-in-Some.result.now e.head) number
     (subst (λ (p : Requests). Chains l e.no p c.as_slice-in-Some.result.now e.head) (sym c.as_slice.ensures.value)
     (subst (λ (ns : List ℕ). Chains l e.no e.plan.items ns e.head) (sym c.as_slice-in-Some.ensures.value) (record { begins = one.begins; placed = one.placed })))
 
 pub leave_all-requires-clause-chained : goal.leave_all-requires-clause-chained
 leave_all-requires-clause-chained c =
-    subst (AreChained c.self.inside.lines) (sym c.remove-entry.ensures.entries) (chained_removed c.self.inside.lines c.self.inside.transactions.entries.items c.in-Some.place c.self.invariant.chained)
+    subst (AreChained c.self.inside.lines) (sym (c.remove.ensures.entries c.in-Some.ensures.found.place c.in-Some.ensures.found.exact)) (chained_removed c.self.inside.lines (enqueued c.self.inside.transactions) c.in-Some.ensures.found.place c.self.invariant.chained)
 
 pub invariant_of-self : goal.invariant_of-self
 invariant_of-self c =
-    let es = c.self.inside.transactions.entries.items in
-    let same = left c.args.no c.in-Some.place es es c.remove-entry.new.self.entries.items refl c.self.invariant.indexed.rising (sym c.in-Some.ensures.exact) c.remove-entry.ensures.entries in
-    let u = freed c.args.no c.in-Some.place es es c.remove-entry.result refl c.self.invariant.indexed.rising (sym c.in-Some.ensures.exact) c.remove-entry.ensures.value in
-    let n : length c.as_slice.result.now ≡ length c.remove-entry.result.plan.items = ap length c.as_slice.ensures.value in
+    let es = (enqueued c.self.inside.transactions) in
+    let same = left c.args.no c.in-Some.ensures.found.place es es (enqueued c.remove.new.self) refl c.self.invariant.indexed.rising c.in-Some.ensures.found.exact (c.remove.ensures.entries c.in-Some.ensures.found.place c.in-Some.ensures.found.exact) in
+    let u = freed c.args.no c.in-Some.ensures.found.place es es c.in-Some.entry refl c.self.invariant.indexed.rising c.in-Some.ensures.found.exact c.in-Some.ensures.found.there in
+    let n : length c.as_slice.result.now ≡ length c.in-Some.entry.plan.items = ap length c.as_slice.ensures.value in
     left_tree c.self.inside.arena (length c.as_slice.result.now) c.args.no c.self.inside.transactions c.leave_all.new.transactions c.self.inside.lines c.leave_all.new.lines c.self.invariant
     (omega (arith, u, n)) (c.leave_all.ensures.same ∙ same) c.leave_all.ensures.indexed c.leave_all.ensures.left c.leave_all.ensures.known
     c.leave_all.ensures.numbered c.leave_all.ensures.granted c.leave_all.ensures.free c.leave_all.ensures.chained
@@ -75,12 +75,11 @@ invariant_of-self c =
 pub returns-in-Some : goal.returns-in-Some
 returns-in-Some c =
     ap (λ (ws : List Waiting). record { arena = c.self.inside.arena; waiting = ws })
-    (c.leave_all.ensures.same ∙ left c.args.no c.in-Some.place c.self.inside.transactions.entries.items c.self.inside.transactions.entries.items c.remove-entry.new.self.entries.items refl c.self.invariant.indexed.rising (sym c.in-Some.ensures.exact) c.remove-entry.ensures.entries)
+    (c.leave_all.ensures.same ∙ left c.args.no c.in-Some.ensures.found.place (enqueued c.self.inside.transactions) (enqueued c.self.inside.transactions) (enqueued c.remove.new.self) refl c.self.invariant.indexed.rising c.in-Some.ensures.found.exact (c.remove.ensures.entries c.in-Some.ensures.found.place c.in-Some.ensures.found.exact))
     ∙ ap (λ (l : Locks). record { arena = l.arena; waiting = without c.args.no l.waiting }) c.self.view_is
 
 pub returns-in_default : goal.returns-in_default
 returns-in_default c =
-    sym c.self.view_is
-    ∙ ap (λ (ws : List Waiting). record { arena = c.self.inside.arena; waiting = ws })
-    (sym (no_without c.args.no (all_waiting c.self.inside.transactions.entries.items) (sym c.place_of.ensures.exact ∙ c.in_default.is)))
+    let ws = all_waiting (enqueued c.self.inside.transactions) in
+    ap (λ (vs : List Waiting). record { arena = c.self.inside.arena; waiting = vs }) (ap all_waiting c.in_default.ensures.none.1 ∙ sym (no_without c.args.no ws c.in_default.ensures.none.0))
     ∙ ap (λ (l : Locks). record { arena = l.arena; waiting = without c.args.no l.waiting }) c.self.view_is

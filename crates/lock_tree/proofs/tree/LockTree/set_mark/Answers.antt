@@ -1,28 +1,21 @@
-use Rattle.std.proofs.Common.{List, refl, sym, ap, ◌∙◌}
+use Rattle.std.proofs.Common.{List, ap, ◌∙◌}
 use Rattle.lock_tree.specs.Locks.{Locks, Waiting, with_mark}
-use Rattle.lock_tree.specs.Views.{all_waiting}
+use Rattle.lock_tree.specs.Views.{enqueued}
 use Rattle.lock_tree.specs.Lines.{line}
-use Rattle.lock_tree.proofs.Places.{no_mark}
-use Rattle.lock_tree.proofs.Trees.{marked_tree, marked_seen, marked_known, marked_chained}
+use Rattle.lock_tree.proofs.Trees.{IsMarked, marked_tree, marked_seen, marked_known, marked_chained}
 use Rattle.lock_tree.proofs.tree.LockTree.set_mark.Goals as goal
 
 pub invariant_of-self : goal.invariant_of-self
 invariant_of-self c =
-    marked_tree c.self.inside.arena c.args.no c.args.mark c.self.inside.transactions c.set_mark.new.self c.self.inside.lines c.self.invariant
-    (marked_seen c.args.no c.in-Some.place c.args.mark c.self.inside.transactions.entries.items c.self.inside.transactions.entries.items c.set_mark.new.self.entries.items refl c.self.invariant.indexed.rising c.in-Some.ensures.exact c.in-Some.ensures.within c.set_mark.ensures.entries)
-    c.set_mark.ensures.indexed
-    (marked_known (line c.self.inside.lines) c.in-Some.place c.args.mark c.self.inside.transactions.entries.items c.self.inside.transactions.entries.items c.set_mark.new.self.entries.items refl c.in-Some.ensures.within c.set_mark.ensures.entries c.self.invariant.known)
-    (marked_chained c.self.inside.lines c.in-Some.place c.args.mark c.self.inside.transactions.entries.items c.self.inside.transactions.entries.items c.set_mark.new.self.entries.items refl c.in-Some.ensures.within c.set_mark.ensures.entries c.self.invariant.chained)
+    let k = c.args.no in let m = c.args.mark in let t = c.self.inside.transactions in let new = c.set_mark.new.self in let ok = c.self.invariant in
+    let is : IsMarked k m (enqueued t) (enqueued new) = record { there = c.set_mark.ensures.there; none = c.set_mark.ensures.none } in
+    marked_tree c.self.inside.arena k m t new c.self.inside.lines ok
+    (marked_seen k m (enqueued t) (enqueued new) is ok.indexed.rising) c.set_mark.ensures.indexed
+    (marked_known k m (enqueued t) (enqueued new) is (line c.self.inside.lines) ok.known) (marked_chained k m (enqueued t) (enqueued new) is c.self.inside.lines ok.chained)
 
-pub returns-in-Some : goal.returns-in-Some
-returns-in-Some c =
+pub returns : goal.returns
+returns c =
+    let is : IsMarked c.args.no c.args.mark (enqueued c.self.inside.transactions) (enqueued c.set_mark.new.self) = record { there = c.set_mark.ensures.there; none = c.set_mark.ensures.none } in
     ap (λ (ws : List Waiting). record { arena = c.self.inside.arena; waiting = ws })
-    (marked_seen c.args.no c.in-Some.place c.args.mark c.self.inside.transactions.entries.items c.self.inside.transactions.entries.items c.set_mark.new.self.entries.items refl c.self.invariant.indexed.rising c.in-Some.ensures.exact c.in-Some.ensures.within c.set_mark.ensures.entries)
-    ∙ ap (λ (l : Locks). record { arena = l.arena; waiting = with_mark c.args.no c.args.mark l.waiting }) c.self.view_is
-
-pub returns-in_default : goal.returns-in_default
-returns-in_default c =
-    sym c.self.view_is
-    ∙ ap (λ (ws : List Waiting). record { arena = c.self.inside.arena; waiting = ws })
-    (sym (no_mark c.args.no c.args.mark (all_waiting c.self.inside.transactions.entries.items) (sym c.place_of.ensures.exact ∙ c.in_default.is)))
+    (marked_seen c.args.no c.args.mark (enqueued c.self.inside.transactions) (enqueued c.set_mark.new.self) is c.self.invariant.indexed.rising)
     ∙ ap (λ (l : Locks). record { arena = l.arena; waiting = with_mark c.args.no c.args.mark l.waiting }) c.self.view_is
