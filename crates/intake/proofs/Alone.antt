@@ -1,14 +1,11 @@
 -- A client that has the histories of all others, which have sent nothing.
-use Rattle.std.proofs.Common.{◌≡◌, ◌≢◌, ℕ, zero, suc, ◌+◌, ◌≤◌, ◌<◌, ◌⊎◌, Bool, true, false, eqb, cond, List, [], ◌∷◌, ◌++◌, length, refl, sym, ap, ◌∙◌, subst, inl, inr, ⊎_elim, length-append, arith}
+use Rattle.std.proofs.Common.{◌≡◌, ◌≢◌, ℕ, zero, suc, ◌+◌, ◌≤◌, Bool, true, false, eqb, List, [], ◌∷◌, ◌++◌, length, refl, sym, ap, ◌∙◌, inl, inr, ⊎_elim, length-append, arith}
 use Rattle.std.proofs.lemmas.Bool.{eq-eqb}
 use Rattle.std.proofs.lemmas.Bool.Decides.{eqb_tells}
 use Rattle.intake.specs.declared.view.Item.{Item}
-use Rattle.intake.specs.declared.view.History.{History}
 use Rattle.crossbeam_queue.specs.Fifo.{Held}
-use Rattle.intake.specs.declared.intake.Intake.{Intake}
-use Rattle.intake.specs.declared.passes.ClientPass.{ClientPass}
-use Rattle.intake.specs.Passes.{IsNewClient, histories_of}
-use Rattle.intake.specs.Histories.{from_client, numbered, history}
+use Rattle.intake.specs.declared.view.View.{View}
+use Rattle.intake.specs.Histories.{from_client, numbered, history, view, HasAll}
 use Rattle.intake.specs.Rule.{IsStranger, IsAccounted}
 
 module _ {Q : Type 0} where
@@ -35,28 +32,35 @@ module _ {Q : Type 0} where
   length-numbered p n [] = refl
   length-numbered p n (x ∷ xs) = ap suc (length-numbered p (n + 1) xs)
 
-  -- in a queue all of whose clients are this one there is no more than it sent
-  pub alone : (s : List Q) (items : List (Item Q)) → IsAccounted (history 1 s ∷ history 2 [] ∷ history 3 [] ∷ history 4 [] ∷ []) items → length items ≤ length s
-  alone s items h =
-      let log = h.0 ++ items in
-      let none : (k : ℕ) → (k ≡ 1 → ⊥) → from_client k log ≡ [] = λ k apart. others k apart h in
+  -- what the pass of the one client knows
+  abbrev knowing : Bool → List (Item Q) → List Q → View Q
+  knowing draws drawn s = view (history 1 s ∷ history 2 [] ∷ history 3 [] ∷ history 4 [] ∷ []) draws drawn
+
+  -- all that was drawn and all that the queue holds is what the client sent
+  accounted : (draws : Bool) (drawn : List (Item Q)) (s : List Q) (items : List (Item Q)) → (h : IsAccounted (knowing draws drawn s) items) → length s ≡ length h.drawn + length items
+  accounted draws drawn s items h =
+      let log = h.drawn ++ items in
+      let none : (k : ℕ) → (k ≡ 1 → ⊥) → from_client k log ≡ [] = λ k apart. others k apart h.whole h.strangers in
       let e = one_client 1 log none in
-      let m = ap length h.1.0 ∙ length-numbered 1 0 s in
-      let a = length-append h.0 items in
+      let m = ap length h.whole.0 ∙ length-numbered 1 0 s in
+      let a = length-append h.drawn items in
       omega arith
     where
-      others : (k : ℕ) → (k ≡ 1 → ⊥) → (h : IsAccounted (history 1 s ∷ history 2 [] ∷ history 3 [] ∷ history 4 [] ∷ []) items) → from_client k (h.0 ++ items) ≡ []
-      others zero apart h = h.2 zero (inl refl)
-      others (suc zero) apart h = absurd (apart refl)
-      others (suc (suc zero)) apart h = h.1.1.0
-      others (suc (suc (suc zero))) apart h = h.1.1.1.0
-      others (suc (suc (suc (suc zero)))) apart h = h.1.1.1.1.0
-      others (suc (suc (suc (suc (suc k))))) apart h = h.2 (suc (suc (suc (suc (suc k))))) (inr (omega arith))
+      others : (k : ℕ) → (k ≡ 1 → ⊥) → HasAll (h.drawn ++ items) (knowing draws drawn s).histories → ((client : ℕ) → IsStranger client → from_client client (h.drawn ++ items) ≡ []) → from_client k (h.drawn ++ items) ≡ []
+      others zero apart whole none = none zero (inl refl)
+      others (suc zero) apart whole none = absurd (apart refl)
+      others (suc (suc zero)) apart whole none = whole.1.0
+      others (suc (suc (suc zero))) apart whole none = whole.1.1.0
+      others (suc (suc (suc (suc zero)))) apart whole none = whole.1.1.1.0
+      others (suc (suc (suc (suc (suc k))))) apart whole none = none (suc (suc (suc (suc (suc k))))) (inr (omega arith))
 
-  -- so the one client of a new intake isn't refused at once
-  pub not_full : (intake : Intake Q) (p : ClientPass Q) (n : ℕ) → IsNewClient intake 1 1 p → 0 < n → Held n (IsAccounted (histories_of p)) → ⊥
-  not_full intake p n new low full =
-      let is : histories_of p ≡ history 1 [] ∷ history 2 [] ∷ history 3 [] ∷ history 4 [] ∷ [] = λ i. history (new.client i) (new.sent i) ∷ new.spare i in
-      let a : length full.0 ≤ 0 = alone [] full.0 (subst (λ (hs : List (History Q)). IsAccounted hs full.0) is full.2) in
-      let e : length full.0 ≡ n = full.1 in
+  pub held_alone : (s : List Q) (n : ℕ) → Held n (IsAccounted (knowing false [] s)) → n ≤ length s
+  held_alone s n h = let a = accounted false [] s h.0 h.2 in let e : length h.0 ≡ n = h.1 in omega arith
+
+  pub held_drawing : (s : List Q) (drawn : List (Item Q)) (n : ℕ) → Held n (IsAccounted (knowing true drawn s)) → length s ≡ length drawn + n
+  held_drawing s drawn n h =
+      let a = accounted true drawn s h.0 h.2 in
+      let e : length h.0 ≡ n = h.1 in
+      let d : drawn ≡ h.2.drawn = h.2.known refl in
+      let l : length drawn ≡ length h.2.drawn = ap length d in
       omega arith

@@ -1,15 +1,14 @@
 -- Each move keeps the rule.
-use Rattle.std.proofs.Common.{◌≡◌, ◌≢◌, ℕ, zero, suc, ◌+◌, ◌≤◌, ◌<◌, ◌⊎◌, Bool, true, false, eqb, cond, List, [], ◌∷◌, ◌++◌, length, set, refl, sym, ap, ◌∙◌, subst, inl, inr, ⊎_elim, append_assoc, arith}
-use mathlib.Core.Option.{some, some-injective, some-ne-none}
+use Rattle.std.proofs.Common.{◌≡◌, ℕ, ◌≤◌, ◌<◌, Bool, true, List, [], ◌∷◌, ◌++◌, length, set, refl, sym, ap, ◌∙◌, subst, ⊎_elim, append_assoc, arith}
+use mathlib.Core.Option.{some}
 use lib.ListN.{get_elem?}
-use Rattle.std.proofs.lemmas.Bool.{eq-eqb}
 use Rattle.std.proofs.lemmas.Bool.Decides.{nat_tests}
 use Rattle.crossbeam_queue.specs.Fifo.{Pushes, Pops, Forks, Merges, Learns}
 use Rattle.crossbeam_queue.proofs.Lists.{at_set}
 use Rattle.intake.specs.declared.view.Item.{Item}
 use Rattle.intake.specs.declared.view.History.{History}
 use Rattle.intake.specs.declared.view.View.{View}
-use Rattle.intake.specs.Histories.{from_client, numbered, HasAll, IsNumbered, view, history, opening, spent, without_drawing, only_drawing, first_of, rest_of, without_first, only_first, joined, longer, after_submit, after_draw}
+use Rattle.intake.specs.Histories.{from_client, numbered, HasAll, IsNumbered, view, history, opening, spent, without_drawing, only_drawing, without_first, only_first, joined, after_submit, after_draw}
 use Rattle.intake.specs.Rule.{times, total, rights, drawers, AreTrue, IsStranger, IsInOrder, IsAccounted}
 use Rattle.intake.proofs.Items.{item, log_beginning, log_more, sent_more, sent_more-own, sent_more-other}
 use Rattle.intake.proofs.Places.{AllAt, total_set, total_at, total_two, all_set, all_snoc, total_snoc, times-append, times-split, times-alone, times-other, two_drawers, all_one, true-more, true-append, true-first, true-rest, true_has}
@@ -22,10 +21,10 @@ begins_once : (Q : Type 0) (k : ℕ) → total (rights {Q = Q} k) (opening ∷ [
 begins_once Q k = grind (arith, nat_tests)
 
 module _ {Q : Type 0} where
-  submits_next : (n pass : ℕ) (v : View Q) (p : ℕ) (s : List Q) (rest : List (History Q)) (q : Q) → v ≡ view (history p s ∷ rest) false []
+  submits_next : (n pass : ℕ) (v : View Q) (p : ℕ) (s : List Q) (rest : List (History Q)) (b : Bool) (ds : List (Item Q)) (q : Q) → v ≡ view (history p s ∷ rest) b ds
       → Pushes IsInOrder n pass v (item p (length s) q) (λ w. w ≡ after_submit v q)
-  submits_next n pass v p s rest q is items views room h at =
-      let own : View Q = view (history p s ∷ rest) false [] in
+  submits_next n pass v p s rest b ds q is items views room h at =
+      let own : View Q = view (history p s ∷ rest) b ds in
       let here : get_elem? views pass ≡ some own = at ∙ ap some is in
       let mine : AreTrue h.sent (history p s ∷ rest) = h.histories pass own here in
       let sent : ℕ → List Q = sent_more h.sent p q in
@@ -39,24 +38,29 @@ module _ {Q : Type 0} where
           drawn = h.drawn;
           logged = (λ k. ap (λ l. from_client k l) (sym (append_assoc h.drawn items (x ∷ []))) ∙ ap (λ l. from_client k ((h.drawn ++ items) ++ item p (length l) q ∷ [])) mine.2 ∙ log_more (h.drawn ++ items) h.sent p q h.logged k);
           strangers = (λ k s'. other k (known_client p k mine.0 mine.1 s') ∙ h.strangers k s');
-          one_place = (λ k. let t = total_set (rights k) views pass own w here in let b = h.one_place k in omega arith);
-          one_drawer = (let t = total_set drawers views pass own w here in let b = h.one_drawer in omega arith);
+          one_place = (λ k. let t = total_set (rights k) views pass own w here in let one = h.one_place k in omega arith);
+          one_drawer = (let t = total_set drawers views pass own w here in let one = h.one_drawer in omega arith);
           histories = all_set (λ u. AreTrue sent u.histories) views pass w
               (mine.0, mine.1, ap (λ l. l ++ q ∷ []) mine.2 ∙ sym (sent_more-own h.sent p q), true-more h.sent sent p rest alone other mine.3)
               (λ j u apart at'.
               let none = times-other p (history p s) rest (times p u.histories) (total (rights p) views) refl (total_two (rights p) views pass j own u here at' apart) (h.one_place p) in
               true-more h.sent sent p u.histories none other (h.histories j u at'));
-          draws = all_set (λ u. u.draws ≡ true → u.drawn ≡ h.drawn) views pass w (λ e. cc) (λ j u apart at'. h.draws j u at');
+          draws = all_set (λ u. u.draws ≡ true → u.drawn ≡ h.drawn) views pass w (h.draws pass own here) (λ j u apart at'. h.draws j u at');
         }),
         refl,
       )
 
-  pub submits : (n pass : ℕ) (v : View Q) (p m : ℕ) (s : List Q) (rest : List (History Q)) (q : Q) → v ≡ view (history p s ∷ rest) false [] → m ≡ length s
+  pub submits : (n pass : ℕ) (v : View Q) (p m : ℕ) (s : List Q) (rest : List (History Q)) (b : Bool) (ds : List (Item Q)) (q : Q) → v ≡ view (history p s ∷ rest) b ds → m ≡ length s
       → Pushes IsInOrder n pass v (item p m q) (λ w. w ≡ after_submit v q)
-  submits n pass v p m s rest q is count = subst (λ (k : ℕ). Pushes IsInOrder n pass v (item p k q) (λ w. w ≡ after_submit v q)) (sym count) (submits_next n pass v p s rest q is)
+  submits n pass v p m s rest b ds q is count = subst (λ (k : ℕ). Pushes IsInOrder n pass v (item p k q) (λ w. w ≡ after_submit v q)) (sym count) (submits_next n pass v p s rest b ds q is)
 
-  pub refuses : (pass : ℕ) (v : View Q) → Learns IsInOrder pass v (λ items. IsAccounted v.histories items)
-  refuses pass v items views h at = (h.drawn, true_has h.sent (h.drawn ++ items) v.histories h.logged (h.histories pass v at), λ k s. h.logged k ∙ ap (λ l. numbered k 0 l) (h.strangers k s))
+  pub refuses : (pass : ℕ) (v : View Q) → Learns IsInOrder pass v (λ items. IsAccounted v items)
+  refuses pass v items views h at = record {
+    drawn = h.drawn;
+    known = h.draws pass v at;
+    whole = true_has h.sent (h.drawn ++ items) v.histories h.logged (h.histories pass v at);
+    strangers = λ k s. h.logged k ∙ ap (λ l. numbered k 0 l) (h.strangers k s);
+  }
 
   pub draws : (pass : ℕ) (v : View Q) → v.draws ≡ true → Pops IsInOrder pass v (λ x w. (w ≡ after_draw v x) × IsNumbered w.drawn)
   draws pass v may x items views h at =

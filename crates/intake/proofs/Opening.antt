@@ -10,7 +10,7 @@ use Rattle.crossbeam_queue.specs.Passes.{IsPassOf}
 use Rattle.crossbeam_queue.specs.Passes.{view as known}
 use Rattle.intake.specs.declared.view.View.{View}
 use Rattle.intake.specs.Histories.{view, history, no_history, without_first, only_first, sent_first, rest_of, spare_for}
-use Rattle.intake.specs.Passes.{IsNewClient, AreNewClients, sent_by, spare_of}
+use Rattle.intake.specs.Passes.{IsNewClient, AreNewClients, sent_by, spare_of, histories_of}
 
 module _ {Q : Type 0} where
   pub next_history : (k : ℕ) → 0 < k → k ≤ 4 → drop (k - 1) (no_history {Q = Q}) ≡ history k [] ∷ drop k no_history
@@ -48,7 +48,7 @@ module _ {Q : Type 0} where
       let sent : sent_by p ≡ [] = ap (λ (v : View Q). sent_first v.histories) is in
       let spare : spare_of p ≡ rest = ap (λ (v : View Q). rest_of v.histories) is in
       let same : view (history k [] ∷ rest) false [] ≡ view (history p.client (sent_by p) ∷ spare_of p) false [] = λ i. view (history (sym client i) (sym sent i) ∷ sym spare i) false [] in
-      record { client = client; pass = record { pass = pass; view = is ∙ same; count = count ∙ ap length (sym sent) }; sent = sent; spare = spare ∙ left }
+      record { client = client; pass = record { submits = record { pass = pass; view = is ∙ same ∙ sym (ap (λ (v : View Q). view (histories_of p) v.draws v.drawn) is); count = count ∙ ap length (sym sent) }; view = is ∙ same }; sent = sent; spare = spare ∙ left }
 
   pub spare_none : (clients k : ℕ) → k < clients → [] ≡ spare_for {Q = Q} clients k
   spare_none clients k h = sym (ap (λ b. cond b (drop k (no_history {Q = Q})) []) (ne_eqb k clients (λ e. omega arith)))

@@ -1,6 +1,6 @@
 -- What a step of its pass leaves of a drawer.
-use Rattle.std.proofs.Common.{◌≡◌, ℕ, List, [], ◌∷◌, ◌++◌, refl, sym, ap, ◌∙◌, subst, append_assoc, false, length}
-use Rattle.crossbeam_queue.specs.Passes.{IsPassOf, IsSamePass, Pass}
+use Rattle.std.proofs.Common.{◌≡◌, List, [], ◌∷◌, ◌++◌, refl, sym, ap, ◌∙◌, subst, append_assoc, false, length}
+use Rattle.crossbeam_queue.specs.Passes.{IsPassOf, IsSamePass}
 use Rattle.crossbeam_queue.specs.Passes.{view as known}
 use Rattle.intake.specs.declared.view.Item.{Item}
 use Rattle.intake.specs.declared.view.View.{View}
@@ -9,7 +9,7 @@ use Rattle.intake.specs.declared.passes.DrawPass.{DrawPass}
 use Rattle.intake.specs.declared.passes.ClientPass.{ClientPass}
 use Rattle.intake.specs.declared.view.History.{History}
 use Rattle.intake.specs.Histories.{IsNumbered, after_draw, view, history, sent_first, first_of, rest_of, joined, only_first, without_first}
-use Rattle.intake.specs.Draining.{all_items, Appends, IsLentBy, IsBackWith}
+use Rattle.intake.specs.Draining.{all_items, AreBatches, Appends, IsLentBy, IsBackWith}
 use Rattle.intake.specs.Passes.{IsDrawerOf, IsClientOf, drawn_by, held_by, sent_by, spare_of, histories_of, own_history}
 
 module _ {Q B : Type 0} (items_of : B → List (Item Q)) where
@@ -17,12 +17,18 @@ module _ {Q B : Type 0} (items_of : B → List (Item Q)) where
   all_items-append [] ys = refl
   all_items-append (x ∷ xs) ys = ap (λ l. items_of x ++ l) (all_items-append xs ys) ∙ sym (append_assoc (items_of x) (all_items items_of xs) (all_items items_of ys))
 
+  more_batches : (xs ys : List B) → AreBatches items_of xs → AreBatches items_of ys → AreBatches items_of (xs ++ ys)
+  more_batches [] ys h k = k
+  more_batches (x ∷ xs) ys h k = (h.0, h.1, more_batches xs ys h.2 k)
+
   -- one batch more, unless it was empty
-  pub appends_more : (a b c e : List B) (x y z d : List (Item Q)) → Appends items_of a b x y → e ≡ b → ((more : List B) × (c ≡ e ++ more) × (all_items items_of more ≡ d)) → z ≡ y ++ d → Appends items_of a c x z
+  pub appends_more : (a b c e : List B) (x y z d : List (Item Q)) → Appends items_of a b x y → e ≡ b → ((more : List B) × (c ≡ e ++ more) × (all_items items_of more ≡ d) × AreBatches items_of more) → z ≡ y ++ d
+      → Appends items_of a c x z
   appends_more a b c e x y z d h same k drawn = let all = all_items items_of h.0 in (
     h.0 ++ k.0,
     k.1 ∙ ap (λ l. l ++ k.0) (same ∙ h.1) ∙ append_assoc a h.0 k.0,
     drawn ∙ ap (λ l. l ++ d) h.2 ∙ append_assoc x all d ∙ ap (λ l. x ++ (all ++ l)) (sym k.2) ∙ ap (λ l. x ++ l) (sym (all_items-append h.0 k.0)),
+    more_batches h.0 k.0 h.3 k.3,
   )
 
 module _ {Q : Type 0} where
@@ -52,7 +58,7 @@ module _ {Q : Type 0} where
       let sent : sent_by new ≡ sent_by old = ap (λ (v : View Q). sent_first v.histories) back in
       let spare : spare_of new ≡ spare_of old = ap (λ (v : View Q). rest_of v.histories) back in
       let same : view (own_history old ∷ spare_of old) false [] ≡ view (own_history new ∷ spare_of new) false [] = λ i. view (history (sym client i) (sym sent i) ∷ sym spare i) false [] in (
-        record { pass = b.pass; view = back ∙ same; count = b.count ∙ l.count ∙ ap length (sym sent) },
+        record { submits = record { pass = b.pass; view = back ∙ same ∙ sym (ap (λ (v : View Q). view (histories_of new) v.draws v.drawn) back); count = b.count ∙ l.count ∙ ap length (sym sent) }; view = back ∙ same },
         (λ i. history (client i) (sent i) ∷ spare i),
         (λ i. history (client i) (sent i)),
       )

@@ -1,6 +1,6 @@
 -- Claimed: what contracts promise to a reader rests on these words.
 -- Draining an intake: batches are appended, and each client's history goes to the pass that draws and comes back.
-use Rattle.std.specs.Prelude.{◌≡◌, ℕ, false, List, [], ◌∷◌, ◌++◌, length}
+use Rattle.std.specs.Prelude.{◌≡◌, ◌<◌, ◌≤◌, false, List, [], ◌∷◌, ◌++◌, length}
 use Rattle.crossbeam_queue.specs.Passes.{IsPassOf}
 use Rattle.crossbeam_queue.specs.Passes.{view as known}
 use Rattle.intake.specs.declared.view.Item.{Item}
@@ -16,9 +16,14 @@ module _ {Q B : Type 0} (items_of : B → List (Item Q)) where
   all_items [] = []
   all_items (b ∷ bs) = items_of b ++ all_items bs
 
+  -- each of these batches has at least one item, and at most 4,096
+  abbrev pub AreBatches : List B → Type 0
+  AreBatches [] = Unit {0}
+  AreBatches (b ∷ bs) = (0 < length (items_of b)) × (length (items_of b) ≤ 4096) × AreBatches bs
+
   -- what was drawn in between was appended, in batches
   abbrev pub Appends : List B → List B → List (Item Q) → List (Item Q) → Type 0
-  Appends old new before after = (more : List B) × (new ≡ old ++ more) × (after ≡ before ++ all_items more)
+  Appends old new before after = (more : List B) × (new ≡ old ++ more) × (after ≡ before ++ all_items more) × AreBatches more
 
 module _ {Q : Type 0} where
   -- the pass once its client's history is with another pass: the spare ones are left

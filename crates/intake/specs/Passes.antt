@@ -1,10 +1,11 @@
 -- Claimed: what contracts promise to a reader rests on these words.
 -- What a clause says of an intake and of its passes.
-use Rattle.std.specs.Prelude.{◌≡◌, ℕ, ◌+◌, ◌<◌, true, false, List, [], ◌∷◌, ◌++◌, length, slice_index_or}
+use Rattle.std.specs.Prelude.{◌≡◌, ℕ, ◌+◌, ◌<◌, true, false, List, [], ◌∷◌, length, slice_index_or}
 use Rattle.crossbeam_queue.specs.Passes.{IsPassOf, ruled_capacity}
 use Rattle.crossbeam_queue.specs.Passes.{view as known}
 use Rattle.intake.specs.declared.view.Item.{Item}
 use Rattle.intake.specs.declared.view.History.{History}
+use Rattle.intake.specs.declared.view.View.{View}
 use Rattle.intake.specs.declared.intake.Intake.{Intake}
 use Rattle.intake.specs.declared.passes.ClientPass.{ClientPass}
 use Rattle.intake.specs.declared.passes.DrawPass.{DrawPass}
@@ -37,11 +38,20 @@ module _ {Q : Type 0} where
   abbrev pub histories_of : ClientPass Q → List (History Q)
   histories_of p = own_history p ∷ spare_of p
 
-  -- it is of this intake, alone submits for its client, and has counted what the client submitted
-  pub record IsClientOf (intake : Intake Q) (p : ClientPass Q) : Type 0 where
+  abbrev pub known_by : ClientPass Q → View Q
+  known_by p = known p.pass
+
+  -- It is of this intake, alone submits for its client, and has counted what the client submitted. It may know more: other
+  -- histories, and what was drawn, if it draws
+  pub record MaySubmit (intake : Intake Q) (p : ClientPass Q) : Type 0 where
     pub pass : IsPassOf intake.queue p.pass
-    pub view : known p.pass ≡ view (histories_of p) false []
+    pub view : known_by p ≡ view (histories_of p) (known_by p).draws (known_by p).drawn
     pub count : p.sent ≡ length (sent_by p)
+
+  -- it submits, and doesn't draw
+  pub record IsClientOf (intake : Intake Q) (p : ClientPass Q) : Type 0 where
+    pub submits : MaySubmit intake p
+    pub view : known_by p ≡ view (histories_of p) false []
 
   -- each pass of a list is a client's of this intake
   abbrev pub AreClientsOf : Intake Q → List (ClientPass Q) → Type 0

@@ -1,11 +1,11 @@
 //! Draining: all that the clients have submitted is drawn.
 
-ghost use Rattle.std.specs.Prelude.{◌≡◌, ◌<◌, ◌++◌, ◌∷◌, [], List, map, vec_len, vec_capacity, OnOk};
+ghost use Rattle.std.specs.Prelude.{◌≡◌, ◌<◌, ◌≤◌, ◌++◌, ◌∷◌, [], List, map, vec_len, vec_capacity, OnOk};
 ghost use Rattle.crossbeam_queue.specs.Passes.{IsPassOf};
 ghost use Rattle.crossbeam_queue.specs.Passes.{view as known};
 ghost use Rattle.intake.specs.Histories.{HasAll, without_first, only_first, joined, first_of, rest_of};
 ghost use Rattle.intake.specs.Passes.{IsClientOf, IsDrawerOf, AreClientsOf, histories_of, own_history, drawn_by, held_by};
-ghost use Rattle.intake.specs.Draining.{all_items, Appends, IsLentBy, IsBackWith};
+ghost use Rattle.intake.specs.Draining.{all_items, AreBatches, Appends, IsLentBy, IsBackWith};
 
 use crate::batched::Batched;
 use crate::intake::{Intake, MOST_DRAWN};
@@ -78,8 +78,8 @@ impl<Q: Drop> Intake<Q> {
     }
 
     /// Draws until a step finds the queue empty, while the passes of these clients are at hand, and appends the batches
-    /// that are not empty. After `Ok` all that these clients ever submitted was drawn. Where memory is refused, what was
-    /// drawn stands in the list. It may wait.
+    /// that are not empty, each of at most 4,096. After `Ok` all that these clients ever submitted was drawn. Where memory is
+    /// refused, what was drawn stands in the list. It may wait.
     pub fn drain<R: Wait, B: Batched<Q>>(
         &self,
         rt: &R,
@@ -110,9 +110,10 @@ impl<Q: Drop> Intake<Q> {
 
 // Appends the items as a batch, if there are any.
 fn keep<Q: Drop, B: Batched<Q>>(into: &mut Vec<B>, items: Vec<Item<Q>>)
-    requires { vec_len into.old < vec_capacity into.old }
+    requires room { vec_len into.old < vec_capacity into.old }
+    requires most { vec_len items ≤ 4096 }
     ensures { (more : List B) × (into.new.items ≡ into.old.items ++ more) ×
-        (all_items B.items_of more ≡ items.items) }
+        (all_items B.items_of more ≡ items.items) × AreBatches B.items_of more }
 {
     if items.is_empty() {
         return;

@@ -4,7 +4,7 @@ ghost use Rattle.std.specs.Prelude.{◌≡◌, ◌+◌, ◌<◌, ◌≤◌, ◌^
 ghost use Rattle.crossbeam_queue.specs.Fifo.{Held};
 ghost use Rattle.intake.specs.Histories.{HasAll};
 ghost use Rattle.intake.specs.Rule.{IsAccounted};
-ghost use Rattle.intake.specs.Passes.{IsClientOf, IsDrawerOf, AreNewClients, capacity_of, client_of, sent_by, spare_of, histories_of, drawn_by, held_by};
+ghost use Rattle.intake.specs.Passes.{MaySubmit, IsClientOf, IsDrawerOf, AreNewClients, capacity_of, client_of, sent_by, spare_of, known_by, drawn_by, held_by};
 
 use crate::batched::Batched;
 use crate::passes::{ClientPass, DrawPass, Full};
@@ -66,14 +66,17 @@ impl<Q> Intake<Q> {
         pass: &mut ClientPass<Q>,
         request: Q,
     ) -> Result<u64, Full<Q>>
-        requires pass { IsClientOf self.now pass.old }
+        requires pass { MaySubmit self.now pass.old }
         requires room { length (sent_by pass.old) < 2 ^ 48 }
-        ensures pass { IsClientOf self.now pass.new × (client_of pass.new ≡ client_of pass.old) ×
+        ensures pass { MaySubmit self.now pass.new × (client_of pass.new ≡ client_of pass.old) ×
             (spare_of pass.new ≡ spare_of pass.old) }
+        ensures client { IsClientOf self.now pass.old → IsClientOf self.now pass.new }
         ensures sent { IfOk result (λ n. (n ≡ length (sent_by pass.old)) ×
             (sent_by pass.new ≡ sent_by pass.old ++ request ∷ [])) }
+        // A pass learns of the queue what it knows itself. The clause is of each pass that submits, one that has all histories and
+        // draws among them; which one it is doesn't show, so a request comes back from a full queue alone.
         ensures full { IfErr result (λ e. (e.0 ≡ request) × (sent_by pass.new ≡ sent_by pass.old) ×
-            Held (capacity_of self.now) (IsAccounted (histories_of pass.old))) }
+            Held (capacity_of self.now) (IsAccounted (known_by pass.old))) }
     {
         let number = pass.sent;
         let item = Item {

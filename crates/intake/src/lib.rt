@@ -5,11 +5,13 @@
 mod batched;
 mod draining;
 mod intake;
+mod laws;
 mod passes;
 mod rule;
 mod view;
 
 pub use batched::Batched;
 pub use intake::{Intake, MOST_DRAWN};
+pub use laws::refused_client_knows_the_queue;
 pub use passes::{ClientPass, DrawPass, Full};
 pub use view::Item;

@@ -61,7 +61,7 @@ impl<Q> Outcome<Item<Q>, View<Q>> for Submits {
 impl<Q> Lesson<Item<Q>, View<Q>> for Submits {
     ghost use Rattle.intake.specs.Rule.{IsAccounted};
 
-    ghost fact = { λ v items. IsAccounted v.histories items };
+    ghost fact = { λ v items. IsAccounted v items };
 }
 
 /// The owner draws: what was drawn grows by the item. Where the queue is empty, what was drawn has the histories that the

@@ -1,4 +1,4 @@
-use Rattle.std.proofs.Common.{◌≡◌, ◌++◌, ◌∷◌, [], sym, ap, ◌∙◌, append_assoc, arith}
+use Rattle.std.proofs.Common.{◌++◌, ◌∷◌, [], sym, ap, ◌∙◌, append_assoc, arith}
 use Rattle.intake.proofs.Moves.{draws, finds}
 use Rattle.intake.proofs.Steps.{drawer_stays, drawer_draws}
 use Rattle.intake.specs.Passes.{drawn_by}

@@ -1,4 +1,4 @@
-use Rattle.std.proofs.Common.{◌≡◌, ◌≤◌, ◌++◌, length, vec_len, ◌+◌}
+use Rattle.std.proofs.Common.{◌≡◌, ◌++◌, vec_len}
 use Rattle.intake.specs.Passes.{IsDrawerOf, drawn_by, held_by}
 use Rattle.intake.proofs.intake.Intake.draw_items.Given as goal
 

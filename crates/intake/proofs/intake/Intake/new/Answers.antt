@@ -1,4 +1,4 @@
-use Rattle.std.proofs.Common.{◌≡◌, ◌-◌, ◌++◌, ◌∷◌, [], false, refl, sym, ap, ◌∙◌, subst, length, drop, arith}
+use Rattle.std.proofs.Common.{◌≡◌, ◌-◌, [], false, refl, sym, ap, ◌∙◌, subst, drop, arith}
 use Rattle.intake.proofs.Moves.{begins, parts_drawing, parts_first}
 use Rattle.intake.proofs.Opening.{next_history, new_clients-push, splits_next, new_client, spare_none, spare_last}
 use Rattle.intake.specs.declared.intake.Intake.{Intake}
