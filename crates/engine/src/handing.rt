@@ -9,10 +9,10 @@ ghost use Rattle.engine.specs.HandedOut.{AreInLanes};
 ghost use Rattle.engine.specs.Listeners.{AreCounted, HearsOn, settled_in};
 
 use crate::listener::{Listener, tell};
+use crate::quarters::{Bed, Drowsiness, Quarters};
 use lanes::{Lanes, SchedulerSeat};
 use scheduler::{AdmitFault, Scheduler};
 use std::sync::Wait;
-use std::thread;
 use values::NoMemory;
 
 /// Admits transactions while there are more and there is room.
@@ -31,11 +31,13 @@ fn admit_all(scheduler: &mut Scheduler) -> Result<(), NoMemory>
     }
 }
 
-/// Lends its rows to the next ready transaction, and puts the job into a lane; `false` where none is ready. A lane is free.
+/// Lends its rows to the next ready transaction, puts the job into a lane and wakes a worker for it; `false` where none is ready. A
+/// lane is free.
 fn hand_out(
     scheduler: &mut Scheduler,
     lanes: &Lanes,
     seat: &mut SchedulerSeat,
+    quarters: &Quarters,
 ) -> Result<bool, NoMemory>
     requires seat { seat.old.lanes ≡ lanes.now }
     requires lanes { AreInLanes scheduler.old seat.old }
@@ -53,7 +55,10 @@ fn hand_out(
         return Ok(false);
     };
     match lanes.put(seat, job) {
-        Ok(_) => Ok(true),
+        Ok(_) => {
+            quarters.wake_worker();
+            Ok(true)
+        }
         Err(_) => unreachable!(),
     }
 }
@@ -65,6 +70,7 @@ fn hand_out_all(
     seat: &mut SchedulerSeat,
     count: usize,
     out: &mut usize,
+    quarters: &Quarters,
 ) -> Result<(), NoMemory>
     requires seat { seat.old.lanes ≡ lanes.now }
     requires lanes { AreInLanes scheduler.old seat.old }
@@ -79,7 +85,7 @@ fn hand_out_all(
 {
     admit_all(scheduler)?;
     'jobs: while *out < count {
-        if !hand_out(scheduler, lanes, seat)? {
+        if !hand_out(scheduler, lanes, seat, quarters)? {
             return Ok(());
         }
         *out += 1;
@@ -87,15 +93,15 @@ fn hand_out_all(
     Ok(())
 }
 
-/// Settles what a worker delivered, if anything was found, and tells the listener. An error says that a job came back without a run, for want of
-/// memory.
+/// Settles what a worker delivered, if anything was found, and tells the listener; `false` where nothing was. An error says that a
+/// job came back without a run, for want of memory.
 fn take_in<L: Listener>(
     scheduler: &mut Scheduler,
     listener: &mut L,
     lanes: &Lanes,
     seat: &mut SchedulerSeat,
     out: &mut usize,
-) -> Result<(), NoMemory>
+) -> Result<bool, NoMemory>
     requires seat { seat.old.lanes ≡ lanes.now }
     requires lanes { AreInLanes scheduler.old seat.old }
     requires out { out.old ≡ jobs_in seat.old.jobs }
@@ -109,15 +115,48 @@ fn take_in<L: Listener>(
     ensures out { out.new ≡ jobs_in seat.new.jobs }
 {
     let Some((_, done)) = lanes.collect(seat) else {
-        thread::yield_now();
-        return Ok(());
+        return Ok(false);
     };
     let is_run = done.is_run();
     let no = done.no();
     scheduler.settle(done);
     *out -= 1;
     tell(scheduler, no, listener);
-    if is_run { Ok(()) } else { Err(NoMemory) }
+    if is_run { Ok(true) } else { Err(NoMemory) }
+}
+
+/// Settles what a worker delivers next, and tells the listener. It sleeps until something is delivered. An error says that a job
+/// came back without a run, for want of memory.
+fn take_in_next<R: Wait, L: Listener>(
+    rt: &R,
+    scheduler: &mut Scheduler,
+    listener: &mut L,
+    lanes: &Lanes,
+    seat: &mut SchedulerSeat,
+    out: &mut usize,
+    bed: &Bed,
+) -> Result<(), NoMemory>
+    requires seat { seat.old.lanes ≡ lanes.now }
+    requires lanes { AreInLanes scheduler.old seat.old }
+    requires out { out.old ≡ jobs_in seat.old.jobs }
+    requires told { AreCounted scheduler.old (L.account listener.old) }
+    ensures seat { seat.new.lanes ≡ lanes.now }
+    ensures work { scheduler.new.work ≡ scheduler.old.work }
+    ensures lanes { AreInLanes scheduler.new seat.new }
+    ensures settled { StaysSettled (phases_of scheduler.old) (phases_of scheduler.new) }
+    ensures told { AreCounted scheduler.new (L.account listener.new) }
+    ensures onward { HearsOn (L.account listener.old) (L.account listener.new) }
+    ensures out { out.new ≡ jobs_in seat.new.jobs }
+{
+    let mut drowsiness = Drowsiness::Awake(0);
+    for _ in rt.forever() {
+        if take_in(scheduler, listener, lanes, seat, out)? {
+            bed.rise(drowsiness);
+            break;
+        }
+        drowsiness = bed.rest(rt, drowsiness);
+    }
+    Ok(())
 }
 
 /// Hands out jobs and takes in what comes of them, until all is done or memory is refused.
@@ -129,6 +168,7 @@ fn hand_over<R: Wait, L: Listener>(
     seat: &mut SchedulerSeat,
     count: usize,
     out: &mut usize,
+    quarters: &Quarters,
 ) -> Result<(), NoMemory>
     requires seat { seat.old.lanes ≡ lanes.now }
     requires lanes { AreInLanes scheduler.old seat.old }
@@ -145,11 +185,19 @@ fn hand_over<R: Wait, L: Listener>(
     ensures done { OnOk result (is_done (log_of scheduler.new.work) (phases_of scheduler.new) ≡ true) }
 {
     for _ in rt.forever() {
-        hand_out_all(scheduler, lanes, seat, count, out)?;
-        take_in(scheduler, listener, lanes, seat, out)?;
         if scheduler.is_done() {
             break;
         }
+        hand_out_all(scheduler, lanes, seat, count, out, quarters)?;
+        take_in_next(
+            rt,
+            scheduler,
+            listener,
+            lanes,
+            seat,
+            out,
+            &quarters.scheduler,
+        )?;
     }
     Ok(())
 }
@@ -163,6 +211,7 @@ fn take_in_all<R: Wait, L: Listener>(
     lanes: &Lanes,
     seat: &mut SchedulerSeat,
     out: &mut usize,
+    bed: &Bed,
 )
     requires seat { seat.old.lanes ≡ lanes.now }
     requires lanes { AreInLanes scheduler.old seat.old }
@@ -178,7 +227,7 @@ fn take_in_all<R: Wait, L: Listener>(
         if *out == 0 {
             break;
         }
-        let _ = take_in(scheduler, listener, lanes, seat, out);
+        let _ = take_in_next(rt, scheduler, listener, lanes, seat, out, bed);
     }
 }
 
@@ -192,6 +241,7 @@ pub(crate) fn schedule<R: Wait, L: Listener>(
     lanes: &Lanes,
     seat: &mut SchedulerSeat,
     count: usize,
+    quarters: &Quarters,
 ) -> Result<(), NoMemory>
     requires seat { seat.old.lanes ≡ lanes.now }
     requires count { count ≡ lanes.now.count }
@@ -206,9 +256,19 @@ pub(crate) fn schedule<R: Wait, L: Listener>(
     ensures done { OnOk result (is_done (log_of scheduler.new.work) (phases_of scheduler.new) ≡ true) }
 {
     let mut out = 0;
-    let ended = hand_over(rt, scheduler, listener, lanes, seat, count, &mut out);
+    let ended = hand_over(
+        rt, scheduler, listener, lanes, seat, count, &mut out, quarters,
+    );
     if ended.is_err() {
-        take_in_all(rt, scheduler, listener, lanes, seat, &mut out);
+        take_in_all(
+            rt,
+            scheduler,
+            listener,
+            lanes,
+            seat,
+            &mut out,
+            &quarters.scheduler,
+        );
     }
     ended
 }

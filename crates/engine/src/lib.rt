@@ -11,6 +11,7 @@ mod laws;
 mod listener;
 mod pool;
 mod publisher;
+mod quarters;
 mod replies;
 mod settings;
 mod stage;

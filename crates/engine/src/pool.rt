@@ -1,21 +1,22 @@
 //! Workers on threads of their own.
 
-ghost use Rattle.std.specs.Prelude.{◌≡◌, true, replicate, None, Err, OnOk};
+ghost use Rattle.std.specs.Prelude.{◌≡◌, ◌<◌, ◌≤◌, true, replicate, None, Err, IfOk, OnOk};
 ghost use Rattle.scheduler_core.specs.Phases.{is_done};
 ghost use Rattle.scheduler.specs.Schedules.{log_of, phases_of};
+ghost use Rattle.lanes.specs.Seats.{opened};
 ghost use Rattle.engine.specs.Engines.{NoneIsOut, StaysSettled};
 ghost use Rattle.engine.specs.Listeners.{AreCounted, HearsOn};
 
 use crate::gate::Gate;
 use crate::handing::schedule;
 use crate::listener::Listener;
+use crate::quarters::Quarters;
 use crate::settings::Settings;
 use crate::worker::{Worker, start};
 use lanes::{Lanes, SchedulerSeat};
 use scheduler::Scheduler;
 use std::alloc::Global;
 use std::sync::Wait;
-use std::sync::atomic::{AtomicBool, Ordering};
 use std::thread;
 use std::thread::{Scope, Threads};
 use values::NoMemory;
@@ -46,7 +47,7 @@ pub(crate) struct Run<L: Listener + Drop> {
     pub ended: Result<(), Refusal>,
 }
 
-/// Starts so many workers at the lanes. Where one is refused, those before it are at work.
+/// Starts the workers that have quarters at the lanes. Where one is refused, those before it are at work.
 #[tactic(auto, using(crate::proofs::Worked::none_at_first))]
 fn hire<'s, 'r: 's, 'g: 's, E, R: Wait + Sync, G: Gate>(
     rt: &'r R,
@@ -54,20 +55,38 @@ fn hire<'s, 'r: 's, 'g: 's, E, R: Wait + Sync, G: Gate>(
     gate: &'g G,
     lanes: &'s Lanes,
     scheduler_seat: &mut SchedulerSeat,
-    ended: &'s AtomicBool,
-    workers: usize,
+    quarters: &'s Quarters,
 ) -> Result<(), Refusal>
     requires { scheduler_seat.old.lanes ≡ lanes.now }
     ensures { scheduler_seat.new ≡ scheduler_seat.old }
 {
-    for _ in 0..workers {
+    for bed in &quarters.workers {
         let seat = lanes.worker_seat(scheduler_seat)?;
-        let worker = Worker { lanes, seat, ended };
+        let worker = Worker {
+            lanes,
+            seat,
+            quarters,
+            bed,
+        };
         if !start(rt, scope, gate, worker) {
             return Err(Refusal::Thread);
         }
     }
     Ok(())
+}
+
+/// So many lanes, with the scheduler's seat at them, and quarters for so many workers.
+fn places(
+    alloc: Global,
+    count: usize,
+    workers: usize,
+) -> Result<(Lanes, SchedulerSeat, Quarters), NoMemory>
+    requires { (0 < count) × (count ≤ 64) }
+    ensures count { IfOk result (λ made. made.0.count ≡ count) }
+    ensures seat { IfOk result (λ made. made.1 ≡ opened made.0) }
+{
+    let (lanes, seat) = Lanes::new(alloc, count)?;
+    Ok((lanes, seat, Quarters::new(alloc, workers)?))
 }
 
 /// Runs the transactions that are left on worker threads, which are joined at the end. Where memory is refused, no job is out
@@ -95,7 +114,7 @@ pub(crate) fn run_on_workers<R: Threads + Wait + Sync, G: Gate, L: Listener + Dr
         lanes: count,
         ..
     } = settings;
-    let (lanes, seat) = match Lanes::new(alloc, count) {
+    let (lanes, seat, quarters) = match places(alloc, count, workers) {
         Ok(made) => made,
         Err(fault) => {
             return Run {
@@ -105,8 +124,7 @@ pub(crate) fn run_on_workers<R: Threads + Wait + Sync, G: Gate, L: Listener + Dr
             };
         }
     };
-    let flag = AtomicBool::new(false);
-    let (lanes, ended) = (&lanes, &flag);
+    let (lanes, quarters) = (&lanes, &quarters);
     thread::scope(
         thread::scope_env(),
         rt,
@@ -125,7 +143,7 @@ pub(crate) fn run_on_workers<R: Threads + Wait + Sync, G: Gate, L: Listener + Dr
             let mut seat = seat;
             let mut scheduler = scheduler;
             let mut listener = listener;
-            let done = match hire(rt, scope, gate, lanes, &mut seat, ended, workers) {
+            let done = match hire(rt, scope, gate, lanes, &mut seat, quarters) {
                 Ok(()) => schedule(
                     rt,
                     &mut scheduler,
@@ -133,11 +151,13 @@ pub(crate) fn run_on_workers<R: Threads + Wait + Sync, G: Gate, L: Listener + Dr
                     lanes,
                     &mut seat,
                     count,
-                ).map_err(Refusal::from),
+                    quarters,
+                )
+                .map_err(Refusal::from),
                 Err(refusal) => Err(refusal),
             };
             // However it went, the workers end, and the scope with them.
-            ended.store(true, Ordering::SeqCst);
+            quarters.end();
             Run {
                 scheduler,
                 listener,

@@ -4,11 +4,10 @@ ghost use Rattle.std.specs.Prelude.{◌≡◌};
 ghost use Rattle.engine.specs.Workers.{HoldsNoJob};
 
 use crate::gate::Gate;
+use crate::quarters::{Bed, Drowsiness, Quarters};
 use lanes::{Lanes, WorkerSeat};
 use scheduler::run_job;
 use std::sync::Wait;
-use std::sync::atomic::{AtomicBool, Ordering};
-use std::thread;
 use std::thread::Scope;
 
 /// What a thread does at a worker's seat until it ends.
@@ -18,34 +17,44 @@ pub(crate) trait Duty {
         ensures { HoldsNoJob result };
 }
 
-/// A worker on its seat at the lanes, at which no job is, and the flag that ends it.
+/// A worker on its seat at the lanes, at which no job is, and where it sleeps.
 #[derive(Drop)]
 pub(crate) struct Worker<'a, 'b> {
     pub lanes: &'a Lanes,
     pub seat: WorkerSeat,
-    pub ended: &'b AtomicBool,
+    pub quarters: &'b Quarters,
+    pub bed: &'b Bed,
     ghost seated: { seat.lanes ≡ lanes.now },
     ghost free: { HoldsNoJob seat },
 }
 
 impl Duty for Worker<'_, '_> {
-    /// Claims jobs and delivers what comes of each before it claims the next, until it finds none after the flag was set. It
-    /// passes the gate once for each job that it claimed, before it runs it.
+    /// Claims jobs and delivers what comes of each before it claims the next, until it finds none after the workers were told to end.
+    /// It passes the gate once for each job that it claimed, before it runs it, and sleeps while it finds none.
     #[tactic(auto, using(crate::proofs::Worked::delivered, crate::proofs::Worked::none_claimed))]
     fn serve<R: Wait, G: Gate>(self, rt: &R, gate: &G) -> WorkerSeat {
-        let Worker { lanes, seat, ended } = self;
+        let Worker {
+            lanes,
+            seat,
+            quarters,
+            bed,
+        } = self;
         let mut seat = seat;
+        let mut drowsiness = Drowsiness::Awake(0);
         for _ in rt.forever() {
             match lanes.claim(&mut seat) {
                 Some((lane, job)) => {
+                    quarters.rise(bed, drowsiness);
+                    drowsiness = Drowsiness::Awake(0);
                     gate.enter(job.no());
                     lanes.deliver(&mut seat, lane, run_job(job));
+                    quarters.scheduler.wake();
                 }
                 None => {
-                    if ended.load(Ordering::SeqCst) {
+                    if quarters.has_ended() {
                         break;
                     }
-                    thread::yield_now();
+                    drowsiness = bed.rest(rt, drowsiness);
                 }
             }
         }
