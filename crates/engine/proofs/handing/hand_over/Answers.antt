@@ -1,44 +1,19 @@
-use Rattle.std.proofs.Common.{Option, sym, ap, ◌∙◌, subst}
-use Rattle.scheduler.specs.Schedules.{Schedule}
-use Rattle.lanes.specs.Seats.{SchedulerSeatOf}
-use Rattle.engine.specs.Engines.{Account}
-use Rattle.engine.specs.HandedOut.{AreInLanes}
-use Rattle.engine.specs.Listeners.{HearsOn}
+use Rattle.std.proofs.Common.{◌∙◌}
 use Rattle.engine.proofs.Onward.{hears_on}
-use Rattle.engine.proofs.handing.hand_over.Goals.{in-None, in-Some+in_ok-hand_out_all+in_ok-take_in+then-is_done}
 use Rattle.engine.proofs.handing.hand_over.Goals as goal
 
-pub returns-in_err-take_in-clause-onward : goal.returns-in_err-take_in-clause-onward
-returns-in_err-take_in-clause-onward g c =
-    hears_on (g.L.Listener.account c.args.listener.now) (g.L.Listener.account c.loop.listener) (g.L.Listener.account c.take_in.new.listener) c.loop.invariant.6 c.take_in.ensures.onward
+pub returns-in_err-take_in_next-clause-onward : goal.returns-in_err-take_in_next-clause-onward
+returns-in_err-take_in_next-clause-onward g c =
+    hears_on (g.L.Listener.account c.args.listener.now) (g.L.Listener.account c.loop.listener) (g.L.Listener.account c.take_in_next.new.listener) c.loop.invariant.6 c.take_in_next.ensures.onward
 
 pub loop-preserved : goal.loop-preserved
 loop-preserved g c =
     let was = c.loop.invariant in (
-      c.take_in.ensures.seat,
-      c.take_in.ensures.lanes,
-      c.take_in.ensures.work ∙ c.hand_out_all.ensures.work ∙ was.2,
-      λ place is. c.take_in.ensures.settled place (c.hand_out_all.ensures.settled place (was.3 place is)),
-      c.take_in.ensures.out,
-      c.take_in.ensures.told,
-      hears_on (g.L.Listener.account c.args.listener.now) (g.L.Listener.account c.loop.listener) (g.L.Listener.account c.take_in.new.listener) c.loop.invariant.6 c.take_in.ensures.onward,
+      c.take_in_next.ensures.seat,
+      c.take_in_next.ensures.lanes,
+      c.take_in_next.ensures.work ∙ c.hand_out_all.ensures.work ∙ was.2,
+      λ place is. c.take_in_next.ensures.settled place (c.hand_out_all.ensures.settled place (was.3 place is)),
+      c.take_in_next.ensures.out,
+      c.take_in_next.ensures.told,
+      hears_on (g.L.Listener.account c.args.listener.now) (g.L.Listener.account c.loop.listener) (g.L.Listener.account c.take_in_next.new.listener) c.loop.invariant.6 c.take_in_next.ensures.onward,
     )
-
-pub returns-clause-lanes : goal.returns-clause-lanes
-returns-clause-lanes g c = elim c.match-next.branch [
-  | in-None w ↦
-      subst (λ (s : Schedule). AreInLanes s c.match-next.seat) (sym w.scheduler-is)
-      (subst (λ (seat : SchedulerSeatOf). AreInLanes c.loop.scheduler seat) (sym w.seat-is) c.loop.invariant.1)
-  | in-Some+in_ok-hand_out_all+in_ok-take_in+then-is_done w ↦
-      subst (λ (s : Schedule). AreInLanes s c.match-next.seat) (sym w.scheduler-is)
-      (subst (λ (seat : SchedulerSeatOf). AreInLanes w.take_in.new.scheduler seat) (sym w.seat-is) w.take_in.ensures.lanes)
-]
-
-pub returns-clause-onward : goal.returns-clause-onward
-returns-clause-onward g c = elim c.match-next.branch [
-  | in-None w ↦
-      subst (λ (o : Option Account). HearsOn (g.L.Listener.account c.args.listener.now) o) (ap g.L.Listener.account (sym w.listener-is)) c.loop.invariant.6
-  | in-Some+in_ok-hand_out_all+in_ok-take_in+then-is_done w ↦
-      subst (λ (o : Option Account). HearsOn (g.L.Listener.account c.args.listener.now) o) (ap g.L.Listener.account (sym w.listener-is))
-      (hears_on (g.L.Listener.account c.args.listener.now) (g.L.Listener.account c.loop.listener) (g.L.Listener.account w.take_in.new.listener) c.loop.invariant.6 w.take_in.ensures.onward)
-]

@@ -1,5 +1,8 @@
-use Rattle.std.proofs.Common.{◌∙◌}
+use Rattle.std.proofs.Common.{Option, sym, ap, ◌∙◌, subst}
+use Rattle.engine.specs.Engines.{Account}
+use Rattle.engine.specs.Listeners.{HearsOn}
 use Rattle.engine.proofs.Onward.{hears_on}
+use Rattle.engine.proofs.handing.take_in_next.Goals.{in-None, in-Some+in_ok-take_in+then-branch}
 use Rattle.engine.proofs.handing.take_in_next.Goals as goal
 
 pub loop-preserved : goal.loop-preserved
@@ -17,3 +20,12 @@ loop-preserved g c =
 pub returns-in_err-take_in-clause-onward : goal.returns-in_err-take_in-clause-onward
 returns-in_err-take_in-clause-onward g c =
     hears_on (g.L.Listener.account c.args.listener.now) (g.L.Listener.account c.loop.listener) (g.L.Listener.account c.take_in.new.listener) c.loop.invariant.6 c.take_in.ensures.onward
+
+pub returns-clause-onward : goal.returns-clause-onward
+returns-clause-onward g c = elim c.match-next.branch [
+  | in-None w ↦
+      subst (λ (o : Option Account). HearsOn (g.L.Listener.account c.args.listener.now) o) (ap g.L.Listener.account (sym w.listener-is)) c.loop.invariant.6
+  | in-Some+in_ok-take_in+then-branch w ↦
+      subst (λ (o : Option Account). HearsOn (g.L.Listener.account c.args.listener.now) o) (ap g.L.Listener.account (sym w.listener-is))
+      (hears_on (g.L.Listener.account c.args.listener.now) (g.L.Listener.account c.loop.listener) (g.L.Listener.account w.take_in.new.listener) c.loop.invariant.6 w.take_in.ensures.onward)
+]
