@@ -89,12 +89,14 @@ fn places(
     Ok((lanes, seat, Quarters::new(alloc, workers)?))
 }
 
-/// Runs the transactions that are left on worker threads, which are joined at the end. Where memory is refused, no job is out
+/// Runs the transactions that are left on worker threads, no more of them than there are transactions in the batch, which are
+/// joined at the end. Where memory is refused, no job is out
 /// then, and where a thread is refused, nothing has run. The listener hears of each transaction as it is settled.
 pub(crate) fn run_on_workers<R: Threads + Wait + Sync, G: Gate, L: Listener + Drop>(
     rt: &R,
     alloc: Global,
     settings: Settings,
+    transactions: usize,
     scheduler: Scheduler,
     listener: L,
     gate: &G,
@@ -114,7 +116,7 @@ pub(crate) fn run_on_workers<R: Threads + Wait + Sync, G: Gate, L: Listener + Dr
         lanes: count,
         ..
     } = settings;
-    let (lanes, seat, quarters) = match places(alloc, count, workers) {
+    let (lanes, seat, quarters) = match places(alloc, count, workers.min(transactions)) {
         Ok(made) => made,
         Err(fault) => {
             return Run {

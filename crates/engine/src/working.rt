@@ -122,7 +122,8 @@ pub(crate) fn work_on_workers<R: Threads + Wait + Sync, G: Gate, L: Listener + D
         Ok(begun) => begun,
         Err(stage) => return (Err(no_memory(stage)), listener),
     };
-    let run = run_on_workers(rt, alloc, settings, scheduler, listener, gate);
+    let count = batch.items().len();
+    let run = run_on_workers(rt, alloc, settings, count, scheduler, listener, gate);
     let Run {
         scheduler,
         listener,
