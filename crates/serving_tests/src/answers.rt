@@ -1,0 +1,54 @@
+//! What clients are answered.
+
+use crate::logs::{four, readings};
+use crate::servers::{reckoned, said, serve_all};
+use engine::{Engine, Settings};
+use serving::{Told, told_by_client};
+use std::alloc::Global;
+use std::fmt::Write;
+use std::sync::Wait;
+use std::test::Fail;
+use std::thread::Threads;
+use test_engines::engine;
+
+/// How many answers each list has, if they are its client's, of its calls 0, 1 and so on; the clients are 1, 2 and so on.
+fn counts(alloc: Global, lists: &[Vec<Told>]) -> Result<String, Fail> {
+    let mut text = String::new(alloc);
+    let mut client = 0u8;
+    for list in lists {
+        client = client.wrapping_add(1);
+        let mut next = 0u64;
+        for told in list {
+            if told.client == client && told.number == next {
+                next = next.wrapping_add(1);
+            }
+        }
+        write!(text, "{next} of {};", list.len())?;
+    }
+    Ok(text)
+}
+
+/// What both accounts hold, as a client is told that reads them.
+fn balances<R: Threads + Wait + Sync>(
+    rt: &R,
+    alloc: Global,
+    engine: Engine,
+) -> Result<String, Fail> {
+    let (_engine, told) = serve_all(rt, alloc, engine, readings(alloc)?, 1)?;
+    said(alloc, told.as_slice())
+}
+
+/// Four clients of 1,000 calls each, through an intake that takes 16. The answers stand in the order in which the calls were drawn.
+#[test]
+fn each_client_has_its_answers_once(rt: HostRuntime) -> Result<(), Fail> {
+    let alloc = rt.alloc();
+    let engine = engine(alloc, Settings::new(2, 8, 64, 65_536)?)?;
+    let (engine, told) = serve_all(&rt, alloc, engine, four(alloc)?, 16)?;
+    let (text, left) = reckoned(alloc, told.as_slice())?;
+    assert_eq!(rt; said(alloc, told.as_slice())?, text);
+    let lists = told_by_client(alloc, told, 4)?;
+    let each = "1000 of 1000;1000 of 1000;1000 of 1000;1000 of 1000;";
+    assert_eq!(rt; counts(alloc, lists.as_slice())?.as_str(), each);
+    assert_eq!(rt; balances(&rt, alloc, engine)?, left);
+    Ok(())
+}

@@ -1,0 +1,9 @@
+//! Tests of the server in small.
+#![tactic(auto)]
+
+#[cfg(test)]
+mod answers;
+#[cfg(test)]
+mod logs;
+#[cfg(test)]
+mod servers;
