@@ -82,6 +82,36 @@ fn is_end(alloc: Global, report: &str, engine: &Engine, done: &[BatchDone]) -> O
     Some(report.ends_with(end.as_str()))
 }
 
+/// Executes the batches of a log, one after another, and keeps what comes of them; `None` where something else than memory or a
+/// thread is refused, or where a batch isn't gone on with to its end.
+fn execute_each<R: Threads + Wait + Sync + AllocGlobal>(
+    rt: &R,
+    engine: &mut Engine,
+    log: &str,
+    then: Then,
+    done: &mut Vec<BatchDone>,
+) -> Option<Answer> {
+    let mut answer = Answer::Right;
+    for batch in log.split(CUT).filter(|batch| !batch.is_empty()) {
+        let batch = execute_first(rt, engine, batch, then, &mut answer)?;
+        done.push(batch).ok()?;
+    }
+    Some(answer)
+}
+
+/// An engine on the setup, with so many workers and this threshold; the log, and the report.
+fn engine_and_texts<R: rt::Files + AllocGlobal>(
+    rt: &R,
+    workers: usize,
+    threshold: usize,
+) -> Option<(Engine, String, String)> {
+    let settings = settings(workers, threshold)?;
+    let setup = text(rt, "setup.json")?;
+    let setup = read_setup(rt.alloc(), setup.as_bytes()).ok()?;
+    let engine = Engine::new(rt.alloc(), setup, settings).ok()?;
+    Some((engine, text(rt, "log")?, text(rt, "report")?))
+}
+
 /// The batches are executed on so many workers, with this threshold.
 pub(crate) fn try_batches<R: Threads + Wait + Sync + rt::Files + AllocGlobal>(
     rt: &R,
@@ -91,21 +121,16 @@ pub(crate) fn try_batches<R: Threads + Wait + Sync + rt::Files + AllocGlobal>(
     then: Then,
 ) -> Option<Answer> {
     let alloc = rt.alloc();
-    let setup = text(rt, "setup.json")?;
-    let (log, report) = (text(rt, "log")?, text(rt, "report")?);
-    let setup = read_setup(alloc, setup.as_bytes()).ok()?;
-    let mut engine = Engine::new(alloc, setup, settings(workers, threshold)?).ok()?;
+    let (mut engine, log, report) = engine_and_texts(rt, workers, threshold)?;
+    // (room for what comes of each batch)
     let mut done = Vec::with_capacity(alloc, 8).ok()?;
-    let mut answer = Answer::Right;
     refusal.approach();
-    for batch in log.split(CUT).filter(|batch| !batch.is_empty()) {
-        match execute_first(rt, &mut engine, batch, then, &mut answer) {
-            Some(batch) => done.push(batch).ok()?,
-            None => return Some(Answer::Wrong),
-        }
-    }
+    let ended = execute_each(rt, &mut engine, log.as_str(), then, &mut done);
     refusal.pass();
-    Some(answer.if_right(is_end(alloc, report.as_str(), &engine, &done)?))
+    match ended {
+        Some(answer) => Some(answer.if_right(is_end(alloc, report.as_str(), &engine, &done)?)),
+        None => Some(Answer::Wrong),
+    }
 }
 
 /// The report is written, on so many workers, with this threshold.

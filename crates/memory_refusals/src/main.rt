@@ -16,6 +16,7 @@ mod refusal;
 mod reporting;
 mod right;
 mod scheduling;
+mod sweeping;
 mod texts;
 
 use answer::Answer;
@@ -81,6 +82,7 @@ fn tried<R: Threads + Wait + Sync + rt::Files + AllocGlobal>(
         "plan" => planning::try_plan(alloc, refusal),
         "admit" => scheduling::try_admit(alloc, refusal),
         "lend_and_run" => scheduling::try_lend_and_run(alloc, refusal),
+        "lend_table" => sweeping::try_lend(alloc, refusal),
         "run_alone" => executing::try_alone(rt, refusal, 0, Then::Resume),
         "run_alone_by_choices" => executing::try_alone(rt, refusal, 1_000, Then::ResumeAlone),
         "execute_1" => executing::try_workers(rt, refusal, 1, Then::Resume),

@@ -1,7 +1,7 @@
 //! The scheduler's calls, one by one.
 
 use crate::answer::Answer;
-use crate::bank::{bank, batch};
+use crate::bank::{bank, batch_in, log_text};
 use crate::refusal::Refusal;
 use crate::right::is_of_log;
 use crate::texts::CALLS;
@@ -13,14 +13,14 @@ use sequencer::prepare;
 use std::alloc::Global;
 use values::NoMemory;
 
-/// A scheduler of the log, with nothing admitted.
-fn scheduler(alloc: Global) -> Option<Scheduler> {
+/// A scheduler of the first batch of a log, with nothing admitted.
+pub(crate) fn scheduler_of(alloc: Global, setup: Setup, log: &str) -> Option<Scheduler> {
     let Setup {
         catalogue,
         procs,
         rows,
-    } = bank(alloc)?;
-    let batch = batch(alloc, &procs)?;
+    } = setup;
+    let batch = batch_in(alloc, &procs, log)?;
     let store = RowStore::new(alloc, &catalogue, rows).ok()?;
     all_is_free_with_nothing_lent();
     let entries = prepare(alloc, &batch, &catalogue, &procs, &store).ok()?;
@@ -28,6 +28,12 @@ fn scheduler(alloc: Global) -> Option<Scheduler> {
         return None;
     }
     Scheduler::new(alloc, catalogue, store, entries, 0, 64, 65_536).ok()
+}
+
+/// A scheduler of the log, with nothing admitted.
+fn scheduler(alloc: Global) -> Option<Scheduler> {
+    let log = log_text(alloc, "").ok()?;
+    scheduler_of(alloc, bank(alloc)?, log.as_str())
 }
 
 /// Admits each call of the log. Where memory is refused, it is admitted once more.
@@ -47,10 +53,16 @@ fn admit_all(scheduler: &mut Scheduler) -> Answer {
 }
 
 /// Lends its rows to the next call, runs it and settles it; `None` where no call is ready. Where memory is refused, the call
-/// comes next again.
-fn settle_next(scheduler: &mut Scheduler) -> Result<Option<Answer>, NoMemory> {
+/// comes next again. The allocation that is refused, if it is looked for, is one that is made where rows are lent.
+pub(crate) fn settle_next(
+    scheduler: &mut Scheduler,
+    refusal: &mut Refusal,
+) -> Result<Option<Answer>, NoMemory> {
     lent_jobs_come_back();
-    let Some(job) = scheduler.lend()? else {
+    refusal.approach();
+    let lent = scheduler.lend();
+    refusal.pass();
+    let Some(job) = lent? else {
         return Ok(None);
     };
     let done = run_job(job);
@@ -64,10 +76,11 @@ fn settle_next(scheduler: &mut Scheduler) -> Result<Option<Answer>, NoMemory> {
 }
 
 /// Settles what is admitted, call by call.
-fn settle_all(scheduler: &mut Scheduler) -> Answer {
+fn settle_all(alloc: Global, scheduler: &mut Scheduler) -> Answer {
+    let mut elsewhere = Refusal::elsewhere(alloc);
     let mut answer = Answer::Right;
     for _ in 0..2 * CALLS {
-        match settle_next(scheduler) {
+        match settle_next(scheduler, &mut elsewhere) {
             Ok(Some(Answer::Right)) => {}
             Ok(Some(other)) => answer = other,
             Ok(None) => return answer,
@@ -103,7 +116,7 @@ pub(crate) fn try_admit(alloc: Global, refusal: &mut Refusal) -> Option<Answer> 
     refusal.approach();
     let answer = admit_all(&mut scheduler);
     refusal.pass();
-    if settle_all(&mut scheduler) != Answer::Right {
+    if settle_all(alloc, &mut scheduler) != Answer::Right {
         return Some(Answer::Wrong);
     }
     Some(answer.if_right(is_settled(alloc, scheduler)?))
@@ -116,7 +129,7 @@ pub(crate) fn try_lend_and_run(alloc: Global, refusal: &mut Refusal) -> Option<A
         return None;
     }
     refusal.approach();
-    let answer = settle_all(&mut scheduler);
+    let answer = settle_all(alloc, &mut scheduler);
     refusal.pass();
     Some(answer.if_right(is_settled(alloc, scheduler)?))
 }

@@ -1,0 +1,88 @@
+//! A call that locks a table of many rows to be written.
+
+use crate::answer::Answer;
+use crate::refusal::Refusal;
+use crate::scheduling::{scheduler_of, settle_next};
+use calvin::{Setup, read_setup};
+use report_text::{push_reply_line, rows_digest};
+use row_store::all_is_free_with_nothing_lent;
+use scheduler::Scheduler;
+use std::alloc::Global;
+use values::{Key, Row, TableNo, Value};
+
+/// The key behind the greatest of the table.
+const END: i64 = 4_001;
+
+/// A setup without rows: `sweep` changes each row of the table, and then inserts one that is there.
+const SETUP: &str = r#"["setup",1,
+["catalogue",1,[["acct",2,[["bal","int"]]]]],
+["procs",1,[
+["sweep",[],["declared",["table","w","acct"]],
+ [["for","i",0,1,[["each","x","acct","i",[["put","acct","x","bal",0]]]]],
+  ["insert","acct",1,[0]]]]]],
+["rows",1,[]]]"#;
+
+/// The log.
+const LOG: &str = r#"["call","sweep",[]]"#;
+
+/// The call's reply line.
+const REPLY: &str = "0 abort 2\n";
+
+/// The digest of the rows, each of which holds 100, before the call and after it.
+const ROWS: &str = "d086a1383e3bee80f2bbd003dac2257cd41337204658e141d3891536f676b99f";
+
+/// The rows of a table, one for each key. They are not read from a text, which takes more allocations than the step has ahead of it.
+fn rows_of(alloc: Global, table: TableNo) -> Option<Vec<(TableNo, Key, Row)>> {
+    let mut rows = Vec::new(alloc);
+    for number in 1..END {
+        let mut values = Vec::new(alloc);
+        values.push(Value::Int(100)).ok()?;
+        rows.push((table, Key::new(number)?, Row::new(values)))
+            .ok()?;
+    }
+    Some(rows)
+}
+
+/// The setup, with its rows.
+fn setup(alloc: Global) -> Option<Setup> {
+    let Setup {
+        catalogue,
+        procs,
+        rows: _,
+    } = read_setup(alloc, SETUP.as_bytes()).ok()?;
+    let rows = rows_of(alloc, catalogue.table("acct")?)?;
+    Some(Setup {
+        catalogue,
+        procs,
+        rows,
+    })
+}
+
+/// Whether the call is settled as it should be.
+fn is_settled(alloc: Global, scheduler: Scheduler) -> Option<bool> {
+    if !scheduler.is_done() {
+        return Some(false);
+    }
+    let mut line = String::new(alloc);
+    push_reply_line(alloc, &mut line, 0, scheduler.reply(0)?).ok()?;
+    all_is_free_with_nothing_lent();
+    let rows = scheduler.into_finished().rows;
+    let digest = rows_digest(alloc, rows.catalogue(), &rows).ok()?;
+    Some(line.as_str() == REPLY && digest.as_str() == ROWS)
+}
+
+/// The call is lent its table. Where memory is refused, it is lent once more.
+pub(crate) fn try_lend(alloc: Global, refusal: &mut Refusal) -> Option<Answer> {
+    let mut scheduler = scheduler_of(alloc, setup(alloc)?, LOG)?;
+    scheduler.admit().ok()?;
+    let mut answer = Answer::Right;
+    let mut settled = settle_next(&mut scheduler, refusal);
+    if settled.is_err() {
+        answer = Answer::Refused;
+        settled = settle_next(&mut scheduler, &mut Refusal::elsewhere(alloc));
+    }
+    if settled != Ok(Some(Answer::Right)) {
+        return Some(Answer::Wrong);
+    }
+    Some(answer.if_right(is_settled(alloc, scheduler)?))
+}
