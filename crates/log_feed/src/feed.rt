@@ -2,10 +2,9 @@
 
 ghost use Rattle.std.specs.Prelude.{◌≡◌, ◌+◌, ◌≤◌, ◌^◌, List, ℕ, [], ◌∷◌, ◌++◌, None, false, IfOk, IfErr, IfSome, IsNone, length, true};
 ghost use Rattle.std.specs.List.{AllByRecursion};
-ghost use Rattle.devices.specs.Lines.{next_number};
 ghost use Rattle.requests.specs.Requests.{Call};
 ghost use Rattle.batch_log.specs.Faults.{is_io, IsOfLine};
-ghost use Rattle.batch_log.specs.Log.{is_room, last_batch};
+ghost use Rattle.batch_log.specs.Log.{is_room};
 ghost use Rattle.log_feed.specs.Places.{IsAt, IsFaulty, IsWhole};
 ghost use Rattle.log_feed.specs.Steps.{AddsCall, BreaksRule, EndsBatch};
 
