@@ -4,10 +4,11 @@
 #     scripts/static_library.sh [PROGRAM]      PROGRAM is crates/cli/out/cli where none is named
 #
 # Each setup in examples/ that has a log and a report is run by each of them, fed at once and in pieces of 1 and of 7 bytes, and so
-# are a log with a fault and a setup with one: standard output, standard error and the exit status are the program's. The archive
-# is proved and built first, over what is built already. The example in C needs `cc`, and the one in Rust `cargo` with its own
-# linker; where one of these isn't there, the script says which example it leaves out. It ends with how many runs agree, and with
-# status 1 where one doesn't.
+# are a log with a fault and a setup with one: standard output, standard error and the exit status are the program's. Then
+# `scripts/refuse_memory.c` runs a log once for each of its allocations, and refuses it memory from there on. The archive is proved
+# and built first, over what is built already. All in C needs `cc`, and the example in Rust `cargo` and `cc`, which links it; where
+# one of these isn't there, the script says what it leaves out. It ends with how many runs agree, and with status 1 where one
+# doesn't.
 set -euo pipefail
 cd -- "$(dirname -- "$0")/.."
 program=$(readlink -f -- "${1-crates/cli/out/cli}")
@@ -22,17 +23,19 @@ trap 'rm -rf -- "$work"' EXIT
 languages=()
 if command -v cc > /dev/null; then
     cc -std=c99 -O2 -Wall -Wextra -Werror -Iinclude examples/c/replay.c "$archive" "$heap" -o "$work/replay-c"
+    cc -std=c99 -O2 -Wall -Wextra -Werror -Iinclude -Wl,--wrap=malloc,--wrap=realloc,--wrap=free scripts/refuse_memory.c \
+        "$archive" "$heap" -o "$work/refuse_memory"
     languages+=(c)
 else
-    echo "there is no cc here: the example in C is left out" >&2
+    echo "there is no cc here: the example in C is left out, and so are refusals of memory" >&2
 fi
-if command -v cargo > /dev/null; then
+if command -v cc > /dev/null && command -v cargo > /dev/null; then
     CARGO_TARGET_DIR=$work/target RUSTFLAGS="-C link-arg=$archive -C link-arg=$heap" \
         cargo build --quiet --release --offline --manifest-path examples/rust/Cargo.toml
     cp -- "$work/target/release/replay" "$work/replay-rust"
     languages+=(rust)
 else
-    echo "there is no cargo here: the example in Rust is left out" >&2
+    echo "there is no cargo with a cc here: the example in Rust is left out" >&2
 fi
 
 # A setup and a log of the examples with a fault each.
@@ -69,5 +72,8 @@ for run in "${runs[@]}"; do
         done
     done
 done
+if [[ -x $work/refuse_memory ]]; then
+    "$work/refuse_memory" examples/inventory.{json,log,report} || differ=$((differ + 1))
+fi
 echo "$agree runs of the static library agree, $differ don't"
 ((differ == 0))
