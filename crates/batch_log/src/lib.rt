@@ -11,4 +11,5 @@ mod reader;
 pub use devices::{DeviceFailed, ReadSource, Sink, Source, WriteSink, write_all};
 pub use fault::{LogFault, LogFaultKind};
 pub use laws::{batches_end_at_cuts, lines_are_exact};
+pub use line::{LogLine, read_log_line};
 pub use reader::LogReader;

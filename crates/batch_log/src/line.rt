@@ -16,7 +16,7 @@ use std::str;
 
 /// What a line of a log says.
 #[derive(Drop)]
-pub(crate) enum LogLine {
+pub enum LogLine {
     /// One transaction.
     Call(Request),
     /// The batch ends.
@@ -64,13 +64,9 @@ fn read_document(alloc: Global, procs: &Procs, document: &Value) -> Result<LogLi
     }
 }
 
-/// What a line says, or the first rule that it breaks.
+/// What a line says to these procedures, or the first rule that it breaks. The line comes without its newline.
 #[tactic(auto, using(crate::proofs::Calls::said_of_text, crate::proofs::Calls::said_of_bytes))]
-pub(crate) fn read_log_line(
-    alloc: Global,
-    procs: &Procs,
-    line: &[u8],
-) -> Result<LogLine, LogFaultKind>
+pub fn read_log_line(alloc: Global, procs: &Procs, line: &[u8]) -> Result<LogLine, LogFaultKind>
     ensures exact { Reads is_memory (λ said. said) result (line_said procs.now.procs line.now) }
     ensures tables { IfOk result (IsOver procs.now.tables) }
     ensures no_device { IfErr result (λ kind. is_io kind ≡ false) }

@@ -27,7 +27,7 @@ use std::thread::Threads;
 use values::NoMemory;
 
 /// The most transactions that a log has.
-const MOST_TRANSACTIONS: u64 = 1 << 48;
+pub(crate) const MOST_TRANSACTIONS: u64 = 1 << 48;
 
 /// Why a batch was not executed.
 #[derive(Drop)]

@@ -21,7 +21,7 @@ use Rattle.batch_log.specs.Log.{batches_of, first_fault, log_said, IsEnd, IsFaul
 use Rattle.report_text.specs.Texts.{digest, end_line, row_text}
 use Rattle.report_text.specs.Report.{batch_text, batch_texts, end_text, all_entries, next_batch, reply_lines, report}
 use Rattle.running.specs.Reports.{prepared_in_turn, batches_in, fault_in, report_of}
-use Rattle.running.specs.Stopped.{entries_behind}
+use Rattle.running.specs.Stopped.{entries_behind, rows_behind}
 use Rattle.running.proofs.Reported.{Behind, Behind-next, Behind-start, entries_grown, number_grown, first_number, serial_end-append, texts_grown}
 
 -- ---- entries one by one, in two parts
@@ -46,6 +46,12 @@ none_plus n = omega arith
 reply_lines-append : (n : ℕ) (xs ys : List Reply) → reply_lines n (xs ++ ys) ≡ reply_lines n xs ++ reply_lines (n + length xs) ys
 reply_lines-append n [] ys = rw (plus_none n) refl
 reply_lines-append n (x ∷ xs) ys = rw (reply_lines-append (n + 1) xs ys, more n x xs, append_assoc) refl
+
+-- the reply lines of one batch more
+pub said_grown : (db : Database) (ran : List (List EntryShape)) (calls : List Call) (number : ℕ) (rows : Database) → number ≡ length (all_entries ran) → rows ≡ rows_behind db ran →
+    reply_lines 0 (serial_replies (all_entries ran) db) ++ reply_lines number (serial_replies (map (prepared rows) calls) rows) ≡ reply_lines 0 (serial_replies (all_entries (ran ++ entries_behind db ran calls ∷ [])) db)
+said_grown db ran calls number rows e f =
+    rw (e, f, entries_grown ran (entries_behind db ran calls), serial_replies-append, reply_lines-append, replies_each, none_plus) refl
 
 -- ---- what is still to be written
 

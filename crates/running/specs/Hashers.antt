@@ -1,4 +1,4 @@
--- Of the code: invariants and steps; no promise rests on these words.
+-- Claimed: what contracts promise to a reader rests on these words.
 -- What a clause sees of a transcript.
 use Rattle.std.specs.Prelude.{ℕ}
 use Rattle.sha2.specs.declared.Sha256.{Sha256}

@@ -7,3 +7,4 @@ mod transcript;
 
 pub use log::{run_log, run_log_on};
 pub use run_fault::RunFault;
+pub use transcript::Transcript;

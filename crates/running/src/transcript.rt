@@ -20,7 +20,7 @@ use std::alloc::{AllocError, Global};
 
 /// What was reported so far.
 #[derive(Drop)]
-pub(crate) struct Transcript {
+pub struct Transcript {
     /// The number of the next batch, from 1.
     batch: u64,
     /// All reply lines, by their hasher.
@@ -84,7 +84,7 @@ impl Transcript {
     ghost use Rattle.running.specs.Hashers.{batch_of, said_of};
 
     /// Nothing was reported.
-    pub(crate) fn new() -> Transcript
+    pub fn new() -> Transcript
         ensures batch { batch_of result ≡ 1 }
         ensures said { Holds256 (said_of result) [] }
     {
@@ -95,7 +95,7 @@ impl Transcript {
     }
 
     /// Writes the report of a batch.
-    pub(crate) fn write_batch<K: Sink>(
+    pub fn write_batch<K: Sink>(
         &mut self,
         alloc: Global,
         sink: &mut K,
@@ -130,7 +130,7 @@ impl Transcript {
     }
 
     /// Writes the end line, for so many transactions.
-    pub(crate) fn write_end<K: Sink>(
+    pub fn write_end<K: Sink>(
         self,
         alloc: Global,
         sink: &mut K,

@@ -1,0 +1,104 @@
+//! The executor as a static library, for C and for what calls C. `include/calvin.h` declares it.
+#![tactic(auto)]
+
+ghost use Rattle.std.specs.Prelude.{◌≤◌, length};
+
+mod handle;
+mod loose;
+mod opening;
+mod status;
+
+use handle::{Handle, Opaque, give_back};
+use opening::{opened, settings_of, setup_of};
+use session::SessionFault;
+use status::{DONE, session_status};
+use std::alloc::Global;
+
+/// Opens a session on the setup that a JSON text says. 0: its pointer is in `out`, and `calvin_c_close` wants it back. 1: the text
+/// breaks a rule, and the fault's line stands in the first `written` bytes of `message`. 2: a setting is outside its range. 3: memory
+/// was refused.
+#[unsafe(no_mangle)]
+pub extern "C" fn calvin_c_open(
+    alloc: Global,
+    setup: &[u8],
+    threshold: usize,
+    arena: usize,
+    out: &mut *mut Opaque,
+    message: &mut [u8],
+    written: &mut usize,
+) -> i32
+    ensures bound { written.new ≤ length message.new }
+{
+    let setup = match setup_of(alloc, setup, message, written) {
+        Ok(setup) => setup,
+        Err(status) => return status,
+    };
+    let settings = match settings_of(threshold, arena) {
+        Ok(settings) => settings,
+        Err(status) => return status,
+    };
+    match opened(alloc, setup, settings) {
+        Ok(pointer) => {
+            *out = pointer;
+            DONE
+        }
+        Err(status) => status,
+    }
+}
+
+/// Feeds the next bytes of the log. 0: they were taken, and each batch whose cut was among them is executed, and its report waits.
+/// 1: the log has a fault. 2: the log has ended. 3: memory was refused.
+#[unsafe(no_mangle)]
+pub extern "C" fn calvin_c_feed(alloc: Global, handle: Handle, bytes: &[u8]) -> i32 {
+    let mut session = handle.into_box(alloc);
+    let fed = session.feed(alloc, bytes);
+    give_back(session);
+    match fed {
+        Ok(()) => DONE,
+        Err(fault) => session_status(fault),
+    }
+}
+
+/// Ends the log. 0: calls behind the last cut are executed, and the end line waits. Else as `calvin_c_feed`.
+#[unsafe(no_mangle)]
+pub extern "C" fn calvin_c_end(alloc: Global, handle: Handle) -> i32 {
+    let mut session = handle.into_box(alloc);
+    let ended = session.end(alloc);
+    give_back(session);
+    match ended {
+        Ok(_) => DONE,
+        Err(fault) => session_status(fault),
+    }
+}
+
+/// Moves report bytes that wait to the front of `into`, as many as there are or as fit, and gives how many.
+#[unsafe(no_mangle)]
+pub extern "C" fn calvin_c_drain(alloc: Global, handle: Handle, into: &mut [u8]) -> usize
+    ensures bound { result ≤ length into.new }
+{
+    let mut session = handle.into_box(alloc);
+    let taken = session.drain(into);
+    give_back(session);
+    taken
+}
+
+/// The number of the fault that ended the session (31 to 35, or 37), with its line in `line`; 0, where there is none.
+#[unsafe(no_mangle)]
+pub extern "C" fn calvin_c_fault(alloc: Global, handle: Handle, line: &mut u64) -> i32 {
+    let session = handle.into_box(alloc);
+    let stop = session.stop();
+    give_back(session);
+    match stop {
+        Some(SessionFault::Log(fault)) => {
+            *line = fault.line;
+            fault.kind as i32
+        }
+        Some(SessionFault::Over) | None => 0,
+    }
+}
+
+/// Closes a session, and frees what it has.
+#[unsafe(no_mangle)]
+pub extern "C" fn calvin_c_close(alloc: Global, handle: Handle) {
+    let _session = handle.into_box(alloc);
+}

@@ -1,0 +1,199 @@
+//! The batches of a log that comes byte by byte.
+
+ghost use Rattle.std.specs.Prelude.{◌≡◌, ◌+◌, ◌≤◌, ◌^◌, List, ℕ, [], ◌∷◌, ◌++◌, None, false, IfOk, IfErr, IfSome, IsNone, length, true};
+ghost use Rattle.std.specs.List.{AllByRecursion};
+ghost use Rattle.requests.specs.Requests.{Call};
+ghost use Rattle.batch_log.specs.Faults.{is_io, IsOfLine};
+ghost use Rattle.batch_log.specs.Log.{is_room};
+ghost use Rattle.log_feed.specs.Places.{IsAt, IsFaulty, IsWhole};
+ghost use Rattle.log_feed.specs.Steps.{AddsCall, BreaksRule, EndsBatch};
+
+use batch_log::{LogFault, LogFaultKind, LogLine, read_log_line};
+use requests::{Procs, Request};
+use std::alloc::Global;
+use std::mem;
+
+/// The calls of a batch that has not ended, and how far the log was read.
+#[derive(Drop)]
+pub struct LogFeed {
+    calls: Vec<Request>,
+    // How many calls of the log were read.
+    total: u64,
+    // How many lines of the log were read, up to 2^64 - 1.
+    lines: u64,
+    // The beginning of a line whose end has not come.
+    line: Vec<u8>,
+    ghost few: { length calls.items ≤ 4096 },
+    ghost room: { total ≤ 2 ^ 48 },
+}
+
+/// Whether a call may follow so many of its batch and of the log.
+fn is_room(calls: usize, total: u64) -> bool
+    ensures { result ≡ is_room calls total }
+{
+    calls < 4096 && total < 1 << 48
+}
+
+impl LogFeed {
+    ghost use Rattle.log_feed.specs.Feeds.{place_of};
+
+    /// Nothing was read.
+    pub fn new(alloc: Global) -> LogFeed
+        ensures { place_of result ≡ record { calls = []; total = 0; lines = 0; line = [] } }
+    {
+        LogFeed {
+            calls: Vec::new(alloc),
+            total: 0,
+            lines: 0,
+            line: Vec::new(alloc),
+        }
+    }
+
+    /// The number of the last line that was read, or 0.
+    pub fn lines(&self) -> u64
+        ensures { result ≡ (place_of self.now).lines }
+    {
+        self.lines
+    }
+
+    /// A fault of the last line that was read.
+    fn fault(&self, kind: LogFaultKind) -> LogFault
+        ensures { result ≡ record { kind = kind; line = self.now.lines } }
+    {
+        LogFault {
+            kind,
+            line: self.lines,
+        }
+    }
+
+    /// Takes the call that the last line says.
+    fn push(&mut self, call: Request) -> Result<(), LogFault>
+        ensures room { IfOk result (λ _. is_room (length self.old.calls.items) self.old.total ≡ true) }
+        ensures pushed { IfOk result (λ _. place_of self.new ≡
+            record (place_of self.old) { calls = self.old.calls.items ++ call ∷ []; total = self.old.total + 1 }) }
+        ensures full { IfErr result (λ e. IsOfLine e.kind →
+            (is_room (length self.old.calls.items) self.old.total ≡ false)
+            × (e ≡ record { kind = LogFaultKind.BatchTooLong; line = self.old.lines })) }
+        ensures kept { IfErr result (λ _. self.new.calls.items ≡ self.old.calls.items) }
+        ensures no_device { IfErr result (λ e. is_io e.kind ≡ false) }
+    {
+        if !is_room(self.calls.len(), self.total) {
+            return Err(self.fault(LogFaultKind::BatchTooLong));
+        }
+        if self.calls.push(call).is_err() {
+            return Err(self.fault(LogFaultKind::Memory));
+        }
+        self.total += 1;
+        Ok(())
+    }
+
+    /// Takes the line that is begun as a whole one. Where it is a cut, the calls of the batch come out.
+    fn take_line(&mut self, alloc: Global, procs: &Procs) -> Result<Option<Vec<Request>>, LogFault>
+        requires tables { AllByRecursion (λ c. c.proc.tables ≡ procs.now.tables) self.old.calls.items }
+        ensures call { IfOk result (λ o. IsNone o → (call : Call) × AddsCall procs.now.procs (place_of self.old) (place_of self.new) call) }
+        ensures cut { IfOk result (λ o. IfSome o (λ calls. EndsBatch procs.now.procs (place_of self.old) (place_of self.new) calls.items)) }
+        ensures fault { IfErr result (λ e. IsOfLine e.kind → BreaksRule procs.now.procs (place_of self.old) e) }
+        ensures no_device { IfErr result (λ e. is_io e.kind ≡ false) }
+        ensures tables { AllByRecursion (λ c. c.proc.tables ≡ procs.now.tables) self.new.calls.items }
+    {
+        self.lines = self.lines.saturating_add(1);
+        let said = read_log_line(alloc, procs, &self.line);
+        self.line.clear();
+        match said {
+            Ok(LogLine::Call(call)) => {
+                self.push(call)?;
+                Ok(None)
+            }
+            Ok(LogLine::Cut) => Ok(Some(mem::replace(&mut self.calls, Vec::new(alloc)))),
+            Err(kind) => Err(self.fault(kind)),
+        }
+    }
+
+    /// Takes the next byte of the log. Where it ends a line that is a cut, the calls of the batch come out.
+    ///
+    /// A fault is the log's first (31 to 35), or want of memory (37), with its line. Nothing is promised of the feed then.
+    pub fn take(
+        &mut self,
+        alloc: Global,
+        procs: &Procs,
+        byte: u8,
+    ) -> Result<Option<Vec<Request>>, LogFault>
+        // What is fed are calls over the procedures' tables.
+        requires tables { AllByRecursion (λ c. c.proc.tables ≡ procs.now.tables) (place_of self.old).calls }
+        ensures tables { AllByRecursion (λ c. c.proc.tables ≡ procs.now.tables) (place_of self.new).calls }
+        ensures place { (ended : List (List Call)) → (fed : List ℕ) → IsAt procs.now (place_of self.old) ended fed →
+            IfOk result (λ o. IsNone o → IsAt procs.now (place_of self.new) ended (fed ++ byte ∷ [])) }
+        ensures batch { (ended : List (List Call)) → (fed : List ℕ) → IsAt procs.now (place_of self.old) ended fed →
+            IfOk result (λ o. IfSome o (λ calls. IsAt procs.now (place_of self.new) (ended ++ calls.items ∷ []) (fed ++ byte ∷ []))) }
+        ensures fault { (ended : List (List Call)) → (fed more : List ℕ) → IsAt procs.now (place_of self.old) ended fed →
+            IfErr result (λ e. IsOfLine e.kind → IsFaulty procs.now e ended ((fed ++ byte ∷ []) ++ more)) }
+        ensures no_device { IfErr result (λ e. is_io e.kind ≡ false) }
+        ensures batch_is { IfOk result (λ o. IfSome o (λ calls. (calls.items ≡ (place_of self.old).calls)
+            × ((place_of self.new).calls ≡ []) × ((place_of self.new).total ≡ (place_of self.old).total))) }
+        ensures counted { IfOk result (λ o. IsNone o →
+            (place_of self.new).total + length (place_of self.old).calls ≡ (place_of self.old).total + length (place_of self.new).calls) }
+        ensures few { length (place_of self.old).calls ≤ 4096 }
+        ensures room { (place_of self.new).total ≤ 2 ^ 48 }
+    {
+        if byte == b'\n' {
+            return self.take_line(alloc, procs);
+        }
+        match self.line.push(byte) {
+            Ok(()) => Ok(None),
+            Err(_) => Err(LogFault {
+                kind: LogFaultKind::Memory,
+                line: self.lines.saturating_add(1),
+            }),
+        }
+    }
+
+    /// Takes the line that is begun as the log's last, which has no newline, if there is one. Where it is a cut, the calls of the batch
+    /// come out.
+    fn take_last_line(
+        &mut self,
+        alloc: Global,
+        procs: &Procs,
+    ) -> Result<Option<Vec<Request>>, LogFault>
+        requires tables { AllByRecursion (λ c. c.proc.tables ≡ procs.now.tables) self.old.calls.items }
+        ensures tables { AllByRecursion (λ c. c.proc.tables ≡ procs.now.tables) self.new.calls.items }
+        ensures over { IfOk result (λ o. IfSome o (λ calls. calls.items ≡ self.old.calls.items)) }
+        ensures whole { (ended : List (List Call)) → (fed : List ℕ) → IsAt procs.now (place_of self.old) ended fed →
+            IfOk result (λ o. IsNone o → IsWhole procs.now self.new.calls.items ended fed) }
+        ensures batch { (ended : List (List Call)) → (fed : List ℕ) → IsAt procs.now (place_of self.old) ended fed →
+            IfOk result (λ o. IfSome o (λ calls. IsWhole procs.now [] (ended ++ calls.items ∷ []) fed)) }
+        ensures fault { (ended : List (List Call)) → (fed : List ℕ) → IsAt procs.now (place_of self.old) ended fed →
+            IfErr result (λ e. IsOfLine e.kind → IsFaulty procs.now e ended fed) }
+        ensures no_device { IfErr result (λ e. is_io e.kind ≡ false) }
+        ensures counted { IfOk result (λ o. IsNone o → self.new.total + length self.old.calls.items ≡ self.old.total + length self.new.calls.items) }
+    {
+        if self.line.is_empty() {
+            return Ok(None);
+        }
+        self.take_line(alloc, procs)
+    }
+
+    /// Takes the end of the log. A last line may have no newline. Where calls stand behind the last cut, or the last line is a cut
+    /// without a newline, a last batch comes out.
+    pub fn end(&mut self, alloc: Global, procs: &Procs) -> Result<Option<Vec<Request>>, LogFault>
+        requires tables { AllByRecursion (λ c. c.proc.tables ≡ procs.now.tables) (place_of self.old).calls }
+        ensures tables { AllByRecursion (λ c. c.proc.tables ≡ procs.now.tables) (place_of self.new).calls }
+        ensures over { IfOk result (λ o. IfSome o (λ calls. AllByRecursion (λ c. c.proc.tables ≡ procs.now.tables) calls.items)) }
+        ensures whole { (ended : List (List Call)) → (fed : List ℕ) → IsAt procs.now (place_of self.old) ended fed →
+            IfOk result (λ o. IsNone o → IsWhole procs.now [] ended fed) }
+        ensures batch { (ended : List (List Call)) → (fed : List ℕ) → IsAt procs.now (place_of self.old) ended fed →
+            IfOk result (λ o. IfSome o (λ calls. IsWhole procs.now [] (ended ++ calls.items ∷ []) fed)) }
+        ensures fault { (ended : List (List Call)) → (fed : List ℕ) → IsAt procs.now (place_of self.old) ended fed →
+            IfErr result (λ e. IsOfLine e.kind → IsFaulty procs.now e ended fed) }
+        ensures no_device { IfErr result (λ e. is_io e.kind ≡ false) }
+        ensures few { IfOk result (λ o. IfSome o (λ calls. length calls.items ≤ 4096)) }
+        ensures room { IfOk result (λ o. IfSome o (λ calls.
+            length calls.items + (place_of self.old).total ≤ 2 ^ 48 + length (place_of self.old).calls)) }
+    {
+        match self.take_last_line(alloc, procs) {
+            Ok(Some(calls)) => Ok(Some(calls)),
+            Ok(None) if self.calls.is_empty() => Ok(None),
+            Ok(None) => Ok(Some(mem::replace(&mut self.calls, Vec::new(alloc)))),
+            Err(fault) => Err(fault),
+        }
+    }
+}

@@ -1,0 +1,3 @@
+pub mod Quietly
+pub mod Turns
+pub mod Runs

@@ -1,0 +1,7 @@
+use Rattle.session.proofs.session.Session.end.Goals as goal
+
+pub returns-in-Ok-clause-whole : goal.returns-in-Ok-clause-whole
+returns-in-Ok-clause-whole c = λ procs db fed drained h. c.in-Ok.ensures.whole procs db fed drained h.run
+
+pub returns-in-Err-clause-fault : goal.returns-in-Err-clause-fault
+returns-in-Err-clause-fault c = λ procs db fed drained h. c.in-Err.ensures.fault procs db fed drained h.run

@@ -1,0 +1,5 @@
+pub mod Reports
+pub mod Writes
+pub mod Ends
+pub mod Works
+pub mod Sessions

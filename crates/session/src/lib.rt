@@ -1,0 +1,9 @@
+//! A run of a log that is fed piece by piece, on the thread that calls it, and whose report is taken piece by piece.
+#![tactic(auto)]
+
+mod report;
+mod running_batches;
+mod session;
+mod work;
+
+pub use session::{Session, SessionFault};

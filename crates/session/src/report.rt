@@ -1,0 +1,72 @@
+//! Report bytes that wait to be taken.
+
+ghost use Rattle.std.specs.Prelude.{◌≡◌, ◌++◌, ◌≤◌, [], length, drop, take};
+
+use batch_log::{DeviceFailed, Sink};
+use std::alloc::Global;
+
+/// The report bytes that were written and not yet taken.
+#[derive(Drop)]
+pub(crate) struct Report {
+    bytes: Vec<u8>,
+    // So many of them were taken.
+    taken: usize,
+    // A write wanted memory.
+    failed: bool,
+    ghost in_bounds: { taken ≤ length bytes.items },
+}
+
+impl Report {
+    ghost use Rattle.session.specs.Reports.{waiting_in};
+
+    /// Nothing was written.
+    pub(crate) fn new(alloc: Global) -> Report
+        ensures { waiting_in result ≡ [] }
+    {
+        Report {
+            bytes: Vec::new(alloc),
+            taken: 0,
+            failed: false,
+        }
+    }
+
+    /// How many bytes wait.
+    pub(crate) fn waiting(&self) -> usize
+        ensures { result ≡ length (waiting_in self.now) }
+    {
+        self.bytes.len() - self.taken
+    }
+
+    /// Moves bytes that wait to the front of `into`, as many as there are or as fit, and answers how many.
+    pub(crate) fn drain(&mut self, into: &mut [u8]) -> usize
+        ensures bound { result ≤ length into.new }
+        ensures room { length into.new ≡ length into.old }
+        ensures moved { waiting_in self.old ≡ take result into.new ++ waiting_in self.new }
+    {
+        let count = self.waiting().min(into.len());
+        into[..count].copy_from_slice(&self.bytes[self.taken..self.taken + count]);
+        self.taken += count;
+        if self.taken == self.bytes.len() {
+            self.bytes.clear();
+            self.taken = 0;
+        }
+        count
+    }
+}
+
+impl Sink for Report {
+    ghost use Rattle.std.specs.Prelude.{Some};
+    ghost use Rattle.session.specs.Reports.{waiting_in, has_failed};
+
+    ghost taken = { λ r. Some (waiting_in r) };
+
+    ghost broken = { λ r. has_failed r };
+
+    fn write(&mut self, piece: &[u8]) -> Result<usize, DeviceFailed> {
+        if self.bytes.extend_from_slice(piece).is_err() {
+            self.failed = true;
+            return Err(DeviceFailed);
+        }
+        Ok(piece.len())
+    }
+}

@@ -1,0 +1,139 @@
+//! A run of a log, piece by piece.
+
+ghost use Rattle.std.specs.Prelude.{◌≡◌, ◌++◌, ◌≤◌, [], ℕ, List, length, take, None, Err, IfOk, IfErr, IfSome, IsSome, OnOk};
+ghost use Rattle.std.specs.FinMap as map_of;
+ghost use Rattle.std.proofs.Props.{props};
+ghost use Rattle.values.specs.Database.{Database};
+ghost use Rattle.requests.specs.ProcLists.{ProcsParts};
+ghost use Rattle.row_store.specs.Stock.{with_rows};
+ghost use Rattle.session.specs.Ends.{IsRunInto, IsWholeRun};
+ghost use Rattle.session.specs.Works.{IsReady};
+
+use crate::work::Work;
+use batch_log::LogFault;
+use engine::Settings;
+use requests::Setup;
+use std::alloc::Global;
+use std::fmt;
+use values::NoMemory;
+
+/// Why nothing more is taken of a log.
+#[derive(Clone, Copy, Debug, PartialEq, Eq)]
+pub enum SessionFault {
+    /// The log has ended.
+    Over,
+    /// The fault of the log, or want of memory, at its line.
+    Log(LogFault),
+}
+
+impl fmt::Display for SessionFault {
+    fn fmt<W: fmt::Write>(&self, f: &mut fmt::Formatter<W>) -> fmt::Result {
+        match self {
+            SessionFault::Over => f.write_str("the log has ended"),
+            SessionFault::Log(fault) => write!(f, "{fault}"),
+        }
+    }
+}
+
+/// A run of a log on a setup, on the thread that calls it. The log is fed in pieces of any size, and its report is drained in
+/// pieces of any size. A batch is executed, and its report waits to be drained, as soon as its cut was fed; calls behind the last
+/// cut are executed at the end.
+///
+/// A fault ends the run: one of a line of the log (31 to 35), or want of memory (37). What was reported until then can be drained.
+#[derive(Drop)]
+pub struct Session {
+    work: Work,
+    stop: Option<SessionFault>,
+    ghost ready: { stop ≡ None → IsReady work } by { Prim.hlevel props },
+}
+
+impl Session {
+    ghost use Rattle.session.specs.Sessions.{stop_in, stop_of, waiting_of, HasTaken, IsOfLog};
+
+    /// A run on a setup, of whose log nothing was fed.
+    pub fn new(alloc: Global, setup: Setup, settings: Settings) -> Result<Session, NoMemory>
+        ensures open { IfOk result (λ session. stop_of session ≡ None) }
+        ensures begun { IfOk result (HasTaken setup.procs (with_rows map_of.empty setup.rows.items) [] []) }
+    {
+        let work = Work::new(alloc, setup, settings)?;
+        Ok(Session { work, stop: None })
+    }
+
+    /// Takes the next bytes of the log. Each batch whose cut is among them is executed, and its report waits. After a fault each
+    /// further call answers the same.
+    pub fn feed(&mut self, alloc: Global, bytes: &[u8]) -> Result<(), SessionFault>
+        // The bytes are taken behind those that were fed before.
+        ensures taken { (procs : ProcsParts) → (db : Database) → (fed drained : List ℕ) → HasTaken procs db fed drained self.old →
+            OnOk result (HasTaken procs db (fed ++ bytes.now) drained self.new) }
+        // A fault is that of each log that begins with what was fed.
+        ensures fault { (procs : ProcsParts) → (db : Database) → (fed drained more : List ℕ) → HasTaken procs db fed drained self.old →
+            IfErr result (IsOfLog (IsRunInto procs db ((fed ++ bytes.now) ++ more) (drained ++ waiting_of self.new))) }
+        ensures stops { stop_of self.old ≡ None → stop_of self.new ≡ stop_in result }
+        ensures again { IfSome (stop_of self.old) (λ fault. (result ≡ Err fault) × (self.new ≡ self.old)) }
+    {
+        if let Some(fault) = self.stop {
+            return Err(fault);
+        }
+        match self.work.take_bytes(alloc, bytes) {
+            Ok(()) => Ok(()),
+            Err(fault) => {
+                let fault = SessionFault::Log(fault);
+                self.stop = Some(fault);
+                Err(fault)
+            }
+        }
+    }
+
+    /// Takes the end of the log: a last line may have no newline, and calls behind the last cut are a batch. Then the end line is
+    /// reported, and the answer is the number of transactions. Nothing more is taken afterwards.
+    pub fn end(&mut self, alloc: Global) -> Result<u64, SessionFault>
+        // What was fed is a whole log. What was drained and what waits are together its report.
+        ensures whole { (procs : ProcsParts) → (db : Database) → (fed drained : List ℕ) → HasTaken procs db fed drained self.old →
+            IfOk result (IsWholeRun procs db fed (drained ++ waiting_of self.new)) }
+        ensures fault { (procs : ProcsParts) → (db : Database) → (fed drained : List ℕ) → HasTaken procs db fed drained self.old →
+            IfErr result (IsOfLog (IsRunInto procs db fed (drained ++ waiting_of self.new))) }
+        ensures stops { IsSome (stop_of self.new) }
+        ensures again { IfSome (stop_of self.old) (λ fault. (result ≡ Err fault) × (self.new ≡ self.old)) }
+    {
+        if let Some(fault) = self.stop {
+            return Err(fault);
+        }
+        match self.work.take_end(alloc) {
+            Ok(count) => {
+                self.stop = Some(SessionFault::Over);
+                Ok(count)
+            }
+            Err(fault) => {
+                let fault = SessionFault::Log(fault);
+                self.stop = Some(fault);
+                Err(fault)
+            }
+        }
+    }
+
+    /// Moves report bytes that wait to the front of `into`, as many as there are or as fit, and answers how many.
+    pub fn drain(&mut self, into: &mut [u8]) -> usize
+        ensures bound { result ≤ length into.new }
+        ensures room { length into.new ≡ length into.old }
+        ensures moved { waiting_of self.old ≡ take result into.new ++ waiting_of self.new }
+        ensures taken { (procs : ProcsParts) → (db : Database) → (fed drained : List ℕ) → HasTaken procs db fed drained self.old →
+            HasTaken procs db fed (drained ++ take result into.new) self.new }
+        ensures stays { stop_of self.new ≡ stop_of self.old }
+    {
+        self.work.report.drain(into)
+    }
+
+    /// How many report bytes wait to be drained.
+    pub fn waiting(&self) -> usize
+        ensures { result ≡ length (waiting_of self.now) }
+    {
+        self.work.report.waiting()
+    }
+
+    /// Why nothing more is taken of the log; `None` while it is.
+    pub fn stop(&self) -> Option<SessionFault>
+        ensures { result ≡ stop_of self.now }
+    {
+        self.stop
+    }
+}

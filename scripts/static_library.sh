@@ -1,0 +1,79 @@
+#!/usr/bin/env bash
+# Builds the static library and the examples in C and in Rust over it, and compares what they print with what the program prints:
+#
+#     scripts/static_library.sh [PROGRAM]      PROGRAM is crates/cli/out/cli where none is named
+#
+# Each setup in examples/ that has a log and a report is run by each of them, fed at once and in pieces of 1 and of 7 bytes, and so
+# are a log with a fault and a setup with one: standard output, standard error and the exit status are the program's. Then
+# `scripts/refuse_memory.c` runs a log once for each of its allocations, and refuses it memory from there on. The archive is proved
+# and built first, over what is built already. All in C needs `cc`, and the example in Rust `cargo` and `cc`, which links it; where
+# one of these isn't there, the script says what it leaves out. It ends with how many runs agree, and with status 1 where one
+# doesn't.
+set -euo pipefail
+cd -- "$(dirname -- "$0")/.."
+program=$(readlink -f -- "${1-crates/cli/out/cli}")
+archive=$PWD/crates/calvin_c/out/libcalvin_c.a
+heap=$(dirname -- "$(rt doc)")/c/liblibc_c.a
+
+work=$(mktemp -d)
+trap 'rm -rf -- "$work"' EXIT
+
+(cd crates/calvin_c && rt lib) > "$work/built" 2>&1 || { cat -- "$work/built" >&2; exit 1; }
+
+languages=()
+if command -v cc > /dev/null; then
+    cc -std=c99 -O2 -Wall -Wextra -Werror -Iinclude examples/c/replay.c "$archive" "$heap" -o "$work/replay-c"
+    cc -std=c99 -O2 -Wall -Wextra -Werror -Iinclude -Wl,--wrap=malloc,--wrap=realloc,--wrap=free scripts/refuse_memory.c \
+        "$archive" "$heap" -o "$work/refuse_memory"
+    languages+=(c)
+else
+    echo "there is no cc here: the example in C is left out, and so are refusals of memory" >&2
+fi
+if command -v cc > /dev/null && command -v cargo > /dev/null; then
+    CARGO_TARGET_DIR=$work/target RUSTFLAGS="-C link-arg=$archive -C link-arg=$heap" \
+        cargo build --quiet --release --offline --manifest-path examples/rust/Cargo.toml
+    cp -- "$work/target/release/replay" "$work/replay-rust"
+    languages+=(rust)
+else
+    echo "there is no cargo with a cc here: the example in Rust is left out" >&2
+fi
+
+# A setup and a log of the examples with a fault each.
+sed 's/"setup"/"setups"/' examples/bank.json > "$work/no-setup.json"
+{ cat examples/two-batches.log; printf '["call","pay",[1]]\n["cut"]\n'; } > "$work/fault.log"
+
+runs=()
+for report in examples/*.report; do
+    runs+=("${report%.report}.json ${report%.report}.log")
+done
+runs+=("examples/bank.json $work/fault.log" "examples/bank.json examples/two-batches.log" "$work/no-setup.json examples/two-pays.log")
+
+# What a command prints on the log: standard output, standard error and the exit status, into files of a name.
+record() {
+    local name=$1 log=$2 status=0
+    "${@:3}" < "$log" > "$work/$name.out" 2> "$work/$name.err" || status=$?
+    printf '%s\n' "$status" > "$work/$name.status"
+}
+
+agree=0 differ=0
+for run in "${runs[@]}"; do
+    read -r setup log <<< "$run"
+    record wanted "$log" "$program" run "$setup"
+    for language in "${languages[@]}"; do
+        for piece in 1 7 1000000; do
+            record given "$log" "$work/replay-$language" "$setup" "$piece"
+            if cmp -s "$work/wanted.out" "$work/given.out" && cmp -s "$work/wanted.err" "$work/given.err" &&
+                cmp -s "$work/wanted.status" "$work/given.status"; then
+                agree=$((agree + 1))
+            else
+                differ=$((differ + 1))
+                echo "examples/$language: on $setup and $log in pieces of $piece bytes it prints something else than the program"
+            fi
+        done
+    done
+done
+if [[ -x $work/refuse_memory ]]; then
+    "$work/refuse_memory" examples/inventory.{json,log,report} || differ=$((differ + 1))
+fi
+echo "$agree runs of the static library agree, $differ don't"
+((differ == 0))
