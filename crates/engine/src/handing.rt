@@ -9,7 +9,7 @@ ghost use Rattle.engine.specs.HandedOut.{AreInLanes};
 ghost use Rattle.engine.specs.Listeners.{AreCounted, HearsOn, settled_in};
 
 use crate::listener::{Listener, tell};
-use crate::quarters::{Bed, Drowsiness, Quarters};
+use crate::quarters::{Drowsiness, Quarters};
 use lanes::{Lanes, SchedulerSeat};
 use scheduler::{AdmitFault, Scheduler};
 use std::sync::Wait;
@@ -31,8 +31,8 @@ fn admit_all(scheduler: &mut Scheduler) -> Result<(), NoMemory>
     }
 }
 
-/// Lends its rows to the next ready transaction, puts the job into a lane and wakes a worker for it; `false` where none is ready. A
-/// lane is free.
+/// Lends its rows to the next ready transaction and puts the job into a lane, where a worker will find it; `false` where none is
+/// ready. A lane is free.
 fn hand_out(
     scheduler: &mut Scheduler,
     lanes: &Lanes,
@@ -54,6 +54,7 @@ fn hand_out(
     let Some(job) = scheduler.lend()? else {
         return Ok(false);
     };
+    quarters.expect_job();
     match lanes.put(seat, job) {
         Ok(_) => {
             quarters.wake_worker();
@@ -101,6 +102,7 @@ fn take_in<L: Listener>(
     lanes: &Lanes,
     seat: &mut SchedulerSeat,
     out: &mut usize,
+    quarters: &Quarters,
 ) -> Result<bool, NoMemory>
     requires seat { seat.old.lanes ≡ lanes.now }
     requires lanes { AreInLanes scheduler.old seat.old }
@@ -114,9 +116,13 @@ fn take_in<L: Listener>(
     ensures onward { HearsOn (L.account listener.old) (L.account listener.new) }
     ensures out { out.new ≡ jobs_in seat.new.jobs }
 {
+    if !quarters.has_results() {
+        return Ok(false);
+    }
     let Some((_, done)) = lanes.collect(seat) else {
         return Ok(false);
     };
+    quarters.take_result();
     let is_run = done.is_run();
     let no = done.no();
     scheduler.settle(done);
@@ -125,8 +131,8 @@ fn take_in<L: Listener>(
     if is_run { Ok(true) } else { Err(NoMemory) }
 }
 
-/// Settles what a worker delivers next, and tells the listener. It sleeps until something is delivered. An error says that a job
-/// came back without a run, for want of memory.
+/// Settles what workers deliver next, until nothing more is found, and tells the listener. It sleeps until something is delivered. An
+/// error says that a job came back without a run, for want of memory.
 fn take_in_next<R: Wait, L: Listener>(
     rt: &R,
     scheduler: &mut Scheduler,
@@ -134,7 +140,7 @@ fn take_in_next<R: Wait, L: Listener>(
     lanes: &Lanes,
     seat: &mut SchedulerSeat,
     out: &mut usize,
-    bed: &Bed,
+    quarters: &Quarters,
 ) -> Result<(), NoMemory>
     requires seat { seat.old.lanes ≡ lanes.now }
     requires lanes { AreInLanes scheduler.old seat.old }
@@ -148,13 +154,18 @@ fn take_in_next<R: Wait, L: Listener>(
     ensures onward { HearsOn (L.account listener.old) (L.account listener.new) }
     ensures out { out.new ≡ jobs_in seat.new.jobs }
 {
-    let mut drowsiness = Drowsiness::Awake(0);
+    let mut drowsiness = Drowsiness::Busy;
+    let mut is_found = false;
     for _ in rt.forever() {
-        if take_in(scheduler, listener, lanes, seat, out)? {
-            bed.rise(drowsiness);
+        if take_in(scheduler, listener, lanes, seat, out, quarters)? {
+            quarters.rise_scheduler(drowsiness);
+            drowsiness = Drowsiness::Busy;
+            is_found = true;
+        } else if is_found {
             break;
+        } else {
+            drowsiness = quarters.rest_scheduler(rt, drowsiness);
         }
-        drowsiness = bed.rest(rt, drowsiness);
     }
     Ok(())
 }
@@ -189,15 +200,7 @@ fn hand_over<R: Wait, L: Listener>(
             break;
         }
         hand_out_all(scheduler, lanes, seat, count, out, quarters)?;
-        take_in_next(
-            rt,
-            scheduler,
-            listener,
-            lanes,
-            seat,
-            out,
-            &quarters.scheduler,
-        )?;
+        take_in_next(rt, scheduler, listener, lanes, seat, out, quarters)?;
     }
     Ok(())
 }
@@ -211,7 +214,7 @@ fn take_in_all<R: Wait, L: Listener>(
     lanes: &Lanes,
     seat: &mut SchedulerSeat,
     out: &mut usize,
-    bed: &Bed,
+    quarters: &Quarters,
 )
     requires seat { seat.old.lanes ≡ lanes.now }
     requires lanes { AreInLanes scheduler.old seat.old }
@@ -227,7 +230,7 @@ fn take_in_all<R: Wait, L: Listener>(
         if *out == 0 {
             break;
         }
-        let _ = take_in_next(rt, scheduler, listener, lanes, seat, out, bed);
+        let _ = take_in_next(rt, scheduler, listener, lanes, seat, out, quarters);
     }
 }
 
@@ -260,15 +263,7 @@ pub(crate) fn schedule<R: Wait, L: Listener>(
         rt, scheduler, listener, lanes, seat, count, &mut out, quarters,
     );
     if ended.is_err() {
-        take_in_all(
-            rt,
-            scheduler,
-            listener,
-            lanes,
-            seat,
-            &mut out,
-            &quarters.scheduler,
-        );
+        take_in_all(rt, scheduler, listener, lanes, seat, &mut out, quarters);
     }
     ended
 }

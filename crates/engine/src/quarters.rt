@@ -1,9 +1,11 @@
-//! Where the threads of a run sleep. A thread that finds nothing to do looks again a few times, then says that it will sleep, looks
-//! once more, and sleeps until another wakes it.
+//! Where the threads of a run sleep, and who wakes them. A thread that finds nothing to do looks again a few times, then says that
+//! it will sleep, looks once more, and sleeps until another wakes it. A job that is put wakes a worker only where none looks for a
+//! job already, and a worker that finds a job while others wait wakes the next: so there are never more awake than find work.
 
 use std::alloc::Global;
+use std::hint::spin_loop;
 use std::sync::Wait;
-use std::sync::atomic::{AtomicBool, Ordering};
+use std::sync::atomic::{AtomicBool, AtomicIsize, AtomicUsize, Ordering};
 use std::thread::Parker;
 use values::NoMemory;
 
@@ -13,8 +15,10 @@ const LOOKS: u32 = 64;
 /// How near a thread is to its sleep.
 #[derive(Clone, Copy, Debug, PartialEq, Eq)]
 pub(crate) enum Drowsiness {
-    /// It has looked in vain so often, one time after another.
-    Awake(u32),
+    /// It has had something to do until now.
+    Busy,
+    /// It has looked in vain so often, one time after another, or was woken and has not looked yet.
+    Looking(u32),
     /// It has said that it will sleep, and looks once more.
     Nodding,
 }
@@ -22,7 +26,7 @@ pub(crate) enum Drowsiness {
 /// Where one thread sleeps.
 #[derive(Drop)]
 pub(crate) struct Bed {
-    /// Whether the thread has said that it will sleep, and none has woken it since.
+    /// Whether the thread has said that it will sleep, and none has called it since.
     is_taken: AtomicBool,
     parker: Parker,
 }
@@ -36,43 +40,51 @@ impl Bed {
     }
 
     /// Takes a thread that has looked in vain a step nearer to its sleep, or lets it sleep until it is woken.
-    pub(crate) fn rest<R: Wait>(&self, rt: &R, drowsiness: Drowsiness) -> Drowsiness {
+    fn rest<R: Wait>(&self, rt: &R, drowsiness: Drowsiness) -> Drowsiness {
         match drowsiness {
-            Drowsiness::Awake(vain) if vain < LOOKS => Drowsiness::Awake(vain + 1),
-            Drowsiness::Awake(_) => {
+            Drowsiness::Busy => Drowsiness::Looking(0),
+            Drowsiness::Looking(vain) if vain < LOOKS => {
+                spin_loop();
+                Drowsiness::Looking(vain + 1)
+            }
+            Drowsiness::Looking(_) => {
                 self.is_taken.store(true, Ordering::SeqCst);
                 Drowsiness::Nodding
             }
             Drowsiness::Nodding => {
                 self.parker.park(rt);
-                self.is_taken.store(false, Ordering::SeqCst);
-                Drowsiness::Awake(0)
+                // It may wake though none has called it, from what woke it before it slept the last time.
+                if self.leave() {
+                    Drowsiness::Busy
+                } else {
+                    Drowsiness::Looking(0)
+                }
             }
         }
     }
 
-    /// Lets a thread that has found something to do get up. Answers whether it was woken after it had said that it would sleep:
-    /// what it was woken for may be something else than what it has found.
-    pub(crate) fn rise(&self, drowsiness: Drowsiness) -> bool {
-        drowsiness == Drowsiness::Nodding && !self.is_taken.swap(false, Ordering::SeqCst)
+    /// No longer says that the thread will sleep, and answers whether it had, without a call since.
+    fn leave(&self) -> bool {
+        self.is_taken.swap(false, Ordering::SeqCst)
     }
 
-    /// Wakes the thread if it has said that it will sleep, and answers whether it had.
-    pub(crate) fn wake(&self) -> bool {
-        let is_woken = self.is_taken.load(Ordering::SeqCst)
-            && self.is_taken.swap(false, Ordering::SeqCst);
-        if is_woken {
-            self.parker.unpark();
-        }
-        is_woken
+    /// Calls the thread if it has said that it will sleep, and answers whether it had. Who calls it wakes it.
+    fn call(&self) -> bool {
+        self.is_taken.load(Ordering::SeqCst) && self.leave()
     }
 }
 
-/// Where the scheduler's thread and its workers sleep, and whether there is an end to what they do.
+/// Where the scheduler's thread and its workers sleep, what waits for them, and whether there is an end to what they do.
 #[derive(Drop)]
 pub(crate) struct Quarters {
     ended: AtomicBool,
-    pub(crate) scheduler: Bed,
+    /// How many jobs wait for a worker: no fewer than lie in lanes.
+    waiting: AtomicUsize,
+    /// How many results wait for the scheduler: no fewer than lie in lanes.
+    finished: AtomicUsize,
+    /// How many workers look for a job, or were called and will look. It may be less for a moment, and is never more.
+    looking: AtomicIsize,
+    scheduler: Bed,
     pub(crate) workers: Vec<Bed>,
 }
 
@@ -85,24 +97,104 @@ impl Quarters {
         }
         Ok(Quarters {
             ended: AtomicBool::new(false),
+            waiting: AtomicUsize::new(0),
+            finished: AtomicUsize::new(0),
+            looking: AtomicIsize::new(0),
             scheduler: Bed::new(),
             workers,
         })
     }
 
-    /// Wakes one of the workers that have said that they will sleep, if there is one.
+    /// Says that a job is about to be put.
+    pub(crate) fn expect_job(&self) {
+        self.waiting.fetch_add(1, Ordering::SeqCst);
+    }
+
+    /// Whether a job may wait.
+    pub(crate) fn has_jobs(&self) -> bool {
+        self.waiting.load(Ordering::SeqCst) > 0
+    }
+
+    /// Wakes one of the workers that sleep, if there is one, where jobs wait that none looks for.
     pub(crate) fn wake_worker(&self) {
+        if !self.has_jobs() || self.looking.load(Ordering::SeqCst) > 0 {
+            return;
+        }
         for bed in &self.workers {
-            if bed.wake() {
+            if bed.call() {
+                self.looking.fetch_add(1, Ordering::SeqCst);
+                bed.parker.unpark();
                 return;
             }
         }
     }
 
-    /// Lets a worker that has found something to do get up. Another goes on in its place to what it may have been woken for.
-    pub(crate) fn rise(&self, bed: &Bed, drowsiness: Drowsiness) {
-        if bed.rise(drowsiness) {
-            self.wake_worker();
+    /// Takes a worker that has found no job a step nearer to its sleep, or lets it sleep until it is woken. It says that it will sleep
+    /// before it is no longer counted among those that look, and looks once more after that.
+    pub(crate) fn rest_worker<R: Wait>(
+        &self,
+        rt: &R,
+        bed: &Bed,
+        drowsiness: Drowsiness,
+    ) -> Drowsiness {
+        let next = bed.rest(rt, drowsiness);
+        match (drowsiness, next) {
+            (Drowsiness::Busy, _) => {
+                self.looking.fetch_add(1, Ordering::SeqCst);
+            }
+            (_, Drowsiness::Nodding) => {
+                self.looking.fetch_sub(1, Ordering::SeqCst);
+            }
+            _ => {}
+        }
+        next
+    }
+
+    /// Lets a worker go to the job that it has found, and wakes another where more jobs wait.
+    pub(crate) fn go_to_job(&self, bed: &Bed, drowsiness: Drowsiness) {
+        let is_counted = match drowsiness {
+            Drowsiness::Busy => false,
+            Drowsiness::Looking(_) => true,
+            Drowsiness::Nodding => !bed.leave(),
+        };
+        if is_counted {
+            self.looking.fetch_sub(1, Ordering::SeqCst);
+        }
+        self.waiting.fetch_sub(1, Ordering::SeqCst);
+        self.wake_worker();
+    }
+
+    /// Says that a result is about to be delivered.
+    pub(crate) fn expect_result(&self) {
+        self.finished.fetch_add(1, Ordering::SeqCst);
+    }
+
+    /// Whether a result may wait.
+    pub(crate) fn has_results(&self) -> bool {
+        self.finished.load(Ordering::SeqCst) > 0
+    }
+
+    /// Wakes the scheduler's thread if it sleeps.
+    pub(crate) fn wake_scheduler(&self) {
+        if self.scheduler.call() {
+            self.scheduler.parker.unpark();
+        }
+    }
+
+    /// Takes the scheduler's thread, which has found no result, a step nearer to its sleep, or lets it sleep until it is woken.
+    pub(crate) fn rest_scheduler<R: Wait>(&self, rt: &R, drowsiness: Drowsiness) -> Drowsiness {
+        self.scheduler.rest(rt, drowsiness)
+    }
+
+    /// Says that a result was collected.
+    pub(crate) fn take_result(&self) {
+        self.finished.fetch_sub(1, Ordering::SeqCst);
+    }
+
+    /// Lets the scheduler's thread go to what it has found.
+    pub(crate) fn rise_scheduler(&self, drowsiness: Drowsiness) {
+        if drowsiness == Drowsiness::Nodding {
+            self.scheduler.leave();
         }
     }
 

@@ -1,12 +1,13 @@
 //! What a worker does.
 
-ghost use Rattle.std.specs.Prelude.{◌≡◌};
+ghost use Rattle.std.specs.Prelude.{◌≡◌, IfSome, IfNone};
+ghost use Rattle.lanes.specs.Calls.{Claims};
 ghost use Rattle.engine.specs.Workers.{HoldsNoJob};
 
 use crate::gate::Gate;
 use crate::quarters::{Bed, Drowsiness, Quarters};
-use lanes::{Lanes, WorkerSeat};
-use scheduler::run_job;
+use lanes::{LaneNo, Lanes, WorkerSeat};
+use scheduler::{Job, run_job};
 use std::sync::Wait;
 use std::thread::Scope;
 
@@ -28,6 +29,19 @@ pub(crate) struct Worker<'a, 'b> {
     ghost free: { HoldsNoJob seat },
 }
 
+/// A job that waits, if there may be one: lanes are tried only then.
+fn find_job(lanes: &Lanes, seat: &mut WorkerSeat, quarters: &Quarters) -> Option<(LaneNo, Job)>
+    requires { seat.old.lanes ≡ lanes.now }
+    ensures some { IfSome result (λ r. Claims seat.old r.0 r.1 seat.new) }
+    ensures none { IfNone result ((seat.new.lanes ≡ lanes.now) × (seat.new.jobs ≡ seat.old.jobs)) }
+{
+    if quarters.has_jobs() {
+        lanes.claim(seat)
+    } else {
+        None
+    }
+}
+
 impl Duty for Worker<'_, '_> {
     /// Claims jobs and delivers what comes of each before it claims the next, until it finds none after the workers were told to end.
     /// It passes the gate once for each job that it claimed, before it runs it, and sleeps while it finds none.
@@ -40,21 +54,23 @@ impl Duty for Worker<'_, '_> {
             bed,
         } = self;
         let mut seat = seat;
-        let mut drowsiness = Drowsiness::Awake(0);
+        let mut drowsiness = Drowsiness::Busy;
         for _ in rt.forever() {
-            match lanes.claim(&mut seat) {
+            match find_job(lanes, &mut seat, quarters) {
                 Some((lane, job)) => {
-                    quarters.rise(bed, drowsiness);
-                    drowsiness = Drowsiness::Awake(0);
+                    quarters.go_to_job(bed, drowsiness);
+                    drowsiness = Drowsiness::Busy;
                     gate.enter(job.no());
-                    lanes.deliver(&mut seat, lane, run_job(job));
-                    quarters.scheduler.wake();
+                    let done = run_job(job);
+                    quarters.expect_result();
+                    lanes.deliver(&mut seat, lane, done);
+                    quarters.wake_scheduler();
                 }
                 None => {
                     if quarters.has_ended() {
                         break;
                     }
-                    drowsiness = bed.rest(rt, drowsiness);
+                    drowsiness = quarters.rest_worker(rt, bed, drowsiness);
                 }
             }
         }

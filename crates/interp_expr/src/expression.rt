@@ -17,7 +17,29 @@ use std::alloc::Global;
 use values::{Text, Value};
 use workspace::{RowView, Shown, Stop, Workspace, access_part, count_in, total_in};
 
+/// The value of an operand, as `evaluate_int` gives it. A number or a variable takes no call.
+#[cycle(numbers)]
+fn evaluate_operand<V: RowView>(
+    shown: &Shown<'_, V>,
+    space: &mut Workspace,
+    operand: &IntExpr,
+) -> Result<i64, Stop>
+    ensures gives { Gives (λ z. z) (state_at (V.rows shown.now.view.now) space.new) result
+        (int_of nothing (rule_of shown.now.permit) (int_view operand.now)
+        (state_at (V.rows shown.now.view.now) space.old)) }
+    ensures kept { OnOk result (KeepsCovered shown.now.permit space.old space.new) }
+{
+    match operand {
+        IntExpr::Number(number) => Ok(*number),
+        IntExpr::Variable(place) => Ok(space.number(*place)),
+        IntExpr::Binary(..) | IntExpr::Count { .. } | IntExpr::Sum { .. } => {
+            evaluate_int(shown, space, operand)
+        }
+    }
+}
+
 /// The value of a number expression.
+#[cycle(numbers)]
 pub fn evaluate_int<V: RowView>(
     shown: &Shown<'_, V>,
     space: &mut Workspace,
@@ -32,8 +54,8 @@ pub fn evaluate_int<V: RowView>(
         IntExpr::Number(number) => Ok(*number),
         IntExpr::Variable(place) => Ok(space.number(*place)),
         IntExpr::Binary(operator, left, right) => {
-            let left = evaluate_int(shown, space, left)?;
-            let right = evaluate_int(shown, space, right)?;
+            let left = evaluate_operand(shown, space, left)?;
+            let right = evaluate_operand(shown, space, right)?;
             let number = compute(*operator, left, right)?;
             Ok(number)
         }

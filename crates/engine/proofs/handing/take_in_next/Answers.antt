@@ -2,11 +2,23 @@ use Rattle.std.proofs.Common.{Option, sym, ap, ◌∙◌, subst}
 use Rattle.engine.specs.Engines.{Account}
 use Rattle.engine.specs.Listeners.{HearsOn}
 use Rattle.engine.proofs.Onward.{hears_on}
-use Rattle.engine.proofs.handing.take_in_next.Goals.{in-None, in-Some+in_ok-take_in+then-branch}
+use Rattle.engine.proofs.handing.take_in_next.Goals.{in-None, in-Some+in_ok-take_in+else-branch+then-is_found}
 use Rattle.engine.proofs.handing.take_in_next.Goals as goal
 
 pub loop-preserved : goal.loop-preserved
 loop-preserved g c =
+    let was = c.loop.invariant in (
+      c.take_in.ensures.seat,
+      c.take_in.ensures.lanes,
+      c.take_in.ensures.work ∙ was.2,
+      λ place is. c.take_in.ensures.settled place (was.3 place is),
+      c.take_in.ensures.out,
+      c.take_in.ensures.told,
+      hears_on (g.L.Listener.account c.args.listener.now) (g.L.Listener.account c.loop.listener) (g.L.Listener.account c.take_in.new.listener) c.loop.invariant.6 c.take_in.ensures.onward,
+    )
+
+pub loop-preserved-then-branch : goal.loop-preserved-then-branch
+loop-preserved-then-branch g c =
     let was = c.loop.invariant in (
       c.take_in.ensures.seat,
       c.take_in.ensures.lanes,
@@ -25,7 +37,7 @@ pub returns-clause-onward : goal.returns-clause-onward
 returns-clause-onward g c = elim c.match-next.branch [
   | in-None w ↦
       subst (λ (o : Option Account). HearsOn (g.L.Listener.account c.args.listener.now) o) (ap g.L.Listener.account (sym w.listener-is)) c.loop.invariant.6
-  | in-Some+in_ok-take_in+then-branch w ↦
+  | in-Some+in_ok-take_in+else-branch+then-is_found w ↦
       subst (λ (o : Option Account). HearsOn (g.L.Listener.account c.args.listener.now) o) (ap g.L.Listener.account (sym w.listener-is))
       (hears_on (g.L.Listener.account c.args.listener.now) (g.L.Listener.account c.loop.listener) (g.L.Listener.account w.take_in.new.listener) c.loop.invariant.6 w.take_in.ensures.onward)
 ]
