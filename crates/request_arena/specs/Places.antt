@@ -9,7 +9,7 @@ index_of nodes place = if nat_lt place nodes then 2 * place else 2 * (place - no
 
 -- what stands at a place that nothing was written to: a free node, which leads to the next place, or the head of an empty queue
 abbrev pub fresh : ℕ → ℕ → Node
-fresh nodes place = record { next = if nat_lt place nodes then place + 1 else place; prev = place; held = None }
+fresh nodes place = record { next = if nat_lt place nodes then place + 1 else place; prev = place; home = 0; held = None }
 
 abbrev pub at_place : ℕ → List Node → ℕ → Node
 at_place nodes written place = slice_index_or written (index_of nodes place) (fresh nodes place)

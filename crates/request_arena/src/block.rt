@@ -51,6 +51,7 @@ fn fresh(nodes: usize, place: usize) -> Node
     Node {
         next,
         prev: place,
+        home: 0,
         held: None,
     }
 }
@@ -75,8 +76,18 @@ fn write_next(written: &mut Row, nodes: usize)
     ensures capacity { written.new.room ≡ written.old.room }
     ensures same { (place : ℕ) → at_place nodes written.new.items place ≡ at_place nodes written.old.items place }
 {
-    let Node { next, prev, held } = fresh(nodes, place_at(nodes, written.len()));
-    written.push(Node { next, prev, held });
+    let Node {
+        next,
+        prev,
+        home,
+        held,
+    } = fresh(nodes, place_at(nodes, written.len()));
+    written.push(Node {
+        next,
+        prev,
+        home,
+        held,
+    });
 }
 
 /// Writes what stands there to all places as far as one.

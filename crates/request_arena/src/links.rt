@@ -1,7 +1,7 @@
 //! Writes to one node of a block.
 
 ghost use Rattle.std.specs.Prelude.{◌≡◌, ◌<◌, length, IfSome};
-ghost use Rattle.request_arena.specs.Nodes.{with_next, with_prev, with_held, with_behind, with_tail};
+ghost use Rattle.request_arena.specs.Nodes.{with_next, with_prev, with_home, with_held, with_behind, with_tail};
 ghost use Rattle.request_arena.specs.Chains.{behind_it};
 
 use crate::block::Block;
@@ -23,6 +23,15 @@ pub(crate) fn set_prev(block: &mut Block, place: usize, prev: usize)
 {
     let node = block.get(place);
     block.set(place, Node { prev, ..node });
+}
+
+pub(crate) fn set_home(block: &mut Block, place: usize, home: usize)
+    requires { place < length block.old }
+    ensures nodes { block.new ≡ with_home block.old place home }
+    ensures long { length block.new ≡ length block.old }
+{
+    let node = block.get(place);
+    block.set(place, Node { home, ..node });
 }
 
 pub(crate) fn set_held(block: &mut Block, place: usize, held: Option<Held>)

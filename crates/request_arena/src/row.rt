@@ -49,6 +49,7 @@ impl Row {
         let blank = Node {
             next: 0,
             prev: 0,
+            home: 0,
             held: None,
         };
         let (places, deed) = unsafe { take(&alloc, room, &blank)? };
@@ -80,8 +81,21 @@ impl Row {
         requires { index < length self.old.items }
         ensures { self.new ≡ record self.old { items = slice_set self.old.items index node } }
     {
-        let Node { next, prev, held } = node;
-        self.places.put(index, Node { next, prev, held });
+        let Node {
+            next,
+            prev,
+            home,
+            held,
+        } = node;
+        self.places.put(
+            index,
+            Node {
+                next,
+                prev,
+                home,
+                held,
+            },
+        );
     }
 
     /// Puts a node behind the others. There is room for it.
@@ -89,8 +103,21 @@ impl Row {
         requires { length self.old.items < self.old.room }
         ensures { self.new ≡ record self.old { items = self.old.items ++ node ∷ [] } }
     {
-        let Node { next, prev, held } = node;
-        self.places.put(self.len, Node { next, prev, held });
+        let Node {
+            next,
+            prev,
+            home,
+            held,
+        } = node;
+        self.places.put(
+            self.len,
+            Node {
+                next,
+                prev,
+                home,
+                held,
+            },
+        );
         self.len += 1;
     }
 }

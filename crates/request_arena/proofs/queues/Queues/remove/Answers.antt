@@ -4,13 +4,14 @@ use Rattle.request_arena.specs.Chains.{chain, chain_from, held_at, holds, behind
 use Rattle.request_arena.specs.Following.{without}
 use Rattle.request_arena.specs.Linked.{AreChains, held_in, spread, queue_of, IsLinked}
 use Rattle.request_arena.specs.Lists.{Lists, BeginsChain}
-use Rattle.request_arena.specs.Nodes.{next_of, prev_of}
+use Rattle.request_arena.specs.Nodes.{next_of, prev_of, home}
 use Rattle.request_arena.proofs.Apart.{Begins, firsts_removed, next_first}
 use Rattle.request_arena.proofs.Chains.{chain_beside, chain_rest}
+use Rattle.request_arena.proofs.Homes.{homes_removed}
 use Rattle.request_arena.proofs.Nodes.{held_read, some_is}
 use Rattle.request_arena.proofs.Pushing.{chains_removed}
 use Rattle.request_arena.proofs.Linked.{live_of}
-use Rattle.request_arena.proofs.Taking.{room_to_free, taken, linked_taken, queues_taken, held_taken, taken_by, before_in, after_in, here_in}
+use Rattle.request_arena.proofs.Taking.{room_to_free, taken, linked_taken, queues_taken, held_taken, homes_taken, taken_by, before_in, after_in, here_in}
 use Rattle.request_arena.proofs.queues.Queues.remove.Goals as goal
 
 pub get-node-requires : goal.get-node-requires
@@ -75,6 +76,8 @@ invariant_of-self c =
     let more : suc i.free ≡ i.free + 1 = omega arith in (
       subst (λ b. IsLinked b i.nodes i.queues x (i.free + 1)) (sym e) (subst (λ m. IsLinked (taken i.block i.nodes i.queues i.vacant i.free linked x on) i.nodes i.queues x m) more (linked_taken i.block i.nodes i.queues i.vacant i.free linked x on c.requires.live.0 there)),
       subst AreChains (sym gone) (chains_removed (held_in i.nodes i.block) c.self.invariant.1 x (ap holds there) first),
+      homes_removed i.block c.set_next-2.new.block i.nodes i.queues c.self.invariant.2 x (λ a. ap (λ b. home b a) e ∙ homes_taken i.block i.nodes i.queues i.vacant i.free linked x on a)
+          (ap (λ b. spread (queue_of b i.nodes) i.nodes i.queues) e ∙ queues_taken i.block i.nodes i.queues i.vacant i.free linked x on),
     )
 
 pub returns-clause-held : goal.returns-clause-held
