@@ -1,19 +1,22 @@
 //! The block of memory in which nodes and heads lie, as a row of places.
 
-ghost use Rattle.std.specs.Prelude.{◌≡◌, ◌<◌, ◌*◌, ◌^◌, ◌+◌, ◌-◌, [], length, ℕ, slice_get, slice_set, Some, IfOk, OnOk};
-ghost use Rattle.request_arena.specs.Places.{index_of, fresh, at_place, laid};
+ghost use Rattle.std.specs.Prelude.{◌≡◌, ◌≢◌, ◌<◌, ◌^◌, ◌+◌, [], length, map, ℕ, slice_get, slice_set, slice_index_or, Some, IfOk, OnOk};
+ghost use Rattle.request_arena.specs.Packed.{unpacked};
+ghost use Rattle.request_arena.specs.Places.{fresh, in_row, laid};
 
 use crate::node::Node;
+use crate::packed::Packed;
 use crate::row::Row;
 use std::alloc::Global;
 use std::marker::Model;
 use values::NoMemory;
 
-/// One block of memory with a place for each node, and behind them one for the head of each queue. Contracts see what stands at
-/// each place. Nothing is written to a place before it is used, so a large block costs as much as is used of it.
+/// Memory with a place for each node, and behind them one for the head of each queue. Contracts see what stands at each
+/// place. Nothing is written to a place before it is used, so room for many costs as much as is used of it.
 #[derive(Drop)]
 pub(crate) struct Block {
     written: Row,
+    heads: Row,
     nodes: usize,
     queues: usize,
 }
@@ -25,22 +28,9 @@ impl Model for Block {
 
     ghost Value = { List AnyNode };
 
-    ghost view = { λ b. laid b.nodes b.queues b.written.items };
+    ghost view = { λ b. laid b.nodes b.queues b.written.items b.heads.items };
 
-    ghost invariant = { λ b. IsRoomy b.written.room b.nodes b.queues };
-}
-
-/// Where a place lies in the block.
-fn index_of(nodes: usize, place: usize) -> usize
-    requires nodes { 2 * nodes < 2 ^ 64 }
-    requires heads { 2 * (place - nodes) + 1 < 2 ^ 64 }
-    ensures { result ≡ index_of nodes place }
-{
-    if place < nodes {
-        2 * place
-    } else {
-        2 * (place - nodes) + 1
-    }
+    ghost invariant = { λ b. IsRoomy b.written.room b.heads.room b.nodes b.queues };
 }
 
 /// What stands at a place that nothing was written to.
@@ -56,52 +46,53 @@ fn fresh(nodes: usize, place: usize) -> Node
     }
 }
 
-/// The place that lies there in the block.
-fn place_at(nodes: usize, index: usize) -> usize
-    requires { 2 * nodes < 2 ^ 64 }
-    ensures { (place : ℕ) → index_of nodes place ≡ index → result ≡ place }
+/// What stands at an index of a row, or what would stand there if nothing was written to it.
+fn read(row: &Row, index: usize, unwritten: Node) -> Node
+    ensures { result ≡ slice_index_or (map unpacked row.now.items) index unwritten }
 {
-    if index % 2 == 0 {
-        index / 2
+    if index < row.len() {
+        row.get(index).node()
     } else {
-        nodes + index / 2
+        unwritten
     }
 }
 
-/// Writes what stands there to the next place.
-fn write_next(written: &mut Row, nodes: usize)
-    requires nodes { 2 * nodes < 2 ^ 64 }
-    requires room { length written.old.items < written.old.room }
-    ensures more { length written.new.items ≡ length written.old.items + 1 }
-    ensures capacity { written.new.room ≡ written.old.room }
-    ensures same { (place : ℕ) → at_place nodes written.new.items place ≡ at_place nodes written.old.items place }
+/// Writes what stands there to the next place of a row, whose first place is given.
+fn write_next(row: &mut Row, nodes: usize, first: usize)
+    requires fits { first + length row.old.items < 2 ^ 64 }
+    requires room { length row.old.items < row.old.room }
+    ensures more { length row.new.items ≡ length row.old.items + 1 }
+    ensures capacity { row.new.room ≡ row.old.room }
+    ensures same { (i : ℕ) → in_row nodes first row.new.items i ≡ in_row nodes first row.old.items i }
 {
-    let Node {
-        next,
-        prev,
-        home,
-        held,
-    } = fresh(nodes, place_at(nodes, written.len()));
-    written.push(Node {
-        next,
-        prev,
-        home,
-        held,
-    });
+    let place = first + row.len();
+    row.push(Packed::of(fresh(nodes, place)));
 }
 
-/// Writes what stands there to all places as far as one.
-fn write_up_to(written: &mut Row, nodes: usize, index: usize)
-    requires nodes { 2 * nodes < 2 ^ 64 }
-    requires room { index < written.old.room }
-    requires fits { index + 1 < 2 ^ 64 }
-    ensures far { index < length written.new.items }
-    ensures capacity { written.new.room ≡ written.old.room }
-    ensures same { (place : ℕ) → at_place nodes written.new.items place ≡ at_place nodes written.old.items place }
+/// Writes what stands there to all places of a row as far as an index.
+fn write_up_to(row: &mut Row, nodes: usize, first: usize, index: usize)
+    requires fits { first + index + 1 < 2 ^ 64 }
+    requires room { index < row.old.room }
+    ensures far { index < length row.new.items }
+    ensures capacity { row.new.room ≡ row.old.room }
+    ensures same { (i : ℕ) → in_row nodes first row.new.items i ≡ in_row nodes first row.old.items i }
 {
-    for _ in written.len()..index + 1 {
-        write_next(written, nodes);
+    for _ in row.len()..index + 1 {
+        write_next(row, nodes, first);
     }
+}
+
+/// Writes to an index of a row.
+fn write(row: &mut Row, nodes: usize, first: usize, index: usize, node: Node)
+    requires fits { first + index + 1 < 2 ^ 64 }
+    requires room { index < row.old.room }
+    ensures here { in_row nodes first row.new.items index ≡ node }
+    ensures elsewhere { (i : ℕ) → i ≢ index →
+        in_row nodes first row.new.items i ≡ in_row nodes first row.old.items i }
+    ensures capacity { row.new.room ≡ row.old.room }
+{
+    write_up_to(row, nodes, first, index);
+    row.set(index, Packed::of(node));
 }
 
 impl Block {
@@ -112,13 +103,14 @@ impl Block {
         queues: usize,
     ) -> Result<Block, NoMemory>
         ensures fits { OnOk result (nodes + queues < 2 ^ 64) }
-        ensures laid { IfOk result (λ block. block ≡ laid nodes queues []) }
+        ensures laid { IfOk result (λ block. block ≡ laid nodes queues [] []) }
     {
-        let Some(room) = nodes.max(queues).checked_mul(2) else {
+        if nodes.checked_add(queues).is_none() {
             return Err(NoMemory);
-        };
+        }
         Ok(Block {
-            written: Row::with_capacity(alloc, room)?,
+            written: Row::with_capacity(alloc, nodes)?,
+            heads: Row::with_capacity(alloc, queues)?,
             nodes,
             queues,
         })
@@ -129,11 +121,11 @@ impl Block {
         requires { place < length self.now }
         ensures { slice_get self.now place ≡ Some result }
     {
-        let index = index_of(self.nodes, place);
-        if index < self.written.len() {
-            self.written.get(index)
+        let unwritten = fresh(self.nodes, place);
+        if place < self.nodes {
+            read(&self.written, place, unwritten)
         } else {
-            fresh(self.nodes, place)
+            read(&self.heads, place - self.nodes, unwritten)
         }
     }
 
@@ -142,8 +134,16 @@ impl Block {
         requires { place < length self.old }
         ensures { self.new ≡ slice_set self.old place node }
     {
-        let index = index_of(self.nodes, place);
-        write_up_to(&mut self.written, self.nodes, index);
-        self.written.set(index, node);
+        if place < self.nodes {
+            write(&mut self.written, self.nodes, 0, place, node);
+        } else {
+            write(
+                &mut self.heads,
+                self.nodes,
+                self.nodes,
+                place - self.nodes,
+                node,
+            );
+        }
     }
 }

@@ -1,22 +1,22 @@
-use Rattle.std.proofs.Common.{◌≡◌, ◌<◌, length, Some, slice_get, slice_index_or, sym, ap, ◌∙◌, subst, arith}
-use Rattle.request_arena.specs.Places.{fresh, at_place}
-use Rattle.request_arena.proofs.Places.{heads_fit, laid_get, read_item, read_past}
+use Rattle.std.proofs.Common.{◌≡◌, ◌≤◌, ◌<◌, ◌+◌, ◌-◌, map, length, Some, slice_get, slice_index_or, sym, ap, ◌∙◌, subst, arith}
+use Rattle.request_arena.specs.Packed.{unpacked}
+use Rattle.request_arena.specs.Places.{fresh}
+use Rattle.request_arena.proofs.Places.{laid_get, at_node, at_head}
 use Rattle.request_arena.proofs.block.Block.get.Goals as goal
 
-pub index_of-index-requires-clause-heads : goal.index_of-index-requires-clause-heads
-index_of-index-requires-clause-heads c =
-    let b = c.self.inside in
-    heads_fit b.nodes b.queues b.written.items c.args.place (subst (λ l. c.args.place < length l) (sym c.self.view_is) c.requires) c.self.invariant.queues_fit
+pub returns-then-place-self : goal.returns-then-place-self
+returns-then-place-self c =
+    let b = c.self.inside in let ns = b.written.items in let hs = b.heads.items in let place = c.args.place in
+    let e : 0 + place ≡ place = omega arith in
+    ap (λ l. slice_get l place) (sym c.self.view_is) ∙ laid_get b.nodes b.queues ns hs place (subst (λ l. place < length l) (sym c.self.view_is) c.requires)
+    ∙ ap Some (at_node b.nodes ns hs place c.if-place-self.true ∙ ap (λ a. slice_index_or (map unpacked ns) place (fresh b.nodes a)) e
+    ∙ ap (slice_index_or (map unpacked ns) place) (sym c.fresh-unwritten.ensures) ∙ sym c.read.ensures)
 
-pub returns-then-index-len : goal.returns-then-index-len
-returns-then-index-len c =
-    let b = c.self.inside in let ws = b.written.items in let place = c.args.place in let d = fresh b.nodes place in
-    let read : at_place b.nodes ws place ≡ c.get.result = ap (λ i. slice_index_or ws i d) (sym c.index_of-index.ensures) ∙ read_item ws c.index_of-index.result c.get.result d c.get.ensures in
-    ap (λ l. slice_get l place) (sym c.self.view_is) ∙ laid_get b.nodes b.queues ws place (subst (λ l. place < length l) (sym c.self.view_is) c.requires) ∙ ap Some read
-
-pub returns-else-index-len : goal.returns-else-index-len
-returns-else-index-len c =
-    let b = c.self.inside in let ws = b.written.items in let place = c.args.place in let d = fresh b.nodes place in
-    let read : at_place b.nodes ws place ≡ c.fresh.result =
-    ap (λ i. slice_index_or ws i d) (sym c.index_of-index.ensures) ∙ read_past ws c.index_of-index.result d (omega (arith, c.if-index-len.false, c.len.ensures)) ∙ sym c.fresh.ensures in
-    ap (λ l. slice_get l place) (sym c.self.view_is) ∙ laid_get b.nodes b.queues ws place (subst (λ l. place < length l) (sym c.self.view_is) c.requires) ∙ ap Some read
+pub returns-else-place-self : goal.returns-else-place-self
+returns-else-place-self c =
+    let b = c.self.inside in let ns = b.written.items in let hs = b.heads.items in let place = c.args.place in
+    let high : b.nodes ≤ place = omega (arith, c.if-place-self.false) in
+    let e : b.nodes + (place - b.nodes) ≡ place = omega (arith, high) in
+    ap (λ l. slice_get l place) (sym c.self.view_is) ∙ laid_get b.nodes b.queues ns hs place (subst (λ l. place < length l) (sym c.self.view_is) c.requires)
+    ∙ ap Some (at_head b.nodes ns hs place high ∙ ap (λ a. slice_index_or (map unpacked hs) (place - b.nodes) (fresh b.nodes a)) e
+    ∙ ap (slice_index_or (map unpacked hs) (place - b.nodes)) (sym c.fresh-unwritten.ensures) ∙ sym c.read-else-place-self.ensures)
