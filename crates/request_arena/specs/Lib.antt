@@ -9,4 +9,5 @@ pub mod Packed
 pub mod Places
 pub mod Pushes
 pub mod Rows
+pub mod Small
 pub mod Walks

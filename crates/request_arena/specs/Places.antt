@@ -30,4 +30,4 @@ laid nodes queues written heads = tabulated (at_place nodes written heads) 0 (no
 pub record IsRoomy (for_nodes for_heads nodes queues : ℕ) : Type 0 where
   pub of_nodes : nodes ≤ for_nodes
   pub of_queues : queues ≤ for_heads
-  pub fit : nodes + queues < 2 ^ 64
+  pub fit : nodes + queues < 2 ^ 32

@@ -3,6 +3,7 @@
 ghost use Rattle.std.specs.Prelude.{◌≡◌, ◌≢◌, ◌<◌, ◌^◌, ◌+◌, [], length, map, ℕ, slice_get, slice_set, slice_index_or, Some, IfOk, OnOk};
 ghost use Rattle.request_arena.specs.Packed.{unpacked};
 ghost use Rattle.request_arena.specs.Places.{fresh, in_row, laid};
+ghost use Rattle.request_arena.specs.Small.{IsSmall};
 
 use crate::node::Node;
 use crate::packed::Packed;
@@ -10,6 +11,9 @@ use crate::row::Row;
 use std::alloc::Global;
 use std::marker::Model;
 use values::NoMemory;
+
+/// The most places that there can be: links are numbers of 32 bits.
+const MOST_PLACES: usize = u32::MAX as usize;
 
 /// Memory with a place for each node, and behind them one for the head of each queue. Contracts see what stands at each
 /// place. Nothing is written to a place before it is used, so room for many costs as much as is used of it.
@@ -35,7 +39,10 @@ impl Model for Block {
 
 /// What stands at a place that nothing was written to.
 fn fresh(nodes: usize, place: usize) -> Node
-    ensures { result ≡ fresh nodes place }
+    requires fits { place < 2 ^ 32 }
+    requires nodes { nodes < 2 ^ 32 }
+    ensures is { result ≡ fresh nodes place }
+    ensures small { IsSmall result }
 {
     let next = if place < nodes { place + 1 } else { place };
     Node {
@@ -48,7 +55,9 @@ fn fresh(nodes: usize, place: usize) -> Node
 
 /// What stands at an index of a row, or what would stand there if nothing was written to it.
 fn read(row: &Row, index: usize, unwritten: Node) -> Node
-    ensures { result ≡ slice_index_or (map unpacked row.now.items) index unwritten }
+    requires { IsSmall unwritten }
+    ensures small { IsSmall result }
+    ensures is { result ≡ slice_index_or (map unpacked row.now.items) index unwritten }
 {
     if index < row.len() {
         row.get(index).node()
@@ -59,7 +68,8 @@ fn read(row: &Row, index: usize, unwritten: Node) -> Node
 
 /// Writes what stands there to the next place of a row, whose first place is given.
 fn write_next(row: &mut Row, nodes: usize, first: usize)
-    requires fits { first + length row.old.items < 2 ^ 64 }
+    requires fits { first + length row.old.items < 2 ^ 32 }
+    requires nodes { nodes < 2 ^ 32 }
     requires room { length row.old.items < row.old.room }
     ensures more { length row.new.items ≡ length row.old.items + 1 }
     ensures capacity { row.new.room ≡ row.old.room }
@@ -71,7 +81,8 @@ fn write_next(row: &mut Row, nodes: usize, first: usize)
 
 /// Writes what stands there to all places of a row as far as an index.
 fn write_up_to(row: &mut Row, nodes: usize, first: usize, index: usize)
-    requires fits { first + index + 1 < 2 ^ 64 }
+    requires fits { first + index < 2 ^ 32 }
+    requires nodes { nodes < 2 ^ 32 }
     requires room { index < row.old.room }
     ensures far { index < length row.new.items }
     ensures capacity { row.new.room ≡ row.old.room }
@@ -84,7 +95,9 @@ fn write_up_to(row: &mut Row, nodes: usize, first: usize, index: usize)
 
 /// Writes to an index of a row.
 fn write(row: &mut Row, nodes: usize, first: usize, index: usize, node: Node)
-    requires fits { first + index + 1 < 2 ^ 64 }
+    requires fits { first + index < 2 ^ 32 }
+    requires nodes { nodes < 2 ^ 32 }
+    requires small { IsSmall node }
     requires room { index < row.old.room }
     ensures here { in_row nodes first row.new.items index ≡ node }
     ensures elsewhere { (i : ℕ) → i ≢ index →
@@ -102,11 +115,12 @@ impl Block {
         nodes: usize,
         queues: usize,
     ) -> Result<Block, NoMemory>
-        ensures fits { OnOk result (nodes + queues < 2 ^ 64) }
+        ensures fits { OnOk result (nodes + queues < 2 ^ 32) }
         ensures laid { IfOk result (λ block. block ≡ laid nodes queues [] []) }
     {
-        if nodes.checked_add(queues).is_none() {
-            return Err(NoMemory);
+        match nodes.checked_add(queues) {
+            Some(places) if places <= MOST_PLACES => {}
+            _ => return Err(NoMemory),
         }
         Ok(Block {
             written: Row::with_capacity(alloc, nodes)?,
@@ -119,7 +133,8 @@ impl Block {
     /// What stands at a place.
     pub(crate) fn get(&self, place: usize) -> Node
         requires { place < length self.now }
-        ensures { slice_get self.now place ≡ Some result }
+        ensures is { slice_get self.now place ≡ Some result }
+        ensures small { IsSmall result }
     {
         let unwritten = fresh(self.nodes, place);
         if place < self.nodes {
@@ -131,7 +146,8 @@ impl Block {
 
     /// Writes to a place.
     pub(crate) fn set(&mut self, place: usize, node: Node)
-        requires { place < length self.old }
+        requires there { place < length self.old }
+        requires small { IsSmall node }
         ensures { self.new ≡ slice_set self.old place node }
     {
         if place < self.nodes {

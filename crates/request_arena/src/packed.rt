@@ -1,7 +1,8 @@
 //! Nodes as they lie in memory.
 
-ghost use Rattle.std.specs.Prelude.{◌≡◌};
-ghost use Rattle.request_arena.specs.Packed.{unpacked};
+ghost use Rattle.std.specs.Prelude.{◌≡◌, ◌<◌, ◌^◌, IfSome};
+ghost use Rattle.request_arena.specs.Packed.{unpacked, behind_it, held_there};
+ghost use Rattle.request_arena.specs.Small.{IsSmall, IsSmallHeld};
 
 use crate::node::{Held, Node, NodeId, Request};
 use modes::Mode;
@@ -9,18 +10,20 @@ use modes::Mode;
 /// A node, in few bytes: `no` and `mode` say nothing where it is not live, and `behind` nothing where no node is behind it.
 #[derive(Clone, Copy)]
 pub(crate) struct Packed {
-    pub(crate) next: usize,
-    pub(crate) prev: usize,
-    pub(crate) home: usize,
     pub(crate) no: u64,
-    pub(crate) behind: usize,
+    pub(crate) next: u32,
+    pub(crate) prev: u32,
+    pub(crate) home: u32,
+    pub(crate) behind: u32,
     pub(crate) mode: Mode,
     pub(crate) live: bool,
     pub(crate) leads: bool,
 }
 
 impl Packed {
+    /// A node whose links lead to places below 2^32.
     pub(crate) fn of(node: Node) -> Packed
+        requires { IsSmall node }
         ensures { unpacked result ≡ node }
     {
         let Node {
@@ -30,10 +33,10 @@ impl Packed {
             held,
         } = node;
         let free = Packed {
-            next,
-            prev,
-            home,
             no: 0,
+            next: next as u32,
+            prev: prev as u32,
+            home: home as u32,
             behind: 0,
             mode: Mode::IntentionShared,
             live: false,
@@ -52,7 +55,7 @@ impl Packed {
                 match behind {
                     None => last,
                     Some(NodeId { place }) => Packed {
-                        behind: place,
+                        behind: place as u32,
                         leads: true,
                         ..last
                     },
@@ -62,19 +65,20 @@ impl Packed {
     }
 
     fn behind(&self) -> Option<NodeId>
-        ensures { result ≡ behind_it self.now }
+        ensures is { result ≡ behind_it self.now }
+        ensures small { IfSome result (λ place. place < 2 ^ 32) }
     {
         if self.leads {
-            Some(NodeId { place: self.behind })
+            let place = self.behind as usize;
+            Some(NodeId { place })
         } else {
             None
         }
     }
 
-    ghost use Rattle.request_arena.specs.Packed.{behind_it, held_there};
-
     fn held(&self) -> Option<Held>
-        ensures { result ≡ held_there self.now }
+        ensures is { result ≡ held_there self.now }
+        ensures small { IsSmallHeld result }
     {
         if self.live {
             let request = Request {
@@ -89,12 +93,13 @@ impl Packed {
     }
 
     pub(crate) fn node(&self) -> Node
-        ensures { result ≡ unpacked self.now }
+        ensures is { result ≡ unpacked self.now }
+        ensures small { IsSmall result }
     {
         Node {
-            next: self.next,
-            prev: self.prev,
-            home: self.home,
+            next: self.next as usize,
+            prev: self.prev as usize,
+            home: self.home as usize,
             held: self.held(),
         }
     }

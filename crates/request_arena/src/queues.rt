@@ -31,6 +31,7 @@ pub struct Queues {
 }
 
 impl Model for Queues {
+    ghost use Rattle.std.specs.Prelude.{◌<◌, ◌^◌};
     ghost use Rattle.request_arena.specs.Lists.{Lists};
     ghost use Rattle.request_arena.specs.Linked.{lists_of, IsLinked, AreChains, AreHome, held_in};
 
@@ -39,7 +40,7 @@ impl Model for Queues {
     ghost view = { λ q. lists_of q.block q.nodes q.queues };
 
     ghost invariant = { λ q. IsLinked q.block q.nodes q.queues q.vacant q.free × AreChains (held_in q.nodes q.block)
-        × AreHome q.block q.nodes q.queues };
+        × AreHome q.block q.nodes q.queues × (q.vacant < 2 ^ 32) };
 }
 
 impl Queues {

@@ -48,10 +48,10 @@ impl Row {
             return Err(NoMemory);
         }
         let blank = Packed {
+            no: 0,
             next: 0,
             prev: 0,
             home: 0,
-            no: 0,
             behind: 0,
             mode: Mode::IntentionShared,
             live: false,

@@ -39,7 +39,7 @@ overflow_add-head c =
 pub link_tail-requires : goal.link_tail-requires
 link_tail-requires c =
     let i = c.self.inside in
-    tail_in i.block i.nodes c.args.self.now c.args.tail (i.nodes + i.queues) (omega arith) c.self.invariant.0.long (ap (λ (l : Lists). l.held) c.self.view_is) c.requires.tail
+    record { there = tail_in i.block i.nodes c.args.self.now c.args.tail (i.nodes + i.queues) (omega arith) c.self.invariant.0.long (ap (λ (l : Lists). l.held) c.self.view_is) c.requires.tail; small = c.self.invariant.3 }
 
 pub get-rest-requires : goal.get-rest-requires
 get-rest-requires c =
@@ -60,7 +60,7 @@ set_held-requires c =
     let i = c.self.inside in let q = c.args.queue in let v = i.vacant in let m = i.free - 1 in let h : Held = record { request = c.args.request; behind = None } in
     let in_range : q < i.queues = queue_in i.block i.nodes i.queues q c.args.self.now c.self.view_is c.requires.queue in
     let had : IsLinked i.block i.nodes i.queues v (suc m) = subst (λ f. IsLinked i.block i.nodes i.queues v f) (one_off i.free c.if-self-eq0.false) c.self.invariant.0 in
-    rw c.link_tail.ensures.long (new_in i.block i.nodes i.queues v m had q in_range h)
+    record { there = rw c.link_tail.ensures.long (new_in i.block i.nodes i.queues v m had q in_range h); small = tt }
 
 pub set_next-requires : goal.set_next-requires
 set_next-requires c =
@@ -68,7 +68,7 @@ set_next-requires c =
     let in_range : q < i.queues = queue_in i.block i.nodes i.queues q c.args.self.now c.self.view_is c.requires.queue in
     let had : IsLinked i.block i.nodes i.queues v (suc m) = subst (λ f. IsLinked i.block i.nodes i.queues v f) (one_off i.free c.if-self-eq0.false) c.self.invariant.0 in
     let same : length c.set_held.new.block ≡ length i.block = c.set_held.ensures.long ∙ c.link_tail.ensures.long in
-    rw same (new_in i.block i.nodes i.queues v m had q in_range h)
+    record { there = rw same (new_in i.block i.nodes i.queues v m had q in_range h); small = (let fits = c.self.invariant.0.fits in omega (arith, in_range, fits)) }
 
 pub set_prev-requires : goal.set_prev-requires
 set_prev-requires c =
@@ -76,7 +76,7 @@ set_prev-requires c =
     let in_range : q < i.queues = queue_in i.block i.nodes i.queues q c.args.self.now c.self.view_is c.requires.queue in
     let had : IsLinked i.block i.nodes i.queues v (suc m) = subst (λ f. IsLinked i.block i.nodes i.queues v f) (one_off i.free c.if-self-eq0.false) c.self.invariant.0 in
     let same : length c.set_next.new.block ≡ length i.block = c.set_next.ensures.long ∙ c.set_held.ensures.long ∙ c.link_tail.ensures.long in
-    rw same (new_in i.block i.nodes i.queues v m had q in_range h)
+    record { there = rw same (new_in i.block i.nodes i.queues v m had q in_range h); small = c.get-last.ensures.small.prev }
 
 pub set_next-requires-2 : goal.set_next-requires-2
 set_next-requires-2 c =
@@ -86,7 +86,7 @@ set_next-requires-2 c =
     let b0 = c.link_tail.new.block in
     let was : IsLinked b0 i.nodes i.queues v (suc m) = subst (λ b. IsLinked b i.nodes i.queues v (suc m)) (sym c.link_tail.ensures.nodes) (linked_tail i.block i.nodes i.queues v (suc m) had c.args.tail v) in
     let same : length c.set_prev.new.block ≡ length b0 = c.set_prev.ensures.long ∙ c.set_next.ensures.long ∙ c.set_held.ensures.long in
-    rw same (subst (λ a. a < length b0) (ap prev_of c.get-last.ensures) (last_in b0 i.nodes i.queues v m was q in_range h))
+    record { there = rw same (subst (λ a. a < length b0) (ap prev_of c.get-last.ensures.is) (last_in b0 i.nodes i.queues v m was q in_range h)); small = c.self.invariant.3 }
 
 pub set_prev-requires-2 : goal.set_prev-requires-2
 set_prev-requires-2 c =
@@ -94,7 +94,7 @@ set_prev-requires-2 c =
     let in_range : q < i.queues = queue_in i.block i.nodes i.queues q c.args.self.now c.self.view_is c.requires.queue in
     let had : IsLinked i.block i.nodes i.queues v (suc m) = subst (λ f. IsLinked i.block i.nodes i.queues v f) (one_off i.free c.if-self-eq0.false) c.self.invariant.0 in
     let same : length c.set_next-2.new.block ≡ length i.block = c.set_next-2.ensures.long ∙ c.set_prev.ensures.long ∙ c.set_next.ensures.long ∙ c.set_held.ensures.long ∙ c.link_tail.ensures.long in
-    rw same (head_in i.block i.nodes i.queues v m had q in_range h)
+    record { there = rw same (head_in i.block i.nodes i.queues v m had q in_range h); small = c.self.invariant.3 }
 
 pub set_home-requires : goal.set_home-requires
 set_home-requires c =
@@ -102,7 +102,7 @@ set_home-requires c =
     let in_range : q < i.queues = queue_in i.block i.nodes i.queues q c.args.self.now c.self.view_is c.requires.queue in
     let had : IsLinked i.block i.nodes i.queues v (suc m) = subst (λ f. IsLinked i.block i.nodes i.queues v f) (one_off i.free c.if-self-eq0.false) c.self.invariant.0 in
     let same : length c.set_prev-2.new.block ≡ length i.block = c.set_prev-2.ensures.long ∙ c.set_next-2.ensures.long ∙ c.set_prev.ensures.long ∙ c.set_next.ensures.long ∙ c.set_held.ensures.long ∙ c.link_tail.ensures.long in
-    rw same (new_in i.block i.nodes i.queues v m had q in_range h)
+    record { there = rw same (new_in i.block i.nodes i.queues v m had q in_range h); small = (let fits = c.self.invariant.0.fits in omega (arith, in_range, fits)) }
 
 pub invariant_of-self : goal.invariant_of-self
 invariant_of-self c =
@@ -114,7 +114,7 @@ invariant_of-self c =
     let filled = put b0 i.nodes i.queues v m was q in_range h in
     let e : c.set_home.new.block ≡ with_home filled v q = c.set_home.ensures.nodes ∙ ap (λ b. with_home b v q)
     (put_by b0 i.nodes i.queues v m was q in_range h c.set_held.new.block c.set_next.new.block c.set_prev.new.block c.set_next-2.new.block c.set_prev-2.new.block c.get-last.result.prev
-    (sym (ap prev_of c.get-last.ensures)) c.set_held.ensures.nodes c.set_next.ensures.nodes c.set_prev.ensures.nodes c.set_next-2.ensures.nodes c.set_prev-2.ensures.nodes) in
+    (sym (ap prev_of c.get-last.ensures.is)) c.set_held.ensures.nodes c.set_next.ensures.nodes c.set_prev.ensures.nodes c.set_next-2.ensures.nodes c.set_prev-2.ensures.nodes) in
     let linked_now = linked_put b0 i.nodes i.queues v m was q in_range h in
     let free = was_free i.block i.nodes i.queues v m had q in_range h in
     let new = chains_pushed (held_in i.nodes i.block) c.self.invariant.1 c.args.tail v c.args.request free (ends_in c.args.self.now c.args.tail (sym (ap (λ (l : Lists). l.held) c.self.view_is)) c.requires.tail) in
@@ -126,13 +126,14 @@ invariant_of-self c =
     ap (λ b. spread (queue_of b i.nodes) i.nodes i.queues) e ∙ queues_home filled i.nodes i.queues _ m linked_now v q ∙ queues_put b0 i.nodes i.queues v m was q in_range h in
     let room = new_in i.block i.nodes i.queues v m had q in_range h in let long = had.long in let long_now = linked_now.long in (
       subst (λ b. IsLinked b i.nodes i.queues c.get-rest.result.next m) (sym e)
-          (linked_home filled i.nodes i.queues c.get-rest.result.next m (subst (λ r. IsLinked filled i.nodes i.queues r m) (ap next_of c.get-rest.ensures) linked_now) v q),
+          (linked_home filled i.nodes i.queues c.get-rest.result.next m (subst (λ r. IsLinked filled i.nodes i.queues r m) (ap next_of c.get-rest.ensures.is) linked_now) v q),
       subst AreChains (sym all) new.are,
       homes_pushed i.block c.set_home.new.block i.nodes i.queues c.self.invariant.2 q v
           (ap (λ b. home b v) e ∙ home_put filled v q (omega (arith, room, long, long_now)))
           (λ a z. ap (λ b. home b a) e ∙ home_beside filled v a q z ∙ homes_put b0 i.nodes i.queues v m was q in_range h a ∙ ap (λ b. home b a) c.link_tail.ensures.nodes ∙ home_of_tail i.block c.args.tail v a)
           (λ r j a at is. let there = is_live i.block i.nodes i.queues v (suc m) had r j a at in filled_or_free there.0 (sym there.1 ∙ ap (slice_get (held_in i.nodes i.block)) is ∙ free))
           (longer ∙ ap (λ l. slice_set l q (slice_index_or l q [] ++ v ∷ [])) before),
+      c.get-rest.ensures.small.next,
     )
 
 pub returns-clause-pushed : goal.returns-clause-pushed
@@ -145,7 +146,7 @@ returns-clause-pushed c =
     let filled = put b0 i.nodes i.queues v m was q in_range h in
     let e : c.set_home.new.block ≡ with_home filled v q = c.set_home.ensures.nodes ∙ ap (λ b. with_home b v q)
     (put_by b0 i.nodes i.queues v m was q in_range h c.set_held.new.block c.set_next.new.block c.set_prev.new.block c.set_next-2.new.block c.set_prev-2.new.block c.get-last.result.prev
-    (sym (ap prev_of c.get-last.ensures)) c.set_held.ensures.nodes c.set_next.ensures.nodes c.set_prev.ensures.nodes c.set_next-2.ensures.nodes c.set_prev-2.ensures.nodes) in
+    (sym (ap prev_of c.get-last.ensures.is)) c.set_held.ensures.nodes c.set_next.ensures.nodes c.set_prev.ensures.nodes c.set_next-2.ensures.nodes c.set_prev-2.ensures.nodes) in
     let linked_now = linked_put b0 i.nodes i.queues v m was q in_range h in
     let free = was_free i.block i.nodes i.queues v m had q in_range h in
     let new = chains_pushed (held_in i.nodes i.block) c.self.invariant.1 c.args.tail v c.args.request free (ends_in c.args.self.now c.args.tail (sym (ap (λ (l : Lists). l.held) c.self.view_is)) c.requires.tail) in

@@ -13,4 +13,4 @@ get-requires c =
 pub returns : goal.returns
 returns c q j at =
     let i = c.self.inside in let x = c.id.inside.place in
-    sym (ap home_of c.get.ensures) ∙ c.self.invariant.2 q j x (ap (λ (l : Lists). slice_get (slice_index_or l.queues q []) j) c.self.view_is ∙ at ∙ ap Some (sym c.id.view_is))
+    sym (ap home_of c.get.ensures.is) ∙ c.self.invariant.2 q j x (ap (λ (l : Lists). slice_get (slice_index_or l.queues q []) j) c.self.view_is ∙ at ∙ ap Some (sym c.id.view_is))

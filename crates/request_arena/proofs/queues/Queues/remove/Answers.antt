@@ -26,14 +26,14 @@ set_next-requires c =
     let i = c.self.inside in let x = c.id.inside.place in let named = c.id.view_is in let linked = c.self.invariant.0 in
     let there = ap (λ (l : Lists). slice_get l.held x) c.self.view_is ∙ ap (slice_get c.args.self.now.held) named ∙ c.requires.live.1 in
     let on = live_of i.block i.nodes i.queues i.vacant i.free linked x c.requires.live.0 there in
-    subst (λ a. a < length i.block) (ap prev_of c.get-node.ensures) (before_in i.block i.nodes i.queues i.vacant i.free linked x on)
+    record { there = subst (λ a. a < length i.block) (ap prev_of c.get-node.ensures.is) (before_in i.block i.nodes i.queues i.vacant i.free linked x on); small = c.get-node.ensures.small.next }
 
 pub set_prev-requires : goal.set_prev-requires
 set_prev-requires c =
     let i = c.self.inside in let x = c.id.inside.place in let named = c.id.view_is in let linked = c.self.invariant.0 in
     let there = ap (λ (l : Lists). slice_get l.held x) c.self.view_is ∙ ap (slice_get c.args.self.now.held) named ∙ c.requires.live.1 in
     let on = live_of i.block i.nodes i.queues i.vacant i.free linked x c.requires.live.0 there in
-    rw c.set_next.ensures.long (subst (λ a. a < length i.block) (ap next_of c.get-node.ensures) (after_in i.block i.nodes i.queues i.vacant i.free linked x on))
+    record { there = rw c.set_next.ensures.long (subst (λ a. a < length i.block) (ap next_of c.get-node.ensures.is) (after_in i.block i.nodes i.queues i.vacant i.free linked x on)); small = c.get-node.ensures.small.prev }
 
 pub set_held-requires : goal.set_held-requires
 set_held-requires c =
@@ -41,7 +41,7 @@ set_held-requires c =
     let there = ap (λ (l : Lists). slice_get l.held x) c.self.view_is ∙ ap (slice_get c.args.self.now.held) named ∙ c.requires.live.1 in
     let on = live_of i.block i.nodes i.queues i.vacant i.free linked x c.requires.live.0 there in
     let same : length c.set_prev.new.block ≡ length i.block = c.set_prev.ensures.long ∙ c.set_next.ensures.long in
-    rw same (here_in i.block i.nodes i.queues i.vacant i.free linked x on)
+    record { there = rw same (here_in i.block i.nodes i.queues i.vacant i.free linked x on); small = tt }
 
 pub set_next-requires-2 : goal.set_next-requires-2
 set_next-requires-2 c =
@@ -49,7 +49,7 @@ set_next-requires-2 c =
     let there = ap (λ (l : Lists). slice_get l.held x) c.self.view_is ∙ ap (slice_get c.args.self.now.held) named ∙ c.requires.live.1 in
     let on = live_of i.block i.nodes i.queues i.vacant i.free linked x c.requires.live.0 there in
     let same : length c.set_held.new.block ≡ length i.block = c.set_held.ensures.long ∙ c.set_prev.ensures.long ∙ c.set_next.ensures.long in
-    rw same (here_in i.block i.nodes i.queues i.vacant i.free linked x on)
+    record { there = rw same (here_in i.block i.nodes i.queues i.vacant i.free linked x on); small = c.self.invariant.3 }
 
 pub overflow_add-self : goal.overflow_add-self
 overflow_add-self c =
@@ -62,14 +62,14 @@ pub content-behind-requires : goal.content-behind-requires
 content-behind-requires c =
     let i = c.self.inside in let x = c.id.inside.place in
     let there = ap (λ (l : Lists). slice_get l.held x) c.self.view_is ∙ ap (slice_get c.args.self.now.held) c.id.view_is ∙ c.requires.live.1 in
-    some_is c.get-node.result.held c.requires.live.0 (held_read i.nodes i.block x c.requires.live.0 c.get-node.result there c.get-node.ensures)
+    some_is c.get-node.result.held c.requires.live.0 (held_read i.nodes i.block x c.requires.live.0 c.get-node.result there c.get-node.ensures.is)
 
 pub invariant_of-self : goal.invariant_of-self
 invariant_of-self c =
     let i = c.self.inside in let x = c.id.inside.place in let named = c.id.view_is in let linked = c.self.invariant.0 in
     let there = ap (λ (l : Lists). slice_get l.held x) c.self.view_is ∙ ap (slice_get c.args.self.now.held) named ∙ c.requires.live.1 in
     let on = live_of i.block i.nodes i.queues i.vacant i.free linked x c.requires.live.0 there in
-    let e = taken_by i.block i.nodes i.queues i.vacant i.free linked x on c.get-node.result c.get-node.ensures c.set_next.new.block c.set_prev.new.block c.set_held.new.block c.set_next-2.new.block
+    let e = taken_by i.block i.nodes i.queues i.vacant i.free linked x on c.get-node.result c.get-node.ensures.is c.set_next.new.block c.set_prev.new.block c.set_held.new.block c.set_next-2.new.block
     c.set_next.ensures.nodes c.set_prev.ensures.nodes c.set_held.ensures.nodes c.set_next-2.ensures.nodes in
     let gone = ap (held_in i.nodes) e ∙ held_taken i.block i.nodes i.queues i.vacant i.free linked x on in
     let first : Begins (held_in i.nodes i.block) x = subst (λ (l : Lists). BeginsChain l x) (sym c.self.view_is) (subst (λ n. BeginsChain c.args.self.now n) (sym named) c.requires.first) in
@@ -78,20 +78,21 @@ invariant_of-self c =
       subst AreChains (sym gone) (chains_removed (held_in i.nodes i.block) c.self.invariant.1 x (ap holds there) first),
       homes_removed i.block c.set_next-2.new.block i.nodes i.queues c.self.invariant.2 x (λ a. ap (λ b. home b a) e ∙ homes_taken i.block i.nodes i.queues i.vacant i.free linked x on a)
           (ap (λ b. spread (queue_of b i.nodes) i.nodes i.queues) e ∙ queues_taken i.block i.nodes i.queues i.vacant i.free linked x on),
+      (let there_in = here_in i.block i.nodes i.queues i.vacant i.free linked x on in let long = linked.long in let fits = linked.fits in omega (arith, there_in, long, fits)),
     )
 
 pub returns-clause-held : goal.returns-clause-held
 returns-clause-held c =
     let i = c.self.inside in let x = c.id.inside.place in let named = c.id.view_is in let linked = c.self.invariant.0 in
     let there = ap (λ (l : Lists). slice_get l.held x) c.self.view_is ∙ ap (slice_get c.args.self.now.held) named ∙ c.requires.live.1 in
-    c.requires.live.1 ∙ ap Some (sym (held_read i.nodes i.block x c.requires.live.0 c.get-node.result there c.get-node.ensures) ∙ c.content-behind.ensures)
+    c.requires.live.1 ∙ ap Some (sym (held_read i.nodes i.block x c.requires.live.0 c.get-node.result there c.get-node.ensures.is) ∙ c.content-behind.ensures)
 
 pub returns-clause-gone : goal.returns-clause-gone
 returns-clause-gone c =
     let i = c.self.inside in let x = c.id.inside.place in let named = c.id.view_is in let linked = c.self.invariant.0 in
     let there = ap (λ (l : Lists). slice_get l.held x) c.self.view_is ∙ ap (slice_get c.args.self.now.held) named ∙ c.requires.live.1 in
     let on = live_of i.block i.nodes i.queues i.vacant i.free linked x c.requires.live.0 there in
-    let e = taken_by i.block i.nodes i.queues i.vacant i.free linked x on c.get-node.result c.get-node.ensures c.set_next.new.block c.set_prev.new.block c.set_held.new.block c.set_next-2.new.block
+    let e = taken_by i.block i.nodes i.queues i.vacant i.free linked x on c.get-node.result c.get-node.ensures.is c.set_next.new.block c.set_prev.new.block c.set_held.new.block c.set_next-2.new.block
     c.set_next.ensures.nodes c.set_prev.ensures.nodes c.set_held.ensures.nodes c.set_next-2.ensures.nodes in
     let gone = ap (held_in i.nodes) e ∙ held_taken i.block i.nodes i.queues i.vacant i.free linked x on in
     gone ∙ ap (λ (l : Lists). slice_set l.held x None) c.self.view_is ∙ ap (λ n. slice_set c.args.self.now.held n None) named
@@ -101,7 +102,7 @@ returns-clause-queues c =
     let i = c.self.inside in let x = c.id.inside.place in let named = c.id.view_is in let linked = c.self.invariant.0 in
     let there = ap (λ (l : Lists). slice_get l.held x) c.self.view_is ∙ ap (slice_get c.args.self.now.held) named ∙ c.requires.live.1 in
     let on = live_of i.block i.nodes i.queues i.vacant i.free linked x c.requires.live.0 there in
-    let e = taken_by i.block i.nodes i.queues i.vacant i.free linked x on c.get-node.result c.get-node.ensures c.set_next.new.block c.set_prev.new.block c.set_held.new.block c.set_next-2.new.block
+    let e = taken_by i.block i.nodes i.queues i.vacant i.free linked x on c.get-node.result c.get-node.ensures.is c.set_next.new.block c.set_prev.new.block c.set_held.new.block c.set_next-2.new.block
     c.set_next.ensures.nodes c.set_prev.ensures.nodes c.set_held.ensures.nodes c.set_next-2.ensures.nodes in
     ap (λ b. spread (queue_of b i.nodes) i.nodes i.queues) e ∙ queues_taken i.block i.nodes i.queues i.vacant i.free linked x on
     ∙ ap (λ (l : Lists). map (without x) l.queues) c.self.view_is ∙ ap (λ n. map (without n) c.args.self.now.queues) named
@@ -111,12 +112,12 @@ returns-clause-rest c =
     let i = c.self.inside in let x = c.id.inside.place in let named = c.id.view_is in let linked = c.self.invariant.0 in
     let there = ap (λ (l : Lists). slice_get l.held x) c.self.view_is ∙ ap (slice_get c.args.self.now.held) named ∙ c.requires.live.1 in
     let on = live_of i.block i.nodes i.queues i.vacant i.free linked x c.requires.live.0 there in
-    let e = taken_by i.block i.nodes i.queues i.vacant i.free linked x on c.get-node.result c.get-node.ensures c.set_next.new.block c.set_prev.new.block c.set_held.new.block c.set_next-2.new.block
+    let e = taken_by i.block i.nodes i.queues i.vacant i.free linked x on c.get-node.result c.get-node.ensures.is c.set_next.new.block c.set_prev.new.block c.set_held.new.block c.set_next-2.new.block
     c.set_next.ensures.nodes c.set_prev.ensures.nodes c.set_held.ensures.nodes c.set_next-2.ensures.nodes in
     let gone = ap (held_in i.nodes) e ∙ held_taken i.block i.nodes i.queues i.vacant i.free linked x on in
     let first : Begins (held_in i.nodes i.block) x = subst (λ (l : Lists). BeginsChain l x) (sym c.self.view_is) (subst (λ n. BeginsChain c.args.self.now n) (sym named) c.requires.first) in
     let held : slice_get (held_in i.nodes i.block) x ≡ Some (Some c.content-behind.result) =
-    there ∙ ap Some (sym (held_read i.nodes i.block x c.requires.live.0 c.get-node.result there c.get-node.ensures) ∙ c.content-behind.ensures) in
+    there ∙ ap Some (sym (held_read i.nodes i.block x c.requires.live.0 c.get-node.result there c.get-node.ensures.is) ∙ c.content-behind.ensures) in
     ap (chain c.args.self.now.held) (sym named) ∙ ap (λ (l : Lists). chain l.held x) (sym c.self.view_is)
     ∙ chain_rest (held_in i.nodes i.block) c.self.invariant.1.end x (ap holds there) first c.content-behind.result.behind (ap (behind_or (length (held_in i.nodes i.block))) held)
     ∙ ap (λ l. x ∷ chain_from l c.content-behind.result.behind) (sym gone) ∙ ap (λ n. n ∷ chain_from (held_in i.nodes c.set_next-2.new.block) c.content-behind.result.behind) named
@@ -126,7 +127,7 @@ returns-clause-chains c a z h =
     let i = c.self.inside in let x = c.id.inside.place in let named = c.id.view_is in let linked = c.self.invariant.0 in
     let there = ap (λ (l : Lists). slice_get l.held x) c.self.view_is ∙ ap (slice_get c.args.self.now.held) named ∙ c.requires.live.1 in
     let on = live_of i.block i.nodes i.queues i.vacant i.free linked x c.requires.live.0 there in
-    let e = taken_by i.block i.nodes i.queues i.vacant i.free linked x on c.get-node.result c.get-node.ensures c.set_next.new.block c.set_prev.new.block c.set_held.new.block c.set_next-2.new.block
+    let e = taken_by i.block i.nodes i.queues i.vacant i.free linked x on c.get-node.result c.get-node.ensures.is c.set_next.new.block c.set_prev.new.block c.set_held.new.block c.set_next-2.new.block
     c.set_next.ensures.nodes c.set_prev.ensures.nodes c.set_held.ensures.nodes c.set_next-2.ensures.nodes in
     let gone = ap (held_in i.nodes) e ∙ held_taken i.block i.nodes i.queues i.vacant i.free linked x on in
     let first : Begins (held_in i.nodes i.block) x = subst (λ (l : Lists). BeginsChain l x) (sym c.self.view_is) (subst (λ n. BeginsChain c.args.self.now n) (sym named) c.requires.first) in
@@ -139,12 +140,12 @@ returns-clause-begins c =
     let i = c.self.inside in let x = c.id.inside.place in let named = c.id.view_is in let linked = c.self.invariant.0 in
     let there = ap (λ (l : Lists). slice_get l.held x) c.self.view_is ∙ ap (slice_get c.args.self.now.held) named ∙ c.requires.live.1 in
     let on = live_of i.block i.nodes i.queues i.vacant i.free linked x c.requires.live.0 there in
-    let e = taken_by i.block i.nodes i.queues i.vacant i.free linked x on c.get-node.result c.get-node.ensures c.set_next.new.block c.set_prev.new.block c.set_held.new.block c.set_next-2.new.block
+    let e = taken_by i.block i.nodes i.queues i.vacant i.free linked x on c.get-node.result c.get-node.ensures.is c.set_next.new.block c.set_prev.new.block c.set_held.new.block c.set_next-2.new.block
     c.set_next.ensures.nodes c.set_prev.ensures.nodes c.set_held.ensures.nodes c.set_next-2.ensures.nodes in
     let gone = ap (held_in i.nodes) e ∙ held_taken i.block i.nodes i.queues i.vacant i.free linked x on in
     let first : Begins (held_in i.nodes i.block) x = subst (λ (l : Lists). BeginsChain l x) (sym c.self.view_is) (subst (λ n. BeginsChain c.args.self.now n) (sym named) c.requires.first) in
     let held : slice_get (held_in i.nodes i.block) x ≡ Some (Some c.content-behind.result) =
-    there ∙ ap Some (sym (held_read i.nodes i.block x c.requires.live.0 c.get-node.result there c.get-node.ensures) ∙ c.content-behind.ensures) in
+    there ∙ ap Some (sym (held_read i.nodes i.block x c.requires.live.0 c.get-node.result there c.get-node.ensures.is) ∙ c.content-behind.ensures) in
     subst (λ hs. IfSome c.content-behind.result.behind (λ b. ((h : Held) × (slice_get hs b ≡ Some (Some h))) × Begins hs b)) (sym gone)
     (next_first (held_in i.nodes i.block) x (ap holds there) first c.self.invariant.1.apart c.self.invariant.1.behind c.content-behind.result.behind (ap behind_of held))
 
@@ -153,7 +154,7 @@ returns-clause-firsts c a begins =
     let i = c.self.inside in let x = c.id.inside.place in let named = c.id.view_is in let linked = c.self.invariant.0 in
     let there = ap (λ (l : Lists). slice_get l.held x) c.self.view_is ∙ ap (slice_get c.args.self.now.held) named ∙ c.requires.live.1 in
     let on = live_of i.block i.nodes i.queues i.vacant i.free linked x c.requires.live.0 there in
-    let e = taken_by i.block i.nodes i.queues i.vacant i.free linked x on c.get-node.result c.get-node.ensures c.set_next.new.block c.set_prev.new.block c.set_held.new.block c.set_next-2.new.block
+    let e = taken_by i.block i.nodes i.queues i.vacant i.free linked x on c.get-node.result c.get-node.ensures.is c.set_next.new.block c.set_prev.new.block c.set_held.new.block c.set_next-2.new.block
     c.set_next.ensures.nodes c.set_prev.ensures.nodes c.set_held.ensures.nodes c.set_next-2.ensures.nodes in
     let gone = ap (held_in i.nodes) e ∙ held_taken i.block i.nodes i.queues i.vacant i.free linked x on in
     subst (λ hs. Begins hs a) (sym gone) (firsts_removed (held_in i.nodes i.block) x (ap holds there) a (subst (λ (l : Lists). Begins l.held a) (sym c.self.view_is) begins))

@@ -1,4 +1,4 @@
-use Rattle.std.proofs.Common.{[], subst, sym, ap, ◌∙◌}
+use Rattle.std.proofs.Common.{[], subst, sym, ap, ◌∙◌, arith}
 use Rattle.request_arena.specs.Linked.{AreChains, IsLinked, held_in, lists_of, queue_of, spread}
 use Rattle.request_arena.specs.Places.{laid}
 use Rattle.request_arena.proofs.Homes.{homes_blank}
@@ -12,6 +12,7 @@ invariant_of-result c =
       subst (λ ns. IsLinked ns n k 0 n) (sym e) (blank_linked n k c.in_ok-block.ensures.fits),
       subst AreChains (sym (ap (held_in n) e ∙ blank_held n k)) (chains_blank n),
       homes_blank c.in_ok-block.block n k k (ap (λ ns. spread (queue_of ns n) n k) e ∙ empty_queues (laid n k [] []) (blank_dead n k) n n k),
+      omega arith,
     )
 
 pub returns : goal.returns
