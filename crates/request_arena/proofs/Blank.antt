@@ -49,7 +49,7 @@ module _ (ns : List Node) (dead : (a : ℕ) → live ns a ≡ false) where
         let to : suc v ≡ next ns v = omega (arith, low v (omega (arith, sum))) in
         (refl, omega (arith, sum), dead v, less_is_none v (suc v) k (omega arith), subst (λ n. Stack ns c n (count_up (suc v) k)) to (counted_up (suc v) k (omega (arith, sum))))
 
-    pub linked_first : (k : ℕ) → c + k < 2 ^ 32 → length ns ≡ c + k → ((a : ℕ) → c ≤ a → a < c + k → next ns a ≡ a) → ((a : ℕ) → a < c + k → prev ns a ≡ a)
+    pub linked_first : (k : ℕ) → c + k < 2 ^ 30 → length ns ≡ c + k → ((a : ℕ) → c ≤ a → a < c + k → next ns a ≡ a) → ((a : ℕ) → a < c + k → prev ns a ≡ a)
         → held_in c ns ≡ replicate c None → IsLinked ns c k 0 c
     linked_first k fits long high back held = record {
       long = long;
@@ -87,13 +87,13 @@ held_none c h (suc n) (suc k) p = ap (λ l. None ∷ l) (held_none c (suc h) n k
 
 module _ (c k : ℕ) where
   abbrev blank : List Node
-  blank = laid c k [] []
+  blank = laid c k []
 
   blank_long : length blank ≡ c + k
-  blank_long = tabulated_length (at_place c [] []) 0 (c + k)
+  blank_long = tabulated_length (at_place c []) 0 (c + k)
 
   blank_at : (a : ℕ) → a < c + k → slice_get blank a ≡ Some (fresh c a)
-  blank_at a p = laid_get c k [] [] a (omega (arith, p, blank_long)) ∙ ap Some (at_blank c a)
+  blank_at a p = laid_get c k [] a (omega (arith, p, blank_long)) ∙ ap Some (at_blank c a)
 
   blank_low : (a : ℕ) → a < c → next blank a ≡ a + 1
   blank_low a p = ap next_of (blank_at a (omega (arith, p))) ∙ grind (arith, p)
@@ -110,5 +110,5 @@ module _ (c k : ℕ) where
   pub blank_held : held_in c blank ≡ replicate c None
   blank_held = ap (held_in c) (laid_blank c k) ∙ held_none c 0 c (c + k) (omega arith)
 
-  pub blank_linked : c + k < 2 ^ 32 → IsLinked blank c k 0 c
+  pub blank_linked : c + k < 2 ^ 30 → IsLinked blank c k 0 c
   blank_linked fits = linked_first blank blank_dead c blank_low k fits blank_long blank_high blank_back blank_held

@@ -1,10 +1,10 @@
 -- What stands at the places of the block, and after one was written to.
-use Rattle.std.proofs.Common.{◌≡◌, ◌≢◌, ℕ, zero, suc, ◌+◌, ◌-◌, ◌<◌, ◌≤◌, true, false, cond, map, sym, List, [], ◌∷◌, ◌++◌, length, Some, slice_get, slice_set, slice_index_or, refl, ap, ◌∙◌, arith}
+use Rattle.std.proofs.Common.{◌≡◌, ◌≢◌, ℕ, zero, suc, ◌+◌, ◌*◌, ◌/◌, ◌<◌, ◌≤◌, map, List, [], ◌∷◌, ◌++◌, length, Some, slice_get, slice_set, slice_index_or, refl, ap, ◌∙◌, arith, get_or-set_same, get_or-set_other}
 use Rattle.request_arena.specs.declared.node.Node.{Node}
-use Rattle.std.specs.Prelude.{nat_lt}
 use Rattle.request_arena.proofs.Changed.{none_some, some_same}
 use Rattle.request_arena.specs.declared.packed.Packed.{Packed}
-use Rattle.request_arena.specs.Places.{fresh, in_row, at_place, tabulated, laid}
+use Rattle.request_arena.specs.Packed.{unpacked}
+use Rattle.request_arena.specs.Places.{index_of, fresh, at_place, tabulated, laid}
 
 pub tabulated_length : (f : ℕ → Node) (h k : ℕ) → length (tabulated f h k) ≡ k
 tabulated_length f h zero = refl
@@ -41,53 +41,25 @@ pushed_default [] v d (suc i) is = refl
 pushed_default (x ∷ xs) v d zero is = refl
 pushed_default (x ∷ xs) v d (suc i) is = pushed_default xs v d i (λ e. is (ap suc e))
 
--- at a node, and at a head
-pub at_node : (nodes : ℕ) (ns hs : List Packed) (place : ℕ) → place < nodes → at_place nodes ns hs place ≡ in_row nodes 0 ns place
-at_node nodes ns hs place p = let t : nat_lt place nodes ≡ true = grind (arith, p) in ap (λ b. cond b (in_row nodes 0 ns place) (in_row nodes nodes hs (place - nodes))) t
+-- no two places lie at one index
+pub index_apart : (nodes p q : ℕ) → index_of nodes p ≡ index_of nodes q → p ≡ q
+index_apart nodes p q e = grind (arith, e)
 
-pub at_head : (nodes : ℕ) (ns hs : List Packed) (place : ℕ) → nodes ≤ place → at_place nodes ns hs place ≡ in_row nodes nodes hs (place - nodes)
-at_head nodes ns hs place p = let t : nat_lt place nodes ≡ false = grind (arith, p) in ap (λ b. cond b (in_row nodes 0 ns place) (in_row nodes nodes hs (place - nodes))) t
-
-pub low_or_high : (nodes a : ℕ) (P : Type 0) → (a < nodes → P) → (nodes ≤ a → P) → P
-low_or_high nodes a P low high = elim (nat_lt a nodes) as (λ b. nat_lt a nodes ≡ b → P) [
-  | true ↦ λ e. low (grind (arith, e))
-  | false ↦ λ e. high (grind (arith, e))
-] refl
-
--- nothing was written yet
-pub at_blank : (nodes place : ℕ) → at_place nodes [] [] place ≡ fresh nodes place
-at_blank nodes place = low_or_high nodes place (at_place nodes [] [] place ≡ fresh nodes place)
-    (λ p. let e : 0 + place ≡ place = omega arith in at_node nodes [] [] place p ∙ ap (fresh nodes) e)
-    (λ p. let e : nodes + (place - nodes) ≡ place = omega (arith, p) in at_head nodes [] [] place p ∙ ap (fresh nodes) e)
-
-pub laid_blank : (nodes queues : ℕ) → laid nodes queues [] [] ≡ tabulated (fresh nodes) 0 (nodes + queues)
-laid_blank nodes queues = tabulated_same (at_place nodes [] []) (fresh nodes) (at_blank nodes) 0 (nodes + queues)
-
-module _ (nodes queues : ℕ) (ns hs : List Packed) (place : ℕ) (low : place < length (laid nodes queues ns hs)) where
+module _ (nodes queues : ℕ) (ws : List Packed) (place : ℕ) (low : place < length (laid nodes queues ws)) where
   pub place_low : place < nodes + queues
-  place_low = omega (arith, low, tabulated_length (at_place nodes ns hs) 0 (nodes + queues))
+  place_low = omega (arith, low, tabulated_length (at_place nodes ws) 0 (nodes + queues))
 
-  pub laid_get : slice_get (laid nodes queues ns hs) place ≡ Some (at_place nodes ns hs place)
-  laid_get = tabulated_get (at_place nodes ns hs) 0 (nodes + queues) place place_low ∙ (let e : 0 + place ≡ place = omega arith in ap (λ p. Some (at_place nodes ns hs p)) e)
+  pub index_low : (capacity : ℕ) → (nodes / 64 + 1) * 128 ≤ capacity → (queues / 64 + 1) * 128 ≤ capacity → index_of nodes place < capacity
+  index_low capacity n q = grind (arith, place_low, n, q)
 
--- a node is written, and a head
-pub laid_node : (nodes queues : ℕ) (ns ms hs : List Packed) (place : ℕ) (v : Node) → place < nodes → in_row nodes 0 ms place ≡ v
-    → ((i : ℕ) → i ≢ place → in_row nodes 0 ms i ≡ in_row nodes 0 ns i) → laid nodes queues ms hs ≡ slice_set (laid nodes queues ns hs) place v
-laid_node nodes queues ns ms hs place v low here there =
-    tabulated_set (at_place nodes ns hs) (at_place nodes ms hs) 0 (nodes + queues) place v (omega (arith, low))
-    (let e : 0 + place ≡ place = omega arith in ap (at_place nodes ms hs) e ∙ at_node nodes ms hs place low ∙ here)
-    (λ a z. low_or_high nodes a (at_place nodes ms hs a ≡ at_place nodes ns hs a)
-    (λ p. at_node nodes ms hs a p ∙ there a (λ e. z (omega (arith, e))) ∙ sym (at_node nodes ns hs a p))
-    (λ p. at_head nodes ms hs a p ∙ sym (at_head nodes ns hs a p)))
+  pub laid_get : slice_get (laid nodes queues ws) place ≡ Some (at_place nodes ws place)
+  laid_get = tabulated_get (at_place nodes ws) 0 (nodes + queues) place place_low ∙ (let e : 0 + place ≡ place = omega arith in ap (λ p. Some (at_place nodes ws p)) e)
 
-pub laid_head : (nodes queues : ℕ) (ns hs gs : List Packed) (place : ℕ) (v : Node) → nodes ≤ place → place < nodes + queues → in_row nodes nodes gs (place - nodes) ≡ v
-    → ((i : ℕ) → i ≢ place - nodes → in_row nodes nodes gs i ≡ in_row nodes nodes hs i) → laid nodes queues ns gs ≡ slice_set (laid nodes queues ns hs) place v
-laid_head nodes queues ns hs gs place v high low here there =
-    tabulated_set (at_place nodes ns hs) (at_place nodes ns gs) 0 (nodes + queues) place v low
-    (let e : 0 + place ≡ place = omega arith in ap (at_place nodes ns gs) e ∙ at_head nodes ns gs place high ∙ here)
-    (λ a z. low_or_high nodes a (at_place nodes ns gs a ≡ at_place nodes ns hs a)
-    (λ p. at_node nodes ns gs a p ∙ sym (at_node nodes ns hs a p))
-    (λ p. at_head nodes ns gs a p ∙ there (a - nodes) (λ e. z (omega (arith, e, p, high))) ∙ sym (at_head nodes ns hs a p)))
+pub at_blank : (nodes place : ℕ) → at_place nodes [] place ≡ fresh nodes place
+at_blank nodes place = refl
+
+pub laid_blank : (nodes queues : ℕ) → laid nodes queues [] ≡ tabulated (fresh nodes) 0 (nodes + queues)
+laid_blank nodes queues = tabulated_same (at_place nodes []) (fresh nodes) (at_blank nodes) 0 (nodes + queues)
 
 -- lists of what lies there, unpacked
 pub map_length : {X Y : Type 0} (f : X → Y) (xs : List X) → length (map f xs) ≡ length xs
@@ -107,6 +79,16 @@ pub map_get : {X Y : Type 0} (f : X → Y) (xs : List X) (i : ℕ) (x : X) → s
 map_get f [] i x e = absurd (none_some x e)
 map_get f (y ∷ xs) zero x e = ap (λ v. Some (f v)) (some_same y x e)
 map_get f (y ∷ xs) (suc i) x e = map_get f xs i x e
+
+pub laid_set : (nodes queues : ℕ) (ws : List Packed) (place : ℕ) (v : Packed) → place < nodes + queues → index_of nodes place < length ws
+    → laid nodes queues (slice_set ws (index_of nodes place) v) ≡ slice_set (laid nodes queues ws) place (unpacked v)
+laid_set nodes queues ws place v low room =
+    let i = index_of nodes place in let long = map_length unpacked ws in
+    tabulated_set (at_place nodes ws) (at_place nodes (slice_set ws i v)) 0 (nodes + queues) place (unpacked v) low
+    (let e : 0 + place ≡ place = omega arith in ap (at_place nodes (slice_set ws i v)) e ∙ ap (λ l. slice_index_or l i (fresh nodes place)) (map_set unpacked ws i v)
+    ∙ get_or-set_same (map unpacked ws) i (unpacked v) (fresh nodes place) (omega (arith, room, long)))
+    (λ a z. ap (λ l. slice_index_or l (index_of nodes a) (fresh nodes a)) (map_set unpacked ws i v)
+    ∙ get_or-set_other (map unpacked ws) i (index_of nodes a) (unpacked v) (fresh nodes a) (λ e. z (let w = index_apart nodes a place e in omega (arith, w))))
 
 -- what is read of a list is the item there, or else what is read past its end
 pub read_item : (xs : List Node) (i : ℕ) (v d : Node) → slice_get xs i ≡ Some v → slice_index_or xs i d ≡ v

@@ -36,7 +36,7 @@ Stack ns c v (x ∷ xs) = (v ≡ x) × (x < c) × (live ns x ≡ false) × (list
 
 pub record IsLinked (ns : List Node) (c k vacant free : ℕ) : Type 0 where
   pub long : length ns ≡ c + k
-  pub fits : c + k < 2 ^ 32
+  pub fits : c + k < 2 ^ 30
   pub ring : IsRing c (c + k) (next ns) (prev ns) (live ns)
   pub stack : (fs : List ℕ) × (Stack ns c vacant fs × (length fs ≡ free))
   pub count : free_nodes (held_in c ns) ≡ free

@@ -1,8 +1,8 @@
 //! The block of memory in which nodes and heads lie, as a row of places.
 
-ghost use Rattle.std.specs.Prelude.{◌≡◌, ◌≢◌, ◌<◌, ◌^◌, ◌+◌, [], length, map, ℕ, slice_get, slice_set, slice_index_or, Some, IfOk, OnOk};
+ghost use Rattle.std.specs.Prelude.{◌≡◌, ◌<◌, ◌*◌, ◌/◌, ◌^◌, ◌+◌, [], length, map, ℕ, slice_get, slice_set, slice_index_or, Some, IfOk, OnOk};
 ghost use Rattle.request_arena.specs.Packed.{unpacked};
-ghost use Rattle.request_arena.specs.Places.{fresh, in_row, laid};
+ghost use Rattle.request_arena.specs.Places.{index_of, fresh, at_place, laid};
 ghost use Rattle.request_arena.specs.Small.{IsSmall};
 
 use crate::node::Node;
@@ -13,14 +13,13 @@ use std::marker::Model;
 use values::NoMemory;
 
 /// The most places that there can be: links are numbers of 32 bits.
-const MOST_PLACES: usize = u32::MAX as usize;
+const MOST_PLACES: usize = 1 << 30;
 
-/// Memory with a place for each node, and behind them one for the head of each queue. Contracts see what stands at each
-/// place. Nothing is written to a place before it is used, so room for many costs as much as is used of it.
+/// One block of memory with a place for each node, and for the head of each queue. Contracts see what stands at each place.
+/// Nothing is written to a place before it is used, so a large block costs as much as is used of it.
 #[derive(Drop)]
 pub(crate) struct Block {
     written: Row,
-    heads: Row,
     nodes: usize,
     queues: usize,
 }
@@ -32,9 +31,37 @@ impl Model for Block {
 
     ghost Value = { List AnyNode };
 
-    ghost view = { λ b. laid b.nodes b.queues b.written.items b.heads.items };
+    ghost view = { λ b. laid b.nodes b.queues b.written.items };
 
-    ghost invariant = { λ b. IsRoomy b.written.room b.heads.room b.nodes b.queues };
+    ghost invariant = { λ b. IsRoomy b.written.room b.nodes b.queues };
+}
+
+/// Where a place lies in the block.
+fn index_of(nodes: usize, place: usize) -> usize
+    requires { place < 2 ^ 32 }
+    ensures { result ≡ index_of nodes place }
+{
+    if place < nodes {
+        place / 64 * 128 + place % 64
+    } else {
+        let queue = place - nodes;
+        queue / 64 * 128 + 64 + queue % 64
+    }
+}
+
+/// The place that lies there in the block.
+fn place_at(nodes: usize, index: usize) -> usize
+    requires nodes { nodes < 2 ^ 30 }
+    requires fits { index < 2 ^ 31 }
+    ensures exact { (place : ℕ) → index_of nodes place ≡ index → result ≡ place }
+    ensures small { result < 2 ^ 32 }
+{
+    let (run, offset) = (index / 128, index % 128);
+    if offset < 64 {
+        run * 64 + offset
+    } else {
+        nodes + run * 64 + (offset - 64)
+    }
 }
 
 /// What stands at a place that nothing was written to.
@@ -66,46 +93,39 @@ fn read(row: &Row, index: usize, unwritten: Node) -> Node
     }
 }
 
-/// Writes what stands there to the next place of a row, whose first place is given.
-fn write_next(row: &mut Row, nodes: usize, first: usize)
-    requires fits { first + length row.old.items < 2 ^ 32 }
-    requires nodes { nodes < 2 ^ 32 }
-    requires room { length row.old.items < row.old.room }
-    ensures more { length row.new.items ≡ length row.old.items + 1 }
-    ensures capacity { row.new.room ≡ row.old.room }
-    ensures same { (i : ℕ) → in_row nodes first row.new.items i ≡ in_row nodes first row.old.items i }
+/// Writes what stands there to the next place.
+fn write_next(written: &mut Row, nodes: usize)
+    requires nodes { nodes < 2 ^ 30 }
+    requires fits { written.old.room < 2 ^ 31 }
+    requires room { length written.old.items < written.old.room }
+    ensures more { length written.new.items ≡ length written.old.items + 1 }
+    ensures capacity { written.new.room ≡ written.old.room }
+    ensures same { (place : ℕ) → at_place nodes written.new.items place ≡ at_place nodes written.old.items place }
 {
-    let place = first + row.len();
-    row.push(Packed::of(fresh(nodes, place)));
+    let place = place_at(nodes, written.len());
+    written.push(Packed::of(fresh(nodes, place)));
 }
 
-/// Writes what stands there to all places of a row as far as an index.
-fn write_up_to(row: &mut Row, nodes: usize, first: usize, index: usize)
-    requires fits { first + index < 2 ^ 32 }
-    requires nodes { nodes < 2 ^ 32 }
-    requires room { index < row.old.room }
-    ensures far { index < length row.new.items }
-    ensures capacity { row.new.room ≡ row.old.room }
-    ensures same { (i : ℕ) → in_row nodes first row.new.items i ≡ in_row nodes first row.old.items i }
+/// Writes what stands there to all places as far as one.
+fn write_up_to(written: &mut Row, nodes: usize, index: usize)
+    requires nodes { nodes < 2 ^ 30 }
+    requires fits { written.old.room < 2 ^ 31 }
+    requires room { index < written.old.room }
+    ensures far { index < length written.new.items }
+    ensures capacity { written.new.room ≡ written.old.room }
+    ensures same { (place : ℕ) → at_place nodes written.new.items place ≡ at_place nodes written.old.items place }
 {
-    for _ in row.len()..index + 1 {
-        write_next(row, nodes, first);
+    for _ in written.len()..index + 1 {
+        write_next(written, nodes);
     }
 }
 
-/// Writes to an index of a row.
-fn write(row: &mut Row, nodes: usize, first: usize, index: usize, node: Node)
-    requires fits { first + index < 2 ^ 32 }
-    requires nodes { nodes < 2 ^ 32 }
-    requires small { IsSmall node }
-    requires room { index < row.old.room }
-    ensures here { in_row nodes first row.new.items index ≡ node }
-    ensures elsewhere { (i : ℕ) → i ≢ index →
-        in_row nodes first row.new.items i ≡ in_row nodes first row.old.items i }
-    ensures capacity { row.new.room ≡ row.old.room }
+/// The room that so many nodes, or heads, take with the runs between them.
+fn room_for(count: usize) -> usize
+    requires { count < 2 ^ 30 }
+    ensures { result ≡ (count / 64 + 1) * 128 }
 {
-    write_up_to(row, nodes, first, index);
-    row.set(index, Packed::of(node));
+    (count / 64 + 1) * 128
 }
 
 impl Block {
@@ -115,16 +135,16 @@ impl Block {
         nodes: usize,
         queues: usize,
     ) -> Result<Block, NoMemory>
-        ensures fits { OnOk result (nodes + queues < 2 ^ 32) }
-        ensures laid { IfOk result (λ block. block ≡ laid nodes queues [] []) }
+        ensures fits { OnOk result (nodes + queues < 2 ^ 30) }
+        ensures laid { IfOk result (λ block. block ≡ laid nodes queues []) }
     {
         match nodes.checked_add(queues) {
-            Some(places) if places <= MOST_PLACES => {}
+            Some(places) if places < MOST_PLACES - 64 => {}
             _ => return Err(NoMemory),
         }
+        let room = room_for(nodes.max(queues));
         Ok(Block {
-            written: Row::with_capacity(alloc, nodes)?,
-            heads: Row::with_capacity(alloc, queues)?,
+            written: Row::with_capacity(alloc, room)?,
             nodes,
             queues,
         })
@@ -136,12 +156,11 @@ impl Block {
         ensures is { slice_get self.now place ≡ Some result }
         ensures small { IsSmall result }
     {
-        let unwritten = fresh(self.nodes, place);
-        if place < self.nodes {
-            read(&self.written, place, unwritten)
-        } else {
-            read(&self.heads, place - self.nodes, unwritten)
-        }
+        read(
+            &self.written,
+            index_of(self.nodes, place),
+            fresh(self.nodes, place),
+        )
     }
 
     /// Writes to a place.
@@ -150,16 +169,8 @@ impl Block {
         requires small { IsSmall node }
         ensures { self.new ≡ slice_set self.old place node }
     {
-        if place < self.nodes {
-            write(&mut self.written, self.nodes, 0, place, node);
-        } else {
-            write(
-                &mut self.heads,
-                self.nodes,
-                self.nodes,
-                place - self.nodes,
-                node,
-            );
-        }
+        let index = index_of(self.nodes, place);
+        write_up_to(&mut self.written, self.nodes, index);
+        self.written.set(index, Packed::of(node));
     }
 }

@@ -11,7 +11,7 @@ invariant_of-result c =
     let n = c.args.nodes in let k = c.args.queues in let e = c.in_ok-block.ensures.laid in (
       subst (λ ns. IsLinked ns n k 0 n) (sym e) (blank_linked n k c.in_ok-block.ensures.fits),
       subst AreChains (sym (ap (held_in n) e ∙ blank_held n k)) (chains_blank n),
-      homes_blank c.in_ok-block.block n k k (ap (λ ns. spread (queue_of ns n) n k) e ∙ empty_queues (laid n k [] []) (blank_dead n k) n n k),
+      homes_blank c.in_ok-block.block n k k (ap (λ ns. spread (queue_of ns n) n k) e ∙ empty_queues (laid n k []) (blank_dead n k) n n k),
       omega arith,
     )
 
@@ -19,4 +19,4 @@ pub returns : goal.returns
 returns c =
     let n = c.args.nodes in let k = c.args.queues in let e = c.in_ok-block.ensures.laid in
     ap (λ ns. lists_of ns n k) e
-    ∙ (let lists = empty_queues (laid n k [] []) (blank_dead n k) n n k in λ i. record { queues = lists i; held = blank_held n k i })
+    ∙ (let lists = empty_queues (laid n k []) (blank_dead n k) n n k in λ i. record { queues = lists i; held = blank_held n k i })
