@@ -55,12 +55,8 @@ impl Crowd {
         }
     }
 
-    /// The next number from one on, or else from 0 on, of a transaction that is there.
-    pub(crate) fn next_from(&self, first: usize) -> Option<usize> {
-        let (front, back) = self.there.split_at(first.min(self.there.len()));
-        match back.iter().position(|there| *there) {
-            Some(place) => first.checked_add(place),
-            None => front.iter().position(|there| *there),
-        }
+    /// Whether any transaction is there.
+    pub(crate) fn is_left(&self) -> bool {
+        self.there.iter().any(|there| *there)
     }
 }

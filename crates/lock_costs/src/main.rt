@@ -44,26 +44,6 @@ fn crowd_of(alloc: Global, count: usize) -> Result<Crowd, EnqueueFault> {
     Ok(crowd)
 }
 
-/// Releases all, the least first.
-fn release_from_the_front(crowd: &mut Crowd, count: usize) {
-    for no in 0..count {
-        crowd.release(no);
-    }
-}
-
-/// Releases all, in an order that looks like chance.
-fn release_at_random(crowd: &mut Crowd, count: usize) {
-    let mut chance: u64 = 2026;
-    for _ in 0..count {
-        chance = chance
-            .wrapping_mul(6_364_136_223_846_793_005)
-            .wrapping_add(1_442_695_040_888_963_407);
-        if let Some(no) = crowd.next_from((chance >> 33) as usize % count.max(1)) {
-            crowd.release(no);
-        }
-    }
-}
-
 /// In which order the transactions are released.
 #[derive(Clone, Copy)]
 enum Order {
@@ -71,7 +51,33 @@ enum Order {
     AtRandom,
 }
 
-/// Enqueues so many and releases them in that order: how many microseconds the latter takes, and who is left.
+/// Puts numbers into an order that looks like chance, and is the same each time.
+fn shuffle(numbers: &mut [usize]) {
+    let mut chance: u64 = 2026;
+    for place in 1..numbers.len() {
+        chance = chance
+            .wrapping_mul(6_364_136_223_846_793_005)
+            .wrapping_add(1_442_695_040_888_963_407);
+        numbers.swap(place, (chance >> 33) as usize % (place + 1));
+    }
+}
+
+/// The numbers of so many transactions, in the order in which they are released.
+fn numbers_in(alloc: Global, count: usize, order: Order) -> Result<Vec<usize>, NoMemory> {
+    let mut numbers: Vec<usize> = (0..count).collect(alloc)?;
+    if let Order::AtRandom = order {
+        shuffle(numbers.as_mut_slice());
+    }
+    Ok(numbers)
+}
+
+fn release_all(crowd: &mut Crowd, numbers: &[usize]) {
+    for no in numbers {
+        crowd.release(*no);
+    }
+}
+
+/// Enqueues so many and releases them in that order: how many microseconds the latter takes, and whether any is left.
 fn measured<R: Clock + AllocGlobal>(
     rt: &R,
     count: usize,
@@ -80,13 +86,13 @@ fn measured<R: Clock + AllocGlobal>(
     let Ok(mut crowd) = crowd_of(rt.alloc(), count) else {
         return Err(io::Error::from(io::ErrorKind::OutOfMemory));
     };
+    let Ok(numbers) = numbers_in(rt.alloc(), count, order) else {
+        return Err(io::Error::from(io::ErrorKind::OutOfMemory));
+    };
     let start = Instant::now(rt)?;
-    match order {
-        Order::FromTheFront => release_from_the_front(&mut crowd, count),
-        Order::AtRandom => release_at_random(&mut crowd, count),
-    }
+    release_all(&mut crowd, numbers.as_slice());
     let micros = start.elapsed(rt)?.as_micros();
-    Ok((micros, crowd.next_from(0).is_some()))
+    Ok((micros, crowd.is_left()))
 }
 
 fn main(rt: HostRuntime) -> io::Result<()> {

@@ -1,5 +1,5 @@
 -- The chains of transactions, as queues change.
-use Rattle.std.proofs.Common.{◌≡◌, ℕ, ◌+◌, ◌<◌, zero, suc, eqb, Bool, true, false, cond, ◌||◌, List, [], ◌∷◌, ◌++◌, length, map, drop, get_or, add-one, Option, None, Some, IfSome, refl, sym, ◌∙◌, ap, subst, arith}
+use Rattle.std.proofs.Common.{◌≡◌, ℕ, ◌<◌, zero, suc, eqb, Bool, true, false, cond, ◌||◌, List, [], ◌∷◌, ◌++◌, length, map, get_or, Option, None, Some, IfSome, refl, sym, ◌∙◌, ap, subst, arith}
 use Rattle.std.specs.Prelude.{slice_get, slice_set}
 use Rattle.std.specs.BTreeMap.{get}
 use Rattle.std.specs.Option.{option_flatten, option_or}
@@ -134,19 +134,19 @@ module _ (was now : Lines) (owner id : ℕ) (behind : Option ℕ) (numbers_same 
   all_left k (e ∷ plan) (number ∷ numbers) [] others placed = absurd placed
 
   pub left_others : OthersChained owner was now
-  left_others e other ok = with_head e.head ok
+  left_others e other ok = (ok.0, with_head e.head ok.1)
     where
       still : PlacedStill e.no was now
       still r number a placed = placed_left e.no r number a (λ same. other (sym placed.owned ∙ ap (λ (b : ℕ). (request_at was.nodes.held b).0) same ∙ owned)) placed
 
-      with_head : (head : Option ℕ) → Chains was e.no e.plan.items e.numbers.items head → Chains now e.no e.plan.items e.numbers.items head
-      with_head None ok = record { begins = tt; placed = all_still e.no was now still e.plan.items e.numbers.items [] ok.placed }
-      with_head (Some h) ok =
-          let apart : h ≡ id → ⊥ = λ same. other (sym (head_owned was e.no e.plan.items e.numbers.items h ok) ∙ ap (λ (b : ℕ). (request_at was.nodes.held b).0) same ∙ owned) in
+      with_head : (head : Option ℕ) → Chains was e.no e.plan.value ok.0 head → Chains now e.no e.plan.value ok.0 head
+      with_head None one = record { begins = tt; placed = all_still e.no was now still e.plan.value ok.0 [] one.placed }
+      with_head (Some h) one =
+          let apart : h ≡ id → ⊥ = λ same. other (sym (head_owned was e.no e.plan.value ok.0 h one) ∙ ap (λ (b : ℕ). (request_at was.nodes.held b).0) same ∙ owned) in
           record {
-            begins = ((ok.begins.0.0, asks_as_before h apart ∙ ok.begins.0.1), removed.firsts h ok.begins.1);
-            placed = subst (ArePlaced now e.no e.plan.items e.numbers.items) (sym (removed.chains h apart (holds_live was.nodes h ok.begins.0)))
-                (all_still e.no was now still e.plan.items e.numbers.items (chain was.nodes.held h) ok.placed);
+            begins = ((one.begins.0.0, asks_as_before h apart ∙ one.begins.0.1), removed.firsts h one.begins.1);
+            placed = subst (ArePlaced now e.no e.plan.value ok.0) (sym (removed.chains h apart (holds_live was.nodes h one.begins.0)))
+                (all_still e.no was now still e.plan.value ok.0 (chain was.nodes.held h) one.placed);
           }
 
   gone_now : held_at now.nodes.held id ≡ true → ⊥
@@ -184,7 +184,7 @@ module _ (was now : Lines) (owner id : ℕ) (behind : Option ℕ) (numbers_same 
 
 -- ---- the requests of a chain, one by one
 
-pub placed_length : (l : Lines) (owner : ℕ) (plan : Requests) (numbers nodes : List ℕ) → ArePlaced l owner plan numbers nodes → length plan ≡ length numbers
+pub placed_length : (l : Lines) (owner : ℕ) (plan : Requests) (numbers nodes : List ℕ) → ArePlaced l owner plan numbers nodes → length plan ≡ length nodes
 placed_length l owner [] [] [] placed = refl
 placed_length l owner (e ∷ plan) (number ∷ numbers) (a ∷ nodes) placed = ap suc (placed_length l owner plan numbers nodes placed.1)
 placed_length l owner [] [] (a ∷ nodes) placed = absurd placed
@@ -192,36 +192,41 @@ placed_length l owner [] (number ∷ numbers) nodes placed = absurd placed
 placed_length l owner (e ∷ plan) [] nodes placed = absurd placed
 placed_length l owner (e ∷ plan) (number ∷ numbers) [] placed = absurd placed
 
-pub placed_at : (l : Lines) (owner : ℕ) (plan : Requests) (numbers nodes : List ℕ) (i d : ℕ) → ArePlaced l owner plan numbers nodes → i < length numbers
-    → (e : Resource × Mode) × (a : ℕ) × (drop i plan ≡ e ∷ drop (i + 1) plan) × IsPlaced l owner e.0 (get_or numbers i d) a
-placed_at l owner (e ∷ plan) (number ∷ numbers) (a ∷ nodes) zero d placed near = (e, a, refl, placed.0)
-placed_at l owner (f ∷ plan) (number ∷ numbers) (a ∷ nodes) (suc i) d placed near =
-    let r = placed_at l owner plan numbers nodes i d placed.1 (omega arith) in
-    (r.0, r.1, r.2 ∙ ap (λ n. r.0 ∷ drop n plan) (add-one i) ∙ ap (λ n. r.0 ∷ drop n (f ∷ plan)) (sym (add-one (suc i))), r.3)
-placed_at l owner [] [] nodes i d placed near = absurd (omega arith)
-placed_at l owner [] (number ∷ numbers) nodes i d placed near = absurd placed
-placed_at l owner (e ∷ plan) [] nodes i d placed near = absurd placed
-placed_at l owner (e ∷ plan) (number ∷ numbers) [] i d placed near = absurd placed
+-- a request that is placed, and the requests behind it
+pub record First (l : Lines) (owner : ℕ) (plan : Requests) (numbers : List ℕ) (a : ℕ) (rest : List ℕ) : Type 0 where
+  pub request : Resource × Mode
+  pub later : Requests
+  pub number : ℕ
+  pub more : List ℕ
+  pub plan_is : plan ≡ request ∷ later
+  pub numbers_are : numbers ≡ number ∷ more
+  pub placed : IsPlaced l owner request.0 number a
+  pub others : ArePlaced l owner later more rest
 
-pub no_head : (l : Lines) (owner : ℕ) (e : Resource × Mode) (plan : Requests) (numbers : List ℕ) → Chains l owner (e ∷ plan) numbers None → ⊥
-no_head l owner e plan [] ok = ok.placed
-no_head l owner e plan (n ∷ numbers) ok = ok.placed
+pub placed_first : (l : Lines) (owner : ℕ) (plan : Requests) (numbers : List ℕ) (a : ℕ) (rest : List ℕ) → ArePlaced l owner plan numbers (a ∷ rest) → First l owner plan numbers a rest
+placed_first l owner [] [] a rest placed = absurd placed
+placed_first l owner [] (n ∷ numbers) a rest placed = absurd placed
+placed_first l owner (e ∷ plan) [] a rest placed = absurd placed
+placed_first l owner (e ∷ plan) (n ∷ numbers) a rest placed = record {
+  request = e;
+  later = plan;
+  number = n;
+  more = numbers;
+  plan_is = refl;
+  numbers_are = refl;
+  placed = placed.0;
+  others = placed.1;
+}
 
-placed_first : (l : Lines) (owner : ℕ) (e : Resource × Mode) (plan : Requests) (numbers : List ℕ) (a : ℕ) (rest : List ℕ) → ArePlaced l owner (e ∷ plan) numbers (a ∷ rest) → (n : ℕ) × (more : List ℕ) × (numbers ≡ n ∷ more) × IsPlaced l owner e.0 n a
-placed_first l owner e plan [] a rest placed = absurd placed
-placed_first l owner e plan (n ∷ numbers) a rest placed = (n, numbers, refl, placed.0)
+pub chain_first : (l : Lines) (owner : ℕ) (plan : Requests) (numbers : List ℕ) (a : ℕ) → Chains l owner plan numbers (Some a) → (rest : List ℕ) × First l owner plan numbers a rest
+chain_first l owner plan numbers a ok =
+    let c = chain_live l.nodes.held a (holds_live l.nodes a ok.begins.0) in (c.0, placed_first l owner plan numbers a c.0 (subst (ArePlaced l owner plan numbers) c.1 ok.placed))
 
-pub chain_first : (l : Lines) (owner : ℕ) (e : Resource × Mode) (plan : Requests) (numbers : List ℕ) (a : ℕ) → Chains l owner (e ∷ plan) numbers (Some a) → (n : ℕ) × (more : List ℕ) × (numbers ≡ n ∷ more) × IsPlaced l owner e.0 n a
-chain_first l owner e plan numbers a ok =
-    let c = chain_live l.nodes.held a (holds_live l.nodes a ok.begins.0) in placed_first l owner e plan numbers a c.0 (subst (ArePlaced l owner (e ∷ plan) numbers) c.1 ok.placed)
-
-pub drop_first : (xs : List ℕ) (i n d : ℕ) (more : List ℕ) → drop i xs ≡ n ∷ more → (i < length xs) × (get_or xs i d ≡ n) × (more ≡ drop (i + 1) xs)
-drop_first [] zero n d more e = absurd (cc)
-drop_first [] (suc i) n d more e = absurd (cc)
-drop_first (x ∷ xs) zero n d more e = (omega arith, cc, cc)
-drop_first (x ∷ xs) (suc i) n d more e =
-    let r = drop_first xs i n d more e in let l = r.0 in
-    (omega (arith, l), r.1, r.2 ∙ ap (λ k. drop k xs) (add-one i) ∙ ap (λ k. drop k (x ∷ xs)) (sym (add-one (suc i))))
+-- nothing is placed where there is no node
+pub none_placed : (l : Lines) (owner : ℕ) (plan : Requests) (numbers : List ℕ) → ArePlaced l owner plan numbers [] → plan ≡ []
+none_placed l owner [] numbers placed = refl
+none_placed l owner (e ∷ plan) [] placed = absurd placed
+none_placed l owner (e ∷ plan) (n ∷ numbers) placed = absurd placed
 
 -- ---- all transactions
 
@@ -232,12 +237,12 @@ chained_at l (e ∷ es) (suc i) d near ok = chained_at l es i d (omega arith) ok
 
 pub chained_ready : (l : Lines) (es : List Enqueued) (i : ℕ) (d : Enqueued) (b : Bool) → AreChained l es → AreChained l (slice_set es i (record (get_or es i d) { ready = b }))
 chained_ready l [] i d b ok = tt
-chained_ready l (e ∷ es) zero d b ok = (record { begins = ok.0.begins; placed = ok.0.placed }, ok.1)
+chained_ready l (e ∷ es) zero d b ok = ((ok.0.0, record { begins = ok.0.1.begins; placed = ok.0.1.placed }), ok.1)
 chained_ready l (e ∷ es) (suc i) d b ok = (ok.0, chained_ready l es i d b ok.1)
 
 pub chained_marked : (l : Lines) (es : List Enqueued) (i : ℕ) (d : Enqueued) (b : Bool) → AreChained l es → AreChained l (slice_set es i (record (get_or es i d) { marked = b }))
 chained_marked l [] i d b ok = tt
-chained_marked l (e ∷ es) zero d b ok = (record { begins = ok.0.begins; placed = ok.0.placed }, ok.1)
+chained_marked l (e ∷ es) zero d b ok = ((ok.0.0, record { begins = ok.0.1.begins; placed = ok.0.1.placed }), ok.1)
 chained_marked l (e ∷ es) (suc i) d b ok = (ok.0, chained_marked l es i d b ok.1)
 
 pub chained_removed : (l : Lines) (es : List Enqueued) (i : ℕ) → AreChained l es → AreChained l (remove es i)

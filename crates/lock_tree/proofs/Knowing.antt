@@ -46,13 +46,13 @@ module _ (queues : Resource → Queue) (n : ℕ) (mode : Mode) (lately : Queue) 
     | false ↦ λ other h. (knows_more e other known.0, none_to_note es (no_later_place (place_of n (all_waiting es)) h) known.1)
   ] refl h
 
-  knows_now : (e : Enqueued) (b : Bool) → e.no ≡ n → b ≡ granted_in queues n e.plan.items → Knows queues lately (record e { ready = b })
+  knows_now : (e : Enqueued) (b : Bool) → e.no ≡ n → b ≡ granted_in queues n e.plan.value → Knows queues lately (record e { ready = b })
   knows_now e b same is =
-      let at_it : granted_in queues e.no e.plan.items ≡ b = ap (λ k. granted_in queues k e.plan.items) same ∙ sym is in
+      let at_it : granted_in queues e.no e.plan.value ≡ b = ap (λ k. granted_in queues k e.plan.value) same ∙ sym is in
       record { sound = λ h. at_it ∙ h; complete = λ g. inl (sym at_it ∙ g) }
 
   -- the one with the number
-  pub noted_at : (es : List Enqueued) (i : ℕ) (d : Enqueued) (b : Bool) → IsRising (all_waiting es) → place_of n (all_waiting es) ≡ Some i → b ≡ granted_in queues n (at es i d).plan.items
+  pub noted_at : (es : List Enqueued) (i : ℕ) (d : Enqueued) (b : Bool) → IsRising (all_waiting es) → place_of n (all_waiting es) ≡ Some i → b ≡ granted_in queues n (at es i d).plan.value
       → AreKnown queues ((n, mode) ∷ lately) es → AreKnown queues lately (slice_set es i (record (at es i d) { ready = b }))
   noted_at [] i d b rising h is known = absurd (none_some i h)
   noted_at (e ∷ es) i d b rising h is known = elim (e.no == n) as (λ v. (e.no == n) ≡ v → cond v (Some 0) (option_map (λ n. n + 1) (place_of n (all_waiting es))) ≡ Some i
@@ -60,13 +60,13 @@ module _ (queues : Resource → Queue) (n : ℕ) (mode : Mode) (lately : Queue) 
         | true ↦ λ here h.
             let first : 0 ≡ i = some_one 0 i h in
             let same : e.no ≡ n = same_numbers e.no n here in
-            let plan : b ≡ granted_in queues n e.plan.items = is ∙ ap (λ j. granted_in queues n (at (e ∷ es) j d).plan.items) (sym first) in
+            let plan : b ≡ granted_in queues n e.plan.value = is ∙ ap (λ j. granted_in queues n (at (e ∷ es) j d).plan.value) (sym first) in
             let now : AreKnown queues lately (slice_set (e ∷ es) 0 (record (at (e ∷ es) 0 d) { ready = b })) =
             (knows_now e b same plan, known_above es (subst (λ k. AreAbove k (all_waiting es)) same rising.0) known.1) in
             subst (λ j. AreKnown queues lately (slice_set (e ∷ es) j (record (at (e ∷ es) j d) { ready = b }))) first now
         | false ↦ λ other h.
             let j = later_place (place_of n (all_waiting es)) i h in
-            let plan : b ≡ granted_in queues n (at es j.0 d).plan.items = is ∙ ap (λ x. granted_in queues n (at (e ∷ es) x d).plan.items) j.2 in
+            let plan : b ≡ granted_in queues n (at es j.0 d).plan.value = is ∙ ap (λ x. granted_in queues n (at (e ∷ es) x d).plan.value) j.2 in
             let now : AreKnown queues lately (slice_set (e ∷ es) (suc j.0) (record (at (e ∷ es) (suc j.0) d) { ready = b })) =
             (knows_more e other known.0, noted_at es j.0 d b rising.1 j.1 plan known.1) in
             subst (λ x. AreKnown queues lately (slice_set (e ∷ es) x (record (at (e ∷ es) x d) { ready = b }))) (sym j.2) now
@@ -78,6 +78,6 @@ at_any (e ∷ es) zero d f l = refl
 at_any (e ∷ es) (suc i) d f l = at_any es i d f (omega (arith, l))
 
 -- what an entry asks for, read twice
-pub read_plan : (queues : Resource → Queue) (n i : ℕ) (es : List Enqueued) (d seen : Enqueued) (b : Bool) (plan : Requests) → i < length es → plan ≡ (at es i seen).plan.items
-    → b ≡ granted_in queues n plan → b ≡ granted_in queues n (at es i d).plan.items
-read_plan queues n i es d seen b plan l same h = h ∙ ap (granted_in queues n) (same ∙ ap (λ (e : Enqueued). e.plan.items) (at_any es i seen d l))
+pub read_plan : (queues : Resource → Queue) (n i : ℕ) (es : List Enqueued) (d seen : Enqueued) (b : Bool) (plan : Requests) → i < length es → plan ≡ (at es i seen).plan.value
+    → b ≡ granted_in queues n plan → b ≡ granted_in queues n (at es i d).plan.value
+read_plan queues n i es d seen b plan l same h = h ∙ ap (granted_in queues n) (same ∙ ap (λ (e : Enqueued). e.plan.value) (at_any es i seen d l))

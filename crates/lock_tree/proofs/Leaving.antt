@@ -181,8 +181,8 @@ no_one n h = absurd (cc)
 -- an entry that knows goes on knowing, but for what was granted lately
 pub knows_left : (k : ℕ) (r : Resource) (old new : Resource → Queue) → Left k r old new → (e : Enqueued) → (e.no == k) ≡ false → Knows old [] e → Knows new (newly k (old r)) e
 knows_left k r old new left e other known = record {
-  sound = λ h. plan_still k r old new left e.no other e.plan.items (known.sound h);
-  complete = λ h. elim (plan_newly k r old new left e.no other e.plan.items h) [
+  sound = λ h. plan_still k r old new left e.no other e.plan.value (known.sound h);
+  complete = λ h. elim (plan_newly k r old new left e.no other e.plan.value h) [
     | inl was ↦ elim (known.complete was) [
       | inl ready ↦ inl ready
       | inr none ↦ absurd (no_one e.no none)

@@ -68,20 +68,20 @@ module _ (was now : Lines) (q id : ℕ) (tail : Option ℕ) (request : Request) 
   OwnedTail t = IfSome t (λ a. (request_at was.nodes.held a).0 ≡ request.no)
 
   pub pushed_others : OwnedTail tail → OthersChained request.no was now
-  pushed_others owned e other ok_chain = with_head e.head ok_chain
+  pushed_others owned e other ok_chain = (ok_chain.0, with_head e.head ok_chain.1)
     where
-      same_chain : (t : Option ℕ) → OwnedTail t → (xs : List ℕ) → ArePlaced was e.no e.plan.items e.numbers.items xs → appended t id xs ≡ xs
+      same_chain : (t : Option ℕ) → OwnedTail t → (xs : List ℕ) → ArePlaced was e.no e.plan.value ok_chain.0 xs → appended t id xs ≡ xs
       same_chain None owned xs placed = refl
-      same_chain (Some t) owned xs placed = ap (λ v. cond v (xs ++ id ∷ []) xs) (none_of_another was e.no e.plan.items e.numbers.items xs t placed (λ is. other (sym is ∙ owned)))
+      same_chain (Some t) owned xs placed = ap (λ v. cond v (xs ++ id ∷ []) xs) (none_of_another was e.no e.plan.value ok_chain.0 xs t placed (λ is. other (sym is ∙ owned)))
 
-      with_head : (head : Option ℕ) → Chains was e.no e.plan.items e.numbers.items head → Chains now e.no e.plan.items e.numbers.items head
-      with_head None chained = record { begins = tt; placed = all_still e.no was now (placed_still e.no) e.plan.items e.numbers.items [] chained.placed }
+      with_head : (head : Option ℕ) → Chains was e.no e.plan.value ok_chain.0 head → Chains now e.no e.plan.value ok_chain.0 head
+      with_head None chained = record { begins = tt; placed = all_still e.no was now (placed_still e.no) e.plan.value ok_chain.0 [] chained.placed }
       with_head (Some h) chained =
           let at = holds_live was.nodes h chained.begins.0 in
           record {
             begins = (still_live h chained.begins.0, pushed.firsts h at chained.begins.1);
-            placed = subst (ArePlaced now e.no e.plan.items e.numbers.items) (sym (pushed.chains h at ∙ same_chain tail owned (chain was.nodes.held h) chained.placed))
-                (all_still e.no was now (placed_still e.no) e.plan.items e.numbers.items (chain was.nodes.held h) chained.placed);
+            placed = subst (ArePlaced now e.no e.plan.value ok_chain.0) (sym (pushed.chains h at ∙ same_chain tail owned (chain was.nodes.held h) chained.placed))
+                (all_still e.no was now (placed_still e.no) e.plan.value ok_chain.0 (chain was.nodes.held h) chained.placed);
           }
 
   new_there : slice_get now.nodes.held id ≡ Some (Some (record { request = request; behind = None }))

@@ -40,11 +40,11 @@ no_plan k (w ∷ ws) h = elim (w.no == k) as (λ v. cond v (Some 0) (option_map 
 abbrev pub at : List Enqueued → ℕ → Enqueued → Enqueued
 at es i d = slice_index_or es i d
 
-pub plan_at : (k : ℕ) (es : List Enqueued) (i : ℕ) (d : Enqueued) → place_of k (all_waiting es) ≡ Some i → plan_of (all_waiting es) k ≡ Some (at es i d).plan.items
+pub plan_at : (k : ℕ) (es : List Enqueued) (i : ℕ) (d : Enqueued) → place_of k (all_waiting es) ≡ Some i → plan_of (all_waiting es) k ≡ Some (at es i d).plan.value
 plan_at k [] i d h = absurd (none_some i h)
-plan_at k (e ∷ es) i d h = elim (e.no == k) as (λ v. cond v (Some 0) (option_map (λ n. n + 1) (place_of k (all_waiting es))) ≡ Some i → cond v (Some e.plan.items) (plan_of (all_waiting es) k) ≡ Some (at (e ∷ es) i d).plan.items) [
-  | true ↦ λ h. ap (λ n. Some (at (e ∷ es) n d).plan.items) (some_one 0 i h)
-  | false ↦ λ h. let j = later_place (place_of k (all_waiting es)) i h in plan_at k es j.0 d j.1 ∙ ap (λ n. Some (at (e ∷ es) n d).plan.items) (sym j.2)
+plan_at k (e ∷ es) i d h = elim (e.no == k) as (λ v. cond v (Some 0) (option_map (λ n. n + 1) (place_of k (all_waiting es))) ≡ Some i → cond v (Some e.plan.value) (plan_of (all_waiting es) k) ≡ Some (at (e ∷ es) i d).plan.value) [
+  | true ↦ λ h. ap (λ n. Some (at (e ∷ es) n d).plan.value) (some_one 0 i h)
+  | false ↦ λ h. let j = later_place (place_of k (all_waiting es)) i h in plan_at k es j.0 d j.1 ∙ ap (λ n. Some (at (e ∷ es) n d).plan.value) (sym j.2)
 ] h
 
 -- ---- numbers that rise
@@ -138,18 +138,18 @@ removed_at k (e ∷ es) i r h = elim (e.no == k) as (λ v. (e.no == k) ≡ v →
     ] refl h
 
 pub used_at : (k : ℕ) (es : List Enqueued) (i : ℕ) (d : Enqueued) → IsRising (all_waiting es) → place_of k (all_waiting es) ≡ Some i
-    → used (all_waiting es) ≡ length (at es i d).plan.items + used (without k (all_waiting es))
+    → used (all_waiting es) ≡ length (at es i d).plan.value + used (without k (all_waiting es))
 used_at k [] i d r h = absurd (none_some i h)
 used_at k (e ∷ es) i d r h = elim (e.no == k) as (λ v. (e.no == k) ≡ v → cond v (Some 0) (option_map (λ n. n + 1) (place_of k (all_waiting es))) ≡ Some i
-    → length e.plan.items + used (all_waiting es) ≡ length (at (e ∷ es) i d).plan.items + used (cond v (without k (all_waiting es)) (waiting_of e ∷ without k (all_waiting es)))) [
+    → length e.plan.value + used (all_waiting es) ≡ length (at (e ∷ es) i d).plan.value + used (cond v (without k (all_waiting es)) (waiting_of e ∷ without k (all_waiting es)))) [
       | true ↦ λ here h.
           let above : AreAbove k (all_waiting es) = subst (λ n. AreAbove n (all_waiting es)) (same_numbers e.no k here) r.0 in
-          let p : length e.plan.items ≡ length (at (e ∷ es) i d).plan.items = ap (λ n. length (at (e ∷ es) n d).plan.items) (some_one 0 i h) in
+          let p : length e.plan.value ≡ length (at (e ∷ es) i d).plan.value = ap (λ n. length (at (e ∷ es) n d).plan.value) (some_one 0 i h) in
           let u : used (without k (all_waiting es)) ≡ used (all_waiting es) = ap used (not_above k (all_waiting es) above).0 in
           omega (arith, p, u)
       | false ↦ λ elsewhere h.
           let j = later_place (place_of k (all_waiting es)) i h in
-          let p : length (at (e ∷ es) i d).plan.items ≡ length (at es j.0 d).plan.items = ap (λ n. length (at (e ∷ es) n d).plan.items) j.2 in
+          let p : length (at (e ∷ es) i d).plan.value ≡ length (at es j.0 d).plan.value = ap (λ n. length (at (e ∷ es) n d).plan.value) j.2 in
           let u = used_at k es j.0 d r.1 j.1 in
           omega (arith, p, u)
     ] refl h

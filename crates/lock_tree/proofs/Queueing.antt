@@ -126,12 +126,12 @@ module _ (k : ℕ) (old new : Resource → Queue) (modes : Resource → Option M
   pub known_before : (es : List Enqueued) → AreBelow k (all_waiting es) → AreKnown old [] es → AreKnown new [] es
   known_before [] below known = tt
   known_before (e ∷ es) below known =
-      let same = plan_before e.no (later_other e.no k below.0) e.plan.items in (
+      let same = plan_before e.no (later_other e.no k below.0) e.plan.value in (
         record { sound = λ h. same ∙ known.0.sound h; complete = λ g. known.0.complete (sym same ∙ g) },
         known_before es below.1 known.1,
       )
 
-pub knows_exactly : (queues : Resource → Queue) (e : Enqueued) → e.ready ≡ granted_in queues e.no e.plan.items → Knows queues [] e
+pub knows_exactly : (queues : Resource → Queue) (e : Enqueued) → e.ready ≡ granted_in queues e.no e.plan.value → Knows queues [] e
 knows_exactly queues e is = record { sound = λ h. sym is ∙ h; complete = λ g. inl (is ∙ g) }
 
 pub known_and : (queues : Resource → Queue) (es : List Enqueued) (e : Enqueued) → AreKnown queues [] es → Knows queues [] e → AreKnown queues [] (es ++ e ∷ [])

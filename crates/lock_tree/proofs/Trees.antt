@@ -126,13 +126,13 @@ was_ready n b (inr h) = absurd (no_one n h)
 
 -- the flag of the transaction at a place
 pub flag_at : (queues : Resource → Queue) (es : List Enqueued) (k i : ℕ) (d : Enqueued) → ((r : Resource) → queues r ≡ queue r (all_waiting es)) → AreKnown queues [] es → i < length es
-    → (at es i d).no ≡ k → plan_of (all_waiting es) k ≡ Some (at es i d).plan.items → (at es i d).ready ≡ ready (all_waiting es) k
+    → (at es i d).no ≡ k → plan_of (all_waiting es) k ≡ Some (at es i d).plan.value → (at es i d).ready ≡ ready (all_waiting es) k
 flag_at queues es k i d lines known l number plan =
     let e = at es i d in
     let knows = known_at queues es i d l known in
-    exactly e.ready (granted_in queues e.no e.plan.items) knows.sound (λ g. was_ready e.no e.ready (knows.complete g))
-    ∙ same_plan queues (λ r. queue r (all_waiting es)) lines e.no e.plan.items
-    ∙ ap (λ n. granted_in (λ r. queue r (all_waiting es)) n e.plan.items) number
+    exactly e.ready (granted_in queues e.no e.plan.value) knows.sound (λ g. was_ready e.no e.ready (knows.complete g))
+    ∙ same_plan queues (λ r. queue r (all_waiting es)) lines e.no e.plan.value
+    ∙ ap (λ n. granted_in (λ r. queue r (all_waiting es)) n e.plan.value) number
     ∙ sym (ap (all_granted (all_waiting es) k) plan)
 
 pub number_at : (k : ℕ) (es : List Enqueued) (i : ℕ) (d : Enqueued) → place_of k (all_waiting es) ≡ Some i → (at es i d).no ≡ k
@@ -186,7 +186,7 @@ item_flag lines seen es ws i d same view rising is known l item =
 known_same : (old new : Resource → Queue) → ((r : Resource) → old r ≡ new r) → (es : List Enqueued) → AreKnown old [] es → AreKnown new [] es
 known_same old new same [] known = tt
 known_same old new same (e ∷ es) known =
-    let s = same_plan old new same e.no e.plan.items in
+    let s = same_plan old new same e.no e.plan.value in
     (record { sound = λ h. sym s ∙ known.0.sound h; complete = λ g. known.0.complete (s ∙ g) }, known_same old new same es known.1)
 
 pub known_as_before : (old new : Lines) (es seen : List Enqueued) → ((r : Resource) → line new r ≡ line old r) → seen ≡ es → AreKnown (line old) [] es → AreKnown (line new) [] seen
@@ -207,9 +207,9 @@ same_tree arena ts seen old new numbered granted free same chained items indexed
 
 -- one more transaction
 pub joined_tree : (arena : ℕ) (ts seen new : Transactions) (e : Enqueued) (old lender lines : Lines) → IsTree arena ts old → (enqueued seen) ≡ (enqueued ts) → ((r : Resource) → line lender r ≡ line old r)
-    → free_nodes lender.nodes.held ≡ free_nodes old.nodes.held → IsIndexed new → ((r : Resource) → line lines r ≡ line lender r ++ asks e.no (mode_on r e.plan.items) [])
+    → free_nodes lender.nodes.held ≡ free_nodes old.nodes.held → IsIndexed new → ((r : Resource) → line lines r ≡ line lender r ++ asks e.no (mode_on r e.plan.value) [])
     → all_waiting (enqueued new) ≡ all_waiting (enqueued seen) ++ waiting_of e ∷ [] → AreKnown (line lines) [] (enqueued new)
-    → IsNumbered lines None → AreGranted lines → free_nodes lines.nodes.held + length e.plan.items ≡ free_nodes lender.nodes.held → AreChained lines (enqueued new) → IsTree arena new lines
+    → IsNumbered lines None → AreGranted lines → free_nodes lines.nodes.held + length e.plan.value ≡ free_nodes lender.nodes.held → AreChained lines (enqueued new) → IsTree arena new lines
 joined_tree arena ts seen new e old lender lines tree items same free indexed joined waiting known numbered granted taken chained =
     let ws = all_waiting (enqueued ts) in
     let w = waiting_of e in
@@ -220,7 +220,7 @@ joined_tree arena ts seen new e old lender lines tree items same free indexed jo
       indexed = indexed;
       numbered = numbered;
       granted = granted;
-      lines = λ r. joined r ∙ ap (λ q. q ++ asks e.no (mode_on r e.plan.items) []) (same r ∙ tree.lines r) ∙ sym (queue_end r ws w) ∙ ap (queue r) (sym is);
+      lines = λ r. joined r ∙ ap (λ q. q ++ asks e.no (mode_on r e.plan.value) []) (same r ∙ tree.lines r) ∙ sym (queue_end r ws w) ∙ ap (queue r) (sym is);
       chained = chained;
       known = known;
     }

@@ -18,7 +18,7 @@ use Rattle.request_arena.specs.Lists.{Lists, free_nodes}
 use Rattle.lock_tree.specs.declared.line.Line.{Line}
 use Rattle.lock_tree.specs.Lines.{Lines, line, number_of, nodes_of, numbered, requests, is_same}
 use Rattle.lock_tree.specs.Numbered.{none, occupied, total, IsNumbered}
-use Rattle.lock_tree.proofs.Positions.{some_is, none_is, get_front, get_last, get_either, without_at, removed_length}
+use Rattle.lock_tree.proofs.Positions.{some_is, none_is, get_front, get_last, get_either, get_set_same, get_set_other, without_at, removed_length}
 use Rattle.lock_tree.proofs.Counting.{occupied_set, total_set, occupied_few, one_or_none, one_more, more_than_none, some_there, none_if_empty, none_if_some, linked_length, pushed_free, given_free}
 use Rattle.lock_tree.proofs.Resources.{itself, same_or_not, noted_here, noted_elsewhere}
 
@@ -34,11 +34,24 @@ or_other a b P same other = elim (eqb a b) as (λ v. eqb a b ≡ v → P) [
   | false ↦ λ e. other (not_number a b e)
 ] refl
 
+-- a number is one resource's
+pub unique : (l : Lines) (o : Option ℕ) → IsNumbered l o → (r s : Resource) (n : ℕ) → number_of l r ≡ Some n → number_of l s ≡ Some n → r ≡ s
+unique l o ok r s n e f = some_is r s (sym (ok.noted r n e) ∙ ok.noted s n f)
+
 -- ---- a number is taken
 
-pub taken_vacant : (was now : Lines) (q : ℕ) → IsNumbered was None → was.vacant.items ≡ now.vacant.items ++ q ∷ [] → vec_capacity now.vacant ≡ vec_capacity was.vacant
-    → IsNumbered (record was { vacant = now.vacant }) (Some q) × (nodes_of was.nodes q ≡ []) × (q < length was.lines.items)
-taken_vacant was now q ok is capacity =
+-- what a number is taken to: the queue is empty, the number is one of a line, and the resource is noted
+abbrev pub Taken : Lines → Lines → ℕ → Resource → Type 0
+Taken was now q r = IsNumbered now (Some q) × (nodes_of was.nodes q ≡ []) × (q < length now.lines.items) × (slice_get now.resources.items q ≡ Some r)
+
+pub vacant_last : (was : Lines) (q : ℕ) (rest : List ℕ) → IsNumbered was None → was.vacant.items ≡ rest ++ q ∷ [] → q < length was.resources.items
+vacant_last was q rest ok is =
+    let there = (ok.vacant (length rest) q (ap (λ xs. slice_get xs (length rest)) is ∙ get_last rest q)).0 in let many = ok.as_many in omega (arith, there, many)
+
+pub taken_vacant : (was now : Lines) (q : ℕ) (r : Resource) → IsNumbered was None → was.vacant.items ≡ now.vacant.items ++ q ∷ [] → vec_capacity now.vacant ≡ vec_capacity was.vacant
+    → now.resources.items ≡ slice_set was.resources.items q r → vec_capacity now.resources ≡ vec_capacity was.resources
+    → Taken was (record was { vacant = now.vacant; resources = now.resources }) q r
+taken_vacant was now q r ok is capacity written resources_capacity =
     let last : slice_get was.vacant.items (length now.vacant.items) ≡ Some q = ap (λ xs. slice_get xs (length now.vacant.items)) is ∙ get_last now.vacant.items q in
     let there = ok.vacant (length now.vacant.items) q last in
     let before = λ (i n : ℕ) (h : slice_get now.vacant.items i ≡ Some n). ap (λ xs. slice_get xs i) is ∙ get_front now.vacant.items (q ∷ []) i n h in (
@@ -47,7 +60,9 @@ taken_vacant was now q ok is capacity =
         many = ok.many;
         small = ok.small;
         named = λ r n e. ((ok.named r n e).0, λ empty. absurd (none_is n ((ok.named r n e).1 empty)));
-        unique = ok.unique;
+        noted = λ s n e. ap (λ xs. slice_get xs n) written ∙ get_set_other was.resources.items q n r (λ same. none_is n ((ok.named s n e).1 (ap (nodes_of was.nodes) same ∙ there.1))) ∙ ok.noted s n e;
+        as_many = ap length written ∙ length-set was.resources.items q r ∙ ok.as_many;
+        resources_fit = (let f = ok.resources_fit in omega (arith, f, resources_capacity));
         fresh = ok.fresh;
         vacant = λ i n h. (
           (ok.vacant i n (before i n h)).0,
@@ -66,16 +81,18 @@ taken_vacant was now q ok is capacity =
       },
       there.1,
       there.0,
+      ap (λ xs. slice_get xs q) written ∙ get_set_same was.resources.items q r (vacant_last was q now.vacant.items ok is),
     )
 
 pub number_left : (l : Lines) → IsNumbered l None → 0 < free_nodes l.nodes.held → l.vacant.items ≡ [] → length l.lines.items < length l.nodes.held
 number_left l ok free none_vacant =
     let few = occupied_few l.nodes.queues in let n = ok.count in let v = ap length none_vacant in let room = ok.room in omega (arith, few, n, v, room, free)
 
-pub taken_fresh : (was now : Lines) (x : Line) → IsNumbered was None → 0 < free_nodes was.nodes.held → was.vacant.items ≡ [] → now.vacant.items ≡ [] → vec_capacity now.vacant ≡ vec_capacity was.vacant
+pub taken_fresh : (was now : Lines) (x : Line) (r : Resource) → IsNumbered was None → 0 < free_nodes was.nodes.held → was.vacant.items ≡ [] → now.vacant.items ≡ [] → vec_capacity now.vacant ≡ vec_capacity was.vacant
     → now.lines.items ≡ was.lines.items ++ x ∷ [] → vec_capacity now.lines ≡ vec_capacity was.lines
-    → IsNumbered (record was { vacant = now.vacant; lines = now.lines }) (Some (length was.lines.items)) × (nodes_of was.nodes (length was.lines.items) ≡ []) × (length was.lines.items < length now.lines.items)
-taken_fresh was now x ok free none_vacant still vacant_capacity is capacity =
+    → now.resources.items ≡ was.resources.items ++ r ∷ [] → vec_capacity now.resources ≡ vec_capacity was.resources
+    → Taken was (record was { vacant = now.vacant; lines = now.lines; resources = now.resources }) (length was.lines.items) r
+taken_fresh was now x r ok free none_vacant still vacant_capacity is capacity noted_last resources_capacity =
     let left = number_left was ok free none_vacant in
     let n : length now.lines.items ≡ length was.lines.items + 1 = ap length is ∙ length_push was.lines.items x in
     let empty = ok.fresh (length was.lines.items) (omega arith) in (
@@ -84,7 +101,9 @@ taken_fresh was now x ok free none_vacant still vacant_capacity is capacity =
         many = ok.many;
         small = ok.small;
         named = λ r m e. (let l = (ok.named r m e).0 in omega (arith, l, n), λ none_there. absurd (none_is m ((ok.named r m e).1 none_there)));
-        unique = ok.unique;
+        noted = λ s m e. ap (λ xs. slice_get xs m) noted_last ∙ get_front was.resources.items (r ∷ []) m s (ok.noted s m e);
+        as_many = (let a = ok.as_many in let b : length now.resources.items ≡ length was.resources.items + 1 = ap length noted_last ∙ length_push was.resources.items r in omega (arith, a, b, n));
+        resources_fit = (let f = ok.resources_fit in omega (arith, f, resources_capacity));
         fresh = λ m le. ok.fresh m (omega (arith, le, n));
         vacant = λ i m h. absurd (none_is m (sym (ap (λ xs. slice_get xs i) still) ∙ h));
         apart = λ i j m h k. absurd (none_is m (sym (ap (λ xs. slice_get xs i) still) ∙ h));
@@ -95,6 +114,7 @@ taken_fresh was now x ok free none_vacant still vacant_capacity is capacity =
       },
       empty,
       omega (arith, n),
+      ap (λ xs. slice_get xs (length was.lines.items)) noted_last ∙ ap (slice_get (was.resources.items ++ r ∷ [])) (sym ok.as_many) ∙ get_last was.resources.items r,
     )
 
 -- ---- and noted
@@ -106,7 +126,7 @@ module _ (l now : Lines) (r : Resource) (q : ℕ) (updates : (s : Resource) → 
   pub number_elsewhere : (s : Resource) → is_same r s ≡ false → number_of (record l { numbers = now.numbers }) s ≡ number_of l s
   number_elsewhere s other = ap option_flatten (noted_elsewhere (get resource_cmp l.numbers s) (get resource_cmp now.numbers s) (is_same r s) (Some (Some q)) other (updates s))
 
-  module _ (ok : IsNumbered l (Some q)) (within : q < length l.lines.items) (empty : nodes_of l.nodes q ≡ []) (unnamed : (s : Resource) → number_of l s ≡ Some q → ⊥) (none_yet : number_of l r ≡ None) where
+  module _ (ok : IsNumbered l (Some q)) (within : q < length l.lines.items) (empty : nodes_of l.nodes q ≡ []) (here : slice_get l.resources.items q ≡ Some r) (none_yet : number_of l r ≡ None) where
     abbrev there : Lines
     there = record l { numbers = now.numbers }
 
@@ -118,12 +138,11 @@ module _ (l now : Lines) (r : Resource) (q : ℕ) (updates : (s : Resource) → 
       named = λ s n e. same_or_not r s ((n < length l.lines.items) × (nodes_of l.nodes n ≡ [] → Some q ≡ Some n))
           (λ same. let is : q ≡ n = some_is q n (sym number_here ∙ ap (number_of there) same ∙ e) in (subst (λ (k : ℕ). k < length l.lines.items) is within, λ _. ap Some is))
           (λ other. ok.named s n (sym (number_elsewhere s other) ∙ e));
-      unique = λ s t n e f. same_or_not r s (s ≡ t)
-          (λ same. same_or_not r t (s ≡ t) (λ also. sym same ∙ also)
-          (λ other. let is : q ≡ n = some_is q n (sym number_here ∙ ap (number_of there) same ∙ e) in absurd (unnamed t (sym (number_elsewhere t other) ∙ f ∙ ap Some (sym is)))))
-          (λ apart. same_or_not r t (s ≡ t)
-          (λ same. let is : q ≡ n = some_is q n (sym number_here ∙ ap (number_of there) same ∙ f) in absurd (unnamed s (sym (number_elsewhere s apart) ∙ e ∙ ap Some (sym is))))
-          (λ other. ok.unique s t n (sym (number_elsewhere s apart) ∙ e) (sym (number_elsewhere t other) ∙ f)));
+      noted = λ s n e. same_or_not r s (slice_get l.resources.items n ≡ Some s)
+          (λ same. let is : q ≡ n = some_is q n (sym number_here ∙ ap (number_of there) same ∙ e) in ap (slice_get l.resources.items) (sym is) ∙ here ∙ ap Some same)
+          (λ other. ok.noted s n (sym (number_elsewhere s other) ∙ e));
+      as_many = ok.as_many;
+      resources_fit = ok.resources_fit;
       fresh = ok.fresh;
       vacant = ok.vacant;
       apart = ok.apart;
@@ -151,7 +170,9 @@ closed l q ok filled = record {
   many = ok.many;
   small = ok.small;
   named = λ r n e. ((ok.named r n e).0, λ empty. absurd (filled (ap (nodes_of l.nodes) (some_is q n ((ok.named r n e).1 empty)) ∙ empty)));
-  unique = ok.unique;
+  noted = ok.noted;
+  as_many = ok.as_many;
+  resources_fit = ok.resources_fit;
   fresh = ok.fresh;
   vacant = λ i n h. ((ok.vacant i n h).0, (ok.vacant i n h).1, λ e. none_is n e);
   apart = ok.apart;
@@ -181,7 +202,7 @@ module _ (l now : Lines) (r : Resource) (q : ℕ) (updates : (s : Resource) → 
       (λ same. absurd (none_is n (sym (ap option_flatten gone_here) ∙ ap (number_of after) same ∙ e)))
       (λ other.
       let was : number_of l s ≡ Some n = sym (still_elsewhere s other) ∙ e in
-      (was, λ k. let t : r ≡ s = ok.unique r s n (named ∙ ap Some k) was in not_itself r s t other))
+      (was, λ k. let t : r ≡ s = unique l (Some q) ok r s n (named ∙ ap Some k) was in not_itself r s t other))
     where
       not_itself : (r s : Resource) → r ≡ s → is_same r s ≡ false → ⊥
       not_itself r s t other = let yes : is_same r s ≡ true = sym (ap (is_same r) t) ∙ itself r in absurd (cc)
@@ -192,7 +213,9 @@ module _ (l now : Lines) (r : Resource) (q : ℕ) (updates : (s : Resource) → 
     many = ok.many;
     small = ok.small;
     named = λ s n e. let was = noted s n e in ((ok.named s n was.0).0, λ none_there. absurd (was.1 (some_is q n ((ok.named s n was.0).1 none_there))));
-    unique = λ s t n e f. ok.unique s t n (noted s n e).0 (noted t n f).0;
+    noted = λ s n e. ok.noted s n (noted s n e).0;
+    as_many = ok.as_many;
+    resources_fit = ok.resources_fit;
     fresh = ok.fresh;
     vacant = λ i n h. elim (get_either l.vacant.items q i n (sym (ap (λ xs. slice_get xs i) is) ∙ h)) [
       | inl before ↦ ((ok.vacant i n before).0, (ok.vacant i n before).1, λ e. none_is n e)
@@ -252,7 +275,9 @@ module _ (was now : Lines) (q id : ℕ) (tail : Option ℕ) (h : Held) (ok : IsN
       λ empty. or_other n q (None ≡ Some n) (λ same. absurd (filled (ap (nodes_of now.nodes) (sym same) ∙ empty)))
           (λ other. absurd (other (sym (some_is q n ((ok.named r n e).1 (sym (added_elsewhere n other) ∙ empty)))))),
     );
-    unique = ok.unique;
+    noted = ok.noted;
+    as_many = (let a = ok.as_many in omega (arith, a, many));
+    resources_fit = (let f = ok.resources_fit in let n = added_nodes in omega (arith, f, n));
     fresh = λ n le. let m : length was.lines.items ≤ n = omega (arith, le, many) in added_elsewhere n (λ e. absurd (omega (arith, m, e, within))) ∙ ok.fresh n m;
     vacant = λ i n there. let v = ok.vacant i n there in (
       (let l = v.0 in omega (arith, l, many)),
@@ -298,7 +323,9 @@ module _ (was now : Lines) (q i a : ℕ) (h : Held) (ok : IsNumbered was None) (
       (let l = (ok.named r n e).0 in omega (arith, l, many)),
       λ empty. or_other n q (Some q ≡ Some n) (λ same. ap Some (sym same)) (λ other. absurd (none_is n ((ok.named r n e).1 (sym (left_elsewhere n other) ∙ empty)))),
     );
-    unique = ok.unique;
+    noted = ok.noted;
+    as_many = (let a = ok.as_many in omega (arith, a, many));
+    resources_fit = (let f = ok.resources_fit in let n = left_nodes in omega (arith, f, n));
     fresh = λ n le. let m : length was.lines.items ≤ n = omega (arith, le, many) in left_elsewhere n (λ e. absurd (omega (arith, m, e, within))) ∙ ok.fresh n m;
     vacant = λ j n h. let v = ok.vacant j n h in let other : n ≡ q → ⊥ = λ e. (some_there (nodes_of was.nodes q) i a there).1 (ap (nodes_of was.nodes) (sym e) ∙ v.1) in (
       (let l = v.0 in omega (arith, l, many)),
@@ -324,7 +351,9 @@ reopened l r q ok named =
       many = ok.many;
       small = ok.small;
       named = λ s n e. ((ok.named s n e).0, λ empty. absurd (none_is n ((ok.named s n e).1 empty)));
-      unique = ok.unique;
+      noted = ok.noted;
+      as_many = ok.as_many;
+      resources_fit = ok.resources_fit;
       fresh = ok.fresh;
       vacant = λ i n h. ((ok.vacant i n h).0, (ok.vacant i n h).1, λ e. filled (ap (nodes_of l.nodes) (some_is q n e) ∙ (ok.vacant i n h).1));
       apart = ok.apart;
@@ -343,7 +372,9 @@ module _ (l now : Lines) (same : (s : Resource) → number_of (record l { number
     many = ok.many;
     small = ok.small;
     named = λ r n e. ok.named r n (sym (same r) ∙ e);
-    unique = λ r s n e f. ok.unique r s n (sym (same r) ∙ e) (sym (same s) ∙ f);
+    noted = λ r n e. ok.noted r n (sym (same r) ∙ e);
+    as_many = ok.as_many;
+    resources_fit = ok.resources_fit;
     fresh = ok.fresh;
     vacant = ok.vacant;
     apart = ok.apart;
@@ -378,18 +409,20 @@ blank n = record { queues = replicate n []; held = replicate n None }
 pub all_free : (lists : Lists) (n : ℕ) → lists ≡ blank n → free_nodes lists.held ≡ n
 all_free lists n is = ap (λ (x : Lists). free_nodes x.held) is ∙ free_all n
 
-pub none_numbered : (l : Lines) (n : ℕ) → n < 2 ^ 64 → l.nodes ≡ blank n → l.numbers.entries ≡ [] → l.lines.items ≡ [] → l.vacant.items ≡ [] → n ≤ vec_capacity l.lines → n ≤ vec_capacity l.vacant → IsNumbered l None
-none_numbered l n small is no_number no_line no_vacant lines_fit vacant_fit =
+pub none_numbered : (l : Lines) (n : ℕ) → n < 2 ^ 64 → l.nodes ≡ blank n → l.numbers.entries ≡ [] → l.lines.items ≡ [] → l.vacant.items ≡ [] → l.resources.items ≡ [] → n ≤ vec_capacity l.lines → n ≤ vec_capacity l.vacant → n ≤ vec_capacity l.resources → IsNumbered l None
+none_numbered l n small is no_number no_line no_vacant no_resource lines_fit vacant_fit resources_fit =
     let held : length l.nodes.held ≡ n = ap (λ (x : Lists). length x.held) is ∙ length-replicate n None in
     let queues : length l.nodes.queues ≡ n = ap (λ (x : Lists). length x.queues) is ∙ length-replicate n [] in
     let unnamed : (r : Resource) (q : ℕ) → number_of l r ≡ Some q → ⊥ = λ r q e. none_is q (sym (ap (λ es. option_flatten (lookup (λ k. is_eq (resource_cmp r k)) es)) no_number) ∙ e) in
-    let lines : length l.lines.items ≡ 0 = ap length no_line in let vacant : length l.vacant.items ≡ 0 = ap length no_vacant in
+    let lines : length l.lines.items ≡ 0 = ap length no_line in let vacant : length l.vacant.items ≡ 0 = ap length no_vacant in let resources : length l.resources.items ≡ 0 = ap length no_resource in
     record {
       few = omega (arith, held, lines);
       many = omega (arith, held, queues);
       small = subst (λ (k : ℕ). k < 2 ^ 64) (sym held) small;
       named = λ r q e. absurd (unnamed r q e);
-      unique = λ r s q e f. absurd (unnamed r q e);
+      noted = λ r q e. absurd (unnamed r q e);
+      as_many = omega (arith, lines, resources);
+      resources_fit = omega (arith, held, resources_fit);
       fresh = λ q le. ap (λ (x : Lists). get_or x.queues q []) is ∙ empty_at n q;
       vacant = λ i q h. absurd (none_is q (sym (ap (λ xs. slice_get xs i) no_vacant) ∙ h));
       apart = λ i j q h k. absurd (none_is q (sym (ap (λ xs. slice_get xs i) no_vacant) ∙ h));

@@ -31,7 +31,7 @@ pub record Chains (lines : Lines) (owner : ℕ) (plan : Requests) (numbers : Lis
   pub placed : ArePlaced lines owner plan numbers (chain_from lines.nodes.held head)
 
 abbrev pub IsChained : Lines → Enqueued → Type 0
-IsChained lines e = Chains lines e.no e.plan.items e.numbers.items e.head
+IsChained lines e = (numbers : List ℕ) × Chains lines e.no e.plan.value numbers e.head
 
 abbrev pub AreChained : Lines → List Enqueued → Type 0
 AreChained lines es = AllByRecursion (IsChained lines) es

@@ -11,7 +11,7 @@ use Rattle.lock_tree.specs.declared.transactions.Transactions.{Transactions}
 use Rattle.lock_tree.specs.Locks.{Waiting, Locks}
 
 abbrev pub waiting_of : Enqueued → Waiting
-waiting_of e = record { no = e.no; plan = e.plan.items; marked = e.marked }
+waiting_of e = record { no = e.no; plan = e.plan.value; marked = e.marked }
 
 abbrev pub all_waiting : List Enqueued → List Waiting
 all_waiting es = map waiting_of es

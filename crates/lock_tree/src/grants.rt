@@ -16,12 +16,14 @@ pub(crate) fn are_granted(lines: &Lines, entry: &Enqueued) -> bool
     requires numbered { IsNumbered lines.now None }
     requires granted { AreGranted lines.now }
     requires chained { IsChained lines.now entry.now }
-    ensures { result ≡ granted_in (line lines.now) entry.now.no entry.now.plan.items }
+    ensures { result ≡ granted_in (line lines.now) entry.now.no entry.now.plan.value }
 {
-    for number in &entry.numbers {
-        if !is_granted(lines, *number, entry.no) {
+    let mut head = entry.head;
+    while let Some(node) = head {
+        if !is_granted(lines, lines.nodes.queue_of(node), entry.no) {
             return false;
         }
+        head = lines.nodes.behind(node);
     }
     true
 }

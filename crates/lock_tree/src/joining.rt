@@ -1,9 +1,8 @@
 //! Transactions that join the queues of their plans.
 
-ghost use Rattle.std.specs.Prelude.{◌≡◌, ◌≤◌, ◌+◌, [], ◌∷◌, ◌++◌, length, false, None, OnOk, OnErr};
+ghost use Rattle.std.specs.Prelude.{◌≡◌, ◌≤◌, ◌+◌, ℕ, List, [], ◌∷◌, ◌++◌, length, false, None, OnOk, OnErr};
 ghost use Rattle.std.specs.List.{AllByRecursion};
 ghost use Rattle.std.specs.Map.{keys_of};
-ghost use Rattle.std.specs.Vec.{vec_capacity};
 ghost use Rattle.std.specs.List.Sorted.{IsStrictlySortedBy};
 ghost use Rattle.footprint.specs.declared.resource.Resource.{Resource as AnyResource};
 ghost use Rattle.footprint.specs.Tree.{resource_cmp};
@@ -47,36 +46,27 @@ pub(crate) fn make_room_for(lines: &mut Lines, plan: &[(Resource, Mode)]) -> Res
     Ok(())
 }
 
-/// Puts a transaction behind the others in the queues of its plan: the first node of its chain. The numbers of the queues
-/// come behind those that are there.
-fn join_all(
-    lines: &mut Lines,
-    plan: &[(Resource, Mode)],
-    no: u64,
-    numbers: &mut Vec<usize>,
-) -> Option<NodeId>
+/// Puts a transaction behind the others in the queues of its plan: the first node of its chain.
+fn join_all(lines: &mut Lines, plan: &[(Resource, Mode)], no: u64) -> Option<NodeId>
     requires numbered { IsNumbered lines.old None }
     requires granted { AreGranted lines.old }
     requires free { length plan.now ≤ free_nodes lines.old.nodes.held }
     requires room { AllByRecursion (λ request. HasRoom lines.old request.0) plan.now }
     requires apart { IsStrictlySortedBy resource_cmp (keys_of plan.now) }
     requires above { AllByRecursion (λ request. AllUnder no (numbers_of (line lines.old request.0))) plan.now }
-    requires numbers { numbers.old.items ≡ [] }
-    requires capacity { length plan.now ≤ vec_capacity numbers.old }
     ensures numbered { IsNumbered lines.new None }
     ensures granted { AreGranted lines.new }
     ensures free { free_nodes lines.new.nodes.held + length plan.now ≡ free_nodes lines.old.nodes.held }
     ensures joined { (other : AnyResource) →
         line lines.new other ≡ line lines.old other ++ asks no (mode_on other plan.now) [] }
     ensures others { OthersChained no lines.old lines.new }
-    ensures chained { Chains lines.new no plan.now numbers.new.items result }
+    ensures chained { (numbers : List ℕ) × Chains lines.new no plan.now numbers result }
 {
     let mut head = None;
     let mut tail = None;
     for (resource, mode) in plan {
         let request = Request { no, mode: *mode };
-        let (number, node) = push(lines, resource, tail, request);
-        numbers.push_reserved(number);
+        let node = push(lines, resource, tail, request);
         head = head.or(Some(node));
         tail = Some(node);
     }
@@ -84,49 +74,48 @@ fn join_all(
 }
 
 /// Puts a transaction behind the others in the queues of its plan, and notes where its requests stand and whether it is ready.
-fn join_queues(lines: &mut Lines, entry: &mut Enqueued)
+fn join_queues(lines: &mut Lines, plan: &[(Resource, Mode)], entry: &mut Enqueued)
+    requires plan { entry.old.plan.value ≡ plan.now }
     requires numbered { IsNumbered lines.old None }
     requires granted { AreGranted lines.old }
-    requires free { length entry.old.plan.items ≤ free_nodes lines.old.nodes.held }
-    requires room { AllByRecursion (λ request. HasRoom lines.old request.0) entry.old.plan.items }
-    requires numbers { entry.old.numbers.items ≡ [] }
-    requires capacity { length entry.old.plan.items ≤ vec_capacity entry.old.numbers }
-    requires apart { IsStrictlySortedBy resource_cmp (keys_of entry.old.plan.items) }
+    requires free { length entry.old.plan.value ≤ free_nodes lines.old.nodes.held }
+    requires room { AllByRecursion (λ request. HasRoom lines.old request.0) entry.old.plan.value }
+    requires apart { IsStrictlySortedBy resource_cmp (keys_of entry.old.plan.value) }
     requires above { AllByRecursion (λ request.
-        AllUnder entry.old.no (numbers_of (line lines.old request.0))) entry.old.plan.items }
+        AllUnder entry.old.no (numbers_of (line lines.old request.0))) entry.old.plan.value }
     ensures numbered { IsNumbered lines.new None }
     ensures granted { AreGranted lines.new }
-    ensures free { free_nodes lines.new.nodes.held + length entry.old.plan.items ≡ free_nodes lines.old.nodes.held }
+    ensures free { free_nodes lines.new.nodes.held + length entry.old.plan.value ≡ free_nodes lines.old.nodes.held }
     ensures joined { (other : AnyResource) →
-        line lines.new other ≡ line lines.old other ++ asks entry.old.no (mode_on other entry.old.plan.items) [] }
+        line lines.new other ≡ line lines.old other ++ asks entry.old.no (mode_on other entry.old.plan.value) [] }
     ensures others { OthersChained entry.old.no lines.old lines.new }
     ensures same { waiting_of entry.new ≡ waiting_of entry.old }
     ensures chained { IsChained lines.new entry.new }
-    ensures ready { entry.new.ready ≡ granted_in (line lines.new) entry.new.no entry.new.plan.items }
+    ensures ready { entry.new.ready ≡ granted_in (line lines.new) entry.new.no entry.new.plan.value }
 {
-    entry.head = join_all(lines, entry.plan.as_slice(), entry.no, &mut entry.numbers);
+    entry.head = join_all(lines, plan, entry.no);
     entry.ready = are_granted(lines, entry);
 }
 
-/// Puts a transaction that is not ready behind all others. There is room for its requests. On an error nothing has changed.
+/// Puts a transaction with its plan, which is not ready, behind all others. There is room for its requests. On an error nothing has changed.
 pub(crate) fn join(
     lines: &mut Lines,
     transactions: &mut Transactions,
+    plan: &[(Resource, Mode)],
     entry: Enqueued,
 ) -> Result<(), NoMemory>
+    requires plan { entry.plan.value ≡ plan.now }
     requires numbered { IsNumbered lines.old None }
     requires granted { AreGranted lines.old }
-    requires free { length entry.plan.items ≤ free_nodes lines.old.nodes.held }
-    requires room { AllByRecursion (λ request. HasRoom lines.old request.0) entry.plan.items }
-    requires numbers { entry.numbers.items ≡ [] }
-    requires capacity { length entry.plan.items ≤ vec_capacity entry.numbers }
+    requires free { length entry.plan.value ≤ free_nodes lines.old.nodes.held }
+    requires room { AllByRecursion (λ request. HasRoom lines.old request.0) entry.plan.value }
     requires waits { entry.ready ≡ false }
     requires indexed { IsIndexed transactions.old }
     requires place { HasPlace transactions.old }
-    requires apart { IsStrictlySortedBy resource_cmp (keys_of entry.plan.items) }
+    requires apart { IsStrictlySortedBy resource_cmp (keys_of entry.plan.value) }
     requires below { AreBelow entry.no (all_waiting (enqueued transactions.old)) }
     requires above { AllByRecursion (λ request.
-        AllUnder entry.no (numbers_of (line lines.old request.0))) entry.plan.items }
+        AllUnder entry.no (numbers_of (line lines.old request.0))) entry.plan.value }
     requires known { AreKnown (line lines.old) [] (enqueued transactions.old) }
     requires chained { AreChained lines.old (enqueued transactions.old) }
     ensures numbered { IsNumbered lines.new None }
@@ -135,9 +124,9 @@ pub(crate) fn join(
     ensures known { AreKnown (line lines.new) [] (enqueued transactions.new) }
     ensures chained { AreChained lines.new (enqueued transactions.new) }
     ensures free { OnOk result
-        (free_nodes lines.new.nodes.held + length entry.plan.items ≡ free_nodes lines.old.nodes.held) }
+        (free_nodes lines.new.nodes.held + length entry.plan.value ≡ free_nodes lines.old.nodes.held) }
     ensures joined { OnOk result ((other : AnyResource) →
-        line lines.new other ≡ line lines.old other ++ asks entry.no (mode_on other entry.plan.items) []) }
+        line lines.new other ≡ line lines.old other ++ asks entry.no (mode_on other entry.plan.value) []) }
     ensures waiting { OnOk result (all_waiting (enqueued transactions.new) ≡ all_waiting (enqueued transactions.old)
         ++ waiting_of entry ∷ []) }
     ensures err { OnErr result ((lines.new ≡ lines.old)
@@ -148,7 +137,7 @@ pub(crate) fn join(
     let Some(entry) = transactions.entries.get_mut(&no) else {
         unreachable!()
     };
-    join_queues(lines, entry);
+    join_queues(lines, plan, entry);
     push_open(&mut transactions.open, entry);
     Ok(())
 }

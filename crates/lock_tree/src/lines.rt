@@ -23,7 +23,8 @@ pub(crate) struct Lines {
     pub(crate) nodes: Queues,
     // A resource that none asks for may be there without a number.
     pub(crate) numbers: BTreeMap<Resource, Option<usize>>,
-    // By the queue's number.
+    // By the queue's number: its resource, and what is granted.
+    pub(crate) resources: Vec<Resource>,
     pub(crate) lines: Vec<Line>,
     pub(crate) vacant: Vec<usize>,
 }
@@ -39,6 +40,7 @@ impl Lines {
         Ok(Lines {
             nodes: Queues::with_capacity(alloc, arena, arena)?,
             numbers: BTreeMap::new(alloc),
+            resources: Vec::with_capacity(alloc, arena)?,
             lines: Vec::with_capacity(alloc, arena)?,
             vacant: Vec::with_capacity(alloc, arena)?,
         })

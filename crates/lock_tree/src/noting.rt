@@ -1,6 +1,6 @@
 //! Transactions that leave their queues, and who gets ready.
 
-ghost use Rattle.std.specs.Prelude.{◌≡◌, ◌<◌, ◌+◌, drop, length, [], ◌∷◌, ◌==◌, false, None, Some, slice_get, if◌then◌else◌};
+ghost use Rattle.std.specs.Prelude.{◌≡◌, ◌<◌, ◌+◌, ℕ, List, drop, length, [], ◌∷◌, ◌==◌, false, None, Some, slice_get, if◌then◌else◌};
 ghost use Rattle.std.specs.List.{AllByRecursion};
 ghost use Rattle.footprint.specs.declared.resource.Resource.{Resource as AnyResource};
 ghost use Rattle.modes.specs.declared.mode.Mode.{Mode as AnyMode};
@@ -15,12 +15,12 @@ ghost use Rattle.lock_tree.specs.Steps.{IsShorter};
 ghost use Rattle.lock_tree.specs.Known.{AreKnown};
 ghost use Rattle.lock_tree.specs.Views.{all_waiting, enqueued};
 
+use crate::enqueued::Enqueued;
 use crate::grants::are_granted;
 use crate::lines::Lines;
 use crate::queues::remove;
 use crate::transactions::Transactions;
 use footprint::Resource;
-use modes::Mode;
 use request_arena::NodeId;
 
 /// Notes whether a transaction is ready.
@@ -109,39 +109,36 @@ fn leave_one(
     left.behind
 }
 
-/// Takes a transaction off the queues of its plan, whose numbers are given, node by node along its chain, and notes who gets
-/// ready.
+/// Takes a transaction off the queues of its plan, node by node along its chain, and notes who gets ready.
 pub(crate) fn leave_all(
     lines: &mut Lines,
     transactions: &mut Transactions,
-    plan: &[(Resource, Mode)],
-    numbers: &[usize],
-    mut head: Option<NodeId>,
+    entry: &Enqueued,
     no: u64,
 )
     requires numbered { IsNumbered lines.old None }
     requires granted { AreGranted lines.old }
-    requires chain { Chains lines.old no plan.now numbers.now head }
+    requires chain { (numbers : List ℕ) × Chains lines.old no entry.now.plan.value numbers entry.now.head }
     requires indexed { IsIndexed transactions.old }
     requires others { AllByRecursion (λ waiting.
         (waiting.no == no) ≡ false) (all_waiting (enqueued transactions.old)) }
     requires known { AreKnown (line lines.old) [] (enqueued transactions.old) }
     requires chained { AreChained lines.old (enqueued transactions.old) }
-    requires elsewhere { (other : AnyResource) → mode_on other plan.now ≡ None →
+    requires elsewhere { (other : AnyResource) → mode_on other entry.now.plan.value ≡ None →
         others no (line lines.old other) ≡ line lines.old other }
     ensures numbered { IsNumbered lines.new None }
     ensures granted { AreGranted lines.new }
-    ensures free { free_nodes lines.new.nodes.held ≡ free_nodes lines.old.nodes.held + length plan.now }
+    ensures free { free_nodes lines.new.nodes.held ≡ free_nodes lines.old.nodes.held + length entry.now.plan.value }
     ensures left { (other : AnyResource) → line lines.new other ≡ others no (line lines.old other) }
     ensures indexed { IsIndexed transactions.new }
     ensures same { all_waiting (enqueued transactions.new) ≡ all_waiting (enqueued transactions.old) }
     ensures known { AreKnown (line lines.new) [] (enqueued transactions.new) }
     ensures chained { AreChained lines.new (enqueued transactions.new) }
 {
-    let mut place = 0;
-    for (resource, _) in plan {
-        let Some(node) = head else { unreachable!() };
-        head = leave_one(lines, transactions, resource, numbers[place], node, no);
-        place += 1;
+    let mut head = entry.head;
+    while let Some(node) = head {
+        let number = lines.nodes.queue_of(node);
+        let resource = lines.resources[number];
+        head = leave_one(lines, transactions, &resource, number, node, no);
     }
 }

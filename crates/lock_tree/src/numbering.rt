@@ -1,6 +1,6 @@
 //! The numbers of queues.
 
-ghost use Rattle.std.specs.Prelude.{◌≡◌, ◌<◌, [], Some, None, length};
+ghost use Rattle.std.specs.Prelude.{◌≡◌, ◌<◌, [], Some, None, length, slice_get};
 ghost use Rattle.footprint.specs.declared.resource.Resource.{Resource as AnyResource};
 ghost use Rattle.request_arena.specs.Lists.{free_nodes};
 ghost use Rattle.lock_tree.specs.Lines.{number_of, nodes_of, HasRoom};
@@ -12,8 +12,8 @@ use crate::line::push_empty;
 use crate::lines::Lines;
 use footprint::Resource;
 
-/// Takes a number that is no resource's: the one that became vacant last, or else the least. A node is free.
-fn take(lines: &mut Lines) -> usize
+/// Takes a number that is no resource's for one: the number that became vacant last, or else the least. A node is free.
+fn take(lines: &mut Lines, resource: &Resource) -> usize
     requires numbered { IsNumbered lines.old None }
     requires granted { AreGranted lines.old }
     requires free { 0 < free_nodes lines.old.nodes.held }
@@ -21,14 +21,17 @@ fn take(lines: &mut Lines) -> usize
     ensures granted { AreGranted lines.new }
     ensures empty { nodes_of lines.new.nodes result ≡ [] }
     ensures within { result < length lines.new.lines.items }
+    ensures noted { slice_get lines.new.resources.items result ≡ Some resource.now }
     ensures nodes { lines.new.nodes ≡ lines.old.nodes }
     ensures numbers { lines.new.numbers ≡ lines.old.numbers }
 {
     if let Some(number) = lines.vacant.pop() {
+        lines.resources[number] = *resource;
         return number;
     }
     let number = lines.lines.len();
     push_empty(&mut lines.lines);
+    lines.resources.push_reserved(*resource);
     number
 }
 
@@ -41,7 +44,7 @@ fn open(lines: &mut Lines, resource: &Resource) -> usize
     requires none { number_of lines.old resource.now ≡ None }
     ensures { IsOpened lines.old resource.now result lines.new }
 {
-    let number = take(lines);
+    let number = take(lines, resource);
     let _ = lines.numbers.insert(*resource, Some(number));
     number
 }

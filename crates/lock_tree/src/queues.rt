@@ -18,14 +18,14 @@ use crate::numbering::{forget_empty, number_for};
 use footprint::Resource;
 use request_arena::{NodeId, Request};
 
-/// Puts a request behind the others on its resource, and behind the tail of its transaction's chain: the number of its
-/// queue, and its node. There is room for it.
+/// Puts a request behind the others on its resource, and behind the tail of its transaction's chain: its node. There is room
+/// for it.
 pub(crate) fn push(
     lines: &mut Lines,
     resource: &Resource,
     tail: Option<NodeId>,
     request: Request,
-) -> (usize, NodeId)
+) -> NodeId
     requires numbered { IsNumbered lines.old None }
     requires granted { AreGranted lines.old }
     requires free { 0 < free_nodes lines.old.nodes.held }
@@ -41,11 +41,10 @@ pub(crate) fn push(
         else line lines.old other) }
     ensures room { (other : AnyResource) → HasRoom lines.old other → HasRoom lines.new other }
     ensures others { OthersChained request.no lines.old lines.new }
-    ensures longer { IsLonger request.no resource.now result.0 tail result.1 lines.old lines.new }
+    ensures longer { (number : ℕ) × IsLonger request.no resource.now number tail result lines.old lines.new }
 {
     let number = number_for(lines, resource);
-    let node = add(lines, number, tail, request);
-    (number, node)
+    add(lines, number, tail, request)
 }
 
 /// Takes the first node of a transaction's chain out of the queue of its resource, and forgets the resource where none asks

@@ -28,7 +28,6 @@ pub enum EnqueueFault {
 /// list of them.
 #[derive(Drop)]
 pub struct LockTree {
-    alloc: Global,
     arena: usize,
     transactions: Transactions,
     pub(crate) lines: Lines,
@@ -57,7 +56,6 @@ impl LockTree {
         ensures { IfOk result (λ tree. tree ≡ record { arena = arena; waiting = [] }) }
     {
         Ok(LockTree {
-            alloc,
             arena,
             transactions: Transactions::new(alloc),
             lines: Lines::new(alloc, arena)?,
@@ -79,10 +77,14 @@ impl LockTree {
         if plan.requests().len() > self.lines.nodes.free() {
             return Err(EnqueueFault::Full);
         }
-        let entry = Enqueued::new(self.alloc, no, plan.requests())?;
         self.transactions.make_place()?;
         make_room_for(&mut self.lines, plan.requests())?;
-        join(&mut self.lines, &mut self.transactions, entry)?;
+        join(
+            &mut self.lines,
+            &mut self.transactions,
+            plan.requests(),
+            Enqueued::new(no, plan),
+        )?;
         Ok(())
     }
 
@@ -131,14 +133,7 @@ impl LockTree {
         ensures { self.new ≡ record self.old { waiting = without no self.old.waiting } }
     {
         if let Some(entry) = self.transactions.remove(no) {
-            leave_all(
-                &mut self.lines,
-                &mut self.transactions,
-                entry.plan.as_slice(),
-                entry.numbers.as_slice(),
-                entry.head,
-                no,
-            );
+            leave_all(&mut self.lines, &mut self.transactions, &entry, no);
         }
     }
 }

@@ -10,7 +10,7 @@ use Rattle.request_arena.specs.Nodes.{next, prev, live, next_of, prev_of}
 use Rattle.request_arena.specs.Places.{fresh, at_place, tabulated, laid}
 use Rattle.request_arena.specs.Walks.{Used}
 use Rattle.request_arena.proofs.Walks.{true_false}
-use Rattle.request_arena.proofs.Places.{tabulated_length, laid_get}
+use Rattle.request_arena.proofs.Places.{tabulated_length, at_blank, laid_blank, laid_get}
 
 all_free : (c : ℕ) → free_nodes (replicate c None) ≡ c
 all_free zero = refl
@@ -49,7 +49,7 @@ module _ (ns : List Node) (dead : (a : ℕ) → live ns a ≡ false) where
         let to : suc v ≡ next ns v = omega (arith, low v (omega (arith, sum))) in
         (refl, omega (arith, sum), dead v, less_is_none v (suc v) k (omega arith), subst (λ n. Stack ns c n (count_up (suc v) k)) to (counted_up (suc v) k (omega (arith, sum))))
 
-    pub linked_first : (k : ℕ) → c + k < 2 ^ 64 → length ns ≡ c + k → ((a : ℕ) → c ≤ a → a < c + k → next ns a ≡ a) → ((a : ℕ) → a < c + k → prev ns a ≡ a)
+    pub linked_first : (k : ℕ) → c + k < 2 ^ 30 → length ns ≡ c + k → ((a : ℕ) → c ≤ a → a < c + k → next ns a ≡ a) → ((a : ℕ) → a < c + k → prev ns a ≡ a)
         → held_in c ns ≡ replicate c None → IsLinked ns c k 0 c
     linked_first k fits long high back held = record {
       long = long;
@@ -73,12 +73,12 @@ module _ (ns : List Node) (dead : (a : ℕ) → live ns a ≡ false) where
 
 -- ---- places that hold nothing
 
-all_dead : (c h k a : ℕ) → live (tabulated (at_place c []) h k) a ≡ false
+all_dead : (c h k a : ℕ) → live (tabulated (fresh c) h k) a ≡ false
 all_dead c h zero a = refl
 all_dead c h (suc k) zero = refl
 all_dead c h (suc k) (suc a) = all_dead c (suc h) k a
 
-held_none : (c h n k : ℕ) → n ≤ k → held_in n (tabulated (at_place c []) h k) ≡ replicate n None
+held_none : (c h n k : ℕ) → n ≤ k → held_in n (tabulated (fresh c) h k) ≡ replicate n None
 held_none c h zero k p = refl
 held_none c h (suc n) zero p = absurd (omega (arith, p))
 held_none c h (suc n) (suc k) p = ap (λ l. None ∷ l) (held_none c (suc h) n k (omega (arith, p)))
@@ -93,7 +93,7 @@ module _ (c k : ℕ) where
   blank_long = tabulated_length (at_place c []) 0 (c + k)
 
   blank_at : (a : ℕ) → a < c + k → slice_get blank a ≡ Some (fresh c a)
-  blank_at a p = laid_get c k [] a (omega (arith, p, blank_long))
+  blank_at a p = laid_get c k [] a (omega (arith, p, blank_long)) ∙ ap Some (at_blank c a)
 
   blank_low : (a : ℕ) → a < c → next blank a ≡ a + 1
   blank_low a p = ap next_of (blank_at a (omega (arith, p))) ∙ grind (arith, p)
@@ -105,10 +105,10 @@ module _ (c k : ℕ) where
   blank_back a p = ap prev_of (blank_at a p)
 
   pub blank_dead : (a : ℕ) → live blank a ≡ false
-  blank_dead a = all_dead c 0 (c + k) a
+  blank_dead a = ap (λ l. live l a) (laid_blank c k) ∙ all_dead c 0 (c + k) a
 
   pub blank_held : held_in c blank ≡ replicate c None
-  blank_held = held_none c 0 c (c + k) (omega arith)
+  blank_held = ap (held_in c) (laid_blank c k) ∙ held_none c 0 c (c + k) (omega arith)
 
-  pub blank_linked : c + k < 2 ^ 64 → IsLinked blank c k 0 c
+  pub blank_linked : c + k < 2 ^ 30 → IsLinked blank c k 0 c
   blank_linked fits = linked_first blank blank_dead c blank_low k fits blank_long blank_high blank_back blank_held

@@ -61,6 +61,21 @@ module _ (hs : List (Option Held)) (was : IsChained hs) (x : ℕ) (on : held_at 
   pub chain_rest : (b : Option ℕ) → step hs x ≡ place_or (length hs) b → chain hs x ≡ x ∷ chain_from left b
   chain_rest b to = let w = was x on in goes_is hs w.0 x w.1 ∙ begins_with w.0 w.1 b to
 
+-- ---- what comes behind the first node of a chain is the chain of the next one
+
+module _ (hs : List (Option Held)) (was : IsChained hs) (x : ℕ) (on : held_at hs x ≡ true) where
+  rest_goes : (ys : List ℕ) (b : Option ℕ) → step hs x ≡ place_or (length hs) b → Goes hs (step hs x) ys → chain_from hs b ≡ ys
+  rest_goes [] None to w = refl
+  rest_goes (y ∷ ys) None to w = absurd (true_false (held_at hs (length hs)) (ap (held_at hs) (sym to) ∙ w.1) (past hs))
+  rest_goes ys (Some id) to w = goes_is hs ys id (subst (λ b. Goes hs b ys) to w)
+
+  goes_with : (xs : List ℕ) → Goes hs x xs → (b : Option ℕ) → step hs x ≡ place_or (length hs) b → xs ≡ x ∷ chain_from hs b
+  goes_with [] w b to = absurd (true_false (held_at hs x) on w.1)
+  goes_with (y ∷ ys) w b to = (λ i. sym w.0 i ∷ sym (rest_goes ys b to w.2) i)
+
+  pub chain_goes_on : (b : Option ℕ) → step hs x ≡ place_or (length hs) b → chain hs x ≡ x ∷ chain_from hs b
+  chain_goes_on b to = let w = was x on in goes_is hs w.0 x w.1 ∙ goes_with w.0 w.1 b to
+
 -- ---- a free node v is filled, and nothing comes behind it
 
 module _ (hs now : List (Option Held)) (was : IsChained hs) (v : ℕ) (r : Request) (long : length now ≡ length hs) (there : slice_get now v ≡ Some (Some (record { request = r; behind = None }))) where

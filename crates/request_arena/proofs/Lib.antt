@@ -6,6 +6,7 @@ pub mod Deeds
 pub mod Extending
 pub mod Firsts
 pub mod Holding
+pub mod Homes
 pub mod Linked
 pub mod Neighbours
 pub mod Nodes

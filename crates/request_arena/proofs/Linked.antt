@@ -6,10 +6,11 @@ use Rattle.request_arena.specs.Chains.{linked}
 use Rattle.request_arena.specs.Following.{follow}
 use Rattle.request_arena.specs.Linked.{spread, held_in, queue_of, IsLinked}
 use Rattle.request_arena.specs.Lists.{free_nodes}
-use Rattle.request_arena.specs.Nodes.{next, prev, live, is_live, with_behind, with_tail}
+use Rattle.request_arena.specs.Nodes.{next, prev, live, next_of, prev_of, is_live, with_home, with_behind, with_tail}
 use Rattle.request_arena.specs.Walks.{Walk, Used, IsRing}
 use Rattle.request_arena.proofs.Walks.{followed_walk}
-use Rattle.request_arena.proofs.Nodes.{long_behind, next_of_behind, prev_of_behind, live_of_behind, held_of_behind, node_there, few_free_nodes, as_many_free}
+use Rattle.request_arena.proofs.Changed.{changed_length, changed_unseen}
+use Rattle.request_arena.proofs.Nodes.{long_behind, next_of_behind, prev_of_behind, live_of_behind, held_of_behind, held_of_home, node_there, few_free_nodes, as_many_free}
 use Rattle.request_arena.proofs.Spread.{spread_same}
 use Rattle.request_arena.proofs.Stacks.{stack_same}
 
@@ -56,6 +57,33 @@ module _ (ns : List Node) (c k v free : ℕ) (was : IsLinked ns c k v free) wher
 
     queues_behind : spread (queue_of ms c) c k ≡ spread (queue_of ns c) c k
     queues_behind = spread_same (queue_of ns c) (queue_of ms c) c k (λ j low high. (λ i. follow (nexts i) (lives i) c (nexts i j)))
+
+  -- nor does the note of a queue
+  module _ (t id : ℕ) where
+    abbrev noted : List Node
+    noted = with_home ns t id
+
+    noted_nexts : next noted ≡ next ns
+    noted_nexts = λ i a. changed_unseen next_of (λ n. record n { home = id }) (λ n. refl) ns t a i
+
+    noted_prevs : prev noted ≡ prev ns
+    noted_prevs = λ i a. changed_unseen prev_of (λ n. record n { home = id }) (λ n. refl) ns t a i
+
+    noted_lives : live noted ≡ live ns
+    noted_lives = λ i a. changed_unseen is_live (λ n. record n { home = id }) (λ n. refl) ns t a i
+
+    pub linked_home : IsLinked noted c k v free
+    linked_home = record {
+      long = changed_length ns t (λ n. record n { home = id }) ∙ was.long;
+      fits = was.fits;
+      ring = subst (λ (g : ℕ → ℕ). IsRing c (c + k) g (prev noted) (live noted)) (sym noted_nexts) (subst (λ (g : ℕ → ℕ). IsRing c (c + k) (next ns) g (live noted)) (sym noted_prevs)
+          (subst (λ (g : ℕ → Bool). IsRing c (c + k) (next ns) (prev ns) g) (sym noted_lives) was.ring));
+      stack = (was.stack.0, (stack_same ns noted c (λ a i. noted_nexts i a) (λ a i. noted_lives i a) was.stack.0 v was.stack.1.0, was.stack.1.1));
+      count = ap free_nodes (held_of_home c ns t id) ∙ was.count;
+    }
+
+    pub queues_home : spread (queue_of noted c) c k ≡ spread (queue_of ns c) c k
+    queues_home = spread_same (queue_of ns c) (queue_of noted c) c k (λ j low high. (λ i. follow (noted_nexts i) (noted_lives i) c (noted_nexts i j)))
 
   pub linked_tail : (tail : Option ℕ) (id : ℕ) → IsLinked (with_tail ns tail id) c k v free
   linked_tail None id = was

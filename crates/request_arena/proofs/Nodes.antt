@@ -6,7 +6,7 @@ use Rattle.request_arena.specs.Chains.{behind_it, link}
 use Rattle.request_arena.specs.Following.{changed}
 use Rattle.request_arena.specs.Linked.{held_in}
 use Rattle.request_arena.specs.Lists.{free_nodes, live_nodes}
-use Rattle.request_arena.specs.Nodes.{next, prev, live, next_of, prev_of, is_live, with_next, with_prev, with_held, with_behind}
+use Rattle.request_arena.specs.Nodes.{next, prev, live, next_of, prev_of, is_live, with_next, with_prev, with_home, with_held, with_behind}
 use Rattle.request_arena.proofs.Changed.{none_some, some_same, item_at, changed_length, changed_here, changed_else, changed_unseen, written_over}
 
 behind_live : (o : Option Held) (id : ℕ) → is_some (behind_it o id) ≡ is_some o
@@ -91,6 +91,9 @@ module _ (c : ℕ) (ns : List Node) (i : ℕ) where
 
   pub held_of_prev : (v : ℕ) → held_in c (with_prev ns i v) ≡ held_in c ns
   held_of_prev v = held_changed (λ n. record n { prev = v }) (λ h. h) (λ n. refl) c ns i ∙ unchanged (held_in c ns) i
+
+  pub held_of_home : (v : ℕ) → held_in c (with_home ns i v) ≡ held_in c ns
+  held_of_home v = held_changed (λ n. record n { home = v }) (λ h. h) (λ n. refl) c ns i ∙ unchanged (held_in c ns) i
 
   pub held_set : (v : Option Held) → held_in c (with_held ns i v) ≡ slice_set (held_in c ns) i v
   held_set v = held_changed (λ n. record n { held = v }) (λ _. v) (λ n. refl) c ns i ∙ sym (written_over (held_in c ns) i v)

@@ -1,7 +1,9 @@
 -- What stands at the places of the block, and after one was written to.
-use Rattle.std.proofs.Common.{◌≡◌, ◌≢◌, ℕ, zero, suc, ◌+◌, ◌-◌, ◌*◌, ◌^◌, ◌<◌, ◌≤◌, List, [], ◌∷◌, ◌++◌, length, Some, slice_get, slice_set, slice_index_or, refl, ap, ◌∙◌, arith, get_or-set_same, get_or-set_other}
+use Rattle.std.proofs.Common.{◌≡◌, ◌≢◌, ℕ, zero, suc, ◌+◌, ◌*◌, ◌/◌, ◌<◌, ◌≤◌, map, List, [], ◌∷◌, ◌++◌, length, Some, slice_get, slice_set, slice_index_or, refl, ap, ◌∙◌, arith, get_or-set_same, get_or-set_other}
 use Rattle.request_arena.specs.declared.node.Node.{Node}
 use Rattle.request_arena.proofs.Changed.{none_some, some_same}
+use Rattle.request_arena.specs.declared.packed.Packed.{Packed}
+use Rattle.request_arena.specs.Packed.{unpacked}
 use Rattle.request_arena.specs.Places.{index_of, fresh, at_place, tabulated, laid}
 
 pub tabulated_length : (f : ℕ → Node) (h k : ℕ) → length (tabulated f h k) ≡ k
@@ -43,26 +45,50 @@ pushed_default (x ∷ xs) v d (suc i) is = pushed_default xs v d i (λ e. is (ap
 pub index_apart : (nodes p q : ℕ) → index_of nodes p ≡ index_of nodes q → p ≡ q
 index_apart nodes p q e = grind (arith, e)
 
-module _ (nodes queues : ℕ) (ws : List Node) (place : ℕ) (low : place < length (laid nodes queues ws)) where
+module _ (nodes queues : ℕ) (ws : List Packed) (place : ℕ) (low : place < length (laid nodes queues ws)) where
   pub place_low : place < nodes + queues
   place_low = omega (arith, low, tabulated_length (at_place nodes ws) 0 (nodes + queues))
 
-  pub heads_fit : 2 * queues < 2 ^ 64 → 2 * (place - nodes) + 1 < 2 ^ 64
-  heads_fit fits = omega (arith, place_low, fits)
-
-  pub index_low : (capacity : ℕ) → 2 * nodes ≤ capacity → 2 * queues ≤ capacity → index_of nodes place < capacity
+  pub index_low : (capacity : ℕ) → (nodes / 64 + 1) * 128 ≤ capacity → (queues / 64 + 1) * 128 ≤ capacity → index_of nodes place < capacity
   index_low capacity n q = grind (arith, place_low, n, q)
 
   pub laid_get : slice_get (laid nodes queues ws) place ≡ Some (at_place nodes ws place)
   laid_get = tabulated_get (at_place nodes ws) 0 (nodes + queues) place place_low ∙ (let e : 0 + place ≡ place = omega arith in ap (λ p. Some (at_place nodes ws p)) e)
 
-pub laid_set : (nodes queues : ℕ) (ws : List Node) (place : ℕ) (v : Node) → place < nodes + queues → index_of nodes place < length ws
-    → laid nodes queues (slice_set ws (index_of nodes place) v) ≡ slice_set (laid nodes queues ws) place v
+pub at_blank : (nodes place : ℕ) → at_place nodes [] place ≡ fresh nodes place
+at_blank nodes place = refl
+
+pub laid_blank : (nodes queues : ℕ) → laid nodes queues [] ≡ tabulated (fresh nodes) 0 (nodes + queues)
+laid_blank nodes queues = tabulated_same (at_place nodes []) (fresh nodes) (at_blank nodes) 0 (nodes + queues)
+
+-- lists of what lies there, unpacked
+pub map_length : {X Y : Type 0} (f : X → Y) (xs : List X) → length (map f xs) ≡ length xs
+map_length f [] = refl
+map_length f (x ∷ xs) = ap suc (map_length f xs)
+
+pub map_end : {X Y : Type 0} (f : X → Y) (xs : List X) (x : X) → map f (xs ++ x ∷ []) ≡ map f xs ++ f x ∷ []
+map_end f [] x = refl
+map_end f (y ∷ xs) x = ap (λ l. f y ∷ l) (map_end f xs x)
+
+pub map_set : {X Y : Type 0} (f : X → Y) (xs : List X) (i : ℕ) (x : X) → map f (slice_set xs i x) ≡ slice_set (map f xs) i (f x)
+map_set f [] i x = refl
+map_set f (y ∷ xs) zero x = refl
+map_set f (y ∷ xs) (suc i) x = ap (λ l. f y ∷ l) (map_set f xs i x)
+
+pub map_get : {X Y : Type 0} (f : X → Y) (xs : List X) (i : ℕ) (x : X) → slice_get xs i ≡ Some x → slice_get (map f xs) i ≡ Some (f x)
+map_get f [] i x e = absurd (none_some x e)
+map_get f (y ∷ xs) zero x e = ap (λ v. Some (f v)) (some_same y x e)
+map_get f (y ∷ xs) (suc i) x e = map_get f xs i x e
+
+pub laid_set : (nodes queues : ℕ) (ws : List Packed) (place : ℕ) (v : Packed) → place < nodes + queues → index_of nodes place < length ws
+    → laid nodes queues (slice_set ws (index_of nodes place) v) ≡ slice_set (laid nodes queues ws) place (unpacked v)
 laid_set nodes queues ws place v low room =
-    let i = index_of nodes place in
-    tabulated_set (at_place nodes ws) (at_place nodes (slice_set ws i v)) 0 (nodes + queues) place v low
-    (let e : 0 + place ≡ place = omega arith in ap (at_place nodes (slice_set ws i v)) e ∙ get_or-set_same ws i v (fresh nodes place) room)
-    (λ a z. get_or-set_other ws i (index_of nodes a) v (fresh nodes a) (λ e. z (let w = index_apart nodes a place e in omega (arith, w))))
+    let i = index_of nodes place in let long = map_length unpacked ws in
+    tabulated_set (at_place nodes ws) (at_place nodes (slice_set ws i v)) 0 (nodes + queues) place (unpacked v) low
+    (let e : 0 + place ≡ place = omega arith in ap (at_place nodes (slice_set ws i v)) e ∙ ap (λ l. slice_index_or l i (fresh nodes place)) (map_set unpacked ws i v)
+    ∙ get_or-set_same (map unpacked ws) i (unpacked v) (fresh nodes place) (omega (arith, room, long)))
+    (λ a z. ap (λ l. slice_index_or l (index_of nodes a) (fresh nodes a)) (map_set unpacked ws i v)
+    ∙ get_or-set_other (map unpacked ws) i (index_of nodes a) (unpacked v) (fresh nodes a) (λ e. z (let w = index_apart nodes a place e in omega (arith, w))))
 
 -- what is read of a list is the item there, or else what is read past its end
 pub read_item : (xs : List Node) (i : ℕ) (v d : Node) → slice_get xs i ≡ Some v → slice_index_or xs i d ≡ v

@@ -4,11 +4,12 @@ use Rattle.request_arena.specs.declared.node.Node.{Node}
 use Rattle.request_arena.specs.declared.node.Held.{Held}
 use Rattle.request_arena.specs.Linked.{spread, held_in, queue_of, IsLinked}
 use Rattle.request_arena.specs.Lists.{free_nodes}
-use Rattle.request_arena.specs.Nodes.{next, prev, live, with_next, with_prev, with_held}
+use Rattle.request_arena.specs.Nodes.{next, prev, home, live, with_next, with_prev, with_held}
 use Rattle.request_arena.specs.Walks.{Used, IsRing}
 use Rattle.request_arena.proofs.Walks.{true_false, followed_walk}
 use Rattle.request_arena.proofs.Rings.{Enters, ring_longer, ring_kept, ring_pushed}
 use Rattle.request_arena.proofs.Nodes.{long_next, long_prev, long_held, next_put, next_beside, next_of_prev, next_of_held, prev_of_next, prev_put, prev_beside, prev_of_held, live_of_next, live_of_prev, live_put, live_beside, held_of_next, held_of_prev, held_set, free_there, one_less_free}
+use Rattle.request_arena.proofs.Homes.{home_of_next, home_of_prev, home_of_held}
 use Rattle.request_arena.proofs.Spread.{spread_set, spread_at}
 use Rattle.request_arena.proofs.Stacks.{Top, top_of, stack_kept}
 use Rattle.request_arena.proofs.Linked.{used_in, queue_is}
@@ -126,6 +127,9 @@ module _ (ns : List Node) (c k v m : ℕ) (was : IsLinked ns c k v (suc m)) (q :
       (ring_longer c (c + k) (next ns) (prev ns) (live ns) was.ring v s top.1.off top.1.room low high (next put) (prev put) (live put) enters
       (queue_of ns c s) (queue_is ns c k v (suc m) was s low high))
       ∙ ap (λ xs. xs ++ v ∷ []) (sym (spread_at (queue_of ns c) c k q in_range)))
+
+  pub homes_put : (a : ℕ) → home put a ≡ home ns a
+  homes_put a = home_of_prev behind_last s a v ∙ home_of_next both_ways l a v ∙ home_of_prev onward v a l ∙ home_of_next filled v a s ∙ home_of_held ns v a (Some h)
 
   -- the writes, where `push_back` has read the last place
   pub put_by : (b1 b2 b3 b4 b5 : List Node) (a : ℕ) → a ≡ l → b1 ≡ with_held ns v (Some h) → b2 ≡ with_next b1 v s → b3 ≡ with_prev b2 v a → b4 ≡ with_next b3 a v → b5 ≡ with_prev b4 s v → b5 ≡ put

@@ -5,11 +5,12 @@ use Rattle.request_arena.specs.declared.node.Held.{Held}
 use Rattle.request_arena.specs.Following.{without}
 use Rattle.request_arena.specs.Linked.{spread, held_in, queue_of, Stack, IsLinked}
 use Rattle.request_arena.specs.Lists.{free_nodes}
-use Rattle.request_arena.specs.Nodes.{next, prev, live, next_of, prev_of, with_next, with_prev, with_held}
+use Rattle.request_arena.specs.Nodes.{next, prev, home, live, next_of, prev_of, with_next, with_prev, with_held}
 use Rattle.request_arena.specs.Walks.{IsRing}
 use Rattle.request_arena.proofs.Walks.{true_false, followed_walk}
 use Rattle.request_arena.proofs.Rings.{Leaves, no_self, ring_round, ring_removed}
 use Rattle.request_arena.proofs.Nodes.{long_next, long_prev, long_held, next_put, next_beside, next_of_prev, next_of_held, prev_of_next, prev_put, prev_beside, prev_of_held, live_of_next, live_of_prev, live_put, live_beside, held_of_next, held_of_prev, held_set, few_free_nodes, one_more_free}
+use Rattle.request_arena.proofs.Homes.{home_of_next, home_of_prev, home_of_held}
 use Rattle.request_arena.proofs.Spread.{spread_map}
 use Rattle.request_arena.proofs.Stacks.{stack_kept, live_is_none}
 use Rattle.request_arena.proofs.Linked.{used_in, queue_is}
@@ -77,6 +78,9 @@ module _ (ns : List Node) (c k v free : ℕ) (was : IsLinked ns c k v free) (x :
   queues_taken = spread_map (queue_of ns c) (queue_of taken c) (without x) c k (λ j low high.
       followed_walk (next taken) (live taken) c ring.low (without x (queue_of ns c j)) (next taken j) j
       (ring_round c (c + k) (next ns) (prev ns) (live ns) was.ring x on (next taken) (prev taken) (live taken) leaves j low high (queue_of ns c j) (queue_is ns c k v free was j low high)))
+
+  pub homes_taken : (a : ℕ) → home taken a ≡ home ns a
+  homes_taken a = home_of_next emptied x a v ∙ home_of_held bridged_back x a None ∙ home_of_prev bridged f a b ∙ home_of_next ns b a f
 
   no_free : (a : ℕ) → a < c → live ns a ≡ false → a ≡ b → ⊥
   no_free a low off e = elim (was.ring.back x (inl on)).0 [

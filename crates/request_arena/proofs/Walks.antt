@@ -16,7 +16,7 @@ cases true = inl refl
 pub same_or_not : (a b : ℕ) → (a ≡ b) ⊎ (a ≢ b)
 same_or_not a b = elim (eqb_tells a b) [ inr apart ↦ inr apart.1 | inl same ↦ inl same.1 ]
 
-abbrev left_out : ℕ → ℕ → List ℕ → Bool → List ℕ
+abbrev pub left_out : ℕ → ℕ → List ℕ → Bool → List ℕ
 left_out x y ys b = cond b (without x ys) (y ∷ without x ys)
 
 pub without_here : (x y : ℕ) (ys : List ℕ) → y ≡ x → without x (y ∷ ys) ≡ without x ys

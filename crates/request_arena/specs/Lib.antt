@@ -5,7 +5,9 @@ pub mod Linked
 pub mod Lists
 pub mod Memory
 pub mod Nodes
+pub mod Packed
 pub mod Places
 pub mod Pushes
 pub mod Rows
+pub mod Small
 pub mod Walks

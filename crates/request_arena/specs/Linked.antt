@@ -1,14 +1,14 @@
 -- Of the code: invariants and steps; no promise rests on these words.
 -- How the nodes of the block are linked, and the lists that they say. The nodes are the first c places of the block, and the
 -- heads of the k queues lie behind them.
-use Rattle.std.specs.Prelude.{◌≡◌, ℕ, zero, suc, ◌+◌, ◌<◌, ◌^◌, true, false, eqb, IfSome, List, [], ◌∷◌, length, Option, slice_get}
+use Rattle.std.specs.Prelude.{◌≡◌, ℕ, zero, suc, ◌+◌, ◌<◌, ◌^◌, true, false, eqb, IfSome, List, [], ◌∷◌, length, Option, Some, slice_get, slice_index_or}
 use Rattle.std.specs.List.{list_any}
 use Rattle.request_arena.specs.declared.node.Node.{Node}
 use Rattle.request_arena.specs.declared.node.Held.{Held}
 use Rattle.request_arena.specs.Following.{follow}
 use Rattle.request_arena.specs.Walks.{Walk, IsRing}
 use Rattle.request_arena.specs.Chains.{step, held_at, behind_of}
-use Rattle.request_arena.specs.Nodes.{next, prev, live}
+use Rattle.request_arena.specs.Nodes.{next, prev, home, live}
 use Rattle.request_arena.specs.Lists.{Lists, free_nodes}
 
 -- f at h and at the next places, k in all
@@ -36,10 +36,14 @@ Stack ns c v (x ∷ xs) = (v ≡ x) × (x < c) × (live ns x ≡ false) × (list
 
 pub record IsLinked (ns : List Node) (c k vacant free : ℕ) : Type 0 where
   pub long : length ns ≡ c + k
-  pub fits : c + k < 2 ^ 64
+  pub fits : c + k < 2 ^ 30
   pub ring : IsRing c (c + k) (next ns) (prev ns) (live ns)
   pub stack : (fs : List ℕ) × (Stack ns c vacant fs × (length fs ≡ free))
   pub count : free_nodes (held_in c ns) ≡ free
+
+-- each node of a queue notes the queue
+abbrev pub AreHome : List Node → ℕ → ℕ → Type 0
+AreHome ns c k = (q i a : ℕ) → slice_get (slice_index_or (spread (queue_of ns c) c k) q []) i ≡ Some a → home ns a ≡ q
 
 -- each chain ends
 abbrev pub IsChained : List (Option Held) → Type 0

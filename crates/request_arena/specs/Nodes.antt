@@ -14,16 +14,23 @@ abbrev pub prev_of : Option Node → ℕ
 prev_of None = 0
 prev_of (Some n) = n.prev
 
+abbrev pub home_of : Option Node → ℕ
+home_of None = 0
+home_of (Some n) = n.home
+
 abbrev pub is_live : Option Node → Bool
 is_live None = false
 is_live (Some n) = is_some n.held
 
--- where the links of a place lead, and whether a live node stands there
+-- where the links of a place lead, the queue that it notes, and whether a live node stands there
 abbrev pub next : List Node → ℕ → ℕ
 next ns a = next_of (slice_get ns a)
 
 abbrev pub prev : List Node → ℕ → ℕ
 prev ns a = prev_of (slice_get ns a)
+
+abbrev pub home : List Node → ℕ → ℕ
+home ns a = home_of (slice_get ns a)
 
 abbrev pub live : List Node → ℕ → Bool
 live ns a = is_live (slice_get ns a)
@@ -34,6 +41,9 @@ with_next ns i to = changed ns i (λ n. record n { next = to })
 
 abbrev pub with_prev : List Node → ℕ → ℕ → List Node
 with_prev ns i to = changed ns i (λ n. record n { prev = to })
+
+abbrev pub with_home : List Node → ℕ → ℕ → List Node
+with_home ns i queue = changed ns i (λ n. record n { home = queue })
 
 abbrev pub with_held : List Node → ℕ → Option Held → List Node
 with_held ns i held = changed ns i (λ n. record n { held = held })

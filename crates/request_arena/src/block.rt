@@ -1,16 +1,22 @@
 //! The block of memory in which nodes and heads lie, as a row of places.
 
-ghost use Rattle.std.specs.Prelude.{◌≡◌, ◌<◌, ◌*◌, ◌^◌, ◌+◌, ◌-◌, [], length, ℕ, slice_get, slice_set, Some, IfOk, OnOk};
+ghost use Rattle.std.specs.Prelude.{◌≡◌, ◌<◌, ◌*◌, ◌/◌, ◌^◌, ◌+◌, [], length, map, ℕ, slice_get, slice_set, slice_index_or, Some, IfOk, OnOk};
+ghost use Rattle.request_arena.specs.Packed.{unpacked};
 ghost use Rattle.request_arena.specs.Places.{index_of, fresh, at_place, laid};
+ghost use Rattle.request_arena.specs.Small.{IsSmall};
 
 use crate::node::Node;
+use crate::packed::Packed;
 use crate::row::Row;
 use std::alloc::Global;
 use std::marker::Model;
 use values::NoMemory;
 
-/// One block of memory with a place for each node, and behind them one for the head of each queue. Contracts see what stands at
-/// each place. Nothing is written to a place before it is used, so a large block costs as much as is used of it.
+/// The most places that there can be: links are numbers of 32 bits.
+const MOST_PLACES: usize = 1 << 30;
+
+/// One block of memory with a place for each node, and for the head of each queue. Contracts see what stands at each place.
+/// Nothing is written to a place before it is used, so a large block costs as much as is used of it.
 #[derive(Drop)]
 pub(crate) struct Block {
     written: Row,
@@ -32,58 +38,79 @@ impl Model for Block {
 
 /// Where a place lies in the block.
 fn index_of(nodes: usize, place: usize) -> usize
-    requires nodes { 2 * nodes < 2 ^ 64 }
-    requires heads { 2 * (place - nodes) + 1 < 2 ^ 64 }
+    requires { place < 2 ^ 32 }
     ensures { result ≡ index_of nodes place }
 {
     if place < nodes {
-        2 * place
+        place / 64 * 128 + place % 64
     } else {
-        2 * (place - nodes) + 1
-    }
-}
-
-/// What stands at a place that nothing was written to.
-fn fresh(nodes: usize, place: usize) -> Node
-    ensures { result ≡ fresh nodes place }
-{
-    let next = if place < nodes { place + 1 } else { place };
-    Node {
-        next,
-        prev: place,
-        held: None,
+        let queue = place - nodes;
+        queue / 64 * 128 + 64 + queue % 64
     }
 }
 
 /// The place that lies there in the block.
 fn place_at(nodes: usize, index: usize) -> usize
-    requires { 2 * nodes < 2 ^ 64 }
-    ensures { (place : ℕ) → index_of nodes place ≡ index → result ≡ place }
+    requires nodes { nodes < 2 ^ 30 }
+    requires fits { index < 2 ^ 31 }
+    ensures exact { (place : ℕ) → index_of nodes place ≡ index → result ≡ place }
+    ensures small { result < 2 ^ 32 }
 {
-    if index % 2 == 0 {
-        index / 2
+    let (run, offset) = (index / 128, index % 128);
+    if offset < 64 {
+        run * 64 + offset
     } else {
-        nodes + index / 2
+        nodes + run * 64 + (offset - 64)
+    }
+}
+
+/// What stands at a place that nothing was written to.
+fn fresh(nodes: usize, place: usize) -> Node
+    requires fits { place < 2 ^ 32 }
+    requires nodes { nodes < 2 ^ 32 }
+    ensures is { result ≡ fresh nodes place }
+    ensures small { IsSmall result }
+{
+    let next = if place < nodes { place + 1 } else { place };
+    Node {
+        next,
+        prev: place,
+        home: 0,
+        held: None,
+    }
+}
+
+/// What stands at an index of a row, or what would stand there if nothing was written to it.
+fn read(row: &Row, index: usize, unwritten: Node) -> Node
+    requires { IsSmall unwritten }
+    ensures small { IsSmall result }
+    ensures is { result ≡ slice_index_or (map unpacked row.now.items) index unwritten }
+{
+    if index < row.len() {
+        row.get(index).node()
+    } else {
+        unwritten
     }
 }
 
 /// Writes what stands there to the next place.
 fn write_next(written: &mut Row, nodes: usize)
-    requires nodes { 2 * nodes < 2 ^ 64 }
+    requires nodes { nodes < 2 ^ 30 }
+    requires fits { written.old.room < 2 ^ 31 }
     requires room { length written.old.items < written.old.room }
     ensures more { length written.new.items ≡ length written.old.items + 1 }
     ensures capacity { written.new.room ≡ written.old.room }
     ensures same { (place : ℕ) → at_place nodes written.new.items place ≡ at_place nodes written.old.items place }
 {
-    let Node { next, prev, held } = fresh(nodes, place_at(nodes, written.len()));
-    written.push(Node { next, prev, held });
+    let place = place_at(nodes, written.len());
+    written.push(Packed::of(fresh(nodes, place)));
 }
 
 /// Writes what stands there to all places as far as one.
 fn write_up_to(written: &mut Row, nodes: usize, index: usize)
-    requires nodes { 2 * nodes < 2 ^ 64 }
+    requires nodes { nodes < 2 ^ 30 }
+    requires fits { written.old.room < 2 ^ 31 }
     requires room { index < written.old.room }
-    requires fits { index + 1 < 2 ^ 64 }
     ensures far { index < length written.new.items }
     ensures capacity { written.new.room ≡ written.old.room }
     ensures same { (place : ℕ) → at_place nodes written.new.items place ≡ at_place nodes written.old.items place }
@@ -93,6 +120,14 @@ fn write_up_to(written: &mut Row, nodes: usize, index: usize)
     }
 }
 
+/// The room that so many nodes, or heads, take with the runs between them.
+fn room_for(count: usize) -> usize
+    requires { count < 2 ^ 30 }
+    ensures { result ≡ (count / 64 + 1) * 128 }
+{
+    (count / 64 + 1) * 128
+}
+
 impl Block {
     /// A block to which nothing was written.
     pub(crate) fn with_capacity(
@@ -100,12 +135,14 @@ impl Block {
         nodes: usize,
         queues: usize,
     ) -> Result<Block, NoMemory>
-        ensures fits { OnOk result (nodes + queues < 2 ^ 64) }
+        ensures fits { OnOk result (nodes + queues < 2 ^ 30) }
         ensures laid { IfOk result (λ block. block ≡ laid nodes queues []) }
     {
-        let Some(room) = nodes.max(queues).checked_mul(2) else {
-            return Err(NoMemory);
-        };
+        match nodes.checked_add(queues) {
+            Some(places) if places < MOST_PLACES - 64 => {}
+            _ => return Err(NoMemory),
+        }
+        let room = room_for(nodes.max(queues));
         Ok(Block {
             written: Row::with_capacity(alloc, room)?,
             nodes,
@@ -116,23 +153,24 @@ impl Block {
     /// What stands at a place.
     pub(crate) fn get(&self, place: usize) -> Node
         requires { place < length self.now }
-        ensures { slice_get self.now place ≡ Some result }
+        ensures is { slice_get self.now place ≡ Some result }
+        ensures small { IsSmall result }
     {
-        let index = index_of(self.nodes, place);
-        if index < self.written.len() {
-            self.written.get(index)
-        } else {
-            fresh(self.nodes, place)
-        }
+        read(
+            &self.written,
+            index_of(self.nodes, place),
+            fresh(self.nodes, place),
+        )
     }
 
     /// Writes to a place.
     pub(crate) fn set(&mut self, place: usize, node: Node)
-        requires { place < length self.old }
+        requires there { place < length self.old }
+        requires small { IsSmall node }
         ensures { self.new ≡ slice_set self.old place node }
     {
         let index = index_of(self.nodes, place);
         write_up_to(&mut self.written, self.nodes, index);
-        self.written.set(index, node);
+        self.written.set(index, Packed::of(node));
     }
 }

@@ -9,6 +9,7 @@ mod deed;
 mod links;
 mod memory;
 mod node;
+mod packed;
 mod queues;
 mod room;
 mod row;

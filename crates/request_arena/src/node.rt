@@ -37,11 +37,12 @@ pub struct Held {
 }
 
 /// A node, or the head of a queue, which holds nothing. Its links are places of the block that it lies in: from the back of
-/// a queue they go on to its head, and a free node's `next` is the next free one.
+/// a queue they go on to its head, and a free node's `next` is the next free one. A live node's `home` is its queue.
 #[derive(Clone, Copy)]
 pub(crate) struct Node {
     pub(crate) next: usize,
     pub(crate) prev: usize,
+    pub(crate) home: usize,
     pub(crate) held: Option<Held>,
 }
 

@@ -7,7 +7,7 @@ ghost use Rattle.request_arena.specs.Lists.{IsLive, EndsChain, BeginsChain, Hold
 ghost use Rattle.request_arena.specs.Pushes.{Pushed};
 
 use crate::block::Block;
-use crate::links::{link_tail, set_held, set_next, set_prev};
+use crate::links::{link_tail, set_held, set_home, set_next, set_prev};
 use crate::node::{Held, NodeId, Request, content};
 use std::alloc::Global;
 use std::marker::Model;
@@ -31,14 +31,16 @@ pub struct Queues {
 }
 
 impl Model for Queues {
+    ghost use Rattle.std.specs.Prelude.{◌<◌, ◌^◌};
     ghost use Rattle.request_arena.specs.Lists.{Lists};
-    ghost use Rattle.request_arena.specs.Linked.{lists_of, IsLinked, AreChains, held_in};
+    ghost use Rattle.request_arena.specs.Linked.{lists_of, IsLinked, AreChains, AreHome, held_in};
 
     ghost Value = { Lists };
 
     ghost view = { λ q. lists_of q.block q.nodes q.queues };
 
-    ghost invariant = { λ q. IsLinked q.block q.nodes q.queues q.vacant q.free × AreChains (held_in q.nodes q.block) };
+    ghost invariant = { λ q. IsLinked q.block q.nodes q.queues q.vacant q.free × AreChains (held_in q.nodes q.block)
+        × AreHome q.block q.nodes q.queues × (q.vacant < 2 ^ 32) };
 }
 
 impl Queues {
@@ -86,6 +88,7 @@ impl Queues {
         set_prev(&mut self.block, place, last);
         set_next(&mut self.block, last, place);
         set_prev(&mut self.block, head, place);
+        set_home(&mut self.block, place, queue);
         self.vacant = rest;
         self.free -= 1;
         Ok(NodeId { place })
@@ -145,6 +148,23 @@ impl Queues {
         } else {
             None
         }
+    }
+
+    /// The queue of a node.
+    pub fn queue_of(&self, id: NodeId) -> usize
+        requires { IsLive self.now id }
+        ensures { (q i : ℕ) → slice_get (slice_index_or self.now.queues q []) i ≡ Some id → result ≡ q }
+    {
+        self.block.get(id.place).home
+    }
+
+    /// The next node of its chain.
+    pub fn behind(&self, id: NodeId) -> Option<NodeId>
+        requires { IsLive self.now id }
+        ensures rest { chain self.now.held id ≡ id ∷ chain_from self.now.held result }
+        ensures live { IfSome result (λ next. IsLive self.now next) }
+    {
+        content(self.block.get(id.place).held).behind
     }
 
     /// The request of a node.

@@ -4,21 +4,22 @@ ghost use Rattle.std.specs.Prelude.{◌≡◌, ◌<◌, ◌++◌, ◌∷◌, [],
 
 use crate::deed::Deed;
 use crate::memory::{give_back, take};
-use crate::node::Node;
+use crate::packed::Packed;
 use core::slots::Slots;
+use modes::Mode;
 use std::alloc::Global;
 use std::marker::Model;
 use values::NoMemory;
 
 /// The most nodes that a block has room for.
-const MOST: usize = isize::MAX as usize / size_of::<Node>();
+const MOST: usize = isize::MAX as usize / size_of::<Packed>();
 
 /// Nodes one behind another in one block of raw memory, which is given back with them. Contracts see the nodes, and how many there
 /// is room for.
 pub(crate) struct Row {
     alloc: Global,
-    places: Slots<Node>,
-    deed: Deed<Node, Global>,
+    places: Slots<Packed>,
+    deed: Deed<Packed, Global>,
     len: usize,
 }
 
@@ -46,10 +47,15 @@ impl Row {
         if room > MOST {
             return Err(NoMemory);
         }
-        let blank = Node {
+        let blank = Packed {
+            no: 0,
             next: 0,
             prev: 0,
-            held: None,
+            home: 0,
+            behind: 0,
+            mode: Mode::IntentionShared,
+            live: false,
+            leads: false,
         };
         let (places, deed) = unsafe { take(&alloc, room, &blank)? };
         Ok(Row {
@@ -68,7 +74,7 @@ impl Row {
     }
 
     /// The node at an index.
-    pub(crate) fn get(&self, index: usize) -> Node
+    pub(crate) fn get(&self, index: usize) -> Packed
         requires { index < length self.now.items }
         ensures { slice_get self.now.items index ≡ Some result }
     {
@@ -76,21 +82,19 @@ impl Row {
     }
 
     /// Puts a node where another was.
-    pub(crate) fn set(&mut self, index: usize, node: Node)
+    pub(crate) fn set(&mut self, index: usize, node: Packed)
         requires { index < length self.old.items }
         ensures { self.new ≡ record self.old { items = slice_set self.old.items index node } }
     {
-        let Node { next, prev, held } = node;
-        self.places.put(index, Node { next, prev, held });
+        self.places.put(index, node);
     }
 
     /// Puts a node behind the others. There is room for it.
-    pub(crate) fn push(&mut self, node: Node)
+    pub(crate) fn push(&mut self, node: Packed)
         requires { length self.old.items < self.old.room }
         ensures { self.new ≡ record self.old { items = self.old.items ++ node ∷ [] } }
     {
-        let Node { next, prev, held } = node;
-        self.places.put(self.len, Node { next, prev, held });
+        self.places.put(self.len, node);
         self.len += 1;
     }
 }

@@ -1,31 +1,45 @@
-use Rattle.std.proofs.Common.{◌≡◌, ◌∙◌, ◌+◌, ◌<◌, ◌&&◌, ◌∷◌, [], ℕ, Bool, true, false, List, length, drop, get_or, sym, ap, subst, arith}
-use Rattle.std.proofs.lemmas.List.{drop_all}
+use Rattle.std.proofs.Common.{◌≡◌, ◌∙◌, ◌&&◌, ◌∷◌, ℕ, Bool, true, false, List, Some, IfSome, slice_get, sym, ap, subst, arith}
 use Rattle.footprint.specs.declared.resource.Resource.{Resource}
 use Rattle.modes.specs.declared.mode.Mode.{Mode}
 use Rattle.coarsen.specs.Subtrees.{Requests}
 use Rattle.request_arena.specs.Chains.{chain_from}
+use Rattle.request_arena.specs.Lists.{IsLive}
 use Rattle.lock_tree.specs.Queues.{Queue, granted, has_number}
-use Rattle.lock_tree.specs.Lines.{line, numbered}
+use Rattle.lock_tree.specs.Lines.{line, numbered, nodes_of, in_order}
 use Rattle.lock_tree.specs.Known.{granted_in}
-use Rattle.lock_tree.specs.Chained.{IsPlaced, ArePlaced}
-use Rattle.lock_tree.proofs.Chaining.{placed_at, placed_length}
+use Rattle.lock_tree.specs.Chained.{ArePlaced}
+use Rattle.lock_tree.proofs.Chaining.{First, placed_first, none_placed, chain_live, holds_live}
 use Rattle.lock_tree.proofs.grants.are_granted.Goals as goal
-use Rattle.lock_tree.proofs.grants.are_granted.Goals.{In-loop-number}
+use Rattle.lock_tree.proofs.grants.are_granted.Goals.{In-Some}
+
+live : (c : In-Some) → IsLive c.args.lines.now.nodes c.in-Some.node
+live c = subst (λ h. IfSome h (λ a. IsLive c.args.lines.now.nodes a)) c.in-Some.is c.loop-head.invariant.2
 
 -- the request that is looked at
-here : (c : In-loop-number) → c.loop-number.number-index < length c.deref-number-items.result.now
-    → (e : Resource × Mode) × (a : ℕ) × (drop c.loop-number.number-index c.args.entry.now.plan.items ≡ e ∷ drop (c.loop-number.number-index + 1) c.args.entry.now.plan.items)
-    × IsPlaced c.args.lines.now c.args.entry.now.no e.0 (get_or c.deref-number-items.result.now c.loop-number.number-index 0) a
-here c near =
-    let l = c.args.lines.now in let e = c.args.entry.now in let is = c.deref-number-items.ensures.value in
-    placed_at l e.no e.plan.items c.deref-number-items.result.now (chain_from l.nodes.held e.head) c.loop-number.number-index 0
-    (subst (λ (ns : List ℕ). ArePlaced l e.no e.plan.items ns (chain_from l.nodes.held e.head)) (sym is) c.requires.chained.placed) near
+here : (c : In-Some) (rest : List ℕ) → chain_from c.args.lines.now.nodes.held (Some c.in-Some.node) ≡ c.in-Some.node ∷ rest
+    → First c.args.lines.now c.args.entry.now.no c.loop-head.invariant.0 c.loop-head.invariant.1 c.in-Some.node rest
+here c rest is =
+    let l = c.args.lines.now in let inv = c.loop-head.invariant in
+    placed_first l c.args.entry.now.no inv.0 inv.1 c.in-Some.node rest
+    (subst (ArePlaced l c.args.entry.now.no inv.0 inv.1) (ap (chain_from l.nodes.held) c.in-Some.is ∙ is) inv.3)
 
-pub is_granted-requires : goal.is_granted-requires
-is_granted-requires c =
-    let r = here ((goal.at.is_granted-requires c).In-loop-number) c.loop-number-test.true in
-    let named = (c.requires.numbered.named r.0.0 _ r.3.named).0 in let few = c.requires.numbered.few in let many = c.requires.numbered.many in
-    record { granted = c.requires.granted; within = named; queue = omega (arith, named, few, many); there = (r.3.place, r.1, r.3.there, r.3.owned) }
+looked : (c : In-Some) → (rest : List ℕ) × First c.args.lines.now c.args.entry.now.no c.loop-head.invariant.0 c.loop-head.invariant.1 c.in-Some.node rest
+looked c = let k = chain_live c.args.lines.now.nodes.held c.in-Some.node (holds_live c.args.lines.now.nodes c.in-Some.node (live c)) in (k.0, here c k.0 k.1)
+
+pub is_granted-requires-clause-within : goal.is_granted-requires-clause-within
+is_granted-requires-clause-within c =
+    let r = (looked ((goal.at.is_granted-requires-clause-within c).In-Some)).1 in let e = c.queue_of.ensures r.number r.placed.place r.placed.there in
+    let named = (c.requires.numbered.named r.request.0 r.number r.placed.named).0 in omega (arith, named, e)
+
+pub is_granted-requires-clause-queue : goal.is_granted-requires-clause-queue
+is_granted-requires-clause-queue c =
+    let r = (looked ((goal.at.is_granted-requires-clause-queue c).In-Some)).1 in let e = c.queue_of.ensures r.number r.placed.place r.placed.there in
+    let named = (c.requires.numbered.named r.request.0 r.number r.placed.named).0 in let few = c.requires.numbered.few in let many = c.requires.numbered.many in omega (arith, named, few, many, e)
+
+pub is_granted-requires-clause-there : goal.is_granted-requires-clause-there
+is_granted-requires-clause-there c =
+    let r = (looked ((goal.at.is_granted-requires-clause-there c).In-Some)).1 in let e = c.queue_of.ensures r.number r.placed.place r.placed.there in
+    (r.placed.place, c.in-Some.node, ap (λ q. slice_get (nodes_of c.args.lines.now.nodes q) r.placed.place) e ∙ r.placed.there, r.placed.owned)
 
 -- a request is granted or not, and the rest
 one_more : (b : Bool) (queues : Resource → Queue) (n : ℕ) (e : Resource × Mode) (this rest : Requests) → this ≡ e ∷ rest → b ≡ has_number n (granted (queues e.0)) → granted_in queues n this ≡ b && granted_in queues n rest
@@ -33,21 +47,25 @@ one_more b queues n e this rest front is = ap (granted_in queues n) front ∙ ap
 
 pub returns-then-not-is_granted : goal.returns-then-not-is_granted
 returns-then-not-is_granted c =
-    let r = here ((goal.at.returns-then-not-is_granted c).In-loop-number) c.loop-number-test.true in let l = c.args.lines.now in let e = c.args.entry.now in
-    sym (sym c.loop-number.invariant
-    ∙ one_more false (line l) e.no r.0 (drop c.loop-number.number-index e.plan.items) (drop (c.loop-number.number-index + 1) e.plan.items) r.2
-    (c.if-not-is_granted.ensures ∙ sym (ap (λ o. has_number e.no (granted (numbered l.nodes o))) r.3.named)))
+    let r = (looked ((goal.at.returns-then-not-is_granted c).In-Some)).1 in let e = c.queue_of.ensures r.number r.placed.place r.placed.there in
+    let l = c.args.lines.now in let n = c.args.entry.now.no in let inv = c.loop-head.invariant in
+    sym (sym inv.4
+    ∙ one_more false (line l) n r.request inv.0 r.later r.plan_is
+    (c.if-not-is_granted.ensures ∙ ap (λ q. has_number n (granted (in_order l.nodes q))) e ∙ sym (ap (λ o. has_number n (granted (numbered l.nodes o))) r.placed.named)))
 
-pub loop-number-preserved : goal.loop-number-preserved
-loop-number-preserved c =
-    let r = here ((goal.at.loop-number-preserved c).In-loop-number) c.loop-number-test.true in let l = c.args.lines.now in let e = c.args.entry.now in
-    sym (one_more true (line l) e.no r.0 (drop c.loop-number.number-index e.plan.items) (drop (c.loop-number.number-index + 1) e.plan.items) r.2
-    (c.if-not-is_granted.ensures ∙ sym (ap (λ o. has_number e.no (granted (numbered l.nodes o))) r.3.named))) ∙ c.loop-number.invariant
+pub loop-head-preserved : goal.loop-head-preserved
+loop-head-preserved c =
+    let l = c.args.lines.now in let n = c.args.entry.now.no in let inv = c.loop-head.invariant in
+    let r = here ((goal.at.loop-head-preserved c).In-Some) (chain_from l.nodes.held c.behind-head.result) c.behind-head.ensures.rest in let e = c.queue_of.ensures r.number r.placed.place r.placed.there in (
+      r.later,
+      r.more,
+      c.behind-head.ensures.live,
+      r.others,
+      sym (one_more true (line l) n r.request inv.0 r.later r.plan_is
+          (c.if-not-is_granted.ensures ∙ ap (λ q. has_number n (granted (in_order l.nodes q))) e ∙ sym (ap (λ o. has_number n (granted (numbered l.nodes o))) r.placed.named))) ∙ inv.4,
+    )
 
 pub returns : goal.returns
 returns c =
-    let l = c.args.lines.now in let e = c.args.entry.now in
-    let n = placed_length l e.no e.plan.items e.numbers.items (chain_from l.nodes.held e.head) c.requires.chained.placed in
-    let m = ap length c.deref-number-items.ensures.value in let past = c.loop-number-test.false in
-    let rest : drop c.loop-number.number-index e.plan.items ≡ [] = drop_all c.loop-number.number-index e.plan.items (omega (arith, n, m, past)) in
-    sym (ap (granted_in (line l) e.no) rest) ∙ c.loop-number.invariant
+    let l = c.args.lines.now in let n = c.args.entry.now.no in let inv = c.loop-head.invariant in
+    sym (ap (granted_in (line l) n) (none_placed l n inv.0 inv.1 (subst (λ h. ArePlaced l n inv.0 inv.1 (chain_from l.nodes.held h)) c.in_default.is inv.3))) ∙ inv.4

@@ -2,7 +2,6 @@ use Rattle.std.proofs.Common.{◌≡◌, ◌≤◌, ◌+◌, List, [], ◌∷◌
 use Rattle.std.specs.List.{AllByRecursion}
 use Rattle.std.specs.List.Sorted.{IsStrictlySortedBy}
 use Rattle.std.specs.Map.{keys_of}
-use Rattle.std.specs.Vec.{vec_capacity}
 use Rattle.footprint.specs.declared.resource.Resource.{Resource}
 use Rattle.footprint.specs.Tree.{resource_cmp}
 use Rattle.request_arena.specs.Lists.{free_nodes}
@@ -35,23 +34,20 @@ it c =
     last_found k (enqueued now) (enqueued c.args.transactions.now) c.args.entry e c.in_ok-push.ensures.entries refl c.requires.below (found k now.entries.entries e c.push.ensures.indexed.named (sym c.in-Some.ensures.value))
 
 pub join_queues-requires-clause-free : goal.join_queues-requires-clause-free
-join_queues-requires-clause-free c = subst (λ (e : Enqueued). length e.plan.items ≤ free_nodes c.args.lines.now.nodes.held) (sym (it (goal.at.join_queues-requires-clause-free c).In-Some)) c.requires.free
+join_queues-requires-clause-free c = subst (λ (e : Enqueued). length e.plan.value ≤ free_nodes c.args.lines.now.nodes.held) (sym (it (goal.at.join_queues-requires-clause-free c).In-Some)) c.requires.free
 
 pub join_queues-requires-clause-room : goal.join_queues-requires-clause-room
-join_queues-requires-clause-room c = subst (λ (e : Enqueued). AllByRecursion (λ request. HasRoom c.args.lines.now request.0) e.plan.items) (sym (it (goal.at.join_queues-requires-clause-room c).In-Some)) c.requires.room
+join_queues-requires-clause-room c = subst (λ (e : Enqueued). AllByRecursion (λ request. HasRoom c.args.lines.now request.0) e.plan.value) (sym (it (goal.at.join_queues-requires-clause-room c).In-Some)) c.requires.room
 
-pub join_queues-requires-clause-numbers : goal.join_queues-requires-clause-numbers
-join_queues-requires-clause-numbers c = subst (λ (e : Enqueued). e.numbers.items ≡ []) (sym (it (goal.at.join_queues-requires-clause-numbers c).In-Some)) c.requires.numbers
-
-pub join_queues-requires-clause-capacity : goal.join_queues-requires-clause-capacity
-join_queues-requires-clause-capacity c = subst (λ (e : Enqueued). length e.plan.items ≤ vec_capacity e.numbers) (sym (it (goal.at.join_queues-requires-clause-capacity c).In-Some)) c.requires.capacity
+pub join_queues-requires-clause-plan : goal.join_queues-requires-clause-plan
+join_queues-requires-clause-plan c = ap (λ (e : Enqueued). e.plan.value) (it (goal.at.join_queues-requires-clause-plan c).In-Some) ∙ c.requires.plan
 
 pub join_queues-requires-clause-apart : goal.join_queues-requires-clause-apart
-join_queues-requires-clause-apart c = subst (λ (e : Enqueued). IsStrictlySortedBy resource_cmp (keys_of e.plan.items)) (sym (it (goal.at.join_queues-requires-clause-apart c).In-Some)) c.requires.apart
+join_queues-requires-clause-apart c = subst (λ (e : Enqueued). IsStrictlySortedBy resource_cmp (keys_of e.plan.value)) (sym (it (goal.at.join_queues-requires-clause-apart c).In-Some)) c.requires.apart
 
 pub join_queues-requires-clause-above : goal.join_queues-requires-clause-above
 join_queues-requires-clause-above c =
-    subst (λ (e : Enqueued). AllByRecursion (λ request. AllUnder e.no (numbers_of (line c.args.lines.now request.0))) e.plan.items) (sym (it (goal.at.join_queues-requires-clause-above c).In-Some)) c.requires.above
+    subst (λ (e : Enqueued). AllByRecursion (λ request. AllUnder e.no (numbers_of (line c.args.lines.now request.0))) e.plan.value) (sym (it (goal.at.join_queues-requires-clause-above c).In-Some)) c.requires.above
 
 pub push_open-requires : goal.push_open-requires
 push_open-requires c =
@@ -73,8 +69,8 @@ joined c is =
     settled c.args.transactions.now c.push.new.self c.args.entry c.in_ok-push.ensures.entries c.push.ensures.indexed c.requires.waits (record { entries = c.get_mut.follows.lender w; «open» = c.push_open.new.numbers }) w
     c.requires.below (number c is) (c.get_mut.follows.holds w).0
 
-more : (c : After-push_open) → IsIt c → (other : Resource) → line c.join_queues.new.lines other ≡ line c.args.lines.now other ++ asks c.args.entry.no (mode_on other c.args.entry.plan.items) []
-more c is = subst (λ (e : Enqueued). (other : Resource) → line c.join_queues.new.lines other ≡ line c.args.lines.now other ++ asks e.no (mode_on other e.plan.items) []) is c.join_queues.ensures.joined
+more : (c : After-push_open) → IsIt c → (other : Resource) → line c.join_queues.new.lines other ≡ line c.args.lines.now other ++ asks c.args.entry.no (mode_on other c.args.entry.plan.value) []
+more c is = subst (λ (e : Enqueued). (other : Resource) → line c.join_queues.new.lines other ≡ line c.args.lines.now other ++ asks e.no (mode_on other e.plan.value) []) is c.join_queues.ensures.joined
 
 pub returns-clause-indexed : goal.returns-clause-indexed
 returns-clause-indexed c =
@@ -84,7 +80,7 @@ returns-clause-indexed c =
 
 pub returns-clause-free : goal.returns-clause-free
 returns-clause-free c =
-    subst (λ (e : Enqueued). free_nodes c.join_queues.new.lines.nodes.held + length e.plan.items ≡ free_nodes c.args.lines.now.nodes.held) (it (goal.at.returns-clause-free c).In-Some) c.join_queues.ensures.free
+    subst (λ (e : Enqueued). free_nodes c.join_queues.new.lines.nodes.held + length e.plan.value ≡ free_nodes c.args.lines.now.nodes.held) (it (goal.at.returns-clause-free c).In-Some) c.join_queues.ensures.free
 
 pub returns-clause-joined : goal.returns-clause-joined
 returns-clause-joined c = more (goal.at.returns-clause-joined c).After-push_open (it (goal.at.returns-clause-joined c).In-Some)
@@ -99,7 +95,7 @@ returns-clause-known c =
     let old = line c.args.lines.now in let new = line c.join_queues.new.lines in let e = c.args.entry in let w = c.join_queues.new.entry in let es = enqueued c.args.transactions.now in
     let d = (goal.at.returns-clause-known c).After-push_open in let is = it (goal.at.returns-clause-known c).In-Some in
     subst (λ (xs : List Enqueued). AreKnown new [] xs) (sym (joined d is))
-    (known_and new es w (known_before e.no old new (λ x. mode_on x e.plan.items) (more d is) es c.requires.below c.requires.known) (knows_exactly new w c.join_queues.ensures.ready))
+    (known_and new es w (known_before e.no old new (λ x. mode_on x e.plan.value) (more d is) es c.requires.below c.requires.known) (knows_exactly new w c.join_queues.ensures.ready))
 
 pub returns-clause-chained : goal.returns-clause-chained
 returns-clause-chained c =

@@ -1,5 +1,4 @@
-use Rattle.std.proofs.Common.{◌≡◌, ◌+◌, ◌∷◌, ◌++◌, [], ◌<◌, ◌∙◌, ℕ, get_or, Option, Some, List, length, take, drop, ap, sym, subst, arith}
-use Rattle.std.proofs.lemmas.List.{length_push}
+use Rattle.std.proofs.Common.{◌≡◌, ◌+◌, ◌∷◌, ◌++◌, [], ◌<◌, ◌∙◌, ℕ, get_or, Option, Some, length, take, drop, ap, refl, sym, subst, arith}
 use Rattle.footprint.specs.declared.resource.Resource.{Resource}
 use Rattle.modes.specs.declared.mode.Mode.{Mode}
 use Rattle.coarsen.specs.Subtrees.{Requests}
@@ -11,16 +10,30 @@ use Rattle.lock_tree.proofs.Chaining.{tail_ends, head_is}
 use Rattle.std.specs.List.{AllByRecursion}
 use Rattle.lock_tree.proofs.joining.join_all.Goals as goal
 
+pub loop-resource-init : goal.loop-resource-init
+loop-resource-init c = record {
+  numbered = c.requires.numbered;
+  granted = c.requires.granted;
+  free = omega arith;
+  joined = λ other. refl;
+  room = c.requires.room;
+  above = c.requires.above;
+  apart = c.requires.apart;
+  others = λ entry other ok. ok;
+  chained = ([], record { begins = tt; placed = tt });
+  tail = refl;
+}
+
 pub loop-resource-preserved : goal.loop-resource-preserved
 loop-resource-preserved c =
     let i = c.loop-resource.resource-index in
     let e = c.loop-resource-item.result in
-    let inv = c.loop-resource.invariant in let pushed = c.push-number.ensures in let now = c.push-number.new.lines in let id = c.push-number.result.1 in
+    let inv = c.loop-resource.invariant in let pushed = c.push-node.ensures in let now = c.push-node.new.lines in let id = c.push-node.result in
     let front : drop i c.args.plan.now ≡ e ∷ drop (i + 1) c.args.plan.now =
     drop_more c.args.plan.now i e c.loop-resource-test.true ∙ ap (λ (x : Resource × Mode). x ∷ drop (i + 1) c.args.plan.now) (sym c.loop-resource-item.is) in
     let back : take (i + 1) c.args.plan.now ≡ take i c.args.plan.now ++ e ∷ [] =
     take_more c.args.plan.now i e c.loop-resource-test.true ∙ ap (λ (x : Resource × Mode). take i c.args.plan.now ++ x ∷ []) (sym c.loop-resource-item.is) in
-    let longer = pushed.longer (take i c.args.plan.now) e.1 c.loop-resource.numbers.items c.loop-resource.head inv.chained inv.tail in
+    let longer = pushed.longer.1 (take i c.args.plan.now) e.1 inv.chained.0 c.loop-resource.head inv.chained.1 inv.tail in
     record {
       numbered = pushed.numbered;
       granted = pushed.granted;
@@ -34,27 +47,27 @@ loop-resource-preserved c =
           inv.above;
       apart = still_apart e (drop i c.args.plan.now) (drop (i + 1) c.args.plan.now) front inv.apart;
       others = λ entry other ok. pushed.others entry other (inv.others entry other ok);
-      chained = subst (λ (h : Option ℕ). Chains now c.args.no (take (i + 1) c.args.plan.now) c.push_reserved.new.self.items h) (sym (c.or-head.ensures ∙ head_is c.loop-resource.head id))
-          (subst (λ (p : Requests). Chains now c.args.no p c.push_reserved.new.self.items (Some (head_or c.loop-resource.head id))) (sym back)
-          (subst (λ (ns : List ℕ). Chains now c.args.no (take i c.args.plan.now ++ e ∷ []) ns (Some (head_or c.loop-resource.head id))) (sym c.push_reserved.ensures.items) longer.0));
+      chained = (
+        inv.chained.0 ++ pushed.longer.0 ∷ [],
+        subst (λ (h : Option ℕ). Chains now c.args.no (take (i + 1) c.args.plan.now) (inv.chained.0 ++ pushed.longer.0 ∷ []) h) (sym (c.or-head.ensures ∙ head_is c.loop-resource.head id))
+            (subst (λ (p : Requests). Chains now c.args.no p (inv.chained.0 ++ pushed.longer.0 ∷ []) (Some (head_or c.loop-resource.head id))) (sym back) longer.0),
+      );
       tail = subst (λ (h : Option ℕ). IsTail now c.args.no h (Some id)) (sym (c.or-head.ensures ∙ head_is c.loop-resource.head id)) longer.1;
-      many = ap length c.push_reserved.ensures.items ∙ length_push c.loop-resource.numbers.items c.push-number.result.0 ∙ ap (λ (n : ℕ). n + 1) inv.many;
-      capacity = c.push_reserved.ensures.capacity ∙ inv.capacity;
     }
 
 front_of : (plan : Requests) (i : ℕ) (e : Resource × Mode) → i < length plan → e ≡ get_or plan i e → drop i plan ≡ e ∷ drop (i + 1) plan
 front_of plan i e near is = drop_more plan i e near ∙ ap (λ (x : Resource × Mode). x ∷ drop (i + 1) plan) (sym is)
 
-pub push-number-requires-clause-free : goal.push-number-requires-clause-free
-push-number-requires-clause-free c = let near = c.loop-resource-test.true in let f = c.loop-resource.invariant.free in let r = c.requires.free in omega (arith, near, f, r)
+pub push-node-requires-clause-free : goal.push-node-requires-clause-free
+push-node-requires-clause-free c = let near = c.loop-resource-test.true in let f = c.loop-resource.invariant.free in let r = c.requires.free in omega (arith, near, f, r)
 
-pub push-number-requires-clause-room : goal.push-number-requires-clause-room
-push-number-requires-clause-room c =
+pub push-node-requires-clause-room : goal.push-node-requires-clause-room
+push-node-requires-clause-room c =
     (subst (λ (p : Requests). AllByRecursion (λ (request : Resource × Mode). HasRoom c.loop-resource.lines request.0) p) (front_of c.args.plan.now c.loop-resource.resource-index c.loop-resource-item.result c.loop-resource-test.true c.loop-resource-item.is) c.loop-resource.invariant.room).0
 
-pub push-number-requires-clause-above : goal.push-number-requires-clause-above
-push-number-requires-clause-above c =
+pub push-node-requires-clause-above : goal.push-node-requires-clause-above
+push-node-requires-clause-above c =
     (subst (λ (p : Requests). AllByRecursion (λ (request : Resource × Mode). AllUnder c.args.no (numbers_of (line c.loop-resource.lines request.0))) p) (front_of c.args.plan.now c.loop-resource.resource-index c.loop-resource-item.result c.loop-resource-test.true c.loop-resource-item.is) c.loop-resource.invariant.above).0
 
-pub push-number-requires-clause-tail : goal.push-number-requires-clause-tail
-push-number-requires-clause-tail c = tail_ends c.loop-resource.lines c.args.no c.loop-resource.head c.loop-resource.tail c.loop-resource.invariant.tail
+pub push-node-requires-clause-tail : goal.push-node-requires-clause-tail
+push-node-requires-clause-tail c = tail_ends c.loop-resource.lines c.args.no c.loop-resource.head c.loop-resource.tail c.loop-resource.invariant.tail

@@ -1,7 +1,6 @@
-use Rattle.std.proofs.Common.{◌≡◌, ◌+◌, ◌++◌, [], None, length, take, drop}
+use Rattle.std.proofs.Common.{◌≡◌, ◌+◌, ◌++◌, ℕ, List, [], None, take, drop}
 use Rattle.std.specs.List.{AllByRecursion}
 use Rattle.std.specs.Map.{keys_of}
-use Rattle.std.specs.Vec.{vec_capacity}
 use Rattle.std.specs.List.Sorted.{IsStrictlySortedBy}
 use Rattle.footprint.specs.declared.resource.Resource.{Resource}
 use Rattle.footprint.specs.Tree.{resource_cmp}
@@ -25,8 +24,6 @@ invariant-loop-resource l = record {
   above : AllByRecursion (λ request. AllUnder l.no (numbers_of (line l.lines request.0))) (drop l.resource-index l.plan);
   apart : IsStrictlySortedBy resource_cmp (keys_of (drop l.resource-index l.plan));
   others : OthersChained l.no l.fn.lines l.lines;
-  chained : Chains l.lines l.no (take l.resource-index l.plan) l.numbers.items l.head;
+  chained : (numbers : List ℕ) × Chains l.lines l.no (take l.resource-index l.plan) numbers l.head;
   tail : IsTail l.lines l.no l.head l.tail;
-  many : length l.numbers.items ≡ l.resource-index;
-  capacity : vec_capacity l.numbers ≡ vec_capacity l.fn.numbers;
 }

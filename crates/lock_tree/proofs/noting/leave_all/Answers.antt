@@ -1,56 +1,95 @@
-use Rattle.std.proofs.Common.{◌≡◌, ◌+◌, ◌==◌, ◌∷◌, ◌∙◌, ℕ, false, Option, Some, List, drop, get_or, ap, sym, subst, arith}
-use Rattle.std.specs.List.{AllByRecursion}
+use Rattle.std.proofs.Common.{◌≡◌, ◌∷◌, ◌∙◌, ℕ, cond, Option, Some, List, length, slice_get, refl, ap, sym, subst, arith}
+use Rattle.std.proofs.lemmas.Option.{slice_get_read, slice_get_within}
 use Rattle.footprint.specs.declared.resource.Resource.{Resource}
-use Rattle.modes.specs.declared.mode.Mode.{Mode}
 use Rattle.coarsen.specs.Subtrees.{Requests}
-use Rattle.lock_tree.specs.Locks.{Waiting}
-use Rattle.lock_tree.specs.Lines.{line}
+use Rattle.request_arena.specs.Chains.{chain_from}
+use Rattle.lock_tree.specs.Queues.{mode_on}
+use Rattle.lock_tree.specs.Lines.{line, is_same, others}
 use Rattle.lock_tree.specs.Chained.{IsPlaced, Chains}
-use Rattle.lock_tree.proofs.Dropping.{drop_more}
 use Rattle.lock_tree.proofs.Leaving.{rest_left, more_left}
-use Rattle.lock_tree.proofs.Chaining.{chain_first, drop_first}
+use Rattle.lock_tree.proofs.Positions.{some_is}
+use Rattle.lock_tree.proofs.Chaining.{First, chain_first, placed_length, none_placed}
 use Rattle.lock_tree.proofs.noting.leave_all.Goals as goal
 use Rattle.lock_tree.proofs.noting.leave_all.Goals.{In-Some}
 
-front_of : (c : In-Some) → drop c.loop-resource.resource-index c.args.plan.now ≡ c.loop-resource-item.result ∷ drop (c.loop-resource.resource-index + 1) c.args.plan.now
-front_of c = drop_more c.args.plan.now c.loop-resource.resource-index c.loop-resource-item.result c.loop-resource-test.true ∙ ap (λ (x : Resource × Mode). x ∷ drop (c.loop-resource.resource-index + 1) c.args.plan.now) (sym c.loop-resource-item.is)
+chain_of : (c : In-Some) → Chains c.loop-head.lines c.args.no c.loop-head.invariant.0 c.loop-head.invariant.1 (Some c.in-Some.node)
+chain_of c = subst (λ (h : Option ℕ). Chains c.loop-head.lines c.args.no c.loop-head.invariant.0 c.loop-head.invariant.1 h) c.in-Some.is c.loop-head.invariant.2.chain
 
-chain_of : (c : In-Some) → Chains c.loop-resource.lines c.args.no (c.loop-resource-item.result ∷ drop (c.loop-resource.resource-index + 1) c.args.plan.now) (drop c.loop-resource.resource-index c.args.numbers.now) (Some c.in-Some.node)
-chain_of c =
-    subst (λ (p : Requests). Chains c.loop-resource.lines c.args.no p (drop c.loop-resource.resource-index c.args.numbers.now) (Some c.in-Some.node)) (front_of c)
-    (subst (λ (h : Option ℕ). Chains c.loop-resource.lines c.args.no (drop c.loop-resource.resource-index c.args.plan.now) (drop c.loop-resource.resource-index c.args.numbers.now) h) c.in-Some.is c.loop-resource.invariant.chain)
+-- the request whose node is taken out
+first_of : (c : In-Some) → (rest : List ℕ) × First c.loop-head.lines c.args.no c.loop-head.invariant.0 c.loop-head.invariant.1 c.in-Some.node rest
+first_of c = chain_first c.loop-head.lines c.args.no c.loop-head.invariant.0 c.loop-head.invariant.1 c.in-Some.node (chain_of c)
 
-first_of : (c : In-Some) → (n : ℕ) × (more : List ℕ) × (drop c.loop-resource.resource-index c.args.numbers.now ≡ n ∷ more) × IsPlaced c.loop-resource.lines c.args.no c.loop-resource-item.result.0 n c.in-Some.node
-first_of c = chain_first c.loop-resource.lines c.args.no c.loop-resource-item.result (drop (c.loop-resource.resource-index + 1) c.args.plan.now) (drop c.loop-resource.resource-index c.args.numbers.now) c.in-Some.node (chain_of c)
+pub index-requires : goal.index-requires
+index-requires c =
+    let r = (first_of ((goal.at.index-requires c).In-Some)).1 in let e = c.queue_of-number.ensures r.number r.placed.place r.placed.there in
+    let l = c.loop-head.lines in
+    let near = slice_get_within l.resources.items r.number r.request.0 (c.loop-head.invariant.2.numbered.noted r.request.0 r.number r.placed.named) in let n = l.resources.ok.0 in omega (arith, near, n, e)
+
+-- it is the resource that is noted by the number
+resource_is : (c : In-Some) (q : ℕ) (x : Resource) (r : First c.loop-head.lines c.args.no c.loop-head.invariant.0 c.loop-head.invariant.1 c.in-Some.node (first_of c).0) → q ≡ r.number
+    → slice_get c.loop-head.lines.resources.items q ≡ Some x → r.request.0 ≡ x
+resource_is c q x r e at =
+    let l = c.loop-head.lines in some_is r.request.0 x (sym (c.loop-head.invariant.2.numbered.noted r.request.0 r.number r.placed.named) ∙ ap (slice_get l.resources.items) (sym e) ∙ at)
 
 pub leave_one-head-requires-clause-placed : goal.leave_one-head-requires-clause-placed
 leave_one-head-requires-clause-placed c =
-    let d = (goal.at.leave_one-head-requires-clause-placed c).In-Some in let r = first_of d in
-    let at = (drop_first c.args.numbers.now c.loop-resource.resource-index r.0 0 r.1 r.2).1 in
-    subst (λ (n : ℕ). IsPlaced c.loop-resource.lines c.args.no c.loop-resource-item.result.0 n c.in-Some.node) (sym (ap (λ (i : ℕ). get_or c.args.numbers.now i 0) c.loop-resource.invariant.place ∙ at)) r.3
+    let d = (goal.at.leave_one-head-requires-clause-placed c).In-Some in let r = (first_of d).1 in let e = c.queue_of-number.ensures r.number r.placed.place r.placed.there in
+    let l = c.loop-head.lines in
+    let near = slice_get_within l.resources.items r.number r.request.0 (c.loop-head.invariant.2.numbered.noted r.request.0 r.number r.placed.named) in
+    let at = slice_get_read l.resources.items (length l.resources.items) c.queue_of-number.result c.index.result.now refl (omega (arith, near, e)) c.index.ensures in
+    subst (λ (x : Resource). IsPlaced l c.args.no x c.queue_of-number.result c.in-Some.node) (resource_is d c.queue_of-number.result c.index.result.now r e at)
+    (subst (λ (n : ℕ). IsPlaced l c.args.no r.request.0 n c.in-Some.node) (sym e) r.placed)
 
-pub leave_one-head-requires-clause-others : goal.leave_one-head-requires-clause-others
-leave_one-head-requires-clause-others c = subst (AllByRecursion (λ (w : Waiting). (w.no == c.args.no) ≡ false)) (sym c.loop-resource.invariant.same) c.requires.others
+-- what is left of the chain
+next_of : (c : In-Some) (first : First c.loop-head.lines c.args.no c.loop-head.invariant.0 c.loop-head.invariant.1 c.in-Some.node (first_of c).0)
+    → Chains c.loop-head.lines c.args.no (first.request ∷ first.later) (first.number ∷ first.more) (Some c.in-Some.node)
+next_of c first =
+    subst (λ (ns : List ℕ). Chains c.loop-head.lines c.args.no (first.request ∷ first.later) ns (Some c.in-Some.node)) first.numbers_are
+    (subst (λ (p : Requests). Chains c.loop-head.lines c.args.no p c.loop-head.invariant.1 (Some c.in-Some.node)) first.plan_is (chain_of c))
 
-pub loop-resource-preserved : goal.loop-resource-preserved
-loop-resource-preserved c =
-    let d = (goal.at.loop-resource-preserved c).In-Some in let r = first_of d in let left = c.leave_one-head.ensures in let now = c.leave_one-head.new.lines in
-    let i = c.loop-resource.resource-index in let e = c.loop-resource-item.result in let inv = c.loop-resource.invariant in
-    let more : r.1 ≡ drop (i + 1) c.args.numbers.now = (drop_first c.args.numbers.now i r.0 0 r.1 r.2).2 in
-    let chain : Chains c.loop-resource.lines c.args.no (e ∷ drop (i + 1) c.args.plan.now) (r.0 ∷ r.1) (Some c.in-Some.node) =
-    subst (λ (ns : List ℕ). Chains c.loop-resource.lines c.args.no (e ∷ drop (i + 1) c.args.plan.now) ns (Some c.in-Some.node)) r.2 (chain_of d) in
-    record {
-      numbered = left.numbered;
-      granted = left.granted;
-      place = ap (λ (n : ℕ). n + 1) inv.place;
-      chain = subst (λ (ns : List ℕ). Chains now c.args.no (drop (i + 1) c.args.plan.now) ns c.leave_one-head.result) more (left.shorter e (drop (i + 1) c.args.plan.now) r.0 r.1 chain);
-      free = (let f = left.free in let g = inv.free in omega (arith, f, g));
-      rest = λ other. rest_left c.args.no e.0 other (line c.loop-resource.lines other) (line c.args.lines.now other) (line now other) (left.left other) (inv.rest other);
-      left = λ other none.
-          more_left c.args.no other e (line c.loop-resource.lines other) (line c.args.lines.now other) (line now other)
-          (drop i c.args.plan.now) (drop (i + 1) c.args.plan.now) (left.left other) (inv.rest other) (front_of d) (inv.left other) none;
-      same = left.same ∙ inv.same;
-      indexed = left.indexed;
-      known = left.known;
-      chained = left.chained;
-    }
+pub loop-head-smaller : goal.loop-head-smaller
+loop-head-smaller c =
+    let d = (goal.at.loop-head-smaller c).In-Some in let r = (first_of d).1 in let inv = c.loop-head.invariant in
+    let rest = c.leave_one-head.ensures.shorter r.request r.later r.number r.more (next_of d r) in
+    let was = placed_length c.loop-head.lines c.args.no inv.0 inv.1 (chain_from c.loop-head.lines.nodes.held c.loop-head.head) inv.2.chain.placed in
+    let now = placed_length c.leave_one-head.new.lines c.args.no r.later r.more (chain_from c.leave_one-head.new.lines.nodes.held c.leave_one-head.result) rest.placed in
+    let n = ap length r.plan_is in omega (arith, was, now, n)
+
+pub loop-head-preserved : goal.loop-head-preserved
+loop-head-preserved c =
+    let d = (goal.at.loop-head-preserved c).In-Some in let r = (first_of d).1 in let left = c.leave_one-head.ensures in let now = c.leave_one-head.new.lines in
+    let inv = c.loop-head.invariant.2 in let l = c.loop-head.lines in let plan = c.loop-head.invariant.0 in
+    let e = c.queue_of-number.ensures r.number r.placed.place r.placed.there in
+    let near = slice_get_within l.resources.items r.number r.request.0 (inv.numbered.noted r.request.0 r.number r.placed.named) in
+    let at = slice_get_read l.resources.items (length l.resources.items) c.queue_of-number.result c.index.result.now refl (omega (arith, near, e)) c.index.ensures in
+    let is = resource_is d c.queue_of-number.result c.index.result.now r e at in
+    let gone : (other : Resource) → line now other ≡ cond (is_same other r.request.0) (others c.args.no (line l other)) (line l other) =
+    λ other. left.left other ∙ ap (λ (x : Resource). cond (is_same other x) (others c.args.no (line l other)) (line l other)) (sym is) in (
+      r.later,
+      r.more,
+      record {
+        numbered = left.numbered;
+        granted = left.granted;
+        chain = left.shorter r.request r.later r.number r.more (next_of d r);
+        free = (let f = left.free in let g = inv.free in let n = ap length r.plan_is in omega (arith, f, g, n));
+        rest = λ other. rest_left c.args.no r.request.0 other (line l other) (line c.args.lines.now other) (line now other) (gone other) (inv.rest other);
+        left = λ other none.
+            more_left c.args.no other r.request (line l other) (line c.args.lines.now other) (line now other) plan r.later (gone other) (inv.rest other) r.plan_is (inv.left other) none;
+        same = left.same ∙ inv.same;
+        indexed = left.indexed;
+        known = left.known;
+        chained = left.chained;
+      },
+    )
+
+pub returns-clause-free : goal.returns-clause-free
+returns-clause-free c =
+    let inv = c.loop-head.invariant in
+    let none = none_placed c.loop-head.lines c.args.no inv.0 inv.1 (subst (λ (h : Option ℕ). Chains c.loop-head.lines c.args.no inv.0 inv.1 h) c.in_default.is inv.2.chain).placed in
+    let n = ap length none in let f = inv.2.free in omega (arith, n, f)
+
+pub returns-clause-left : goal.returns-clause-left
+returns-clause-left c = λ other.
+    let inv = c.loop-head.invariant in
+    let none = none_placed c.loop-head.lines c.args.no inv.0 inv.1 (subst (λ (h : Option ℕ). Chains c.loop-head.lines c.args.no inv.0 inv.1 h) c.in_default.is inv.2.chain).placed in
+    inv.2.left other (ap (mode_on other) none)

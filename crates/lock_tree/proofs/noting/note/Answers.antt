@@ -16,8 +16,8 @@ returns-in-Some-clause-same c =
 pub returns-in-Some-clause-noted : goal.returns-in-Some-clause-noted
 returns-in-Some-clause-noted c = λ mode lately known.
     let es = enqueued c.args.transactions.now in let q = line c.args.lines.now in let r = c.in-Some.ensures.found in let i = r.place in let d = c.in-Some.entry.now in
-    let plan : c.are_granted-ready.result ≡ granted_in q c.args.no (at es i d).plan.items =
-    c.are_granted-ready.ensures ∙ ap (λ (e : Enqueued). granted_in q e.no e.plan.items) r.there ∙ ap (λ n. granted_in q n (at es i d).plan.items) (number_at c.args.no es i d r.exact) in
+    let plan : c.are_granted-ready.result ≡ granted_in q c.args.no (at es i d).plan.value =
+    c.are_granted-ready.ensures ∙ ap (λ (e : Enqueued). granted_in q e.no e.plan.value) r.there ∙ ap (λ n. granted_in q n (at es i d).plan.value) (number_at c.args.no es i d r.exact) in
     subst (AreKnown q lately) (sym (c.set_ready.ensures.there i d r.exact)) (noted_at q c.args.no mode lately es i d c.are_granted-ready.result c.requires.indexed.rising r.exact plan known)
 
 pub returns-in_default-clause-noted : goal.returns-in_default-clause-noted

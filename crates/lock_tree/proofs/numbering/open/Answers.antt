@@ -5,7 +5,6 @@ use Rattle.std.specs.BTreeMap.{BTreeMap, get}
 use Rattle.footprint.specs.declared.resource.Resource.{Resource}
 use Rattle.footprint.specs.Tree.{resource_cmp}
 use Rattle.lock_tree.specs.Lines.{Lines, number_of, nodes_of, numbered, is_same}
-use Rattle.lock_tree.proofs.Positions.{none_is}
 use Rattle.lock_tree.proofs.Resources.{noted_still}
 use Rattle.lock_tree.proofs.Vacancies.{number_here, opened, opened_kept, opened_lines}
 use Rattle.lock_tree.proofs.numbering.open.Goals as goal
@@ -27,16 +26,15 @@ returns c =
     let updates = (done c.insert.result _ _ c.insert.ensures.updates c.insert.ensures.absent (none_some (get resource_cmp t.numbers r) room)).0 in
     let same : (s : Resource) → number_of t s ≡ number_of l s = λ s. ap (λ (m : BTreeMap Resource (Option ℕ)). option_flatten (get resource_cmp m s)) taken.numbers in
     let empty : nodes_of l.nodes q ≡ [] = sym (ap (λ n. nodes_of n q) taken.nodes) ∙ taken.empty in
-    let unnamed : (s : Resource) → number_of t s ≡ Some q → ⊥ = λ s e. none_is q ((c.requires.numbered.named s q (sym (same s) ∙ e)).1 empty) in
     let none_yet = same r ∙ c.requires.none in
     record {
-      numbered = opened t now r q updates taken.numbered taken.within taken.empty unnamed none_yet;
+      numbered = opened t now r q updates taken.numbered taken.within taken.empty taken.noted none_yet;
       granted = taken.granted;
       within = taken.within;
       nodes = taken.nodes;
       named = number_here t now r q updates;
-      kept = λ s n e. opened_kept t now r q updates taken.numbered taken.within taken.empty unnamed none_yet s n (same s ∙ e);
-      same = λ s. opened_lines t now r q updates taken.numbered taken.within taken.empty unnamed none_yet s ∙ (λ i. numbered (taken.nodes i) (same s i));
+      kept = λ s n e. opened_kept t now r q updates taken.numbered taken.within taken.empty taken.noted none_yet s n (same s ∙ e);
+      same = λ s. opened_lines t now r q updates taken.numbered taken.within taken.empty taken.noted none_yet s ∙ (λ i. numbered (taken.nodes i) (same s i));
       room = λ s h. noted_still (get resource_cmp t.numbers s) (get resource_cmp now.numbers s) (is_same r s) (Some q) (updates s)
           (subst (λ (m : BTreeMap Resource (Option ℕ)). is_some (get resource_cmp m s) ≡ true) (sym taken.numbers) h);
     }

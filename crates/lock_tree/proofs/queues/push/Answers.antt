@@ -8,6 +8,7 @@ use Rattle.lock_tree.specs.Lines.{Lines as CodeLines, request_at, is_same}
 use Rattle.lock_tree.proofs.Changing.{line_changed}
 use Rattle.lock_tree.proofs.Chaining.{chained_noted, noted_still}
 use Rattle.lock_tree.proofs.Lengthening.{pushed_others, pushed_own}
+use Rattle.lock_tree.proofs.Vacancies.{unique}
 use Rattle.lock_tree.proofs.queues.push.Goals as goal
 
 second_part : (lists : Lists) (owner : ℕ) (tail : Option ℕ) → IfSome tail (λ t. EndsChain lists t × ((request_at lists.held t).0 ≡ owner)) → IfSome tail (λ t. (request_at lists.held t).0 ≡ owner)
@@ -22,20 +23,23 @@ tail_noted was now owner head (Some t) same end =
 
 pub returns-clause-pushed : goal.returns-clause-pushed
 returns-clause-pushed c = λ other.
-    let l = c.number_for-number.new.lines in let now = c.add-node.new.lines in let r = c.args.resource.now in let opened = c.number_for-number.ensures in let added = c.add-node.ensures in
-    line_changed l now r c.number_for-number.result (λ (q : Queue). q ++ (c.args.request.no, c.args.request.mode) ∷ []) added.numbers opened.named (λ s n e f. opened.numbered.unique s r n e f) added.here added.elsewhere other
+    let l = c.number_for-number.new.lines in let now = c.add.new.lines in let r = c.args.resource.now in let opened = c.number_for-number.ensures in let added = c.add.ensures in
+    line_changed l now r c.number_for-number.result (λ (q : Queue). q ++ (c.args.request.no, c.args.request.mode) ∷ []) added.numbers opened.named (λ s n e f. unique l (Some c.number_for-number.result) opened.numbered s r n e f) added.here added.elsewhere other
     ∙ ap (λ (q : Queue). cond (is_same other r) (q ++ (c.args.request.no, c.args.request.mode) ∷ []) q) (opened.same other)
 
 pub returns-clause-others : goal.returns-clause-others
 returns-clause-others c = λ e other ok.
-    let l = c.number_for-number.new.lines in let now = c.add-node.new.lines in let opened = c.number_for-number.ensures in let added = c.add-node.ensures in
+    let l = c.number_for-number.new.lines in let now = c.add.new.lines in let opened = c.number_for-number.ensures in let added = c.add.ensures in
     let tail = subst (λ (n : Lists). IfSome c.args.tail (λ t. EndsChain n t × ((request_at n.held t).0 ≡ c.args.request.no))) (sym opened.nodes) c.requires.tail in
-    pushed_others l now c.number_for-number.result c.add-node.result c.args.tail c.args.request opened.numbered opened.within added.live added.pushed added.numbers (second_part l.nodes c.args.request.no c.args.tail tail) e other
-    (chained_noted c.args.lines.now l e.no opened.nodes (noted_still c.args.lines.now l e.no opened.nodes (λ r n i a named there. opened.kept r n named)) e.plan.items e.numbers.items e.head ok)
+    pushed_others l now c.number_for-number.result c.add.result c.args.tail c.args.request opened.numbered opened.within added.live added.pushed added.numbers (second_part l.nodes c.args.request.no c.args.tail tail) e other
+    (ok.0, chained_noted c.args.lines.now l e.no opened.nodes (noted_still c.args.lines.now l e.no opened.nodes (λ r n i a named there. opened.kept r n named)) e.plan.value ok.0 e.head ok.1)
 
 pub returns-clause-longer : goal.returns-clause-longer
-returns-clause-longer c = λ plan mode numbers head ok end.
-    let l = c.number_for-number.new.lines in let now = c.add-node.new.lines in let opened = c.number_for-number.ensures in let added = c.add-node.ensures in let no = c.args.request.no in
-    pushed_own l now c.number_for-number.result c.add-node.result c.args.tail c.args.request opened.numbered opened.within added.live added.pushed added.numbers c.args.resource.now opened.named plan mode numbers head
-    (chained_noted c.args.lines.now l no opened.nodes (noted_still c.args.lines.now l no opened.nodes (λ r n i a named there. opened.kept r n named)) plan numbers head ok)
-    (tail_noted c.args.lines.now l no head c.args.tail opened.nodes end)
+returns-clause-longer c = (
+  c.number_for-number.result,
+  λ plan mode numbers head ok end.
+      let l = c.number_for-number.new.lines in let now = c.add.new.lines in let opened = c.number_for-number.ensures in let added = c.add.ensures in let no = c.args.request.no in
+      pushed_own l now c.number_for-number.result c.add.result c.args.tail c.args.request opened.numbered opened.within added.live added.pushed added.numbers c.args.resource.now opened.named plan mode numbers head
+      (chained_noted c.args.lines.now l no opened.nodes (noted_still c.args.lines.now l no opened.nodes (λ r n i a named there. opened.kept r n named)) plan numbers head ok)
+      (tail_noted c.args.lines.now l no head c.args.tail opened.nodes end),
+)

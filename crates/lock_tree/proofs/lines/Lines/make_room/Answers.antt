@@ -32,9 +32,9 @@ returns-in_err-insert-clause-numbered c = renumbered c.args.self.now (record c.a
 pub returns-in_ok-insert-clause-chained : goal.returns-in_ok-insert-clause-chained
 returns-in_ok-insert-clause-chained c = λ e ok.
     let l = c.args.self.now in let now : Lines = record l { numbers = c.insert.new.self } in let same = same_ok (goal.at.returns-in_ok-insert-clause-chained c).In_ok-insert in
-    chained_noted l now e.no refl (noted_still l now e.no refl (λ r n i a named there. same r ∙ named)) e.plan.items e.numbers.items e.head ok
+    (ok.0, chained_noted l now e.no refl (noted_still l now e.no refl (λ r n i a named there. same r ∙ named)) e.plan.value ok.0 e.head ok.1)
 
 pub returns-in_err-insert-clause-chained : goal.returns-in_err-insert-clause-chained
 returns-in_err-insert-clause-chained c = λ e ok.
     let l = c.args.self.now in let now : Lines = record l { numbers = c.insert.new.self } in let same = same_err (goal.at.returns-in_err-insert-clause-chained c).In_err-insert in
-    chained_noted l now e.no refl (noted_still l now e.no refl (λ r n i a named there. same r ∙ named)) e.plan.items e.numbers.items e.head ok
+    (ok.0, chained_noted l now e.no refl (noted_still l now e.no refl (λ r n i a named there. same r ∙ named)) e.plan.value ok.0 e.head ok.1)

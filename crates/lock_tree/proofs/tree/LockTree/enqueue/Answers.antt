@@ -27,27 +27,22 @@ join-requires-clause-chained c =
 
 pub join-requires-clause-above : goal.join-requires-clause-above
 join-requires-clause-above c =
-    plan_under_next c.in_ok-entry.entry.no (line c.make_room_for.new.lines) (all_waiting (enqueued c.self.inside.transactions)) (λ r. c.make_room_for.ensures.same r ∙ c.self.invariant.lines r)
-    (subst (AreBelow c.in_ok-entry.entry.no) (sym (ap (λ (l : Locks). l.waiting) c.self.view_is))
-    (subst (λ (n : ℕ). AreBelow n c.args.self.now.waiting) (sym (ap (λ (w : Waiting). w.no) c.in_ok-entry.ensures.waiting)) c.requires)) c.in_ok-entry.entry.plan.items
+    plan_under_next c.new.result.no (line c.make_room_for.new.lines) (all_waiting (enqueued c.self.inside.transactions)) (λ r. c.make_room_for.ensures.same r ∙ c.self.invariant.lines r)
+    (subst (AreBelow c.new.result.no) (sym (ap (λ (l : Locks). l.waiting) c.self.view_is))
+    (subst (λ (n : ℕ). AreBelow n c.args.self.now.waiting) (sym (ap (λ (w : Waiting). w.no) c.new.ensures.waiting)) c.requires)) c.new.result.plan.value
 
 pub join-requires-clause-room : goal.join-requires-clause-room
 join-requires-clause-room c =
-    let plan : c.in_ok-entry.entry.plan.items ≡ c.requests-2.result.now = ap (λ (w : Waiting). w.plan) c.in_ok-entry.ensures.waiting in
-    subst (λ (plan : Requests). AllByRecursion (λ request. HasRoom c.make_room_for.new.lines request.0) plan) (c.requests-3.ensures.same ∙ sym c.requests-2.ensures.same ∙ sym plan) c.in_ok-make_room_for.ensures.room
+    let plan : c.new.result.plan.value ≡ c.args.plan.now = ap (λ (w : Waiting). w.plan) c.new.ensures.waiting in
+    subst (λ (plan : Requests). AllByRecursion (λ request. HasRoom c.make_room_for.new.lines request.0) plan) (c.requests-2.ensures.same ∙ sym plan) c.in_ok-make_room_for.ensures.room
 
 pub join-requires-clause-free : goal.join-requires-clause-free
 join-requires-clause-free c =
-    let plan : c.in_ok-entry.entry.plan.items ≡ c.requests-2.result.now = ap (λ (w : Waiting). w.plan) c.in_ok-entry.ensures.waiting in
-    let n : length c.in_ok-entry.entry.plan.items ≡ length c.requests.result.now = ap length (plan ∙ c.requests-2.ensures.same ∙ sym c.requests.ensures.same) in
+    let n : length c.new.result.plan.value ≡ length c.requests.result.now = ap length (ap (λ (w : Waiting). w.plan) c.new.ensures.waiting ∙ sym c.requests.ensures.same) in
     let few = c.if-requests-free.false in let free = c.free.ensures.free in let same = c.make_room_for.ensures.free in omega (arith, n, few, free, same)
-
-pub join-requires-clause-capacity : goal.join-requires-clause-capacity
-join-requires-clause-capacity c =
-    let n : length c.in_ok-entry.entry.plan.items ≡ length c.requests-2.result.now = ap length (ap (λ (w : Waiting). w.plan) c.in_ok-entry.ensures.waiting) in let room = c.in_ok-entry.ensures.room in omega (arith, n, room)
 
 pub invariant_of-self-2 : goal.invariant_of-self-2
 invariant_of-self-2 c =
-    joined_tree c.self.inside.arena c.self.inside.transactions c.make_place.new.self c.join.new.transactions c.in_ok-entry.entry c.self.inside.lines c.make_room_for.new.lines c.join.new.lines
+    joined_tree c.self.inside.arena c.self.inside.transactions c.make_place.new.self c.join.new.transactions c.new.result c.self.inside.lines c.make_room_for.new.lines c.join.new.lines
     c.self.invariant c.make_place.ensures.same c.make_room_for.ensures.same c.make_room_for.ensures.free
     c.join.ensures.indexed c.in_ok-join.ensures.joined c.in_ok-join.ensures.waiting c.join.ensures.known c.join.ensures.numbered c.join.ensures.granted c.in_ok-join.ensures.free c.join.ensures.chained

@@ -6,9 +6,7 @@ use Rattle.lock_tree.specs.Placing.{place_of}
 use Rattle.lock_tree.specs.Views.{all_waiting, enqueued}
 use Rattle.lock_tree.specs.Lines.{line, others}
 use Rattle.lock_tree.specs.Known.{AreKnown}
-use Rattle.lock_tree.specs.Queues.{mode_on}
 use Rattle.lock_tree.proofs.Places.{at, plan_at, removed_at, no_without, used_at}
-use Rattle.coarsen.specs.Subtrees.{Requests}
 use Rattle.lock_tree.proofs.Trees.{number_at, queue_elsewhere, others_without, known_removed, left_tree}
 use Rattle.lock_tree.specs.Chained.{IsChained, Chains, AreChained}
 use Rattle.lock_tree.proofs.Chaining.{chained_at, chained_removed}
@@ -21,15 +19,15 @@ left k i es seen new same r h is =
     ap all_waiting is ∙ removed_at k es i r (ap (λ (xs : List Enqueued). place_of k (all_waiting xs)) (sym same) ∙ h)
 
 freed : (k i : ℕ) (es seen : List Enqueued) (d : Enqueued) → seen ≡ es → IsRising (all_waiting es) → place_of k (all_waiting seen) ≡ Some i → d ≡ at es i d
-    → used (all_waiting es) ≡ length d.plan.items + used (without k (all_waiting es))
+    → used (all_waiting es) ≡ length d.plan.value + used (without k (all_waiting es))
 freed k i es seen d same r h is =
     let u = used_at k es i d r (ap (λ (xs : List Enqueued). place_of k (all_waiting xs)) (sym same) ∙ h) in
-    let p : length d.plan.items ≡ length (at es i d).plan.items = ap (λ (x : Enqueued). length x.plan.items) is in
+    let p : length d.plan.value ≡ length (at es i d).plan.value = ap (λ (x : Enqueued). length x.plan.value) is in
     omega (arith, u, p)
 
-plan_taken : (k i : ℕ) (es seen : List Enqueued) (d : Enqueued) → seen ≡ es → place_of k (all_waiting seen) ≡ Some i → d ≡ at es i d → plan_of (all_waiting es) k ≡ Some d.plan.items
+plan_taken : (k i : ℕ) (es seen : List Enqueued) (d : Enqueued) → seen ≡ es → place_of k (all_waiting seen) ≡ Some i → d ≡ at es i d → plan_of (all_waiting es) k ≡ Some d.plan.value
 plan_taken k i es seen d same h is =
-    plan_at k es i d (ap (λ (xs : List Enqueued). place_of k (all_waiting xs)) (sym same) ∙ h) ∙ ap (λ (x : Enqueued). Some x.plan.items) (sym is)
+    plan_at k es i d (ap (λ (xs : List Enqueued). place_of k (all_waiting xs)) (sym same) ∙ h) ∙ ap (λ (x : Enqueued). Some x.plan.value) (sym is)
 
 pub leave_all-requires-clause-others : goal.leave_all-requires-clause-others
 leave_all-requires-clause-others c =
@@ -46,7 +44,7 @@ leave_all-requires-clause-elsewhere c = λ other none.
     let ws = all_waiting (enqueued c.self.inside.transactions) in
     let plan = plan_taken k c.in-Some.ensures.found.place (enqueued c.self.inside.transactions) (enqueued c.self.inside.transactions) c.in-Some.entry refl c.in-Some.ensures.found.exact c.in-Some.ensures.found.there in
     ap (others k) (c.self.invariant.lines other)
-    ∙ queue_elsewhere other k ws c.in-Some.entry.plan.items c.self.invariant.indexed.rising plan (ap (mode_on other) (sym c.as_slice.ensures.value) ∙ none)
+    ∙ queue_elsewhere other k ws c.in-Some.entry.plan.value c.self.invariant.indexed.rising plan none
     ∙ sym (c.self.invariant.lines other)
 
 pub leave_all-requires-clause-chain : goal.leave_all-requires-clause-chain
@@ -54,9 +52,7 @@ leave_all-requires-clause-chain c =
     let l = c.self.inside.lines in let es = (enqueued c.self.inside.transactions) in let e = c.in-Some.entry in let i = c.in-Some.ensures.found.place in
     let one : IsChained l e = subst (IsChained l) (sym c.in-Some.ensures.found.there) (chained_at l es i e c.in-Some.ensures.found.within c.self.invariant.chained) in
     let number : e.no ≡ c.args.no = ap (λ (x : Enqueued). x.no) c.in-Some.ensures.found.there ∙ number_at c.args.no es i e c.in-Some.ensures.found.exact in
-    subst (λ (n : ℕ). Chains l n c.as_slice.result.now c.as_slice-in-Some.result.now e.head) number
-    (subst (λ (p : Requests). Chains l e.no p c.as_slice-in-Some.result.now e.head) (sym c.as_slice.ensures.value)
-    (subst (λ (ns : List ℕ). Chains l e.no e.plan.items ns e.head) (sym c.as_slice-in-Some.ensures.value) (record { begins = one.begins; placed = one.placed })))
+    (one.0, subst (λ (n : ℕ). Chains l n e.plan.value one.0 e.head) number one.1)
 
 pub leave_all-requires-clause-chained : goal.leave_all-requires-clause-chained
 leave_all-requires-clause-chained c =
@@ -67,9 +63,8 @@ invariant_of-self c =
     let es = (enqueued c.self.inside.transactions) in
     let same = left c.args.no c.in-Some.ensures.found.place es es (enqueued c.remove.new.self) refl c.self.invariant.indexed.rising c.in-Some.ensures.found.exact (c.remove.ensures.entries c.in-Some.ensures.found.place c.in-Some.ensures.found.exact) in
     let u = freed c.args.no c.in-Some.ensures.found.place es es c.in-Some.entry refl c.self.invariant.indexed.rising c.in-Some.ensures.found.exact c.in-Some.ensures.found.there in
-    let n : length c.as_slice.result.now ≡ length c.in-Some.entry.plan.items = ap length c.as_slice.ensures.value in
-    left_tree c.self.inside.arena (length c.as_slice.result.now) c.args.no c.self.inside.transactions c.leave_all.new.transactions c.self.inside.lines c.leave_all.new.lines c.self.invariant
-    (omega (arith, u, n)) (c.leave_all.ensures.same ∙ same) c.leave_all.ensures.indexed c.leave_all.ensures.left c.leave_all.ensures.known
+    left_tree c.self.inside.arena (length c.in-Some.entry.plan.value) c.args.no c.self.inside.transactions c.leave_all.new.transactions c.self.inside.lines c.leave_all.new.lines c.self.invariant
+    (omega (arith, u)) (c.leave_all.ensures.same ∙ same) c.leave_all.ensures.indexed c.leave_all.ensures.left c.leave_all.ensures.known
     c.leave_all.ensures.numbered c.leave_all.ensures.granted c.leave_all.ensures.free c.leave_all.ensures.chained
 
 pub returns-in-Some : goal.returns-in-Some

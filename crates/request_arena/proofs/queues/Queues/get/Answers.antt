@@ -12,9 +12,9 @@ get-requires c =
 pub content-requires : goal.content-requires
 content-requires c =
     let i = c.self.inside in let x = c.id.inside.place in let there = ap (λ s. slice_get s.held x) c.self.view_is ∙ ap (slice_get c.args.self.now.held) c.id.view_is ∙ c.requires.1 in
-    some_is c.get.result.held c.requires.0 (held_read i.nodes i.block x c.requires.0 c.get.result there c.get.ensures)
+    some_is c.get.result.held c.requires.0 (held_read i.nodes i.block x c.requires.0 c.get.result there c.get.ensures.is)
 
 pub returns : goal.returns
 returns c =
     let i = c.self.inside in let x = c.id.inside.place in let there = ap (λ s. slice_get s.held x) c.self.view_is ∙ ap (slice_get c.args.self.now.held) c.id.view_is ∙ c.requires.1 in
-    (c.content.result.behind, c.requires.1 ∙ ap Some (sym (held_read i.nodes i.block x c.requires.0 c.get.result there c.get.ensures) ∙ c.content.ensures))
+    (c.content.result.behind, c.requires.1 ∙ ap Some (sym (held_read i.nodes i.block x c.requires.0 c.get.result there c.get.ensures.is) ∙ c.content.ensures))

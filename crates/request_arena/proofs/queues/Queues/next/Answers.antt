@@ -24,7 +24,7 @@ returns-then-place-self-clause-node c q j less is =
     ap (λ (s : Lists). slice_index_or s.queues q []) (sym c.self.view_is) ∙ spread_at (queue_of i.block i.nodes) i.nodes i.queues q in_range in
     let w = next_of_walk (next i.block) (live i.block) i.nodes c.self.invariant.0.ring.low s far (queue_of i.block i.nodes s) (next i.block s) j x
     (queue_is i.block i.nodes i.queues i.vacant i.free c.self.invariant.0 s far near) (ap (λ l. slice_get l j) (sym list) ∙ is ∙ ap Some (sym c.id.view_is)) in
-    let place : next i.block x ≡ c.get-place.result.next = ap next_of c.get-place.ensures in
+    let place : next i.block x ≡ c.get-place.result.next = ap next_of c.get-place.ensures.is in
     let more : j + 1 ≡ suc j = omega arith in
     sym (ap (λ k. slice_get (slice_index_or c.args.self.now.queues q []) k) more ∙ ap (λ l. slice_get l (suc j)) list ∙ w.0 (omega (arith, place, c.if-place-self.true)) ∙ ap Some place)
 
@@ -37,7 +37,7 @@ returns-else-place-self-clause-node c q j less is =
     ap (λ (s : Lists). slice_index_or s.queues q []) (sym c.self.view_is) ∙ spread_at (queue_of i.block i.nodes) i.nodes i.queues q in_range in
     let w = next_of_walk (next i.block) (live i.block) i.nodes c.self.invariant.0.ring.low s far (queue_of i.block i.nodes s) (next i.block s) j x
     (queue_is i.block i.nodes i.queues i.vacant i.free c.self.invariant.0 s far near) (ap (λ l. slice_get l j) (sym list) ∙ is ∙ ap Some (sym c.id.view_is)) in
-    let place : next i.block x ≡ c.get-place.result.next = ap next_of c.get-place.ensures in
+    let place : next i.block x ≡ c.get-place.result.next = ap next_of c.get-place.ensures.is in
     let more : j + 1 ≡ suc j = omega arith in
     sym (ap (λ k. slice_get (slice_index_or c.args.self.now.queues q []) k) more ∙ ap (λ l. slice_get l (suc j)) list ∙ w.1 (omega (arith, place, c.if-place-self.false)))
 
@@ -45,7 +45,7 @@ pub returns-then-place-self-clause-live : goal.returns-then-place-self-clause-li
 returns-then-place-self-clause-live c =
     let i = c.self.inside in let x = c.id.inside.place in let there = ap (λ (l : Lists). slice_get l.held x) c.self.view_is ∙ ap (slice_get c.args.self.now.held) c.id.view_is ∙ c.requires.1 in
     let on = live_of i.block i.nodes i.queues i.vacant i.free c.self.invariant.0 x c.requires.0 there in
-    let place : next i.block x ≡ c.get-place.result.next = ap next_of c.get-place.ensures in
+    let place : next i.block x ≡ c.get-place.result.next = ap next_of c.get-place.ensures.is in
     subst (λ (l : Lists). IsLive l c.get-place.result.next) c.self.view_is
     (subst (λ n. (h : Held) × (slice_get (held_in i.nodes i.block) n ≡ Some (Some h))) place
     (next_is_live i.block i.nodes i.queues i.vacant i.free c.self.invariant.0 x (inl on) (omega (arith, place, c.if-place-self.true))))

@@ -1,9 +1,9 @@
 use Rattle.std.proofs.Common.{◌≡◌, ℕ, zero, suc, List, [], ◌∷◌, take, slice_set, refl, ap, ◌∙◌}
-use Rattle.request_arena.specs.declared.node.Node.{Node}
+use Rattle.request_arena.specs.declared.packed.Packed.{Packed}
 use Rattle.request_arena.specs.Rows.{RowOf}
 use Rattle.request_arena.proofs.row.Row.set.Goals as goal
 
-first_set : (xs : List Node) (n i : ℕ) (v : Node) → take n (slice_set xs i v) ≡ slice_set (take n xs) i v
+first_set : (xs : List Packed) (n i : ℕ) (v : Packed) → take n (slice_set xs i v) ≡ slice_set (take n xs) i v
 first_set xs zero i v = refl
 first_set [] (suc n) i v = refl
 first_set (x ∷ xs) (suc n) zero v = refl
