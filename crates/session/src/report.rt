@@ -1,6 +1,6 @@
 //! Report bytes that wait to be taken.
 
-ghost use Rattle.std.specs.Prelude.{◌≡◌, ◌++◌, ◌≤◌, [], length, drop, take};
+ghost use Rattle.std.specs.Prelude.{◌≡◌, ◌++◌, ◌≤◌, [], length, drop, min, take};
 
 use batch_log::{DeviceFailed, Sink};
 use std::alloc::Global;
@@ -39,6 +39,7 @@ impl Report {
 
     /// Moves bytes that wait to the front of `into`, as many as there are or as fit, and answers how many.
     pub(crate) fn drain(&mut self, into: &mut [u8]) -> usize
+        ensures count { result ≡ min (length (waiting_in self.old)) (length into.old) }
         ensures bound { result ≤ length into.new }
         ensures room { length into.new ≡ length into.old }
         ensures moved { waiting_in self.old ≡ take result into.new ++ waiting_in self.new }

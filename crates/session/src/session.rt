@@ -1,6 +1,6 @@
 //! A run of a log, piece by piece.
 
-ghost use Rattle.std.specs.Prelude.{◌≡◌, ◌++◌, ◌≤◌, [], ℕ, List, length, take, None, Err, IfOk, IfErr, IfSome, IsSome, OnOk};
+ghost use Rattle.std.specs.Prelude.{◌≡◌, ◌++◌, ◌≤◌, [], ℕ, List, length, take, None, Err, IfOk, IfErr, IfSome, IsSome, OnOk, min};
 ghost use Rattle.std.specs.FinMap as map_of;
 ghost use Rattle.std.proofs.Props.{props};
 ghost use Rattle.values.specs.Database.{Database};
@@ -113,6 +113,7 @@ impl Session {
 
     /// Moves report bytes that wait to the front of `into`, as many as there are or as fit, and answers how many.
     pub fn drain(&mut self, into: &mut [u8]) -> usize
+        ensures count { result ≡ min (length (waiting_of self.old)) (length into.old) }
         ensures bound { result ≤ length into.new }
         ensures room { length into.new ≡ length into.old }
         ensures moved { waiting_of self.old ≡ take result into.new ++ waiting_of self.new }
