@@ -79,8 +79,10 @@ start_replica() {
 }
 
 stop_replica() {
-    kill -KILL "${replica_process[$1]}" "${watch_process[$1]}"
-    wait "${replica_process[$1]}" "${watch_process[$1]}" 2>/dev/null
+    {
+        kill -KILL "${replica_process[$1]}" "${watch_process[$1]}"
+        wait "${replica_process[$1]}" "${watch_process[$1]}"
+    } 2>/dev/null
     unset "replica_process[$1]" "watch_process[$1]"
 }
 
@@ -141,8 +143,10 @@ append_batch 2
 compare 2 two three
 
 stop_replica two
-kill -KILL "${member_process[3]}"
-wait "${member_process[3]}" 2>/dev/null
+{
+    kill -KILL "${member_process[3]}"
+    wait "${member_process[3]}"
+} 2>/dev/null
 unset "member_process[3]"
 echo "replica two and a member of etcd are killed"
 
