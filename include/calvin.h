@@ -64,9 +64,10 @@ static inline int calvin_open(const uint8_t *setup, size_t setup_length, size_t 
 /* Feeds the next bytes of the log, in pieces of any size. Each batch whose cut is among them is executed before the call
  * returns, and its report waits to be drained. After a fault each further call answers the same. The session is live. */
 static inline int calvin_feed(calvin *session, const uint8_t *bytes, size_t length) {
+    static const uint8_t none = 0;
     calvin_c_session live = {session};
     if (session == NULL || (bytes == NULL && length != 0)) return CALVIN_MISUSED;
-    return length == 0 ? CALVIN_DONE : calvin_c_feed(live, bytes, length);
+    return calvin_c_feed(live, length == 0 ? &none : bytes, length);
 }
 
 /* Ends the log. Calls behind the last cut are executed as a batch, and the end line waits to be drained. The session is live,

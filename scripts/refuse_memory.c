@@ -4,8 +4,9 @@
  *
  * It is linked with `-Wl,--wrap=malloc,--wrap=realloc,--wrap=free`. The first run is refused its first allocation and all further
  * ones, the next run all from its second one on, and so forth up to one that is refused none. Each run is to end whole, or for
- * want of memory with status 3 and fault 37; what it drained is to be a beginning of the report, and all of it where it ended
- * whole; and all that it allocated is to be freed. It prints how many runs did so, and ends with status 1 where one didn't. */
+ * want of memory with status 3, and with fault 37 where its session is open; what it drained is to be a beginning of the report,
+ * and all of it where it ended whole; and all that it allocated is to be freed. It prints how many runs did so, and ends with
+ * status 1 where one didn't. */
 #include "calvin.h"
 #include <stdbool.h>
 #include <stdio.h>

@@ -1,3 +1,4 @@
 pub mod Quietly
 pub mod Turns
 pub mod Runs
+pub mod Growing

@@ -23,6 +23,11 @@ abbrev pub stop_in : {T : Type 0} → Result T SessionFault → Option SessionFa
 stop_in (Ok value) = None
 stop_in (Err fault) = Some fault
 
+-- why nothing more is taken behind the end of a log: it is over, or it has this fault
+abbrev pub stop_behind : {T : Type 0} → Result T SessionFault → Option SessionFault
+stop_behind (Ok value) = Some Over
+stop_behind (Err fault) = Some fault
+
 -- the log has a fault of which this holds; it is not over
 abbrev pub IsOfLog : (LogFault → Type 0) → SessionFault → Type 0
 IsOfLog P Over = ⊥

@@ -43,6 +43,7 @@ impl Report {
         ensures bound { result ≤ length into.new }
         ensures room { length into.new ≡ length into.old }
         ensures moved { waiting_in self.old ≡ take result into.new ++ waiting_in self.new }
+        ensures rest { drop result into.new ≡ drop result into.old }
     {
         let count = self.waiting().min(into.len());
         into[..count].copy_from_slice(&self.bytes[self.taken..self.taken + count]);

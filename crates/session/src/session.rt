@@ -1,6 +1,6 @@
 //! A run of a log, piece by piece.
 
-ghost use Rattle.std.specs.Prelude.{◌≡◌, ◌++◌, ◌≤◌, [], ℕ, List, length, take, None, Err, IfOk, IfErr, IfSome, IsSome, OnOk, min};
+ghost use Rattle.std.specs.Prelude.{◌≡◌, ◌++◌, ◌≤◌, [], ℕ, List, length, take, None, Err, IfOk, IfErr, IfSome, IsSome, OnOk, drop, min};
 ghost use Rattle.std.specs.FinMap as map_of;
 ghost use Rattle.std.proofs.Props.{props};
 ghost use Rattle.values.specs.Database.{Database};
@@ -8,6 +8,7 @@ ghost use Rattle.requests.specs.ProcLists.{ProcsParts};
 ghost use Rattle.row_store.specs.Stock.{with_rows};
 ghost use Rattle.session.specs.Ends.{IsRunInto, IsWholeRun};
 ghost use Rattle.session.specs.Works.{IsReady};
+ghost use Rattle.session.specs.Writes.{IsBeginning};
 
 use crate::work::Work;
 use batch_log::LogFault;
@@ -48,7 +49,7 @@ pub struct Session {
 }
 
 impl Session {
-    ghost use Rattle.session.specs.Sessions.{stop_in, stop_of, waiting_of, HasTaken, IsOfLog};
+    ghost use Rattle.session.specs.Sessions.{stop_behind, stop_in, stop_of, waiting_of, HasTaken, IsOfLog};
 
     /// A run on a setup, of whose log nothing was fed.
     pub fn new(alloc: Global, setup: Setup, settings: Settings) -> Result<Session, NoMemory>
@@ -61,6 +62,7 @@ impl Session {
 
     /// Takes the next bytes of the log. Each batch whose cut is among them is executed, and its report waits. After a fault each
     /// further call answers the same.
+    #[tactic(auto, using(crate::proofs::Growing::begins_itself))]
     pub fn feed(&mut self, alloc: Global, bytes: &[u8]) -> Result<(), SessionFault>
         // The bytes are taken behind those that were fed before.
         ensures taken { (procs : ProcsParts) → (db : Database) → (fed drained : List ℕ) → HasTaken procs db fed drained self.old →
@@ -68,6 +70,8 @@ impl Session {
         // A fault is that of each log that begins with what was fed.
         ensures fault { (procs : ProcsParts) → (db : Database) → (fed drained more : List ℕ) → HasTaken procs db fed drained self.old →
             IfErr result (IsOfLog (IsRunInto procs db ((fed ++ bytes.now) ++ more) (drained ++ waiting_of self.new))) }
+        // Report bytes that waited wait still.
+        ensures kept { IsBeginning (waiting_of self.old) (waiting_of self.new) }
         ensures stops { stop_of self.old ≡ None → stop_of self.new ≡ stop_in result }
         ensures again { IfSome (stop_of self.old) (λ fault. (result ≡ Err fault) × (self.new ≡ self.old)) }
     {
@@ -86,13 +90,18 @@ impl Session {
 
     /// Takes the end of the log: a last line may have no newline, and calls behind the last cut are a batch. Then the end line is
     /// reported, and the answer is the number of transactions. Nothing more is taken afterwards.
+    #[tactic(auto, using(crate::proofs::Growing::begins_itself))]
     pub fn end(&mut self, alloc: Global) -> Result<u64, SessionFault>
         // What was fed is a whole log. What was drained and what waits are together its report.
         ensures whole { (procs : ProcsParts) → (db : Database) → (fed drained : List ℕ) → HasTaken procs db fed drained self.old →
             IfOk result (IsWholeRun procs db fed (drained ++ waiting_of self.new)) }
         ensures fault { (procs : ProcsParts) → (db : Database) → (fed drained : List ℕ) → HasTaken procs db fed drained self.old →
             IfErr result (IsOfLog (IsRunInto procs db fed (drained ++ waiting_of self.new))) }
+        // Report bytes that waited wait still.
+        ensures kept { (procs : ProcsParts) → (db : Database) → (fed drained : List ℕ) → HasTaken procs db fed drained self.old →
+            IsBeginning (waiting_of self.old) (waiting_of self.new) }
         ensures stops { IsSome (stop_of self.new) }
+        ensures over { stop_of self.old ≡ None → stop_of self.new ≡ stop_behind result }
         ensures again { IfSome (stop_of self.old) (λ fault. (result ≡ Err fault) × (self.new ≡ self.old)) }
     {
         if let Some(fault) = self.stop {
@@ -117,6 +126,7 @@ impl Session {
         ensures bound { result ≤ length into.new }
         ensures room { length into.new ≡ length into.old }
         ensures moved { waiting_of self.old ≡ take result into.new ++ waiting_of self.new }
+        ensures rest { drop result into.new ≡ drop result into.old }
         ensures taken { (procs : ProcsParts) → (db : Database) → (fed drained : List ℕ) → HasTaken procs db fed drained self.old →
             HasTaken procs db fed (drained ++ take result into.new) self.new }
         ensures stays { stop_of self.new ≡ stop_of self.old }

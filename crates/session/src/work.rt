@@ -51,6 +51,7 @@ impl Work {
     }
 
     /// Executes a batch of calls, and reports it. It fails only where memory is refused.
+    #[tactic(auto, using(crate::proofs::Growing::begins_where_it_grew))]
     fn run(&mut self, alloc: Global, calls: Vec<Request>) -> Result<(), LogFault>
         requires tables { AllByRecursion (λ request. request.proc.tables ≡ tables_of self.old.engine) calls.items }
         requires few { length calls.items ≤ 4096 }
@@ -68,6 +69,7 @@ impl Work {
             IsBeginning (drained ++ waiting_in self.new.report)
             (batch_texts procs.tables 1 0 db (prepared_in_turn db (ended ++ calls.items ∷ []))) }
         ensures memory { IfErr result (λ e. e.kind ≡ LogFaultKind.Memory) }
+        ensures kept { IsBeginning (waiting_in self.old.report) (waiting_in self.new.report) }
     {
         run_batch(
             alloc,
@@ -80,6 +82,7 @@ impl Work {
     }
 
     /// Takes the next byte of the log. A batch that it ends is executed and reported.
+    #[tactic(auto, using(crate::proofs::Growing::begins_itself))]
     fn take_byte(&mut self, alloc: Global, byte: u8) -> Result<(), LogFault>
         requires ready { IsReady self.old }
         ensures ready { OnOk result (IsReady self.new) }
@@ -87,6 +90,7 @@ impl Work {
             OnOk result (HasRun procs db (fed ++ byte ∷ []) drained self.new) }
         ensures fault { (procs : ProcsParts) → (db : Database) → (fed drained more : List ℕ) → HasRun procs db fed drained self.old →
             IfErr result (IsRunInto procs db ((fed ++ byte ∷ []) ++ more) (drained ++ waiting_in self.new.report)) }
+        ensures kept { IsBeginning (waiting_in self.old.report) (waiting_in self.new.report) }
     {
         match self.feed.take(alloc, self.engine.procs(), byte) {
             Ok(Some(calls)) => self.run(alloc, calls),
@@ -96,6 +100,7 @@ impl Work {
     }
 
     /// Takes bytes of the log. Each batch that they end is executed and reported.
+    #[tactic(auto, using(crate::proofs::Growing::begins_itself, crate::proofs::Growing::begins_onward))]
     pub(crate) fn take_bytes(&mut self, alloc: Global, bytes: &[u8]) -> Result<(), LogFault>
         requires ready { IsReady self.old }
         ensures ready { OnOk result (IsReady self.new) }
@@ -103,6 +108,7 @@ impl Work {
             OnOk result (HasRun procs db (fed ++ bytes.now) drained self.new) }
         ensures fault { (procs : ProcsParts) → (db : Database) → (fed drained more : List ℕ) → HasRun procs db fed drained self.old →
             IfErr result (IsRunInto procs db ((fed ++ bytes.now) ++ more) (drained ++ waiting_in self.new.report)) }
+        ensures kept { IsBeginning (waiting_in self.old.report) (waiting_in self.new.report) }
     {
         for byte in bytes {
             match self.take_byte(alloc, *byte) {
@@ -114,6 +120,7 @@ impl Work {
     }
 
     /// Takes the end of the log, and executes and reports the last batch, if there is one.
+    #[tactic(auto, using(crate::proofs::Growing::begins_itself))]
     fn take_last_batch(&mut self, alloc: Global) -> Result<(), LogFault>
         requires ready { IsReady self.old }
         ensures idle { OnOk result (is_busy self.new.engine ≡ false) }
@@ -121,6 +128,7 @@ impl Work {
             OnOk result (HasRunWhole procs db fed drained self.new) }
         ensures fault { (procs : ProcsParts) → (db : Database) → (fed drained : List ℕ) → HasRun procs db fed drained self.old →
             IfErr result (IsRunInto procs db fed (drained ++ waiting_in self.new.report)) }
+        ensures kept { IsBeginning (waiting_in self.old.report) (waiting_in self.new.report) }
     {
         match self.feed.end(alloc, self.engine.procs()) {
             Ok(Some(calls)) => self.run(alloc, calls),
@@ -136,6 +144,8 @@ impl Work {
             IfOk result (IsWholeRun procs db fed (drained ++ waiting_in self.new.report)) }
         ensures fault { (procs : ProcsParts) → (db : Database) → (fed drained : List ℕ) → HasRun procs db fed drained self.old →
             IfErr result (IsRunInto procs db fed (drained ++ waiting_in self.new.report)) }
+        ensures kept { (procs : ProcsParts) → (db : Database) → (fed drained : List ℕ) → HasRun procs db fed drained self.old →
+            IsBeginning (waiting_in self.old.report) (waiting_in self.new.report) }
     {
         match self.take_last_batch(alloc) {
             Ok(()) => {}

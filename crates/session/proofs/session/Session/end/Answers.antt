@@ -5,3 +5,9 @@ returns-in-Ok-clause-whole c = λ procs db fed drained h. c.in-Ok.ensures.whole 
 
 pub returns-in-Err-clause-fault : goal.returns-in-Err-clause-fault
 returns-in-Err-clause-fault c = λ procs db fed drained h. c.in-Err.ensures.fault procs db fed drained h.run
+
+pub returns-in-Ok-clause-kept : goal.returns-in-Ok-clause-kept
+returns-in-Ok-clause-kept c = λ procs db fed drained h. c.take_end.ensures.kept procs db fed drained h.run
+
+pub returns-in-Err-clause-kept : goal.returns-in-Err-clause-kept
+returns-in-Err-clause-kept c = λ procs db fed drained h. c.take_end.ensures.kept procs db fed drained h.run
