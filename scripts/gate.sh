@@ -1,9 +1,8 @@
 #!/usr/bin/env bash
 # Runs the gate: `rt ci`; then, on the programs that it left built, `scripts/examples.py` and `scripts/manual.py --check`, which
-# compare what comes out with what the documents say, `scripts/static_library.sh`, which compares it with what the library for C and
-# Rust gives, and `scripts/refuse_memory.sh`, which refuses each 40th allocation; and then `scripts/edits.py together`, which tries
-# more edits, many in one check. It says before its last line how much of a processor's time it took, and what each crate took of it. The last line
-# counts what `rt ci` and the edits passed.
+# compare what comes out with what the documents say, and `scripts/refuse_memory.sh`, which refuses each 40th allocation; and then
+# `scripts/edits.py together`, which tries more edits, many in one check. It says before its last line how much of a processor's
+# time it took, and what each crate took of it. The last line counts what `rt ci` and the edits passed.
 #
 # One check runs on each processor; each takes less than 5 GB of memory. The time of the whole is exact. The shares of the crates,
 # for their own proof, for their tests and for their edits, are read off the checks every two seconds, so that each lacks the
@@ -35,7 +34,7 @@ sampler=$!
 
 TIMEFORMAT='%U %S'
 gate() {
-    RT_JOBS="$(nproc)" rt ci && scripts/examples.py && scripts/manual.py --check && scripts/static_library.sh && EVERY=40 scripts/refuse_memory.sh --left && scripts/edits.py together
+    RT_JOBS="$(nproc)" rt ci && scripts/examples.py && scripts/manual.py --check && EVERY=40 scripts/refuse_memory.sh --left && scripts/edits.py together
 }
 { time gate > "$output" 2>&1; } 2> "$taken" &
 gate=$!
