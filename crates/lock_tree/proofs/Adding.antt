@@ -19,7 +19,8 @@ use Rattle.lock_tree.specs.Steps.{AreLive}
 use Rattle.lock_tree.proofs.Positions.{some_is, get_set_same, get_set_other}
 use Rattle.lock_tree.proofs.Counting.{linked_length, pushed_asks, pushed_free, queue_few}
 use Rattle.lock_tree.proofs.Asking.{same_requests, requests_end}
-use Rattle.lock_tree.proofs.Vacancies.{or_other, added, added_here, added_elsewhere}
+use Rattle.lock_tree.proofs.Vacancies.{or_other}
+use Rattle.lock_tree.proofs.Passing.{added, added_here, added_elsewhere}
 use Rattle.lock_tree.proofs.Fronting.{line_kept, line_by_front, longer_front}
 use Rattle.lock_tree.proofs.Standing.{rising_longer}
 

@@ -6,6 +6,7 @@ pub mod Positions
 pub mod Counting
 pub mod Asking
 pub mod Vacancies
+pub mod Passing
 pub mod Fronting
 pub mod Adding
 pub mod Parting

@@ -15,7 +15,8 @@ use Rattle.lock_tree.specs.Steps.{AreLive, StandApart, IsRemoved}
 use Rattle.lock_tree.proofs.Positions.{some_is, get_set_same, get_set_other, one_without}
 use Rattle.lock_tree.proofs.Counting.{given_free, queue_few}
 use Rattle.lock_tree.proofs.Asking.{requests_beside}
-use Rattle.lock_tree.proofs.Vacancies.{or_other, left, left_here, left_elsewhere}
+use Rattle.lock_tree.proofs.Vacancies.{or_other}
+use Rattle.lock_tree.proofs.Passing.{left, left_here, left_elsewhere}
 use Rattle.lock_tree.proofs.Fronting.{line_kept, line_by_front, rest_requests, rest_rising, rest_front}
 
 module _ (was now : Lines) (q i a : ℕ) (behind : Option ℕ) (ok : IsNumbered was None) (within : q < length was.lines.items)
