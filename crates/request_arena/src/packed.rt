@@ -1,6 +1,6 @@
 //! Nodes as they lie in memory.
 
-ghost use Rattle.std.specs.Prelude.{◌≡◌, ◌<◌, ◌^◌, IfSome};
+ghost use Rattle.std.specs.Prelude.{◌≡◌, ◌<◌, ◌^◌, IfSome, Some, None};
 ghost use Rattle.request_arena.specs.Packed.{unpacked, behind_it, held_there};
 ghost use Rattle.request_arena.specs.Small.{IsSmall, IsSmallHeld};
 
@@ -21,18 +21,14 @@ pub(crate) struct Packed {
 }
 
 impl Packed {
-    /// A node whose links lead to places below 2^32.
-    pub(crate) fn of(node: Node) -> Packed
-        requires { IsSmall node }
-        ensures { unpacked result ≡ node }
+    /// A free node, or the head of a queue.
+    fn free(next: usize, prev: usize, home: usize) -> Packed
+        requires next { next < 2 ^ 32 }
+        requires prev { prev < 2 ^ 32 }
+        requires home { home < 2 ^ 32 }
+        ensures { unpacked result ≡ record { next = next; prev = prev; home = home; held = None } }
     {
-        let Node {
-            next,
-            prev,
-            home,
-            held,
-        } = node;
-        let free = Packed {
+        Packed {
             no: 0,
             next: next as u32,
             prev: prev as u32,
@@ -41,26 +37,42 @@ impl Packed {
             mode: Mode::IntentionShared,
             live: false,
             leads: false,
+        }
+    }
+
+    /// The same node as a live one, which holds that.
+    fn with(self, held: Held) -> Packed
+        requires { IsSmallHeld (Some held) }
+        ensures { unpacked result ≡ record (unpacked self) { held = Some held } }
+    {
+        let Held { request, behind } = held;
+        let Request { no, mode } = request;
+        let last = Packed {
+            no,
+            mode,
+            live: true,
+            leads: false,
+            ..self
         };
-        match held {
+        match behind {
+            None => last,
+            Some(NodeId { place }) => Packed {
+                behind: place as u32,
+                leads: true,
+                ..last
+            },
+        }
+    }
+
+    /// A node whose links lead to places below 2^32.
+    pub(crate) fn of(node: Node) -> Packed
+        requires { IsSmall node }
+        ensures { unpacked result ≡ node }
+    {
+        let free = Packed::free(node.next, node.prev, node.home);
+        match node.held {
             None => free,
-            Some(Held { request, behind }) => {
-                let Request { no, mode } = request;
-                let last = Packed {
-                    no,
-                    mode,
-                    live: true,
-                    ..free
-                };
-                match behind {
-                    None => last,
-                    Some(NodeId { place }) => Packed {
-                        behind: place as u32,
-                        leads: true,
-                        ..last
-                    },
-                }
-            }
+            Some(held) => free.with(held),
         }
     }
 
