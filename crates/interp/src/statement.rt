@@ -41,9 +41,16 @@ pub(crate) fn assign_value<V: RowView>(
         (state_at (V.rows shown.now.view.now) space.old)) }
     ensures kept { OnOk result (KeepsCovered shown.now.permit space.old space.new) }
 {
-    let value = evaluate(alloc, shown, space, value)?;
-    space.set_variable(variable, value)?;
-    Ok(())
+    match value {
+        ValueExpr::Int(expression) => {
+            let number = evaluate_int(shown, space, expression)?;
+            space.set_number(variable, number)
+        }
+        ValueExpr::Text(_) => {
+            let value = evaluate(alloc, shown, space, value)?;
+            space.set_variable(variable, value)
+        }
+    }
 }
 
 /// A variable gets a column of the row with a key.

@@ -3,6 +3,7 @@
 
 ghost use Rattle.std.specs.Prelude.{◌≡◌, pos, [], true, OnOk, IfOk, slice_get};
 ghost use Rattle.values.specs.Database.{Database};
+ghost use Rattle.values.specs.declared.value.Value.TheVariants.{Int};
 ghost use Rattle.proclang_types.specs.declared.right.Right.TheVariants.{Write};
 ghost use Rattle.footprint.specs.Declaration.{number_or};
 ghost use Rattle.meaning.specs.Runs.{step, declare, set_row, remove_row, set_variable, replying};
@@ -20,6 +21,20 @@ use meaning::Ending;
 use std::alloc::Global;
 use std::collections::BTreeMap;
 use values::{NoMemory, Row, RowName, Value};
+
+/// For how many variables a run has room at its start, beside its arguments.
+const ROOM: usize = 8;
+
+/// Copies of values, with room for more behind them.
+fn copies(alloc: Global, values: &[Value]) -> Result<Vec<Value>, NoMemory>
+    ensures { IfOk result (λ copies. copies.items ≡ values.now) }
+{
+    let mut copies = Vec::with_capacity(alloc, values.len().saturating_add(ROOM))?;
+    for value in values {
+        copies.push(value.clone()?)?;
+    }
+    Ok(copies)
+}
 
 /// The own writes of a run, its variables in the order of their declarations, the steps that it took, what it replied, and
 /// the accesses noted. A write without a row is a deletion.
@@ -40,7 +55,7 @@ impl Workspace {
     {
         Ok(Workspace {
             writes: BTreeMap::new(alloc),
-            variables: arguments.to_vec(alloc)?,
+            variables: copies(alloc, arguments)?,
             steps: 0,
             reply: Vec::new(alloc),
             accesses: Accesses::new(alloc),
@@ -89,6 +104,21 @@ impl Workspace {
             self.variables[place] = value;
         }
         Ok(())
+    }
+
+    /// Declares the variable behind the others, or changes it: its value is a number.
+    pub fn set_number(&mut self, place: usize, number: i64) -> Result<(), Stop>
+        ensures gives { (db : Database) →
+            Gives (λ _. tt) (state_at db self.new) result (set_variable place (Int number) (state_at db self.old)) }
+        ensures writes { OnOk result (self.new.writes ≡ self.old.writes) }
+    {
+        match self.variables.get(place) {
+            Some(Value::Int(_)) => {
+                self.variables[place] = Value::Int(number);
+                Ok(())
+            }
+            Some(Value::Text(_)) | None => self.set_variable(place, Value::Int(number)),
+        }
     }
 
     /// Ends a block: the variables behind the first `count` are no more.
@@ -142,7 +172,11 @@ impl Workspace {
         if values.len() > 64 || self.reply.len() > 64 - values.len() {
             return Err(Stop::End(Ending::Abort(AbortCode::TooLong)));
         }
-        self.reply.append(&mut values)?;
+        if self.reply.is_empty() {
+            self.reply = values;
+        } else {
+            self.reply.append(&mut values)?;
+        }
         Ok(())
     }
 }
