@@ -54,11 +54,11 @@ by_names : (tables : List TableShape) (table : ℕ) (es : Rows) → keyed_lines 
 by_names tables table [] = refl
 by_names tables table (e ∷ es) = elim (is_of table e.0) as (λ (b : Bool). is_of table e.0 ≡ b
     → keyed_lines tables table (by_key (cond b (e ∷ kept (is_of table) es) (kept (is_of table) es))) ≡ row_lines tables (cond b (e ∷ kept (is_of table) es) (kept (is_of table) es))) [
-  | true ↦ λ is.
-      ap (λ t. row_line tables (record { table = t; key = e.0.key }) e.1 ++ keyed_lines tables table (by_key (kept (is_of table) es))) (sym (is_number e.0.table table is))
-      ∙ ap (λ rest. row_line tables e.0 e.1 ++ rest) (by_names tables table es)
-  | false ↦ λ is. by_names tables table es
-] refl
+      | true ↦ λ is.
+          ap (λ t. row_line tables (record { table = t; key = e.0.key }) e.1 ++ keyed_lines tables table (by_key (kept (is_of table) es))) (sym (is_number e.0.table table is))
+          ∙ ap (λ rest. row_line tables e.0 e.1 ++ rest) (by_names tables table es)
+      | false ↦ λ is. by_names tables table es
+    ] refl
 
 -- the lines of the rows of a table
 pub lines_are : (tables : List TableShape) (table : ℕ) (db : Database) (rows : List (ℕ × Bor RowOf)) → referred rows ≡ by_key (rows_of table db) → table_lines tables table rows ≡ row_lines tables (rows_of table db)

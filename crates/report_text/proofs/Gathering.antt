@@ -1,10 +1,10 @@
 -- The rows of a table are those of its partitions.
-use Rattle.std.proofs.Common.{◌≡◌, ℕ, ◌+◌, ◌%◌, ◌<◌, ◌≤◌, ◌==◌, ◌&&◌, ◌||◌, Bool, true, false, cond, nat_lt, unwrap_or, List, [], ◌∷◌, ◌++◌, filter, map, Option, Some, None, option_map, slice_get, refl, sym, ap, ◌∙◌, subst, arith, Ordering, Less, IsPermutation}
+use Rattle.std.proofs.Common.{◌≡◌, ℕ, ◌+◌, ◌%◌, ◌<◌, ◌≤◌, ◌==◌, ◌&&◌, ◌||◌, Bool, true, false, cond, nat_lt, unwrap_or, List, [], ◌∷◌, ◌++◌, map, Option, Some, None, option_map, slice_get, refl, sym, ap, ◌∙◌, subst, arith, Less, IsPermutation}
 use Rattle.std.specs.Borrow.{Bor}
 use Rattle.std.specs.List.{AllByRecursion}
-use Rattle.std.specs.List.Sorted.{IsNonDecreasing, IsNonDecreasingBy, IsStrictlySortedBy}
+use Rattle.std.specs.List.Sorted.{IsNonDecreasingBy, IsStrictlySortedBy}
 use Rattle.std.specs.Ordering.{nat_cmp}
-use Rattle.std.specs.FinMap.{entries, entries_sorted, find, get, get-entries}
+use Rattle.std.specs.FinMap.{entries, entries_sorted, get-entries}
 use Rattle.std.specs.FinMap.Entries.{find-where_key, is_sorted-where_key, same_entries}
 use Rattle.std.proofs.lemmas.Bool.Decides.{nat_tests}
 use Rattle.std.proofs.lemmas.List.{map-append}
@@ -18,7 +18,7 @@ use Rattle.meaning.proofs.Partitions.{get_part}
 use Rattle.workspace.specs.Scan.{by_key, is_in_part, part_rows, referred, rows_in_part}
 use Rattle.report_text.specs.Merge.{is_of, rows_of}
 use Rattle.report_text.proofs.MergedRows.{Ascends, Below, Rows, ascends, exact_names, kept, names_total, none_of_none}
-use Rattle.report_text.proofs.Sorting.{Keyed, keys, non_falling_keys, sorted_is}
+use Rattle.report_text.proofs.Sorting.{keys, non_falling_keys, sorted_is}
 
 -- ---- a list in two parts
 

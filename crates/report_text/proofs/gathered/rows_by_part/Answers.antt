@@ -1,4 +1,3 @@
-use Rattle.std.proofs.Common.{rules}
 use Rattle.report_text.proofs.Gathering.{more_gathered, none_before}
 use Rattle.report_text.proofs.gathered.rows_by_part.Goals as goal
 
