@@ -8,6 +8,7 @@ ghost use Rattle.report_text.specs.Texts.{digest, row_line, table_name, values_t
 
 use crate::values_text::push_values;
 use catalogue::Catalogue;
+use itoa::Buffer;
 use sha2::{Digest, Sha256};
 use std::alloc::{AllocError, Global};
 use values::{Row, RowName, TableNo};
@@ -35,8 +36,25 @@ pub fn push_table_name(
     }
 }
 
-/// A row line: the table's name, the key, the values, and a newline.
+/// Appends a row line: the table's name, the key, the values, and a newline.
 #[tactic(auto, unfolding(crate::specs::Texts::row_line))]
+pub(crate) fn push_row_line(
+    alloc: Global,
+    text: &mut String,
+    catalogue: &Catalogue,
+    name: &RowName,
+    row: &Row,
+) -> Result<(), AllocError>
+    ensures { OnOk result (string_bytes text.new ≡ string_bytes text.old ++ row_line catalogue.now name.now row.now) }
+{
+    push_table_name(text, catalogue, name.table)?;
+    text.push_str(" ")?;
+    text.push_str(Buffer::new().format(name.key.number()))?;
+    push_values(alloc, text, row.values())?;
+    text.push_str("\n")
+}
+
+/// A row line: the table's name, the key, the values, and a newline.
 pub fn row_line(
     alloc: Global,
     catalogue: &Catalogue,
@@ -46,11 +64,7 @@ pub fn row_line(
     ensures { IfOk result (λ t. string_bytes t ≡ row_line catalogue.now name.now row.now) }
 {
     let mut text = String::new(alloc);
-    push_table_name(&mut text, catalogue, name.table)?;
-    let key = name.key.number();
-    write!(text, " {key}")?;
-    push_values(alloc, &mut text, row.values())?;
-    text.push_str("\n")?;
+    push_row_line(alloc, &mut text, catalogue, name, row)?;
     Ok(text)
 }
 

@@ -3,7 +3,8 @@
 #![tactic(auto)]
 
 mod digest;
-mod heads;
+mod feed;
+mod gathered;
 mod laws;
 mod lines;
 mod plan_lines;

@@ -1,39 +1,50 @@
 //! The digest of all row lines, merged from the partitions of a view.
 
-ghost use Rattle.std.specs.Prelude.{◌≡◌, ◌<◌, ◌++◌, List, ℕ, None, OnOk, IfOk, length, string_bytes};
-ghost use Rattle.sha2.specs.Hashers.{Holds256};
+ghost use Rattle.std.specs.Prelude.{◌≡◌, ◌<◌, ◌++◌, List, ℕ, OnOk, IfOk, length, string_bytes};
 ghost use Rattle.report_text.specs.Texts.{digest, row_lines, row_text};
-ghost use Rattle.report_text.specs.Merge.{rows_behind, ShowsAll};
+ghost use Rattle.report_text.specs.Feeding.{IsFed, table_lines};
+ghost use Rattle.report_text.specs.Merge.{rows_of, ShowsAll};
 
-use crate::digest::{digest_of, row_line};
-use crate::heads::heads_of;
+use crate::feed::Feed;
+use crate::gathered::rows_of_table;
 use catalogue::Catalogue;
-use sha2::{Digest, Sha256};
 use std::alloc::{AllocError, Global};
-use values::{RowName, TableNo};
+use values::{Key, Row, RowName, TableNo};
 use workspace::RowView;
 
-/// Feeds a hasher the row lines of a table.
+/// Feeds the lines of rows of a table.
+fn feed_rows(
+    alloc: Global,
+    catalogue: &Catalogue,
+    table: TableNo,
+    rows: &[(Key, &Row)],
+    feed: &mut Feed,
+) -> Result<(), AllocError>
+    ensures { (all : List ℕ) → IsFed feed.old all →
+        OnOk result (IsFed feed.new (all ++ table_lines catalogue.now table rows.now)) }
+{
+    for row in rows {
+        feed.push_row(alloc, catalogue, &RowName::new(table, row.0), row.1)?;
+    }
+    Ok(())
+}
+
+/// Feeds the row lines of a table.
 fn feed_table<V: RowView>(
     alloc: Global,
     catalogue: &Catalogue,
     view: &V,
     table: TableNo,
-    hasher: &mut Sha256,
+    feed: &mut Feed,
 ) -> Result<(), AllocError>
     requires tables { V.tables view.now ≡ catalogue.now }
     requires shows { ShowsAll (V.shows view.now) }
     requires table { table < length catalogue.now }
-    ensures { (m : List ℕ) → Holds256 hasher.old m →
-        OnOk result (Holds256 hasher.new (m ++ row_lines catalogue.now (rows_behind (V.rows view.now) table None))) }
+    ensures { (all : List ℕ) → IsFed feed.old all →
+        OnOk result (IsFed feed.new (all ++ row_lines catalogue.now (rows_of table (V.rows view.now)))) }
 {
-    let mut heads = heads_of(alloc, catalogue, view, table)?;
-    while let Some((key, part, row)) = heads.pop() {
-        let line = row_line(alloc, catalogue, &RowName::new(table, key), row)?;
-        hasher.update(line.as_bytes());
-        heads.push_next(view, table, part)?;
-    }
-    Ok(())
+    let rows = rows_of_table(alloc, catalogue, view, table)?;
+    feed_rows(alloc, catalogue, table, rows.as_slice(), feed)
 }
 
 /// The digest of the row lines of a view that shows every name: by table in declared order, and by ascending key.
@@ -46,9 +57,9 @@ pub fn rows_digest<V: RowView>(
     requires shows { ShowsAll (V.shows view.now) }
     ensures { IfOk result (λ t. string_bytes t ≡ digest (row_text catalogue.now (V.rows view.now))) }
 {
-    let mut hasher = Sha256::new();
+    let mut feed = Feed::new(alloc);
     for place in 0..catalogue.len() {
-        feed_table(alloc, catalogue, view, TableNo::new(place), &mut hasher)?;
+        feed_table(alloc, catalogue, view, TableNo::new(place), &mut feed)?;
     }
-    digest_of(alloc, hasher)
+    feed.digest(alloc)
 }

@@ -3,6 +3,7 @@
 ghost use Rattle.std.specs.Prelude.{◌≡◌, ◌++◌, [], OnOk, string_bytes};
 ghost use Rattle.report_text.specs.Texts.{value_text, values_text};
 
+use itoa::Buffer;
 use std::alloc::{AllocError, Global};
 use values::Value;
 
@@ -12,7 +13,7 @@ pub fn push_value(alloc: Global, text: &mut String, value: &Value) -> Result<(),
     ensures { OnOk result (string_bytes text.new ≡ string_bytes text.old ++ value_text value.now) }
 {
     match value {
-        Value::Int(number) => write!(text, "{number}"),
+        Value::Int(number) => text.push_str(Buffer::new().format(*number)),
         Value::Text(words) => {
             let digits = hex::encode(alloc, words.as_str())?;
             write!(text, "x{digits}")

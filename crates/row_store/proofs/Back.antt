@@ -1,18 +1,17 @@
 -- What giving back keeps.
-use Rattle.std.proofs.Common.{◌≡◌, ◌⊎◌, inl, inr, ℕ, Bool, true, false, ◌||◌, ◌&&◌, cond, if◌then◌else◌, List, refl, sym, ap, subst, ◌∙◌, Option, Some, None, is_some}
+use Rattle.std.proofs.Common.{◌≡◌, inl, inr, ℕ, Bool, true, false, ◌||◌, cond, if◌then◌else◌, List, refl, sym, ap, ◌∙◌, Some, None}
 use Rattle.std.specs.Ordering.{nat_cmp}
 use Rattle.std.specs.BTreeMap.{BTreeMap, is_at}
 use Rattle.std.specs.FinMap.{get}
 use Rattle.std.specs.declared.snapshot.Snapshot.{Snapshot}
 use Rattle.values.specs.declared.name.RowName.{RowName}
 use Rattle.catalogue.specs.Shapes.{TableShape}
-use Rattle.proclang_types.specs.declared.right.Right.TheVariants.{Read, Write}
+use Rattle.proclang_types.specs.declared.right.Right.TheVariants.{Write}
 use Rattle.footprint.specs.declared.resource.Resource.{Resource}
 use Rattle.coarsen.specs.Subtrees.{Requests}
-use Rattle.coarsen.specs.Plans.{IsWellFormed, IsPlanOver}
-use Rattle.coarsen.specs.Clashes.{locks_row, ModesClash}
+use Rattle.coarsen.specs.Clashes.{locks_row}
 use Rattle.coarsen.specs.Laws.{LockedRowsConflict}
-use Rattle.row_store.specs.Places.{Shelves, PlaceOf, has_shelf, is_away, has_place, seen_at, settled, full}
+use Rattle.row_store.specs.Places.{Shelves, PlaceOf, has_shelf, is_away, has_place, settled, full}
 use Rattle.row_store.specs.Shelving.{shelf_of}
 use Rattle.row_store.specs.Locked.{among, is_named, locks_shelf, locks_itself}
 use Rattle.row_store.specs.Views.{found, rows_of, lent_at, IsRowStore, IsLoan}

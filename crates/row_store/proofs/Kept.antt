@@ -1,9 +1,7 @@
 -- What a plan locks to write it locks to read; and what writes, and what is made ready to lend, keep.
-use Rattle.std.proofs.Common.{◌≡◌, ◌⊎◌, inl, inr, ℕ, Bool, true, false, ◌||◌, ◌&&◌, cond, if◌then◌else◌, nat_le, List, [], ◌∷◌, refl, sym, ap, subst, ◌∙◌, Option, Some, None, is_some, Result, Ok, Err, OnErr, arith}
+use Rattle.std.proofs.Common.{◌≡◌, ◌⊎◌, inl, inr, ℕ, Bool, true, false, ◌||◌, ◌&&◌, nat_le, List, [], ◌∷◌, refl, sym, ap, ◌∙◌, Option, Some, None, Result, Ok, Err, OnErr, arith}
 use Rattle.std.proofs.lemmas.Bool.Decides.{nat_tests}
-use Rattle.std.specs.Ordering.{nat_cmp}
-use Rattle.std.specs.BTreeMap.{BTreeMap, is_at}
-use Rattle.std.specs.FinMap.{get}
+use Rattle.std.specs.BTreeMap.{BTreeMap}
 use Rattle.std.specs.declared.snapshot.Snapshot.{Snapshot}
 use Rattle.values.specs.declared.name.RowName.{RowName}
 use Rattle.catalogue.specs.Shapes.{TableShape}
@@ -13,16 +11,11 @@ use Rattle.footprint.specs.declared.resource.Resource.{Resource}
 use Rattle.footprint.specs.Tree.{row_resource}
 use Rattle.modes.specs.Modes.{own}
 use Rattle.coarsen.specs.Subtrees.{Requests, own_over, holds}
-use Rattle.coarsen.specs.Plans.{IsWellFormed, IsPlanOver}
-use Rattle.coarsen.specs.Clashes.{locks_row, ModesClash}
-use Rattle.coarsen.specs.Laws.{LockedRowsConflict, ClashEitherWay}
+use Rattle.coarsen.specs.Clashes.{locks_row}
 use Rattle.row_store.specs.Places.{Shelves, PlaceOf, has_shelf, is_away, has_place, seen_at, written}
 use Rattle.row_store.specs.Shelving.{shelf_of}
-use Rattle.row_store.specs.Locked.{gives, name_of, is_of, among, is_named, locks_shelf, locks_itself}
-use Rattle.row_store.specs.Views.{found, rows_of, lent_at, IsRowStore, IsLoan}
-use Rattle.row_store.proofs.Locks.{locks_either}
-use Rattle.row_store.proofs.Rows.{get-rows_of}
-use Rattle.row_store.proofs.Numbers.{lent_after, lent_new, lent_still, lent_left, lent_before}
+use Rattle.row_store.specs.Locked.{gives, name_of, is_of, locks_shelf, locks_itself}
+use Rattle.row_store.specs.Views.{found, lent_at, IsRowStore, IsLoan}
 
 -- ---- tests
 

@@ -1,5 +1,5 @@
 -- What lending keeps.
-use Rattle.std.proofs.Common.{◌≡◌, ◌⊎◌, inl, inr, ℕ, Bool, true, false, not, ◌||◌, ◌&&◌, cond, if◌then◌else◌, List, refl, sym, ap, subst, ◌∙◌, Option, Some, None, is_some}
+use Rattle.std.proofs.Common.{◌≡◌, inl, inr, ℕ, Bool, true, false, not, ◌||◌, ◌&&◌, cond, if◌then◌else◌, List, refl, sym, ap, subst, ◌∙◌, Some, None, is_some}
 use Rattle.std.specs.Ordering.{nat_cmp}
 use Rattle.std.specs.BTreeMap.{BTreeMap, is_at}
 use Rattle.std.specs.FinMap.{get}
@@ -12,7 +12,6 @@ use Rattle.coarsen.specs.Subtrees.{Requests}
 use Rattle.coarsen.specs.Plans.{IsWellFormed, IsPlanOver}
 use Rattle.coarsen.specs.Clashes.{locks_row, ModesClash}
 use Rattle.coarsen.specs.Laws.{LockedRowsConflict, ClashEitherWay}
-use Rattle.row_store.specs.declared.shelf.Shelf.{Shelf}
 use Rattle.row_store.specs.Places.{Shelves, PlaceOf, shelf_on, has_shelf, is_away, has_place, seen_at, seen_on, has_on, is_out_on, settled, emptied, gone}
 use Rattle.row_store.specs.Shelving.{shelf_of}
 use Rattle.row_store.specs.Locked.{among, is_named, locks_shelf, locks_itself}
@@ -21,7 +20,7 @@ use Rattle.row_store.specs.Views.{found, rows_of, lent_at, IsRowStore, IsLoan}
 use Rattle.row_store.proofs.Locks.{locks_either}
 use Rattle.row_store.proofs.Rows.{get-rows_of}
 use Rattle.row_store.proofs.Numbers.{lent_after, lent_new, lent_still}
-use Rattle.row_store.proofs.Kept.{or_left, or_right, neither, cases, write_reads, shelf_reads, name_reads}
+use Rattle.row_store.proofs.Kept.{or_left, or_right, neither, cases, write_reads, name_reads}
 
 -- what becomes of a store, and of what is held for a loan, when the shelves and the rows that are lent to be written go out
 pub record IsOut (tables : List TableShape) (old mid new before held : Shelves) (at : List Resource) (ns : List RowName) : Type 0 where

@@ -1,6 +1,7 @@
 pub mod Back
 pub mod Copies
 pub mod Exact
+pub mod Gathered
 pub mod Kept
 pub mod Lent
 pub mod Locks

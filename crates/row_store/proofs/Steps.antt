@@ -4,7 +4,7 @@ use Rattle.values.specs.declared.name.RowName.{RowName}
 use Rattle.catalogue.specs.Shapes.{TableShape}
 use Rattle.footprint.specs.declared.resource.Resource.{Resource}
 use Rattle.values.specs.Database.{RowOf}
-use Rattle.row_store.specs.Places.{Shelves, PlaceOf, full, written, seen_at, has_place, is_shelf, is_name}
+use Rattle.row_store.specs.Places.{PlaceOf, full, written, is_shelf, is_name}
 use Rattle.row_store.specs.Shelving.{shelf_of}
 use Rattle.row_store.proofs.Exact.{same_name, same_shelf, own_place}
 

@@ -1,11 +1,11 @@
 -- Of the code: invariants and steps; no promise rests on these words.
 -- What becomes of shelves and places when rows move between a store and a loan. A relation of one shelf or one row name speaks of
 -- every place; those of many speak of the places where row names belong.
-use Rattle.std.specs.Prelude.{◌≡◌, Bool, true, false, not, ◌&&◌, ◌||◌, List, Some, None, if◌then◌else◌}
+use Rattle.std.specs.Prelude.{◌≡◌, Bool, false, not, ◌&&◌, List, None, if◌then◌else◌}
 use Rattle.values.specs.declared.name.RowName.{RowName}
 use Rattle.catalogue.specs.Shapes.{TableShape}
 use Rattle.footprint.specs.declared.resource.Resource.{Resource}
-use Rattle.row_store.specs.Places.{Shelves, shelf_on, has_shelf, is_away, has_place, seen_at, emptied, gone, full, settled, is_shelf, is_name}
+use Rattle.row_store.specs.Places.{Shelves, shelf_on, has_shelf, is_away, has_place, seen_at, emptied, full, settled, is_shelf, is_name}
 use Rattle.row_store.specs.Shelving.{shelf_of}
 use Rattle.row_store.specs.Locked.{among, is_named}
 

@@ -1,10 +1,10 @@
 //! Going through the rows of a partition.
 
-ghost use Rattle.std.specs.Prelude.{◌≡◌, true, None, if◌then◌else◌, option_map};
+ghost use Rattle.std.specs.Prelude.{◌≡◌, ◌++◌, true, None, if◌then◌else◌, option_map, OnOk};
 ghost use Rattle.std.specs.FinMap as map;
 ghost use Rattle.values.specs.declared.name.RowName.{RowName as AnyName};
 ghost use Rattle.values.specs.Database.{Database};
-ghost use Rattle.workspace.specs.Scan.{IsNext, is_after, is_ahead, is_in_part};
+ghost use Rattle.workspace.specs.Scan.{IsNext, is_after, is_ahead, is_in_part, referred, rows_in_part};
 ghost use Rattle.row_store.specs.Places.{shared_row, seen_in};
 ghost use Rattle.row_store.specs.Scans.{start_of};
 ghost use Rattle.row_store.specs.Views.{found};
@@ -14,6 +14,7 @@ use crate::shelf::Shelf;
 use crate::shelves::Shelves;
 use crate::shelving::{part_of, shelf_at};
 use catalogue::Catalogue;
+use std::alloc::AllocError;
 use std::ops::Bound;
 use values::{Key, Row, RowName, TableNo};
 
@@ -108,5 +109,47 @@ pub(crate) fn next_row<'a>(
     match shelves.get(&shelf_at(catalogue, table, part)) {
         Some(shelf) => next_on(catalogue, shelf, table, part, after),
         None => None,
+    }
+}
+
+/// Appends the rows of a partition that stand on a shelf, by ascending key. Places without a row are passed over.
+fn push_rows_on<'a>(
+    catalogue: &Catalogue,
+    shelf: &'a Shelf,
+    table: TableNo,
+    part: u32,
+    gathered: &mut Vec<(Key, &'a Row)>,
+) -> Result<(), AllocError>
+    ensures { (db : Database) → ((q : AnyName) → is_in_part catalogue.now table part q ≡ true →
+        map.get db q ≡ (seen_in shelf.now q).row) →
+        OnOk result (referred gathered.new.items
+        ≡ referred gathered.old.items ++ rows_in_part catalogue.now table part db) }
+{
+    for (name, place) in &shelf.places {
+        if let Some(row) = row_ahead(catalogue, table, part, &None, name, place) {
+            if gathered.push((name.key, row)).is_err() {
+                return Err(AllocError);
+            }
+        }
+    }
+    Ok(())
+}
+
+/// Appends the rows of a partition that stand, by ascending key.
+pub(crate) fn push_rows<'a>(
+    catalogue: &Catalogue,
+    shelves: &'a Shelves,
+    table: TableNo,
+    part: u32,
+    gathered: &mut Vec<(Key, &'a Row)>,
+) -> Result<(), AllocError>
+    ensures { (db : Database) → ((q : AnyName) → is_in_part catalogue.now table part q ≡ true →
+        map.get db q ≡ (found catalogue.now shelves.now q).row) →
+        OnOk result (referred gathered.new.items
+        ≡ referred gathered.old.items ++ rows_in_part catalogue.now table part db) }
+{
+    match shelves.get(&shelf_at(catalogue, table, part)) {
+        Some(shelf) => push_rows_on(catalogue, shelf, table, part, gathered),
+        None => Ok(()),
     }
 }

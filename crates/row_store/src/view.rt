@@ -1,10 +1,11 @@
 //! What is shown: by a store the rows that are not lent to be written, by a loan the names that its plan locks.
 
 use crate::loan::Loan;
-use crate::scan::next_row;
+use crate::scan::{next_row, push_rows};
 use crate::shelves::row_at;
 use crate::shelving::shelf_of;
 use crate::store::RowStore;
+use std::alloc::AllocError;
 use values::{Key, Row, RowName, TableNo};
 use workspace::RowView;
 
@@ -25,6 +26,15 @@ impl RowView for RowStore {
     fn next_row(&self, table: TableNo, part: u32, after: Option<Key>) -> Option<(Key, &Row)> {
         next_row(&self.catalogue, &self.shelves, table, part, &after)
     }
+
+    fn push_rows<'a>(
+        &'a self,
+        table: TableNo,
+        part: u32,
+        gathered: &mut Vec<(Key, &'a Row)>,
+    ) -> Result<(), AllocError> {
+        push_rows(&self.catalogue, &self.shelves, table, part, gathered)
+    }
 }
 
 impl RowView for Loan {
@@ -44,5 +54,14 @@ impl RowView for Loan {
 
     fn next_row(&self, table: TableNo, part: u32, after: Option<Key>) -> Option<(Key, &Row)> {
         next_row(&self.catalogue, &self.held.shelves, table, part, &after)
+    }
+
+    fn push_rows<'a>(
+        &'a self,
+        table: TableNo,
+        part: u32,
+        gathered: &mut Vec<(Key, &'a Row)>,
+    ) -> Result<(), AllocError> {
+        push_rows(&self.catalogue, &self.held.shelves, table, part, gathered)
     }
 }

@@ -1,7 +1,8 @@
 //! What a run reads.
 
-ghost use Rattle.std.specs.Prelude.{◌≡◌, IsTrue, option_map, option_copied};
+ghost use Rattle.std.specs.Prelude.{◌≡◌, ◌++◌, IsTrue, OnOk, option_map, option_copied};
 
+use std::alloc::AllocError;
 use values::{Key, Row, TableNo};
 
 /// Some of the rows of a database over the tables of a catalogue. Nothing is asked of how many values a row has, or of which
@@ -12,7 +13,7 @@ pub trait RowView {
     ghost use Rattle.catalogue.specs.Shapes.{TableShape};
     ghost use Rattle.values.specs.Database.{Database};
     ghost use Rattle.values.specs.declared.name.RowName.{RowName};
-    ghost use Rattle.workspace.specs.Scan.{IsNext, ShowsPart};
+    ghost use Rattle.workspace.specs.Scan.{IsNext, ShowsPart, referred, rows_in_part};
 
     /// The tables, whose partitions the view goes through.
     ghost tables: { Self → List TableShape };
@@ -34,4 +35,16 @@ pub trait RowView {
         requires { ShowsPart (tables self.now) (shows self.now) table part }
         ensures { IsNext (tables self.now) (rows self.now) table part after (option_map (λ found.
             (found.0, found.1.now)) result) };
+
+    /// Appends all rows of a partition with their keys, by ascending key. The view shows each name of the partition. Where
+    /// memory is refused, some of them may have been appended.
+    fn push_rows<'a>(
+        &'a self,
+        table: TableNo,
+        part: u32,
+        gathered: &mut Vec<(Key, &'a Row)>,
+    ) -> Result<(), AllocError>
+        requires { ShowsPart (tables self.now) (shows self.now) table part }
+        ensures { OnOk result (referred gathered.new.items
+            ≡ referred gathered.old.items ++ rows_in_part (tables self.now) table part (rows self.now)) };
 }

@@ -5,7 +5,7 @@ use Rattle.footprint.specs.declared.resource.Resource.{Resource}
 use Rattle.row_store.specs.Places.{PlaceOf, shelf_on, seen_at, has_place, has_shelf, is_away, gone, is_shelf}
 use Rattle.row_store.specs.Locked.{among}
 use Rattle.row_store.specs.Moving.{is_ready}
-use Rattle.row_store.proofs.Steps.{ready_step, once, once_from, done_once, away_once, still_once}
+use Rattle.row_store.proofs.Steps.{ready_step, once_from, done_once, away_once, still_once}
 use Rattle.row_store.proofs.exchange.take_shelves.Goals as goal
 
 pub loop-shelf-preserved : goal.loop-shelf-preserved

@@ -1,4 +1,4 @@
-use Rattle.std.proofs.Common.{◌≡◌, true, Bool, Option, None, ◌&&◌, sym, ap, ◌∙◌}
+use Rattle.std.proofs.Common.{sym, ap, ◌∙◌}
 use Rattle.row_store.specs.Places.{shared_row, seen_at, has_place, is_shelf, is_name}
 use Rattle.row_store.proofs.Steps.{some_if, none_if, put_some, put_none, same_place}
 use Rattle.row_store.proofs.moving.put_one_row.Goals as goal

@@ -1,0 +1,70 @@
+//! Text on its way to a hasher.
+
+ghost use Rattle.std.specs.Prelude.{◌≡◌, ◌++◌, [], List, ℕ, IfOk, OnOk, string_bytes};
+ghost use Rattle.report_text.specs.Texts.{digest, row_line};
+ghost use Rattle.report_text.specs.Feeding.{IsFed};
+
+use crate::digest::{digest_of, push_row_line};
+use catalogue::Catalogue;
+use sha2::{Digest, Sha256};
+use std::alloc::{AllocError, Global};
+use values::{Row, RowName};
+
+/// From so many bytes on, text is handed to the hasher.
+const PIECE: usize = 4096;
+
+/// A hasher, and the end of its text, which it was not given yet: so it is given large pieces.
+#[derive(Drop)]
+pub(crate) struct Feed {
+    hasher: Sha256,
+    text: String,
+}
+
+impl Feed {
+    /// No text.
+    pub(crate) fn new(alloc: Global) -> Feed
+        ensures { IsFed result [] }
+    {
+        Feed {
+            hasher: Sha256::new(),
+            text: String::new(alloc),
+        }
+    }
+
+    /// Gives the hasher what it was not given yet.
+    fn hand_over(&mut self)
+        ensures fed { (all : List ℕ) → IsFed self.old all → IsFed self.new all }
+        ensures none { string_bytes self.new.text ≡ [] }
+    {
+        self.hasher.update(self.text.as_bytes());
+        self.text.clear();
+    }
+
+    /// Appends a row line.
+    pub(crate) fn push_row(
+        &mut self,
+        alloc: Global,
+        catalogue: &Catalogue,
+        name: &RowName,
+        row: &Row,
+    ) -> Result<(), AllocError>
+        ensures { (all : List ℕ) → IsFed self.old all →
+            OnOk result (IsFed self.new (all ++ row_line catalogue.now name.now row.now)) }
+    {
+        push_row_line(alloc, &mut self.text, catalogue, name, row)?;
+        if self.text.len() >= PIECE {
+            self.hand_over();
+        }
+        Ok(())
+    }
+
+    /// The digest of the text.
+    pub(crate) fn digest(self, alloc: Global) -> Result<String, AllocError>
+        ensures { (all : List ℕ) → IsFed self all → IfOk result (λ t. string_bytes t ≡ digest all) }
+    {
+        let mut feed = self;
+        feed.hand_over();
+        let Feed { hasher, text: _ } = feed;
+        digest_of(alloc, hasher)
+    }
+}
