@@ -1,8 +1,7 @@
 -- What is out is in the lanes: admitting, lending and settling keep it.
-use Rattle.std.proofs.Common.{◌≡◌, ◌≢◌, ℕ, zero, suc, ◌+◌, ◌-◌, ◌<◌, ◌≤◌, Bool, true, false, cond, nat_lt, List, [], ◌∷◌, ◌++◌, map, Option, None, Some, refl, sym, ap, ◌∙◌, subst, arith, inl, inr, ◌⊎◌, slice_get, slice_set}
-use Rattle.std.specs.Prelude.{IfSome, is_some, replicate}
+use Rattle.std.proofs.Common.{◌≡◌, ◌≢◌, ℕ, zero, suc, ◌+◌, ◌-◌, ◌≤◌, true, false, nat_lt, List, [], ◌∷◌, ◌++◌, map, Option, None, Some, refl, sym, ap, ◌∙◌, subst, arith, inl, inr, ◌⊎◌, slice_get, slice_set}
+use Rattle.std.specs.Prelude.{IfSome}
 use Rattle.std.proofs.lemmas.Bool.Decides.{nat_tests}
-use Rattle.std.proofs.lemmas.List.Sums.{sum_by-cons}
 use Rattle.meaning.specs.declared.outcome.Outcome.{Outcome}
 use Rattle.scheduler.specs.JobRuns.{JobOf, DoneOf, IsDoneOf, ComesOf}
 use Rattle.scheduler_core.specs.declared.event.Event.TheVariants as events
@@ -12,11 +11,11 @@ use Rattle.scheduler_core.specs.Phases.{is_idle, is_out, is_settled, phase_of}
 use Rattle.scheduler_core.specs.Events.{enabled}
 use Rattle.scheduler.specs.declared.slot.Slot.{Slot}
 use Rattle.scheduler.specs.declared.slot.Slot.TheVariants.{Idle, Lent, Held, Ran, Settled}
-use Rattle.scheduler.specs.Schedules.{Schedule, log_of, phase_in, phases_of, KeepsItsJobs}
+use Rattle.scheduler.specs.Schedules.{Schedule, log_of, phase_in, phases_of}
 use Rattle.scheduler.specs.Jobs.{IsLentAt, LendsJob, ComesBack}
-use Rattle.lanes.specs.Seats.{SchedulerSeatOf, jobs_in, puts_in}
+use Rattle.lanes.specs.Seats.{SchedulerSeatOf, puts_in}
 use Rattle.lanes.specs.Calls.{IsLowestFree, Collects, CollectsNothing}
-use Rattle.engine.specs.Engines.{NoneIsOut, StaysSettled}
+use Rattle.engine.specs.Engines.{StaysSettled}
 use Rattle.engine.specs.HandedOut.{IsOut, HasJob, AreInLanes}
 use Rattle.engine.specs.Engines.{Account}
 use Rattle.engine.specs.Tallies.{settled_among}
@@ -52,7 +51,7 @@ same_or_other (suc j) (suc k) = elim (same_or_other j k) [ inl e ↦ inl (ap suc
 
 -- ---- slots
 
-out_at : (slots : List Slot) (place : ℕ) (slot : Slot) → slice_get slots place ≡ Some slot → slice_get (map phase_in slots) place ≡ Some (phase_in slot)
+pub out_at : (slots : List Slot) (place : ℕ) (slot : Slot) → slice_get slots place ≡ Some slot → slice_get (map phase_in slots) place ≡ Some (phase_in slot)
 out_at [] place slot is = absurd (none_some slot is)
 out_at (x ∷ slots) zero slot is = ap (λ s. Some (phase_in s)) (some_is x slot is)
 out_at (x ∷ slots) (suc place) slot is = out_at slots place slot is
@@ -348,43 +347,3 @@ same_jobs s seat new_seat h c = subst (AreInLanes s) (sym c.new_is) (record {
   apart = h.apart;
   all = λ place out. let has = h.all place out in record { lane = has.lane; job = has.job; there = has.there; numbered = has.numbered };
 })
-
--- ---- the start and the end
-
-nothing_in : (n lane : ℕ) (job : JobOf) → slice_get (replicate n None) lane ≡ Some (Some job) → ⊥
-nothing_in zero lane job there = cc
-nothing_in (suc n) zero job there = cc
-nothing_in (suc n) (suc lane) job there = nothing_in n lane job there
-
--- where nothing is out and nothing was put
-pub none_lanes : (s : Schedule) (seat : SchedulerSeatOf) (n : ℕ) → seat.jobs ≡ replicate n None → NoneIsOut (phases_of s) → AreInLanes s seat
-none_lanes s seat n empty none = record {
-  each = λ lane job there. absurd (nothing_in n lane job (ap (λ jobs. slice_get jobs lane) (sym empty) ∙ there));
-  apart = λ i k job other d there also. absurd (nothing_in n i job (ap (λ jobs. slice_get jobs i) (sym empty) ∙ there));
-  all = λ place out. absurd (let e : false ≡ true = sym (none place) ∙ out in cc);
-}
-
-some_counted : (jobs : List (Option JobOf)) (lane : ℕ) (job : JobOf) → slice_get jobs lane ≡ Some (Some job) → 0 < jobs_in jobs
-some_counted [] lane job there = absurd (none_some (Some job) there)
-some_counted (x ∷ jobs) zero job there =
-    let e : x ≡ Some job = some_is x (Some job) there in
-    let one : ◌≡◌ {A = ℕ} (cond (is_some x) 1 0) 1 = ap (λ o. cond (is_some o) 1 0) e in
-    let more = sum_by-cons (λ o. cond (is_some o) 1 0) x jobs in
-    omega (arith, one, more)
-some_counted (x ∷ jobs) (suc lane) job there =
-    let rest = some_counted jobs lane job there in
-    let more = sum_by-cons (λ o. cond (is_some o) 1 0) x jobs in
-    omega (arith, rest, more)
-
-none_by : (s : Schedule) (seat : SchedulerSeatOf) → AreInLanes s seat → jobs_in seat.jobs ≡ 0 → (place : ℕ) (b : Bool) → is_out (slice_get (phases_of s) place) ≡ b → b ≡ false
-none_by s seat h empty place false is = refl
-none_by s seat h empty place true is =
-    let has = h.all place is in let some = some_counted seat.jobs has.lane has.job has.there in absurd (omega (arith, some, empty))
-
--- where no lane has a job, none is out
-pub empty_rests : (s : Schedule) (seat : SchedulerSeatOf) → AreInLanes s seat → jobs_in seat.jobs ≡ 0 → NoneIsOut (phases_of s)
-empty_rests s seat h empty place = none_by s seat h empty place (is_out (slice_get (phases_of s) place)) refl
-
--- where none is out, the caller has no job
-pub none_kept : (s : Schedule) → NoneIsOut (phases_of s) → KeepsItsJobs s
-none_kept s none place is = let e : true ≡ false = sym (ap is_out (out_at s.slots place Lent is)) ∙ none place in cc

@@ -7,6 +7,7 @@ pub mod Told
 pub mod Shown
 pub mod Steps
 pub mod InLanes
+pub mod EmptyLanes
 pub mod Stops
 pub mod Sent
 pub mod Worked

@@ -13,7 +13,7 @@ use Rattle.engine.specs.Batches.{entries_of}
 use Rattle.engine.specs.Engines.{Unfinished, NoneIsOut, StaysSettled}
 use Rattle.engine.specs.Executions.{WaitsIn}
 use Rattle.engine.specs.Stages.{IsBegun, IsInterruptedStage, rows_in, unfinished_in, unfinished_of}
-use Rattle.engine.proofs.InLanes.{none_kept}
+use Rattle.engine.proofs.EmptyLanes.{none_kept}
 
 module _ (tables : List TableShape) (first : ℕ) (old : Stage) (b : BegunOf) (s : Schedule) (h : IsBegun tables first b) (start : b.scheduler.work.start ≡ rows_in (Some old))
     (same : Some (unfinished_of b) ≡ unfinished_in (Some old)) (work : s.work ≡ b.scheduler.work) (none : NoneIsOut (phases_of s)) (settled : StaysSettled (phases_of b.scheduler) (phases_of s)) where

@@ -1,6 +1,6 @@
 -- Of the code: invariants and steps; no promise rests on these words.
 -- Jobs that are with the workers.
-use Rattle.std.specs.Prelude.{◌≡◌, ◌≢◌, ℕ, ◌+◌, ◌-◌, true, Option, Some, slice_get}
+use Rattle.std.specs.Prelude.{◌≡◌, ◌≢◌, ℕ, ◌+◌, ◌-◌, true, Some, slice_get}
 use Rattle.scheduler.specs.JobRuns.{JobOf}
 use Rattle.scheduler_core.specs.Phases.{is_out}
 use Rattle.scheduler.specs.declared.slot.Slot.TheVariants.{Lent}

@@ -10,7 +10,6 @@ ghost use Rattle.engine.specs.Accounts.{PublishesOn, ShowsSettled};
 use crate::ending::Ended;
 use crate::gate::Gate;
 use crate::listener::Publishing;
-use crate::pool::Refusal;
 use crate::publisher::Publisher;
 use crate::replies::BatchDone;
 use crate::settings::Settings;
@@ -45,13 +44,13 @@ pub enum ExecFault {
 /// Executes batches of calls, one after another, on the rows of a database.
 #[derive(Drop)]
 pub struct Engine {
-    procs: Procs,
-    settings: Settings,
+    pub(crate) procs: Procs,
+    pub(crate) settings: Settings,
     // How many transactions were run in the batches that ended: the number of the next one.
-    next: u64,
+    pub(crate) next: u64,
     // These two are always there but inside a call that moves them.
-    stage: Option<Stage>,
-    publisher: Option<Publisher>,
+    pub(crate) stage: Option<Stage>,
+    pub(crate) publisher: Option<Publisher>,
 }
 
 impl Model for Engine {
@@ -75,7 +74,7 @@ impl Model for Engine {
 }
 
 /// Takes over the rows that a batch left, and counts its transactions. What was published counts among the batches that ended.
-fn leave(
+pub(crate) fn leave(
     next: &mut u64,
     stage: &mut Option<Stage>,
     publisher: &mut Option<Publisher>,
@@ -185,7 +184,7 @@ impl Engine {
     }
 
     /// Takes a batch, or gives it back where it can't be taken.
-    fn take(&mut self, batch: Batch) -> Result<(), ExecFault>
+    pub(crate) fn take(&mut self, batch: Batch) -> Result<(), ExecFault>
         requires { AreOver (tables_of self.old) (items_of batch) }
         ensures same { KeepsSetting self.old self.new }
         ensures taken { OnOk result (self.new ≡ record self.old { unfinished = Some (taken batch) }) }
@@ -370,18 +369,5 @@ impl Engine {
             unreachable!()
         };
         publisher.watcher(rt)
-    }
-}
-
-impl From<Refusal> for ExecFault {
-    ghost use Rattle.engine.specs.Executions.{fault_of};
-
-    ghost from_gives = { λ refusal given. given ≡ fault_of refusal };
-
-    fn from(refusal: Refusal) -> ExecFault {
-        match refusal {
-            Refusal::Thread => ExecFault::Spawn,
-            Refusal::Memory => ExecFault::NoMemory,
-        }
     }
 }

@@ -1,6 +1,6 @@
 //! What the scheduler's thread does beside its workers.
 
-ghost use Rattle.std.specs.Prelude.{◌≡◌, ◌+◌, ◌<◌, true, if◌then◌else◌, replicate, None, IfOk, OnOk, OnErr};
+ghost use Rattle.std.specs.Prelude.{◌≡◌, ◌+◌, ◌<◌, true, if◌then◌else◌, IfOk, OnOk, OnErr};
 ghost use Rattle.scheduler_core.specs.Phases.{is_done};
 ghost use Rattle.scheduler.specs.Schedules.{log_of, phases_of};
 ghost use Rattle.lanes.specs.Seats.{SchedulerSeatOf, jobs_in};
@@ -206,7 +206,7 @@ fn hand_over<R: Wait, L: Listener>(
 }
 
 /// Takes in what comes of the jobs that are out, until none is.
-#[tactic(auto, using(crate::proofs::InLanes::empty_rests))]
+#[tactic(auto, using(crate::proofs::EmptyLanes::empty_rests))]
 fn take_in_all<R: Wait, L: Listener>(
     rt: &R,
     scheduler: &mut Scheduler,
@@ -220,6 +220,8 @@ fn take_in_all<R: Wait, L: Listener>(
     requires lanes { AreInLanes scheduler.old seat.old }
     requires out { out.old ≡ jobs_in seat.old.jobs }
     requires told { AreCounted scheduler.old (L.account listener.old) }
+    ensures seat { seat.new.lanes ≡ lanes.now }
+    ensures empty { jobs_in seat.new.jobs ≡ 0 }
     ensures work { scheduler.new.work ≡ scheduler.old.work }
     ensures settled { StaysSettled (phases_of scheduler.old) (phases_of scheduler.new) }
     ensures told { AreCounted scheduler.new (L.account listener.new) }
@@ -235,8 +237,8 @@ fn take_in_all<R: Wait, L: Listener>(
 }
 
 /// Hands the transactions that are left to the workers, and settles them as they come back. Where memory is refused, no more
-/// are handed out, and those that are out are taken in first. The seat has put nothing. The listener hears of each transaction
-/// as it is settled.
+/// are handed out, and those that are out are taken in first. Each job that the seat has put is collected, before and after. The
+/// listener hears of each transaction as it is settled.
 pub(crate) fn schedule<R: Wait, L: Listener>(
     rt: &R,
     scheduler: &mut Scheduler,
@@ -248,9 +250,11 @@ pub(crate) fn schedule<R: Wait, L: Listener>(
 ) -> Result<(), NoMemory>
     requires seat { seat.old.lanes ≡ lanes.now }
     requires count { count ≡ lanes.now.count }
-    requires empty { seat.old.jobs ≡ replicate count None }
+    requires empty { jobs_in seat.old.jobs ≡ 0 }
     requires none_out { NoneIsOut (phases_of scheduler.old) }
     requires told { AreCounted scheduler.old (L.account listener.old) }
+    ensures seat { seat.new.lanes ≡ lanes.now }
+    ensures empty { jobs_in seat.new.jobs ≡ 0 }
     ensures work { scheduler.new.work ≡ scheduler.old.work }
     ensures settled { StaysSettled (phases_of scheduler.old) (phases_of scheduler.new) }
     ensures told { AreCounted scheduler.new (L.account listener.new) }

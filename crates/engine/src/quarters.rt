@@ -82,7 +82,8 @@ pub(crate) struct Quarters {
     waiting: AtomicUsize,
     /// How many results wait for the scheduler: no fewer than lie in lanes.
     finished: AtomicUsize,
-    /// How many workers look for a job, or were called and will look. It may be less for a moment, and is never more.
+    /// How many workers look for a job, or were called and will look. For a moment it may be less, or more: but it is above 0 only
+    /// while some worker will still look once more, or will still wake the next.
     looking: AtomicIsize,
     scheduler: Bed,
     pub(crate) workers: Vec<Bed>,

@@ -10,12 +10,14 @@ use crate::beginning::begin;
 use crate::ending::{Ended, end};
 use crate::gate::Gate;
 use crate::listener::Listener;
-use crate::pool::{Refusal, Run, run_on_workers};
+use crate::pool::{Refusal, Run, WorkerPool};
 use crate::settings::Settings;
 use crate::stage::{Begun, Stage};
+use crate::workplace::Workplace;
 use requests::Procs;
 use std::alloc::Global;
 use std::sync::Wait;
+use std::thread;
 use std::thread::Threads;
 
 /// Where a batch is that was not run to its end, and why.
@@ -97,8 +99,49 @@ pub(crate) fn work_alone<L: Listener>(
     }
 }
 
-/// Works at an unfinished batch on worker threads. Where memory or a thread is refused, the stage that it has then comes back.
+/// Works at an unfinished batch on the workers of a pool. Where memory or a thread is refused, the stage that it has then comes back.
 /// The listener hears of each transaction as it is settled, and comes back, too.
+pub(crate) fn work_in_pool<'s, E, R: Wait + Sync, G: Gate, L: Listener + Drop>(
+    pool: &mut WorkerPool<'s, E, R, G>,
+    alloc: Global,
+    procs: &Procs,
+    settings: Settings,
+    first: u64,
+    stage: Stage,
+    listener: L,
+) -> (Result<Ended, Interruption>, L)
+    requires fits { Fits procs.now.tables first stage }
+    requires busy { is_some (unfinished_in (Some stage)) ≡ true }
+    requires told { Knows first stage (L.account listener) }
+    ensures ended { IfOk result.0 (EndsBatch procs.now.tables first (unfinished_in (Some stage)) (rows_in (Some stage))) }
+    ensures stop { IfErr result.0 (IsInterruptedStage procs.now.tables first stage) }
+    ensures told_end { IfOk result.0 (λ ended. KnowsEnd ended (L.account result.1)) }
+    ensures told_stop { IfErr result.0 (λ stop. Knows first stop.stage (L.account result.1)) }
+    ensures onward { HearsOn (L.account listener) (L.account result.1) }
+{
+    let Begun { batch, scheduler } = match begun(alloc, procs, settings, first, stage) {
+        Ok(begun) => begun,
+        Err(stage) => return (Err(no_memory(stage)), listener),
+    };
+    let count = batch.items().len();
+    let run = pool.run(count, scheduler, listener);
+    let Run {
+        scheduler,
+        listener,
+        ended,
+    } = run;
+    let begun = Begun { batch, scheduler };
+    if let Err(refusal) = ended {
+        let stage = Stage::Begun(begun);
+        return (Err(Interruption { stage, refusal }), listener);
+    }
+    match end(alloc, first, begun) {
+        Ok(ended) => (Ok(ended), listener),
+        Err(begun) => (Err(no_memory(Stage::Begun(begun))), listener),
+    }
+}
+
+/// Works at an unfinished batch on workers that are started for it, and joined at the end, as `work_in_pool` does.
 pub(crate) fn work_on_workers<R: Threads + Wait + Sync, G: Gate, L: Listener + Drop>(
     rt: &R,
     alloc: Global,
@@ -118,24 +161,27 @@ pub(crate) fn work_on_workers<R: Threads + Wait + Sync, G: Gate, L: Listener + D
     ensures told_stop { IfErr result.0 (λ stop. Knows first stop.stage (L.account result.1)) }
     ensures onward { HearsOn (L.account listener) (L.account result.1) }
 {
-    let Begun { batch, scheduler } = match begun(alloc, procs, settings, first, stage) {
-        Ok(begun) => begun,
-        Err(stage) => return (Err(no_memory(stage)), listener),
+    let Ok((place, head)) = Workplace::new(alloc, settings) else {
+        return (Err(no_memory(stage)), listener);
     };
-    let count = batch.items().len();
-    let run = run_on_workers(rt, alloc, settings, count, scheduler, listener, gate);
-    let Run {
-        scheduler,
-        listener,
-        ended,
-    } = run;
-    let begun = Begun { batch, scheduler };
-    if let Err(refusal) = ended {
-        let stage = Stage::Begun(begun);
-        return (Err(Interruption { stage, refusal }), listener);
-    }
-    match end(alloc, first, begun) {
-        Ok(ended) => (Ok(ended), listener),
-        Err(begun) => (Err(no_memory(Stage::Begun(begun))), listener),
-    }
+    let place = &place;
+    thread::scope(
+        thread::scope_env(),
+        rt,
+        move |scope| -> (Result<Ended, Interruption>, L)
+            requires place { head ≡ place.now }
+            requires fits { Fits procs.now.tables first stage }
+            requires busy { is_some (unfinished_in (Some stage)) ≡ true }
+            requires told { Knows first stage (L.account listener) }
+            ensures ended { IfOk result.0 (EndsBatch procs.entry.now.tables first (unfinished_in (Some stage))
+                (rows_in (Some stage))) }
+            ensures stop { IfErr result.0 (IsInterruptedStage procs.entry.now.tables first stage) }
+            ensures told_end { IfOk result.0 (λ ended. KnowsEnd ended (L.account result.1)) }
+            ensures told_stop { IfErr result.0 (λ stop. Knows first stop.stage (L.account result.1)) }
+            ensures onward { HearsOn (L.account listener) (L.account result.1) }
+        {
+            let mut pool = WorkerPool::new(rt, scope, gate, place, head);
+            work_in_pool(&mut pool, alloc, procs, settings, first, stage, listener)
+        },
+    )
 }

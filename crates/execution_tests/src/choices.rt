@@ -1,6 +1,6 @@
 //! Calls whose outcomes were worked out by hand, run by many lists of choices.
 
-use engine::Settings;
+use engine::{Engine, Settings};
 use std::alloc::Global;
 use std::sync::Wait;
 use std::test::Fail;
@@ -26,18 +26,45 @@ pub(crate) fn choices(alloc: Global, seed: u32, count: u32) -> Result<Vec<u64>, 
     Ok(choices)
 }
 
-/// What comes of calls that are run on one thread, by these choices of events.
-fn run_by<R: Wait + AllocGlobal>(
+/// What comes of calls that an engine runs on one thread, by these choices of events.
+fn run_on<R: Wait + AllocGlobal>(
     rt: &R,
-    settings: Settings,
+    engine: &mut Engine,
     calls: &[Call<'_>],
     choices: &[u64],
 ) -> Result<String, Fail> {
     let alloc = rt.alloc();
-    let mut engine = engine(alloc, settings)?;
-    let batch = batch_of(alloc, &engine, calls)?;
+    let batch = batch_of(alloc, engine, calls)?;
     let done = executed(engine.run_alone(rt, alloc, batch, choices))?;
     replies(alloc, &done)
+}
+
+/// What comes of calls by the list of choices of a seed.
+fn run_by<R: Wait + AllocGlobal>(
+    rt: &R,
+    settings: Settings,
+    calls: &[Call<'_>],
+    seed: u32,
+) -> Result<String, Fail> {
+    let choices = choices(rt.alloc(), seed, 48)?;
+    let mut engine = engine(rt.alloc(), settings)?;
+    run_on(rt, &mut engine, calls, &choices)
+}
+
+/// Whether calls have these outcomes, whatever the choices.
+fn always_gives<R: Wait + AllocGlobal>(
+    rt: &R,
+    settings: Settings,
+    calls: &[Call<'_>],
+    outcomes: &str,
+) -> Result<bool, Fail> {
+    for seed in 0..SEEDS {
+        let found = run_by(rt, settings, calls, seed)?;
+        if found.as_str() != outcomes {
+            return Ok(false);
+        }
+    }
+    Ok(true)
 }
 
 /// Two rows of 100 each. They come to 70 and 130, 160 and 40, 165 and 40, 166 and 39, 105 and 100.
@@ -62,7 +89,6 @@ commit 39;commit 39;commit 105;commit 105;";
 
 #[test]
 fn outcomes_are_those_of_log_order_whatever_the_choices(rt: HostRuntime) -> Result<(), Fail> {
-    let alloc = rt.alloc();
     let table: [(&[Call<'_>], &str); 3] = [
         (&TWO_PAYS, "commit 70;commit 40;"),
         (
@@ -74,11 +100,7 @@ fn outcomes_are_those_of_log_order_whatever_the_choices(rt: HostRuntime) -> Resu
     for (threshold, most) in [(8, 65_536), (0, 65_536), (65_535, 1), (1, 7)] {
         let settings = Settings::new(1, 1, threshold, most)?;
         for (calls, outcomes) in table {
-            for seed in 0..SEEDS {
-                let choices = choices(alloc, seed, 48)?;
-                let found = run_by(&rt, settings, calls, &choices)?;
-                assert_eq!(rt; found.as_str(), outcomes, "{threshold} {most} {seed}");
-            }
+            assert!(rt; always_gives(&rt, settings, calls, outcomes)?, "{threshold} {most}");
         }
     }
     Ok(())

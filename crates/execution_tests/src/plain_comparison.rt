@@ -17,7 +17,7 @@ use std::sync::Wait;
 use std::test::Fail;
 use test_bank::{CallsFault, bank, batch_over, request};
 use test_engines::{engine, executed};
-use values::{Key, TableNo};
+use values::{Key, Row, TableNo};
 use workspace::RowView;
 
 /// How many batches the log has.
@@ -99,7 +99,22 @@ fn plain_batches(
 }
 
 /// The outcomes of all batches, run call by call, and the rows that they leave.
-fn plain_run(alloc: Global) -> Result<(Vec<Outcome>, RowStore), Fail>
+fn plain_run(
+    alloc: Global,
+    catalogue: &Catalogue,
+    procs: &Procs,
+    rows: Vec<(TableNo, Key, Row)>,
+) -> Result<(Vec<Outcome>, RowStore), Fail>
+    requires { procs.now.tables ≡ catalogue.now }
+    ensures { IfOk result (λ ran. ran.1.lent ≡ map_of.empty) }
+{
+    let mut store = RowStore::new(alloc, catalogue, rows)?;
+    let outcomes = plain_batches(alloc, catalogue, procs, &mut store)?;
+    Ok((outcomes, store))
+}
+
+/// The same of the bank.
+fn plain_run_of_bank(alloc: Global) -> Result<(Vec<Outcome>, RowStore), Fail>
     ensures { IfOk result (λ ran. ran.1.lent ≡ map_of.empty) }
 {
     let Setup {
@@ -107,9 +122,7 @@ fn plain_run(alloc: Global) -> Result<(Vec<Outcome>, RowStore), Fail>
         procs,
         rows,
     } = bank(alloc)?;
-    let mut store = RowStore::new(alloc, &catalogue, rows)?;
-    let outcomes = plain_batches(alloc, &catalogue, &procs, &mut store)?;
-    Ok((outcomes, store))
+    plain_run(alloc, &catalogue, &procs, rows)
 }
 
 /// Appends the outcomes of one batch by an engine, with these choices of events.
@@ -152,9 +165,37 @@ fn same_accounts(engine: &Engine, store: &RowStore) -> Result<bool, Fail>
     Ok(true)
 }
 
-/// Whether an engine with these settings gives these outcomes and the accounts of the store, with another list of choices
-/// for each batch.
+/// Appends the outcomes of all batches by an engine, with another list of choices for each batch.
+fn run_batches<R: Wait + AllocGlobal>(
+    rt: &R,
+    engine: &mut Engine,
+    seed: u32,
+    outcomes: &mut Vec<Outcome>,
+) -> Result<(), Fail> {
+    for number in 0..BATCHES {
+        let choices = choices(rt.alloc(), seed.wrapping_add(number), 4 * CALLS)?;
+        run_batch(rt, engine, number, &choices, outcomes)?;
+    }
+    Ok(())
+}
+
+/// Whether an engine gives these outcomes and the accounts of the store, with the choices of a seed.
 fn agrees<R: Wait + AllocGlobal>(
+    rt: &R,
+    engine: &mut Engine,
+    seed: u32,
+    outcomes: &[Outcome],
+    store: &RowStore,
+) -> Result<bool, Fail>
+    requires { store.now.lent ≡ map_of.empty }
+{
+    let mut found = Vec::new(rt.alloc());
+    run_batches(rt, engine, seed, &mut found)?;
+    Ok(found.as_slice() == outcomes && same_accounts(engine, store)?)
+}
+
+/// Whether a new engine with these settings does.
+fn agrees_with<R: Wait + AllocGlobal>(
     rt: &R,
     settings: Settings,
     seed: u32,
@@ -163,14 +204,8 @@ fn agrees<R: Wait + AllocGlobal>(
 ) -> Result<bool, Fail>
     requires { store.now.lent ≡ map_of.empty }
 {
-    let alloc = rt.alloc();
-    let mut engine = engine(alloc, settings)?;
-    let mut found = Vec::new(alloc);
-    for number in 0..BATCHES {
-        let choices = choices(alloc, seed.wrapping_add(number), 4 * CALLS)?;
-        run_batch(rt, &mut engine, number, &choices, &mut found)?;
-    }
-    Ok(found.as_slice() == outcomes && same_accounts(&engine, store)?)
+    let mut engine = engine(rt.alloc(), settings)?;
+    agrees(rt, &mut engine, seed, outcomes, store)
 }
 
 /// Whether an engine with these settings agrees with the plain program by each of many lists of choices.
@@ -183,24 +218,38 @@ fn always_agrees<R: Wait + AllocGlobal>(
     requires { store.now.lent ≡ map_of.empty }
 {
     for seed in 0..SEEDS {
-        if !agrees(rt, settings, seed, outcomes, store)? {
+        if !agrees_with(rt, settings, seed, outcomes, store)? {
             return Ok(false);
         }
     }
     Ok(true)
 }
 
-#[test]
-fn each_list_of_choices_gives_what_the_plain_program_gives(rt: HostRuntime) -> Result<(), Fail> {
-    let alloc = rt.alloc();
-    let (outcomes, store) = plain_run(alloc)?;
-    assert_eq!(rt; outcomes.len(), 200);
+/// The number of outcomes, and whether each engine agrees with them and with the store, small and large.
+fn all_agree<R: Wait + AllocGlobal>(
+    rt: &R,
+    outcomes: &[Outcome],
+    store: &RowStore,
+) -> Result<(usize, bool), Fail>
+    requires { store.now.lent ≡ map_of.empty }
+{
     for (threshold, most) in [(0, 1), (65_535, 1), (0, 1_048_576), (65_535, 1_048_576)] {
         let settings = Settings::new(1, 1, threshold, most)?;
-        assert!(rt;
-            always_agrees(&rt, settings, &outcomes, &store)?,
-            "{threshold} {most}"
-        );
+        if !always_agrees(rt, settings, outcomes, store)? {
+            return Ok((outcomes.len(), false));
+        }
     }
+    Ok((outcomes.len(), true))
+}
+
+/// The plain program's outcomes and rows beside those of engines.
+fn compared<R: Wait + AllocGlobal>(rt: &R) -> Result<(usize, bool), Fail> {
+    let (outcomes, store) = plain_run_of_bank(rt.alloc())?;
+    all_agree(rt, &outcomes, &store)
+}
+
+#[test]
+fn each_list_of_choices_gives_what_the_plain_program_gives(rt: HostRuntime) -> Result<(), Fail> {
+    assert_eq!(rt; compared(&rt)?, (200, true));
     Ok(())
 }

@@ -1,6 +1,6 @@
 //! Watchers of an engine.
 
-ghost use Rattle.std.specs.Prelude.{◌≡◌};
+ghost use Rattle.std.specs.Prelude.{◌≡◌, IfOk};
 ghost use Rattle.sequencer.specs.Batches.{items_of, AreOver};
 ghost use Rattle.engine.specs.Engines.{tables_of};
 
@@ -39,19 +39,57 @@ fn settings() -> Result<Settings, Fail> {
     Ok(Settings::new(2, 8, 64, 65_536)?)
 }
 
+/// Runs calls on an engine.
+fn run_calls<R: Threads + Wait + Sync + AllocGlobal>(
+    rt: &R,
+    engine: &mut Engine,
+    calls: &[Call<'_>],
+    alone: bool,
+) -> Result<(), Fail> {
+    let batch = batch_of(rt.alloc(), engine, calls)?;
+    let _done = executed(run(rt, engine, batch, alone))?;
+    Ok(())
+}
+
+/// What a new watcher of an engine reads.
+fn read_now<R: Wait>(rt: &R, engine: &mut Engine) -> Result<Tally, Fail> {
+    let mut watcher = engine.watcher(rt)?;
+    Ok(watcher.watch(rt))
+}
+
+/// What a watcher reads after calls were run on its engine, and what one does that is made then.
+fn read_after<R: Threads + Wait + Sync + AllocGlobal>(
+    rt: &R,
+    engine: &mut Engine,
+    early: &mut Watcher,
+    calls: &[Call<'_>],
+    alone: bool,
+) -> Result<(Tally, Tally), Fail> {
+    run_calls(rt, engine, calls, alone)?;
+    let late = read_now(rt, engine)?;
+    Ok((early.watch(rt), late))
+}
+
+/// The same of a watcher that is made before.
+fn read_with_watcher<R: Threads + Wait + Sync + AllocGlobal>(
+    rt: &R,
+    engine: &mut Engine,
+    calls: &[Call<'_>],
+    alone: bool,
+) -> Result<(Tally, Tally), Fail> {
+    let mut early = engine.watcher(rt)?;
+    read_after(rt, engine, &mut early, calls, alone)
+}
+
 /// What a watcher reads that was made before calls were executed on a new engine, and one that was made after.
 fn read_before_and_after<R: Threads + Wait + Sync + AllocGlobal>(
     rt: &R,
     calls: &[Call<'_>],
     alone: bool,
 ) -> Result<(Tally, Tally), Fail> {
-    let alloc = rt.alloc();
-    let mut engine = engine(alloc, settings()?)?;
-    let mut early = engine.watcher(rt)?;
-    let batch = batch_of(alloc, &engine, calls)?;
-    executed(run(rt, &mut engine, batch, alone))?;
-    let mut late = engine.watcher(rt)?;
-    Ok((early.watch(rt), late.watch(rt)))
+    let settings = settings()?;
+    let mut engine = engine(rt.alloc(), settings)?;
+    read_with_watcher(rt, &mut engine, calls, alone)
 }
 
 /// Executes a batch, alone or on worker threads.
@@ -125,26 +163,65 @@ fn work<R: Threads + Wait + Sync>(
     (engine, done)
 }
 
-#[test]
-fn watchers_read_while_the_engine_runs(rt: HostRuntime) -> Result<(), Fail> {
-    let alloc = rt.alloc();
-    let mut engine = engine(alloc, settings()?)?;
+/// A batch of a thousand payments of 1.
+fn thousand_pays(alloc: Global, engine: &Engine) -> Result<Batch, Fail>
+    ensures { IfOk result (λ batch. AreOver (tables_of engine.now) (items_of batch)) }
+{
     let mut calls: Vec<Call<'static>> = Vec::new(alloc);
     for _ in 0..1_000 {
         calls.push(("pay", &[1, 2, 1]))?;
     }
-    let batch = batch_of(alloc, &engine, &calls)?;
-    let one = engine.watcher(&rt)?;
-    let other = engine.watcher(&rt)?;
+    batch_of(alloc, engine, &calls)
+}
+
+/// Two watchers of an engine.
+fn two_watchers<R: Wait>(rt: &R, engine: &mut Engine) -> Result<(Watcher, Watcher), Fail>
+    ensures { engine.new ≡ engine.old }
+{
+    let one = engine.watcher(rt)?;
+    let other = engine.watcher(rt)?;
+    Ok((one, other))
+}
+
+/// Whether two threads read on while a batch is executed, and what is read afterwards.
+fn read_beside<R: Threads + Wait + Sync>(
+    rt: &R,
+    alloc: Global,
+    engine: Engine,
+    watchers: (Watcher, Watcher),
+    batch: Batch,
+) -> Result<(bool, Tally), Fail>
+    requires { AreOver (tables_of engine) (items_of batch) }
+{
+    let (one, other) = watchers;
     let (right, (mut engine, done)) = join(
-        &rt,
-        || both_read_on(&rt, one, other),
-        || work(&rt, alloc, engine, batch),
+        rt,
+        || both_read_on(rt, one, other),
+        || work(rt, alloc, engine, batch),
     );
-    assert!(rt; right && done);
-    // Of 100 on the account, 1 goes at a time.
-    let mut late = engine.watcher(&rt)?;
-    assert_eq!(rt; late.watch(&rt), tally(1_000, 100, 900, 0));
+    let late = read_now(rt, &mut engine)?;
+    Ok((right && done, late))
+}
+
+/// The same of a thousand payments.
+fn read_beside_pays<R: Threads + Wait + Sync>(
+    rt: &R,
+    alloc: Global,
+    engine: Engine,
+) -> Result<(bool, Tally), Fail> {
+    let mut engine = engine;
+    let watchers = two_watchers(rt, &mut engine)?;
+    let batch = thousand_pays(alloc, &engine)?;
+    read_beside(rt, alloc, engine, watchers, batch)
+}
+
+/// Of 100 on the account, 1 goes at a time.
+#[test]
+fn watchers_read_while_the_engine_runs(rt: HostRuntime) -> Result<(), Fail> {
+    let settings = settings()?;
+    let engine = engine(rt.alloc(), settings)?;
+    let read = read_beside_pays(&rt, rt.alloc(), engine)?;
+    assert_eq!(rt; read, (true, tally(1_000, 100, 900, 0)));
     Ok(())
 }
 
@@ -164,19 +241,37 @@ impl<R: Wait + Sync> Gate for Told<'_, R> {
     }
 }
 
+/// Runs the payments on an engine with a gate.
+fn run_through<R: Threads + Wait + Sync + AllocGlobal, G: Gate>(
+    rt: &R,
+    engine: &mut Engine,
+    gate: &G,
+) -> Result<(), Fail> {
+    let batch = batch_of(rt.alloc(), engine, &PAYS)?;
+    let _done = executed(engine.execute(rt, rt.alloc(), batch, gate))?;
+    Ok(())
+}
+
+/// How many of the payments come too early on an engine.
+fn come_early<R: Threads + Wait + Sync + AllocGlobal>(
+    rt: &R,
+    engine: &mut Engine,
+) -> Result<u64, Fail> {
+    let gate = Told {
+        rt,
+        watcher: Mutex::new(engine.watcher(rt)?),
+        early: AtomicU64::new(0),
+    };
+    run_through(rt, engine, &gate)?;
+    Ok(gate.early.load(Ordering::Relaxed))
+}
+
 /// Over one lane a job is put once the one before it was taken back, settled and told of.
 #[test]
 fn each_is_told_of_as_it_is_settled(rt: HostRuntime) -> Result<(), Fail> {
-    let alloc = rt.alloc();
-    let mut engine = engine(alloc, Settings::new(1, 1, 64, 65_536)?)?;
-    let batch = batch_of(alloc, &engine, &PAYS)?;
-    let gate = Told {
-        rt: &rt,
-        watcher: Mutex::new(engine.watcher(&rt)?),
-        early: AtomicU64::new(0),
-    };
-    executed(engine.execute(&rt, alloc, batch, &gate))?;
-    assert_eq!(rt; gate.early.load(Ordering::Relaxed), 0);
+    let settings = Settings::new(1, 1, 64, 65_536)?;
+    let mut engine = engine(rt.alloc(), settings)?;
+    assert_eq!(rt; come_early(&rt, &mut engine)?, 0);
     Ok(())
 }
 

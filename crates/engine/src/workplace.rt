@@ -1,0 +1,73 @@
+//! Where a scheduler and its workers meet.
+
+ghost use Rattle.std.specs.Prelude.{◌≡◌, IfOk};
+
+use crate::quarters::Quarters;
+use crate::settings::Settings;
+use lanes::{Lanes, SchedulerSeat};
+use std::alloc::Global;
+use std::marker::Model;
+use values::NoMemory;
+
+/// Where a scheduler and its workers meet, as their threads share it: the lanes between them, and where each of them sleeps.
+#[derive(Drop)]
+pub struct Workplace {
+    pub(crate) lanes: Lanes,
+    /// How many lanes there are.
+    pub(crate) count: usize,
+    pub(crate) quarters: Quarters,
+}
+
+impl Model for Workplace {
+    ghost use Rattle.std.specs.Prelude.{◌≡◌};
+    ghost use Rattle.lanes.specs.Seats.{LanesOf, lanes_code};
+
+    ghost Value = { LanesOf };
+
+    ghost coded = { lanes_code };
+
+    ghost view = { λ place. place.lanes };
+
+    ghost invariant = { λ place. place.count ≡ place.lanes.count };
+}
+
+/// The one seat from which jobs are handed out at a workplace. Each that it handed out has come back.
+#[derive(Drop)]
+pub struct HeadSeat {
+    pub(crate) seat: SchedulerSeat,
+}
+
+impl Model for HeadSeat {
+    ghost use Rattle.std.specs.Prelude.{◌≡◌};
+    ghost use Rattle.lanes.specs.Seats.{LanesOf, lanes_code, jobs_in};
+
+    ghost Value = { LanesOf };
+
+    ghost coded = { lanes_code };
+
+    ghost view = { λ head. head.seat.lanes };
+
+    ghost invariant = { λ head. jobs_in head.seat.jobs ≡ 0 };
+}
+
+impl Workplace {
+    /// A workplace with as many lanes, and room for as many workers, as the settings say, and its seat. `NoMemory` comes only where
+    /// memory is refused.
+    pub fn new(alloc: Global, settings: Settings) -> Result<(Workplace, HeadSeat), NoMemory>
+        ensures { IfOk result (λ made. made.1 ≡ made.0) }
+    {
+        let Settings {
+            workers,
+            lanes: count,
+            ..
+        } = settings;
+        let (lanes, seat) = Lanes::new(alloc, count)?;
+        let quarters = Quarters::new(alloc, workers)?;
+        let place = Workplace {
+            lanes,
+            count,
+            quarters,
+        };
+        Ok((place, HeadSeat { seat }))
+    }
+}
