@@ -59,7 +59,7 @@ pub(crate) struct Run<L: Listener + Drop> {
 }
 
 /// Worker threads of a scope at a workplace. They are started as batches need them, work at one batch after another, sleep in
-/// between, and end when the pool goes.
+/// between, and end when the pool goes: the scope doesn't end before.
 pub struct WorkerPool<'s, E, R, G> {
     pub(crate) rt: &'s R,
     scope: &'s Scope<'s, E>,
@@ -132,9 +132,9 @@ impl<'s, E, R: Wait + Sync, G: Gate> WorkerPool<'s, E, R, G> {
         Ok(())
     }
 
-    /// Runs the transactions of a batch that are left, with no more workers than there are transactions in the batch. Where memory is
-    /// refused, no job is out then, and where a thread is refused, nothing has run. The listener hears of each transaction as it is
-    /// settled.
+    /// Runs the transactions of a batch that are left. It starts no more workers than there are transactions in the batch; those that
+    /// were started for an earlier one work at this one, too. Where memory is refused, no job is out then, and where a thread is
+    /// refused, nothing has run. The listener hears of each transaction as it is settled.
     pub(crate) fn run<L: Listener + Drop>(
         &mut self,
         transactions: usize,

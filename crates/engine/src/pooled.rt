@@ -18,7 +18,8 @@ impl Engine {
     ghost use Rattle.engine.specs.Engines.{tables_of, is_busy};
     ghost use Rattle.engine.specs.Executions.{IsExecutionOf, IsRefusal, IsInterruption, KeepsSetting, ResumesTo};
 
-    /// Runs a batch as `execute` does, on the workers of a pool, which stay there for the next one.
+    /// Runs a batch as `execute` does, on the workers of a pool, which stay there for the next one. How many workers and lanes there
+    /// are is the workplace's matter; the threshold and the room for lock requests are the engine's.
     pub fn execute_in<'s, E, R: Wait + Sync, G: Gate>(
         &mut self,
         alloc: Global,

@@ -1,4 +1,4 @@
-//! Where the threads of a run sleep, and who wakes them. A thread that finds nothing to do looks again a few times, then says that
+//! Where the threads of a workplace sleep, and who wakes them. A thread that finds nothing to do looks again a few times, then says that
 //! it will sleep, looks once more, and sleeps until another wakes it. A job that is put wakes a worker only where none looks for a
 //! job already, and a worker that finds a job while others wait wakes the next.
 

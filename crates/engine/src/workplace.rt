@@ -54,7 +54,8 @@ impl Workplace {
     /// A workplace with as many lanes, and room for as many workers, as the settings say, and its seat. `NoMemory` comes only where
     /// memory is refused.
     pub fn new(alloc: Global, settings: Settings) -> Result<(Workplace, HeadSeat), NoMemory>
-        ensures { IfOk result (λ made. made.1 ≡ made.0) }
+        ensures seat { IfOk result (λ made. made.1 ≡ made.0) }
+        ensures count { IfOk result (λ made. made.0.count ≡ settings.lanes) }
     {
         let Settings {
             workers,

@@ -7,9 +7,10 @@ use std::thread;
 use test_bank::Call;
 use test_engines::execute;
 
-/// Holds the job 0 until another comes, for so many turns at most, and notes whether it came.
+/// Holds one job until another comes, for so many turns at most, and notes whether it came.
 #[derive(Drop)]
-struct Meeting {
+pub(crate) struct Meeting {
+    held: u64,
     awaited: u64,
     turns: u32,
     came: AtomicBool,
@@ -17,8 +18,9 @@ struct Meeting {
 }
 
 impl Meeting {
-    fn new(awaited: u64, turns: u32) -> Meeting {
+    pub(crate) fn new(held: u64, awaited: u64, turns: u32) -> Meeting {
         Meeting {
+            held,
             awaited,
             turns,
             came: AtomicBool::new(false),
@@ -26,7 +28,7 @@ impl Meeting {
         }
     }
 
-    fn was_seen(&self) -> bool {
+    pub(crate) fn was_seen(&self) -> bool {
         self.seen.load(Ordering::SeqCst)
     }
 
@@ -47,7 +49,7 @@ impl Gate for Meeting {
         if no == self.awaited {
             self.came.store(true, Ordering::SeqCst);
         }
-        if no == 0 {
+        if no == self.held {
             self.wait();
         }
     }
@@ -57,7 +59,7 @@ impl Gate for Meeting {
 /// whether the two meet.
 type Met<'a> = (&'a [Call<'a>], (usize, usize), (u64, u32), &'a str, bool);
 
-const PEEK: Call<'static> = ("peek", &[1]);
+pub(crate) const PEEK: Call<'static> = ("peek", &[1]);
 
 const FOUR: [Call<'static>; 4] = [PEEK, PEEK, PEEK, PEEK];
 
@@ -116,7 +118,7 @@ const MEETINGS: [Met<'static>; 9] = [
 #[test]
 fn jobs_meet_where_nothing_keeps_them_apart(rt: HostRuntime) -> Result<(), Fail> {
     for (calls, (workers, lanes), (awaited, turns), outcomes, is_seen) in MEETINGS {
-        let gate = Meeting::new(awaited, turns);
+        let gate = Meeting::new(0, awaited, turns);
         let settings = Settings::new(workers, lanes, 64, 65_536)?;
         let found = execute(&rt, settings, calls, &gate)?;
         assert_eq!(rt; found.as_str(), outcomes);

@@ -10,4 +10,6 @@ mod plain;
 #[cfg(test)]
 mod plain_comparison;
 #[cfg(test)]
+mod pools;
+#[cfg(test)]
 mod resuming;

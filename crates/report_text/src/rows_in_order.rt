@@ -1,4 +1,4 @@
-//! The digest of all row lines, merged from the partitions of a view.
+//! The digest of all row lines: the rows of each table, gathered from the partitions of a view and sorted.
 
 ghost use Rattle.std.specs.Prelude.{◌≡◌, ◌<◌, ◌++◌, List, ℕ, OnOk, IfOk, length, string_bytes};
 ghost use Rattle.report_text.specs.Texts.{digest, row_lines, row_text};
