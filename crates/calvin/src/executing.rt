@@ -7,19 +7,22 @@ ghost use Rattle.devices.specs.Devices.{AppendsFront};
 ghost use Rattle.row_store.specs.Stock.{with_rows};
 ghost use Rattle.sequencer.specs.Batches.{items_of, AreOver};
 ghost use Rattle.report_text.specs.Report.{all_entries};
-ghost use Rattle.engine.specs.Engines.{tables_of};
+ghost use Rattle.engine.specs.Engines.{is_busy, tables_of};
 ghost use Rattle.engine.specs.Executions.{IsSpawn};
 ghost use Rattle.running.specs.Executors.{IsExecution};
 ghost use Rattle.running.specs.Reports.{batches_in, fault_in, report_of};
 ghost use Rattle.running.specs.Runs.{IsRunOfLog, device_with};
 ghost use Rattle.running.specs.Stops.{ends_in_io, IfOfLine, IfOfMachine, IsLineOf, IsNotOfThread};
 
-use batch_log::{Sink, Source};
-use engine::{Batch, BatchDone, Engine, ExecFault, Gate, Settings};
-use running::{RunFault, run_log};
+use batch_log::{LogFaultKind, Sink, Source};
+use engine::{
+    Batch, BatchDone, Engine, ExecFault, Gate, HeadSeat, Settings, WorkerPool, Workplace,
+};
+use running::{RunFault, run_log, run_log_on};
 use setup::Setup;
 use std::alloc::Global;
-use std::sync::Wait;
+use std::sync::{Mutex, Wait};
+use std::thread;
 use std::thread::Threads;
 
 /// Runs the log that a source gives on a setup, on one thread, and writes its report into a sink.
@@ -46,6 +49,83 @@ pub(crate) fn run_log_alone<R: Wait, S: Source, K: Sink>(
     run_log(rt, alloc, &executor, setup, settings, source, sink)
 }
 
+/// Does nothing. That a reference is used which a scope has given back ties it to the one that the scope took.
+fn take_back<T>(reference: &mut T)
+    ensures { reference.new ≡ reference.old }
+{}
+
+/// Runs a log on an engine that has run none, on workers that are started at a workplace, of which this is the seat.
+fn run_log_at<'a, R: Threads + Wait + Sync, G: Gate, S: Source, K: Sink>(
+    rt: &R,
+    alloc: Global,
+    engine: &'a mut Engine,
+    place: &Workplace,
+    head: HeadSeat,
+    gate: &G,
+    source: &'a mut S,
+    sink: &'a mut K,
+) -> Result<u64, RunFault>
+    requires place { head ≡ place.now }
+    requires idle { is_busy engine.old ≡ false }
+    requires unused { engine.old.next ≡ 0 }
+    ensures { IsRunOfLog engine.old.procs engine.old.rows
+        (device_with (S.left source.old) (S.failed source.old))
+        (device_with (S.left source.new) (S.failed source.new))
+        (device_with (K.taken sink.old) (K.broken sink.old))
+        (device_with (K.taken sink.new) (K.broken sink.new)) result }
+{
+    let (ended, engine, source, sink) = thread::scope(
+        thread::scope_env(),
+        rt,
+        move |scope| -> (Result<u64, RunFault>, &mut Engine, &mut S, &mut K)
+            requires { (head ≡ place.now) × (is_busy engine.now ≡ false) × (engine.now.next ≡ 0) }
+            ensures engine { result.1.ghost_name ≡ engine.entry.ghost_name }
+            ensures source { result.2.ghost_name ≡ source.entry.ghost_name }
+            ensures sink { result.3.ghost_name ≡ sink.entry.ghost_name }
+            ensures run { IsRunOfLog engine.entry.now.procs engine.entry.now.rows
+                (device_with (S.left source.entry.now) (S.failed source.entry.now))
+                (device_with (S.left result.2.now) (S.failed result.2.now))
+                (device_with (K.taken sink.entry.now) (K.broken sink.entry.now))
+                (device_with (K.taken result.3.now) (K.broken result.3.now)) result.0 }
+        {
+            let pool = Mutex::new(WorkerPool::new(rt, scope, gate, place, head));
+            let executor = |engine: &mut Engine, batch: Batch| -> Result<BatchDone, ExecFault>
+                requires { AreOver (tables_of engine.old) (items_of batch) }
+                ensures { IsExecution engine.old batch result engine.new }
+            { engine.execute_in(alloc, batch, &mut pool.lock(rt)) };
+            let ended = run_log_on(rt, alloc, &executor, engine, source, sink);
+            (ended, engine, source, sink)
+        },
+    );
+    take_back(engine);
+    take_back(source);
+    take_back(sink);
+    ended
+}
+
+/// Runs a log on an engine that has run none, on worker threads that live as long as the run.
+pub(crate) fn run_log_in_pool<R: Threads + Wait + Sync, G: Gate, S: Source, K: Sink>(
+    rt: &R,
+    alloc: Global,
+    engine: &mut Engine,
+    gate: &G,
+    source: &mut S,
+    sink: &mut K,
+) -> Result<u64, RunFault>
+    requires idle { is_busy engine.old ≡ false }
+    requires unused { engine.old.next ≡ 0 }
+    ensures { IsRunOfLog engine.old.procs engine.old.rows
+        (device_with (S.left source.old) (S.failed source.old))
+        (device_with (S.left source.new) (S.failed source.new))
+        (device_with (K.taken sink.old) (K.broken sink.old))
+        (device_with (K.taken sink.new) (K.broken sink.new)) result }
+{
+    match Workplace::new(alloc, engine.settings()) {
+        Ok((place, head)) => run_log_at(rt, alloc, engine, &place, head, gate, source, sink),
+        Err(_) => Err(RunFault::at(LogFaultKind::Memory, 0)),
+    }
+}
+
 /// Runs the log that a source gives on a setup, on worker threads, and writes its report into a sink.
 pub(crate) fn run_log_on_workers<R: Threads + Wait + Sync, G: Gate, S: Source, K: Sink>(
     rt: &R,
@@ -62,11 +142,10 @@ pub(crate) fn run_log_on_workers<R: Threads + Wait + Sync, G: Gate, S: Source, K
         (device_with (K.taken sink.old) (K.broken sink.old))
         (device_with (K.taken sink.new) (K.broken sink.new)) result }
 {
-    let executor = move |engine: &mut Engine, batch: Batch| -> Result<BatchDone, ExecFault>
-        requires { AreOver (tables_of engine.old) (items_of batch) }
-        ensures { IsExecution engine.old batch result engine.new }
-    { engine.execute(rt, alloc, batch, gate) };
-    run_log(rt, alloc, &executor, setup, settings, source, sink)
+    match Engine::new(alloc, setup, settings) {
+        Ok(mut engine) => run_log_in_pool(rt, alloc, &mut engine, gate, source, sink),
+        Err(_) => Err(RunFault::at(LogFaultKind::Memory, 0)),
+    }
 }
 
 /// Runs the log that a source gives on a setup, on worker threads, and writes its report into a sink: for each batch a reply

@@ -10,7 +10,7 @@ ghost use Rattle.running.specs.Executors.{IsExecution};
 ghost use Rattle.running.specs.Runs.{IsRunOfLog, device_with};
 ghost use Rattle.running.specs.Stops.{IsNotOfThread};
 
-use crate::executing::{run_log_alone, run_log_on_workers};
+use crate::executing::{run_log_alone, run_log_in_pool, run_log_on_workers};
 use crate::telling::{Lines, RunEnd, tell_engine, tell_until};
 use batch_log::{LogFaultKind, Sink, Source};
 use engine::{Batch, BatchDone, Engine, ExecFault, OpenGate, Settings, Watcher};
@@ -102,11 +102,7 @@ fn run_to_end<R: Threads + Wait + Sync, S: Source, K: Sink>(
         (device_with (K.taken sink.old) (K.broken sink.old))
         (device_with (K.taken sink.new) (K.broken sink.new)) result }
 {
-    let executor = move |engine: &mut Engine, batch: Batch| -> Result<BatchDone, ExecFault>
-        requires { AreOver (tables_of engine.old) (items_of batch) }
-        ensures { IsExecution engine.old batch result engine.new }
-    { engine.execute(rt, alloc, batch, &OpenGate) };
-    let ended = run_log_on(rt, alloc, &executor, engine, source, sink);
+    let ended = run_log_in_pool(rt, alloc, engine, &OpenGate, source, sink);
     end.come();
     ended
 }
