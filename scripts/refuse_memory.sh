@@ -176,7 +176,8 @@ for step in "${steps[@]}"; do
         }' "$folder/answers" || failed=1
 done
 
-# Each thread of the steps on five batches, each of which starts a thread a worker; and a few behind the last.
+# Each thread of the steps on five batches, and a few behind the last. Where batches are executed one by one, each starts a thread a
+# worker; where the report is written, the first does so for all.
 threads_refused() {
     for step in "${steps[@]}"; do
         workers=$(cut -d_ -f2 <<< "$step")
