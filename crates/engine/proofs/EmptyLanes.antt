@@ -43,9 +43,9 @@ job_or_none : (jobs : List (Option JobOf)) → (jobs_in jobs ≡ 0) ⊎ HasAJob 
 job_or_none [] = inl refl
 job_or_none (Some job ∷ jobs) = inr (0, job, refl)
 job_or_none (None ∷ jobs) = elim (job_or_none jobs) [
-    inl empty ↦ inl (let more = sum_by-cons (λ o. cond (is_some o) 1 0) None jobs in omega (arith, more, empty))
-    | inr found ↦ inr (suc found.0, found.1, found.2)
-  ]
+  | inl empty ↦ inl (let more = sum_by-cons (λ o. cond (is_some o) 1 0) None jobs in omega (arith, more, empty))
+  | inr found ↦ inr (suc found.0, found.1, found.2)
+]
 
 no_job : (s : Schedule) (seat : SchedulerSeatOf) → AreInLanes s seat → NoneIsOut (phases_of s)
     → (jobs_in seat.jobs ≡ 0) ⊎ HasAJob seat.jobs → jobs_in seat.jobs ≡ 0
