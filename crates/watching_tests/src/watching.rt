@@ -197,7 +197,9 @@ fn read_beside<R: Threads + Wait + Sync>(
     let (right, (mut engine, done)) = join(
         rt,
         || both_read_on(rt, one, other),
-        || work(rt, alloc, engine, batch),
+        move || -> (Engine, bool)
+            requires { AreOver (tables_of engine) (items_of batch) }
+        { work(rt, alloc, engine, batch) },
     );
     let late = read_now(rt, &mut engine)?;
     Ok((right && done, late))
