@@ -99,60 +99,17 @@ fn execute_each<R: Threads + Wait + Sync + AllocGlobal>(
     Some(answer)
 }
 
-/// What stands in `data/`.
-#[derive(Drop)]
-struct Texts {
-    setup: String,
-    log: String,
-    report: String,
-}
-
-fn texts<R: rt::Files + AllocGlobal>(rt: &R) -> Option<Texts> {
+/// An engine on the setup, with so many workers and this threshold; the log, and the report.
+fn engine_and_texts<R: rt::Files + AllocGlobal>(
+    rt: &R,
+    workers: usize,
+    threshold: usize,
+) -> Option<(Engine, String, String)> {
+    let settings = settings(workers, threshold)?;
     let setup = text(rt, "setup.json")?;
-    let log = text(rt, "log")?;
-    let report = text(rt, "report")?;
-    Some(Texts { setup, log, report })
-}
-
-/// An engine on a setup.
-fn engine_on(alloc: Global, setup: &str, settings: Settings) -> Option<Engine> {
-    let setup = read_setup(alloc, setup.as_bytes()).ok()?;
-    Engine::new(alloc, setup, settings).ok()
-}
-
-/// The batches are executed on an engine.
-fn try_on<R: Threads + Wait + Sync + AllocGlobal>(
-    rt: &R,
-    refusal: &mut Refusal,
-    engine: &mut Engine,
-    texts: &Texts,
-    then: Then,
-) -> Option<Answer> {
-    let alloc = rt.alloc();
-    // (room for what comes of each batch)
-    let mut done = Vec::with_capacity(alloc, 8).ok()?;
-    refusal.approach();
-    let ended = execute_each(rt, engine, texts.log.as_str(), then, &mut done);
-    refusal.pass();
-    match ended {
-        Some(answer) => {
-            let is_right = is_end(alloc, texts.report.as_str(), engine, &done)?;
-            Some(answer.if_right(is_right))
-        }
-        None => Some(Answer::Wrong),
-    }
-}
-
-/// The batches of these texts are executed on an engine of its own.
-fn try_texts<R: Threads + Wait + Sync + AllocGlobal>(
-    rt: &R,
-    refusal: &mut Refusal,
-    settings: Settings,
-    texts: &Texts,
-    then: Then,
-) -> Option<Answer> {
-    let mut engine = engine_on(rt.alloc(), texts.setup.as_str(), settings)?;
-    try_on(rt, refusal, &mut engine, texts, then)
+    let setup = read_setup(rt.alloc(), setup.as_bytes()).ok()?;
+    let engine = Engine::new(rt.alloc(), setup, settings).ok()?;
+    Some((engine, text(rt, "log")?, text(rt, "report")?))
 }
 
 /// The batches are executed on so many workers, with this threshold.
@@ -163,21 +120,17 @@ pub(crate) fn try_batches<R: Threads + Wait + Sync + rt::Files + AllocGlobal>(
     threshold: usize,
     then: Then,
 ) -> Option<Answer> {
-    let settings = settings(workers, threshold)?;
-    let texts = texts(rt)?;
-    try_texts(rt, refusal, settings, &texts, then)
-}
-
-/// The report of these texts is written.
-fn try_report_of<R: Threads + Wait + Sync + AllocGlobal>(
-    rt: &R,
-    refusal: &mut Refusal,
-    settings: Settings,
-    texts: &Texts,
-) -> Option<Answer> {
-    let setup = read_setup(rt.alloc(), texts.setup.as_bytes()).ok()?;
-    let texts = [texts.log.as_str(), texts.report.as_str()];
-    try_report(rt, refusal, setup, settings, texts, CALLS)
+    let alloc = rt.alloc();
+    let (mut engine, log, report) = engine_and_texts(rt, workers, threshold)?;
+    // (room for what comes of each batch)
+    let mut done = Vec::with_capacity(alloc, 8).ok()?;
+    refusal.approach();
+    let ended = execute_each(rt, &mut engine, log.as_str(), then, &mut done);
+    refusal.pass();
+    match ended {
+        Some(answer) => Some(answer.if_right(is_end(alloc, report.as_str(), &engine, &done)?)),
+        None => Some(Answer::Wrong),
+    }
 }
 
 /// The report is written, on so many workers, with this threshold.
@@ -187,7 +140,16 @@ pub(crate) fn try_report_of_batches<R: Threads + Wait + Sync + rt::Files + Alloc
     workers: usize,
     threshold: usize,
 ) -> Option<Answer> {
+    let setup = text(rt, "setup.json")?;
+    let (log, report) = (text(rt, "log")?, text(rt, "report")?);
+    let setup = read_setup(rt.alloc(), setup.as_bytes()).ok()?;
     let settings = settings(workers, threshold)?;
-    let texts = texts(rt)?;
-    try_report_of(rt, refusal, settings, &texts)
+    try_report(
+        rt,
+        refusal,
+        setup,
+        settings,
+        [log.as_str(), report.as_str()],
+        CALLS,
+    )
 }

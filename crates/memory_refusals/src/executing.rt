@@ -45,20 +45,15 @@ fn is_run(alloc: Global, engine: &Engine, done: &BatchDone) -> Option<bool> {
     is_of_log(alloc, lines.as_str(), engine.rows())
 }
 
-/// Whether an engine runs the log as it was reckoned.
-fn runs<R: Wait + AllocGlobal>(rt: &R, engine: &mut Engine) -> Option<bool> {
-    let alloc = rt.alloc();
-    let batch = batch(alloc, engine.procs())?;
-    match engine.run_alone(rt, alloc, batch, &[]) {
-        Ok(done) => is_run(alloc, engine, &done),
-        Err(_) => Some(false),
-    }
-}
-
 /// Whether an engine on this setup runs the log as it was reckoned.
 pub(crate) fn runs_on<R: Wait + AllocGlobal>(rt: &R, setup: Setup) -> Option<bool> {
-    let mut engine = engine_on(rt.alloc(), setup, 1)?;
-    runs(rt, &mut engine)
+    let alloc = rt.alloc();
+    let mut engine = engine_on(alloc, setup, 1)?;
+    let batch = batch(alloc, engine.procs())?;
+    match engine.run_alone(rt, alloc, batch, &[]) {
+        Ok(done) => is_run(alloc, &engine, &done),
+        Err(_) => Some(false),
+    }
 }
 
 /// How an unfinished batch is gone on with.
@@ -114,27 +109,6 @@ fn choices(alloc: Global, count: usize) -> Result<Vec<u64>, AllocError> {
     Ok(choices)
 }
 
-/// An engine on the bank, with so many workers.
-fn bank_engine(alloc: Global, workers: usize) -> Option<Engine> {
-    engine_on(alloc, bank(alloc)?, workers)
-}
-
-/// The log on one thread of an engine, by these choices of events.
-fn try_choices<R: Threads + Wait + Sync + AllocGlobal>(
-    rt: &R,
-    refusal: &mut Refusal,
-    engine: &mut Engine,
-    choices: &[u64],
-    then: Then,
-) -> Option<Answer> {
-    let alloc = rt.alloc();
-    let batch = batch(alloc, engine.procs())?;
-    refusal.approach();
-    let ended = engine.run_alone(rt, alloc, batch, choices);
-    refusal.pass();
-    gone_on_with(rt, engine, ended, then)
-}
-
 /// The log on one thread, by so many choices of events.
 pub(crate) fn try_alone<R: Threads + Wait + Sync + AllocGlobal>(
     rt: &R,
@@ -142,24 +116,14 @@ pub(crate) fn try_alone<R: Threads + Wait + Sync + AllocGlobal>(
     count: usize,
     then: Then,
 ) -> Option<Answer> {
-    let choices = choices(rt.alloc(), count).ok()?;
-    let mut engine = bank_engine(rt.alloc(), 1)?;
-    try_choices(rt, refusal, &mut engine, &choices, then)
-}
-
-/// The log on the workers of an engine.
-fn try_execute<R: Threads + Wait + Sync + AllocGlobal>(
-    rt: &R,
-    refusal: &mut Refusal,
-    engine: &mut Engine,
-    then: Then,
-) -> Option<Answer> {
     let alloc = rt.alloc();
+    let mut engine = engine_on(alloc, bank(alloc)?, 1)?;
     let batch = batch(alloc, engine.procs())?;
+    let choices = choices(alloc, count).ok()?;
     refusal.approach();
-    let ended = engine.execute(rt, alloc, batch, &OpenGate);
+    let ended = engine.run_alone(rt, alloc, batch, &choices);
     refusal.pass();
-    gone_on_with(rt, engine, ended, then)
+    gone_on_with(rt, &mut engine, ended, then)
 }
 
 /// The log on so many workers.
@@ -169,35 +133,30 @@ pub(crate) fn try_workers<R: Threads + Wait + Sync + AllocGlobal>(
     workers: usize,
     then: Then,
 ) -> Option<Answer> {
-    let mut engine = bank_engine(rt.alloc(), workers)?;
-    try_execute(rt, refusal, &mut engine, then)
-}
-
-/// The log on the workers of an engine, gone on with where a thread was refused at first, and once more where memory was refused
-/// then; where no thread was, it is run as usual.
-fn try_going_on<R: Threads + Wait + Sync + AllocGlobal>(
-    rt: &R,
-    refusal: &mut Refusal,
-    engine: &mut Engine,
-    then: Then,
-) -> Option<Answer> {
     let alloc = rt.alloc();
+    let mut engine = engine_on(alloc, bank(alloc)?, workers)?;
     let batch = batch(alloc, engine.procs())?;
-    let mut ended = engine.execute(rt, alloc, batch, &OpenGate);
-    if ended.is_err() && engine.is_busy() {
-        refusal.approach();
-        ended = then.go_on(rt, engine);
-        refusal.pass();
-    }
-    gone_on_with(rt, engine, ended, then)
+    refusal.approach();
+    let ended = engine.execute(rt, alloc, batch, &OpenGate);
+    refusal.pass();
+    gone_on_with(rt, &mut engine, ended, then)
 }
 
-/// The same on two workers.
+/// The log on two workers, gone on with where a thread was refused at first, and once more where memory was refused then; where
+/// no thread was, it is run as usual.
 pub(crate) fn try_resume<R: Threads + Wait + Sync + AllocGlobal>(
     rt: &R,
     refusal: &mut Refusal,
     then: Then,
 ) -> Option<Answer> {
-    let mut engine = bank_engine(rt.alloc(), 2)?;
-    try_going_on(rt, refusal, &mut engine, then)
+    let alloc = rt.alloc();
+    let mut engine = engine_on(alloc, bank(alloc)?, 2)?;
+    let batch = batch(alloc, engine.procs())?;
+    let mut ended = engine.execute(rt, alloc, batch, &OpenGate);
+    if ended.is_err() && engine.is_busy() {
+        refusal.approach();
+        ended = then.go_on(rt, &mut engine);
+        refusal.pass();
+    }
+    gone_on_with(rt, &mut engine, ended, then)
 }
