@@ -4,14 +4,14 @@ use catalogue::Catalogue;
 use values::{RowName, TableNo};
 
 /// What stands in a partition: the whole of it, or the row with a key, whether or not such a row is there.
-#[derive(Clone, Copy, Debug, PartialEq, Eq, PartialOrd, Ord)]
+#[derive(Clone, Copy, Debug, PartialEq, Eq, PartialOrd, Ord, Hash)]
 pub enum InPart {
     WholePart,
     Row(u64),
 }
 
 /// What stands in a table: the whole of it, or something in one of its partitions.
-#[derive(Clone, Copy, Debug, PartialEq, Eq, PartialOrd, Ord)]
+#[derive(Clone, Copy, Debug, PartialEq, Eq, PartialOrd, Ord, Hash)]
 pub enum InTable {
     WholeTable,
     Part(u32, InPart),
@@ -19,7 +19,7 @@ pub enum InTable {
 
 /// A resource: the database, a table, a partition or a row. The order is tree order: a parent before its children, tables
 /// in declared order, partitions and keys ascending. (A lock hierarchy as Gray's, 1975, of these four levels.)
-#[derive(Clone, Copy, Debug, PartialEq, Eq, PartialOrd, Ord)]
+#[derive(Clone, Copy, Debug, PartialEq, Eq, PartialOrd, Ord, Hash)]
 pub enum Resource {
     Db,
     Table(TableNo, InTable),

@@ -3,7 +3,7 @@
 use std::marker::Model;
 
 /// A row's key: a whole number from 0 to 2^63 - 1.
-#[derive(Clone, Copy, Debug, PartialEq, Eq, PartialOrd, Ord)]
+#[derive(Clone, Copy, Debug, PartialEq, Eq, PartialOrd, Ord, Hash)]
 pub struct Key {
     number: u64,
 }

@@ -4,7 +4,7 @@ use crate::key::Key;
 use std::marker::Model;
 
 /// A table of a catalogue: its place from 0, in declared order.
-#[derive(Clone, Copy, Debug, PartialEq, Eq, PartialOrd, Ord)]
+#[derive(Clone, Copy, Debug, PartialEq, Eq, PartialOrd, Ord, Hash)]
 pub struct TableNo {
     place: usize,
 }
@@ -38,7 +38,7 @@ impl TableNo {
 }
 
 /// A row's name, whether or not such a row is there.
-#[derive(Clone, Copy, Debug, PartialEq, Eq, PartialOrd, Ord)]
+#[derive(Clone, Copy, Debug, PartialEq, Eq, PartialOrd, Ord, Hash)]
 pub struct RowName {
     pub table: TableNo,
     pub key: Key,
