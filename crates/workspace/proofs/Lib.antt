@@ -5,3 +5,4 @@ pub mod Untouched
 pub mod OwnRows
 pub mod Merged
 pub mod Counts
+pub mod Scanned

@@ -1,6 +1,6 @@
 -- Of the code: invariants and steps; no promise rests on these words.
 -- A walk over the rows of a partition: the view's rows that were not written over, and the own ones, together by ascending key.
-use Rattle.std.specs.Prelude.{◌≡◌, ℕ, ℤ, pos, ◌+◌, Bool, true, false, cond, not, ◌&&◌, ◌==◌, nat_lt, Option, None, Some, List, option_map, slice_get}
+use Rattle.std.specs.Prelude.{◌≡◌, ℕ, ℤ, pos, ◌+◌, ◌+ℤ◌, Bool, true, false, cond, not, ◌&&◌, ◌==◌, nat_lt, Option, None, Some, List, [], ◌∷◌, option_map, slice_get}
 use Rattle.std.specs.Option.{is_some}
 use Rattle.std.specs.Map.{lookup}
 use Rattle.std.specs.BTreeMap.{is_at}
@@ -82,7 +82,7 @@ abbrev pub come_to : Option ℕ → Option ℕ → Option ℕ
 come_to before None = before
 come_to before (Some key) = Some key
 
--- the number in a column of a row that may be there; 0 stands for one that is not there or is a text
-abbrev pub number_at : ℕ → Option RowOf → ℤ
-number_at column None = pos 0
-number_at column (Some row) = number_or (pos 0) (slice_get row column)
+-- the total of a column over rows by their keys; 0 stands for a value that is not there or is a text
+abbrev pub total_by_key : ℕ → List (ℕ × RowOf) → ℤ
+total_by_key column [] = pos 0
+total_by_key column (row ∷ rows) = number_or (pos 0) (slice_get row.1 column) +ℤ total_by_key column rows

@@ -6,6 +6,7 @@ mod own;
 mod permit;
 mod rows;
 mod scanning;
+mod seen;
 mod shown;
 mod stop;
 mod view;
