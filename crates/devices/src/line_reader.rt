@@ -7,7 +7,7 @@ ghost use Rattle.devices.specs.Devices.{Passes};
 ghost use Rattle.devices.specs.Lines.{has_newline, numbered_lines};
 
 use crate::device::{DeviceFailed, Source};
-use std::alloc::Global;
+use std::alloc::{AllocError, Global};
 
 /// Why a line was not read. Lines are numbered from 1.
 #[derive(Clone, Copy, Debug, PartialEq, Eq)]
@@ -35,6 +35,20 @@ pub struct LineReader<'a, S> {
 }
 
 const BUFFER_LEN: usize = 4096;
+
+/// A line has room for so many bytes at first, so that few lines take memory twice.
+const LINE_ROOM: usize = 64;
+
+/// Puts a byte behind those of a line.
+fn push(line: &mut Vec<u8>, byte: u8) -> Result<(), AllocError>
+    ensures { OnOk result (line.new.items ≡ line.old.items ++ byte ∷ []) }
+{
+    if line.is_empty() {
+        line.reserve(LINE_ROOM)?;
+    }
+    line.push(byte)?;
+    Ok(())
+}
 
 impl<'a, S: Source> LineReader<'a, S> {
     ghost use Rattle.devices.specs.LineReader.{came, fault_in, fault_of, IsFaultAt, is_io, line_begun, LosesLine, newlines_taken, position_of, source_name, source_of, Takes, TakesLine, unread};
@@ -157,7 +171,7 @@ impl<'a, S: Source> LineReader<'a, S> {
                         self.newlines = number;
                         return Ok(Some(line));
                     }
-                    if line.push(byte).is_err() {
+                    if push(&mut line, byte).is_err() {
                         return Err(LineReadFault::Memory { line: number });
                     }
                 }
