@@ -14,3 +14,4 @@ pub mod CoarseningLaws
 pub mod Children
 pub mod Coarsened
 pub mod PlanLaws
+pub mod Apart

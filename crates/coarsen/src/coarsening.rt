@@ -1,12 +1,13 @@
 //! The coarsening of a footprint.
 
-ghost use Rattle.std.specs.Prelude.{◌≡◌, IfOk, not, unwrap_or};
+ghost use Rattle.std.specs.Prelude.{◌≡◌, IfOk, not, true, unwrap_or};
 ghost use Rattle.std.specs.BTreeMap.{get as count_at};
 ghost use Rattle.footprint.specs.Tree.{resource_cmp};
 ghost use Rattle.footprint.specs.declared.resource.Resource.{Resource as AnyResource};
 ghost use Rattle.coarsen.specs.Coarsening.{is_needed, needed, children, lifted, coarsened, on_database};
 
 use crate::level::Level;
+use crate::subtree::holds;
 use footprint::{Footprint, Resource, Right};
 use std::alloc::Global;
 use std::collections::BTreeMap;
@@ -76,19 +77,48 @@ fn lifted(
     Ok(new)
 }
 
+/// Whether it is seen at a glance that no entry stands under another. In tree order what stands under an entry comes right
+/// behind it, so each entry is compared with the next one alone.
+fn stand_apart(footprint: &Footprint) -> bool
+    ensures { result ≡ true → needed footprint.now ≡ footprint.now }
+{
+    let mut last: Option<Resource> = None;
+    for (resource, _) in footprint.iter() {
+        if let Some(above) = last {
+            if holds(&above, resource) {
+                return false;
+            }
+        }
+        last = Some(*resource);
+    }
+    true
+}
+
+/// Whether it is seen at a glance that coarsening leaves a footprint as it is: no entry stands under another, and there are
+/// at most the threshold of entries in all.
+fn is_coarse(footprint: &Footprint, threshold: usize) -> bool
+    ensures { result ≡ true → coarsened threshold footprint.now ≡ footprint.now }
+{
+    footprint.iter().len() <= threshold && stand_apart(footprint)
+}
+
 /// The footprint with few entries: none that an ancestor's covers, and at most the threshold of rows of a partition and of
-/// partitions of a table.
+/// partitions of a table. `None` where that is seen to be the footprint itself, which is then not made again.
 pub(crate) fn coarsened(
     alloc: Global,
     footprint: &Footprint,
     threshold: usize,
-) -> Result<Footprint, NoMemory>
-    ensures { IfOk result (λ new. new ≡ coarsened threshold footprint.now) }
+) -> Result<Option<Footprint>, NoMemory>
+    ensures { IfOk result (λ new. unwrap_or new footprint.now ≡ coarsened threshold footprint.now) }
 {
+    if is_coarse(footprint, threshold) {
+        return Ok(None);
+    }
     let bare = needed(alloc, footprint)?;
     let rows_lifted = lifted(alloc, &bare, Level::Rows, threshold)?;
     let partitions_lifted = lifted(alloc, &rows_lifted, Level::Partitions, threshold)?;
-    needed(alloc, &partitions_lifted)
+    let coarse = needed(alloc, &partitions_lifted)?;
+    Ok(Some(coarse))
 }
 
 /// One entry on the database, with the greatest right of all.

@@ -58,12 +58,13 @@ impl Plan {
         ensures over { IfOk result (λ plan. (tables : List TableShape) → IsCatalogue tables →
             IsFootprintOf tables footprint.now → IsPlanOver tables plan) }
     {
-        let coarse = coarsened(alloc, footprint, threshold)?;
-        let full = Plan::of(alloc, &coarse)?;
+        let made = coarsened(alloc, footprint, threshold)?;
+        let coarse = made.as_ref().unwrap_or(footprint);
+        let full = Plan::of(alloc, coarse)?;
         if full.requests().len() <= arena {
             return Ok(full);
         }
-        let whole = on_database(alloc, &coarse)?;
+        let whole = on_database(alloc, coarse)?;
         let plan = Plan::of(alloc, &whole)?;
         Ok(plan)
     }
