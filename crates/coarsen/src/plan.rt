@@ -12,7 +12,7 @@ ghost use Rattle.coarsen.specs.Subtrees.{covers_by_requests};
 ghost use Rattle.coarsen.specs.Plans.{IsPlanOf, IsPlanFor, IsWellFormed, KeepsProtocol, IsPlanOver};
 
 use crate::coarsening::{coarsened, on_database};
-use crate::requests::Requests;
+use crate::requests::requests_for;
 use footprint::{Footprint, Resource};
 use modes::Mode;
 use std::alloc::Global;
@@ -81,11 +81,7 @@ impl Plan {
     fn of(alloc: Global, footprint: &Footprint) -> Result<Plan, NoMemory>
         ensures { IfOk result (λ plan. IsPlanOf footprint.now plan) }
     {
-        let requests = Requests::of(alloc, footprint)?;
-        let mut plan = Vec::with_capacity(alloc, requests.modes.len())?;
-        for (resource, mode) in &requests.modes {
-            plan.push((*resource, *mode))?;
-        }
-        Ok(Plan { requests: plan })
+        let requests = requests_for(alloc, footprint)?;
+        Ok(Plan { requests })
     }
 }
