@@ -22,7 +22,7 @@ use Rattle.modes.specs.Rights.{rank_of, rank}
 use Rattle.coarsen.specs.declared.level.Level.{Level}
 use Rattle.coarsen.specs.declared.level.Level.TheVariants.{Rows, Partitions}
 use Rattle.coarsen.specs.Subtrees.{holds, holds_in_table, holds_in_part, is_same, right_on}
-use Rattle.coarsen.specs.Coarsening.{is_needed, needed, lifted, coarsened}
+use Rattle.coarsen.specs.Coarsening.{is_needed, needed, lifted, coarsened, children}
 use Rattle.coarsen.proofs.Tree.{both, and}
 use Rattle.coarsen.proofs.Greatest.{some_greatest, first_or_later, first_test, second_test}
 use Rattle.coarsen.proofs.Parents.{depth}
@@ -205,13 +205,17 @@ same_needed f h r (Some x) e =
 pub apart_needed : (f : FootprintOf) → apart None (entries f) ≡ true → needed f ≡ f
 apart_needed f h = one_footprint (needed f) f (λ r. same_needed f h r (get f r) refl)
 
-few_lifted : (level : Level) (k : ℕ) (f : FootprintOf) → length (entries f) ≤ k → lifted level k f ≡ f
-few_lifted level k f few = one_footprint (lifted level k f) f (lifted_same level k f (λ q. let c = count_within level (entries f) q in omega (arith, c, few)))
+-- where no resource has many entries of a level as its children, none goes to its parent
+pub few_lifted : (level : Level) (k : ℕ) (f : FootprintOf) → ((q : Resource) → children level f q ≤ k) → lifted level k f ≡ f
+few_lifted level k f few = one_footprint (lifted level k f) f (lifted_same level k f few)
+
+few_in_all : (level : Level) (k : ℕ) (f : FootprintOf) → length (entries f) ≤ k → lifted level k f ≡ f
+few_in_all level k f few = few_lifted level k f (λ q. let c = count_within level (entries f) q in omega (arith, c, few))
 
 -- a footprint whose entries all are needed, and that are few, is coarse
 pub coarse_already : (k : ℕ) (f : FootprintOf) → needed f ≡ f → length (entries f) ≤ k → coarsened k f ≡ f
 coarse_already k f all few =
     ap (λ (g : FootprintOf). needed (lifted Partitions k (lifted Rows k g))) all
-    ∙ ap (λ (g : FootprintOf). needed (lifted Partitions k g)) (few_lifted Rows k f few)
-    ∙ ap (λ (g : FootprintOf). needed g) (few_lifted Partitions k f few)
+    ∙ ap (λ (g : FootprintOf). needed (lifted Partitions k g)) (few_in_all Rows k f few)
+    ∙ ap (λ (g : FootprintOf). needed g) (few_in_all Partitions k f few)
     ∙ all
