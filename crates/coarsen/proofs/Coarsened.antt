@@ -34,7 +34,7 @@ rank_at_least Write None h = absurd (omega (arith, h))
 rank_at_least Write (Some Read) h = absurd (omega (arith, h))
 rank_at_least Write (Some Write) h = refl
 
-same_right : (o p : Option Right) → rank o ≡ rank p → o ≡ p
+pub same_right : (o p : Option Right) → rank o ≡ rank p → o ≡ p
 same_right None None h = refl
 same_right None (Some Read) h = absurd (omega (arith, h))
 same_right None (Some Write) h = absurd (omega (arith, h))
@@ -198,7 +198,7 @@ lifted_same_by level k f few r None e =
     replaces_many.parent_comes level k f r e ∙ ap (λ b. max (right_on f r) (cond b (greatest rank_of (λ s. is_parent (parent_at level s) r) (entries f)) 0)) (not_above k (children level f r) (few r)) in
     omega (arith, is)
 
-lifted_same : (level : Level) (k : ℕ) (f : FootprintOf) → ((q : Resource) → children level f q ≤ k) → (r : Resource) → right_on (lifted level k f) r ≡ right_on f r
+pub lifted_same : (level : Level) (k : ℕ) (f : FootprintOf) → ((q : Resource) → children level f q ≤ k) → (r : Resource) → right_on (lifted level k f) r ≡ right_on f r
 lifted_same level k f few r = lifted_same_by level k f few r (parent_at level r) refl
 
 -- once the entries that are covered are gone, they are gone

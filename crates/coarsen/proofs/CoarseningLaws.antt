@@ -164,7 +164,7 @@ no_right : (x : Right) → None ≡ Some x → ⊥
 no_right x e = absurd (cc)
 
 -- the right of a resource's entry is that of each entry there
-same_entry : (f : FootprintOf) (r : Resource) (x : Right) (d : Resource × Right) → get f r ≡ Some x → Contains (entries f) d → is_same r d.0 ≡ true → d ≡ (r, x)
+pub same_entry : (f : FootprintOf) (r : Resource) (x : Right) (d : Resource × Right) → get f r ≡ Some x → Contains (entries f) d → is_same r d.0 ≡ true → d ≡ (r, x)
 same_entry f r x d h k t =
     let at : r ≡ d.0 = same_resource r d.0 t in
     let right : d.1 ≡ x = some_right d.1 x (sym (get_member f d k) ∙ ap (get f) (sym at) ∙ h) in

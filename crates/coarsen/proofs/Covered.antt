@@ -97,7 +97,7 @@ below : (a b c : ℕ) → a ≡ b → a < c → b < c
 below a b c e h = omega (arith, e, h)
 
 -- an entry that isn't needed has one of at least its right on an ancestor
-covered_above : (f : FootprintOf) (e : Resource × Right) → is_needed f e ≡ false
+pub covered_above : (f : FootprintOf) (e : Resource × Right) → is_needed f e ≡ false
     → (d : Resource × Right) × Contains (entries f) d × (holds d.0 e.0 ≡ true) × (depth d.0 < depth e.0) × (rank_of e.1 ≤ rank_of d.1)
 covered_above f e h =
     let test : Resource → Bool = λ r. is_at_least e.1 (get f r) in

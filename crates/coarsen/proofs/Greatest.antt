@@ -5,10 +5,8 @@ use Rattle.std.specs.List.{Contains}
 use Rattle.footprint.specs.declared.resource.Resource.{Resource}
 use Rattle.std.proofs.lemmas.Bool.Decides.{nat_tests}
 use Rattle.std.proofs.Common.{nat_le, Ordering, Less, Equal, Greater}
-use Rattle.std.specs.Map.{lookup}
-use Rattle.std.specs.Ordering.{is_eq, is_lt, match_ordering}
+use Rattle.std.specs.Ordering.{is_eq, is_lt}
 use Rattle.std.specs.FinMap.Entries.{find, put, is_sorted, below_all, by_order}
-use Rattle.std.specs.BTreeMap.{is_at, insert_entry}
 use Rattle.footprint.specs.Tree.{resource_cmp}
 use Rattle.footprint.proofs.Resources.{exact_resources}
 use Rattle.coarsen.proofs.Tree.{same_resource, is_same_itself, ties_same}
@@ -51,14 +49,14 @@ raised : (b : Bool) (v l w e g : ℕ) → v ≡ max l w → (b ≡ true → l �
 raised true v l w e g h k = let i = k refl in omega (arith, h, i)
 raised false v l w e g h k = omega arith
 
-raise : (b : Bool) (v l w g : ℕ) → v ≡ max l w → max (cond b v 0) g ≡ max (max (cond b l 0) g) (cond b w 0)
+pub raise : (b : Bool) (v l w g : ℕ) → v ≡ max l w → max (cond b v 0) g ≡ max (max (cond b l 0) g) (cond b w 0)
 raise true v l w g h = omega (arith, h)
 raise false v l w g h = omega arith
 
 le_rest : (a g l : ℕ) → l ≤ g → l ≤ max a g
 le_rest a g l h = omega (arith, h)
 
-max_on : (a b c : ℕ) → max a (max b c) ≡ max (max a b) c
+pub max_on : (a b c : ℕ) → max a (max b c) ≡ max (max a b) c
 max_on a b c = omega arith
 
 pub first_or_later : {X : Type 0} (x : Resource × X) (es : List (Resource × X)) (e : Resource × X) → Contains (x ∷ es) e → (x ≡ e) ⊎ Contains es e
@@ -143,29 +141,6 @@ module _ {X : Type 0} (f : X → ℕ) where
             ∙ raise (test p) (f v) (f e.1) w (greatest f test es) k
             ∙ ap (λ b. max (max (cond b (f e.1) 0) (greatest f test es)) (cond (test p) w 0)) (ap test (exact_resources p e.0 is))
         | Greater ↦ λ is k. let i = greatest-put test es p v w k in
-            ap (λ n. max (cond (test e.0) (f e.1) 0) n) i ∙ max_on (cond (test e.0) (f e.1) 0) (greatest f test es) (cond (test p) w 0)
-      ] refl h
-
-  lookup_under : (test : Resource → Bool) (es : List (Resource × X)) (p : Resource) → test p ≡ true → number_or_none f (lookup (is_at (resource_cmp p)) es) ≤ greatest f test es
-  lookup_under test [] p t = omega arith
-  lookup_under test (e ∷ es) p t = elim (resource_cmp p e.0) as (λ o. resource_cmp p e.0 ≡ o → number_or_none f (cond (is_eq o) (Some e.1) (lookup (is_at (resource_cmp p)) es)) ≤ greatest f test (e ∷ es)) [
-    | Less ↦ λ is. le_rest (cond (test e.0) (f e.1) 0) _ _ (lookup_under test es p t)
-    | Equal ↦ λ is. has_greatest test (e ∷ es) e (0, omega arith, refl) (ap test (sym (exact_resources p e.0 is)) ∙ t)
-    | Greater ↦ λ is. le_rest (cond (test e.0) (f e.1) 0) _ _ (lookup_under test es p t)
-  ] refl
-
-  -- an entry is put at a resource, or raised there
-  pub greatest-insert : (test : Resource → Bool) (es : List (Resource × X)) (p : Resource) (v : X) (w : ℕ)
-      → (f v ≡ max (number_or_none f (lookup (is_at (resource_cmp p)) es)) w)
-      → greatest f test (insert_entry resource_cmp es p v) ≡ max (greatest f test es) (cond (test p) w 0)
-  greatest-insert test [] p v w h = raised (test p) (f v) 0 w 0 0 h (λ _. omega arith) ∙ refl
-  greatest-insert test (e ∷ es) p v w h = elim (resource_cmp p e.0) as (λ o. resource_cmp p e.0 ≡ o → f v ≡ max (number_or_none f (cond (is_eq o) (Some e.1) (lookup (is_at (resource_cmp p)) es))) w
-      → greatest f test (match_ordering o ((p, v) ∷ e ∷ es) ((e.0, v) ∷ es) (e ∷ insert_entry resource_cmp es p v)) ≡ max (greatest f test (e ∷ es)) (cond (test p) w 0)) [
-        | Less ↦ λ is k. raised (test p) (f v) _ w _ _ k (lookup_under test es p)
-        | Equal ↦ λ is k. ap (λ b. max (cond b (f v) 0) (greatest f test es)) (ap test (sym (exact_resources p e.0 is)))
-            ∙ raise (test p) (f v) (f e.1) w (greatest f test es) k
-            ∙ ap (λ b. max (max (cond b (f e.1) 0) (greatest f test es)) (cond (test p) w 0)) (ap test (exact_resources p e.0 is))
-        | Greater ↦ λ is k. let i = greatest-insert test es p v w k in
             ap (λ n. max (cond (test e.0) (f e.1) 0) n) i ∙ max_on (cond (test e.0) (f e.1) 0) (greatest f test es) (cond (test p) w 0)
       ] refl h
 

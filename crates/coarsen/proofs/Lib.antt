@@ -14,3 +14,5 @@ pub mod CoarseningLaws
 pub mod Children
 pub mod Coarsened
 pub mod PlanLaws
+pub mod Apart
+pub mod Placing

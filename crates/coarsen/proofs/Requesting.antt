@@ -18,14 +18,14 @@ pick false true false n old mid new h i j e f = let w : false ≡ true = j refl 
 pick false false true n old mid new h i j e f = elim (h refl) [ inl w ↦ absurd (cc) | inr w ↦ absurd (cc) ]
 pick false false false n old mid new h i j e f = omega (arith, e, f)
 
--- a request on a resource, and then requests of that subtree right over its parent
+-- requests of a subtree right over the parent, and then a request on the resource
 pub over_both : (r resource up : Resource) (n m old mid new : ℕ) → parent_of resource ≡ Some up → m ≡ n
-    → mid ≡ max old (cond (is_same r resource) n 0) → new ≡ max mid (cond (holds r up) m 0) → new ≡ max old (cond (holds r resource) n 0)
-over_both r resource up n m old mid new e same h k = pick (is_same r resource) (holds r up) (holds r resource) n old mid new
-    (λ h. elim (holds_split resource r h) [ inl i ↦ inl i | inr i ↦ inr (sym (ap (over_up r) e) ∙ i) ])
-    (λ t. (both (holds r resource) (holds resource r) t).0)
+    → mid ≡ max old (cond (holds r up) m 0) → new ≡ max mid (cond (is_same r resource) n 0) → new ≡ max old (cond (holds r resource) n 0)
+over_both r resource up n m old mid new e same h k = pick (holds r up) (is_same r resource) (holds r resource) n old mid new
+    (λ h. elim (holds_split resource r h) [ inl i ↦ inr i | inr i ↦ inl (sym (ap (over_up r) e) ∙ i) ])
     (λ t. holds_on r up resource t (parent_holds resource up e))
-    h (k ∙ ap (λ x. max mid (cond (holds r up) x 0)) same)
+    (λ t. (both (holds r resource) (holds resource r) t).0)
+    (h ∙ ap (λ x. max old (cond (holds r up) x 0)) same) k
 
 pub over_one : (r resource : Resource) (n old mid : ℕ) → parent_of resource ≡ None
     → mid ≡ max old (cond (is_same r resource) n 0) → mid ≡ max old (cond (holds r resource) n 0)
@@ -35,7 +35,7 @@ over_one r resource n old mid e m = pick (is_same r resource) false (holds r res
     (λ t. absurd (cc))
     m (omega arith)
 
-pub own_both : (a b : Bool) (n z old mid new : ℕ) → z ≡ 0 → mid ≡ max old (cond a n 0) → new ≡ max mid (cond b z 0) → new ≡ max old (cond a n 0)
+pub own_both : (a b : Bool) (n z old mid new : ℕ) → z ≡ 0 → mid ≡ max old (cond b z 0) → new ≡ max mid (cond a n 0) → new ≡ max old (cond a n 0)
 own_both a true n z old mid new e m k = omega (arith, e, m, k)
 own_both a false n z old mid new e m k = omega (arith, m, k)
 

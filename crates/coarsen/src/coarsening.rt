@@ -1,12 +1,13 @@
 //! The coarsening of a footprint.
 
-ghost use Rattle.std.specs.Prelude.{◌≡◌, IfOk, not, unwrap_or};
+ghost use Rattle.std.specs.Prelude.{◌≡◌, IfOk, not, true, unwrap_or};
 ghost use Rattle.std.specs.BTreeMap.{get as count_at};
 ghost use Rattle.footprint.specs.Tree.{resource_cmp};
 ghost use Rattle.footprint.specs.declared.resource.Resource.{Resource as AnyResource};
 ghost use Rattle.coarsen.specs.Coarsening.{is_needed, needed, children, lifted, coarsened, on_database};
 
 use crate::level::Level;
+use crate::subtree::holds;
 use footprint::{Footprint, Resource, Right};
 use std::alloc::Global;
 use std::collections::BTreeMap;
@@ -76,19 +77,95 @@ fn lifted(
     Ok(new)
 }
 
+/// Whether it is seen at a glance that no entry stands under another. In tree order what stands under an entry comes right
+/// behind it, so each entry is compared with the next one alone.
+fn stand_apart(footprint: &Footprint) -> bool
+    ensures { result ≡ true → needed footprint.now ≡ footprint.now }
+{
+    let mut last: Option<Resource> = None;
+    for (resource, _) in footprint.iter() {
+        if let Some(above) = last {
+            if holds(&above, resource) {
+                return false;
+            }
+        }
+        last = Some(*resource);
+    }
+    true
+}
+
+/// Whether it is seen at a glance that coarsening leaves a footprint as it is: no entry stands under another, and there are
+/// at most the threshold of entries in all.
+fn is_coarse(footprint: &Footprint, threshold: usize) -> bool
+    ensures { result ≡ true → coarsened threshold footprint.now ≡ footprint.now }
+{
+    footprint.iter().len() <= threshold && stand_apart(footprint)
+}
+
+/// The entries that no entry on an ancestor covers, or `None` where it is seen at a glance that these are all.
+fn needed_or_same(alloc: Global, footprint: &Footprint) -> Result<Option<Footprint>, NoMemory>
+    ensures { IfOk result (λ new. unwrap_or new footprint.now ≡ needed footprint.now) }
+{
+    if stand_apart(footprint) {
+        return Ok(None);
+    }
+    let new = needed(alloc, footprint)?;
+    Ok(Some(new))
+}
+
+/// Whether a level has at most the threshold of entries in all, so that none of them go to their parent.
+fn are_few(footprint: &Footprint, level: Level, threshold: usize) -> bool
+    ensures { result ≡ true → lifted level threshold footprint.now ≡ footprint.now }
+{
+    let mut room = threshold;
+    for (resource, _) in footprint.iter() {
+        match level.parent(resource) {
+            None => {}
+            Some(_) if room == 0 => return false,
+            Some(_) => room -= 1,
+        }
+    }
+    true
+}
+
+/// The footprint with many entries of a level replaced, or `None` where it is seen at a glance that there are none.
+fn lifted_or_same(
+    alloc: Global,
+    footprint: &Footprint,
+    level: Level,
+    threshold: usize,
+) -> Result<Option<Footprint>, NoMemory>
+    ensures { IfOk result (λ new. unwrap_or new footprint.now ≡ lifted level threshold footprint.now) }
+{
+    if are_few(footprint, level, threshold) {
+        return Ok(None);
+    }
+    let new = lifted(alloc, footprint, level, threshold)?;
+    Ok(Some(new))
+}
+
 /// The footprint with few entries: none that an ancestor's covers, and at most the threshold of rows of a partition and of
-/// partitions of a table.
+/// partitions of a table. `None` where that is seen to be the footprint itself: a step that changes nothing makes nothing.
 pub(crate) fn coarsened(
     alloc: Global,
     footprint: &Footprint,
     threshold: usize,
-) -> Result<Footprint, NoMemory>
-    ensures { IfOk result (λ new. new ≡ coarsened threshold footprint.now) }
+) -> Result<Option<Footprint>, NoMemory>
+    ensures { IfOk result (λ new. unwrap_or new footprint.now ≡ coarsened threshold footprint.now) }
 {
-    let bare = needed(alloc, footprint)?;
-    let rows_lifted = lifted(alloc, &bare, Level::Rows, threshold)?;
-    let partitions_lifted = lifted(alloc, &rows_lifted, Level::Partitions, threshold)?;
-    needed(alloc, &partitions_lifted)
+    if is_coarse(footprint, threshold) {
+        return Ok(None);
+    }
+    let bare = needed_or_same(alloc, footprint)?;
+    let from = bare.as_ref().unwrap_or(footprint);
+    let lifted = lifted_or_same(alloc, from, Level::Rows, threshold)?;
+    let rows_lifted = lifted.or(bare);
+    let from = rows_lifted.as_ref().unwrap_or(footprint);
+    let lifted = lifted_or_same(alloc, from, Level::Partitions, threshold)?;
+    let partitions_lifted = lifted.or(rows_lifted);
+    let from = partitions_lifted.as_ref().unwrap_or(footprint);
+    let coarse = needed_or_same(alloc, from)?;
+    Ok(coarse.or(partitions_lifted))
 }
 
 /// One entry on the database, with the greatest right of all.

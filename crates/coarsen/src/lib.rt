@@ -7,6 +7,7 @@ mod laws;
 mod level;
 mod plan;
 mod requests;
+mod subtree;
 
 pub use clashes::clash;
 pub use laws::{

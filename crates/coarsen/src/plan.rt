@@ -12,7 +12,7 @@ ghost use Rattle.coarsen.specs.Subtrees.{covers_by_requests};
 ghost use Rattle.coarsen.specs.Plans.{IsPlanOf, IsPlanFor, IsWellFormed, KeepsProtocol, IsPlanOver};
 
 use crate::coarsening::{coarsened, on_database};
-use crate::requests::Requests;
+use crate::requests::requests_for;
 use footprint::{Footprint, Resource};
 use modes::Mode;
 use std::alloc::Global;
@@ -58,12 +58,13 @@ impl Plan {
         ensures over { IfOk result (λ plan. (tables : List TableShape) → IsCatalogue tables →
             IsFootprintOf tables footprint.now → IsPlanOver tables plan) }
     {
-        let coarse = coarsened(alloc, footprint, threshold)?;
-        let full = Plan::of(alloc, &coarse)?;
+        let made = coarsened(alloc, footprint, threshold)?;
+        let coarse = made.as_ref().unwrap_or(footprint);
+        let full = Plan::of(alloc, coarse)?;
         if full.requests().len() <= arena {
             return Ok(full);
         }
-        let whole = on_database(alloc, &coarse)?;
+        let whole = on_database(alloc, coarse)?;
         let plan = Plan::of(alloc, &whole)?;
         Ok(plan)
     }
@@ -80,11 +81,7 @@ impl Plan {
     fn of(alloc: Global, footprint: &Footprint) -> Result<Plan, NoMemory>
         ensures { IfOk result (λ plan. IsPlanOf footprint.now plan) }
     {
-        let requests = Requests::of(alloc, footprint)?;
-        let mut plan = Vec::with_capacity(alloc, requests.modes.len())?;
-        for (resource, mode) in &requests.modes {
-            plan.push((*resource, *mode))?;
-        }
-        Ok(Plan { requests: plan })
+        let requests = requests_for(alloc, footprint)?;
+        Ok(Plan { requests })
     }
 }

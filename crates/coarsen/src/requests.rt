@@ -1,25 +1,36 @@
 //! The requests for a footprint, while they are put together.
 
-ghost use Rattle.std.specs.Prelude.{◌≡◌, IfOk, OnOk, max, if◌then◌else◌};
-ghost use Rattle.std.specs.BTreeMap.{get};
-ghost use Rattle.footprint.specs.Tree.{resource_cmp};
+ghost use Rattle.std.specs.Prelude.{◌≡◌, IfOk, IfErr, OnOk, max, if◌then◌else◌};
 ghost use Rattle.footprint.specs.declared.resource.Resource.{Resource as AnyResource};
 ghost use Rattle.modes.specs.Rights.{rank_of};
 ghost use Rattle.modes.specs.Modes.{own, subtree};
 ghost use Rattle.coarsen.specs.Subtrees.{own_on, subtree_on, is_same, holds};
-ghost use Rattle.coarsen.specs.Requests.{number_or_none};
+ghost use Rattle.coarsen.specs.Requests.{IsAt, IsGapFor};
 ghost use Rattle.coarsen.specs.Plans.{IsPlanOf};
 
 use footprint::{Footprint, Resource, Right};
 use modes::{Mode, join};
 use std::alloc::Global;
-use std::collections::BTreeMap;
+use std::marker::Model;
 use values::NoMemory;
 
-/// Requests, one a resource.
+/// The requests of a plan that is put together: one a resource, in tree order.
 #[derive(Drop)]
-pub(crate) struct Requests {
-    pub(crate) modes: BTreeMap<Resource, Mode>,
+struct Draft {
+    requests: Vec<(Resource, Mode)>,
+}
+
+impl Model for Draft {
+    ghost use Rattle.std.specs.Map.{keys_of};
+    ghost use Rattle.std.specs.List.Sorted.{IsStrictlySortedBy};
+    ghost use Rattle.footprint.specs.Tree.{resource_cmp};
+    ghost use Rattle.coarsen.specs.Subtrees.{Requests};
+
+    ghost Value = { Requests };
+
+    ghost view = { λ d. d.requests.items };
+
+    ghost invariant = { λ d. IsStrictlySortedBy resource_cmp (keys_of d.requests.items) };
 }
 
 /// The mode of an entry of the footprint: its right on the resource itself, and so in the subtree.
@@ -44,64 +55,68 @@ fn intention(mode: Mode) -> Mode
     }
 }
 
-impl Requests {
-    /// The mode on a resource joined with another one.
-    fn joined(&self, resource: &Resource, mode: Mode) -> Mode
-        ensures own { own result ≡ max (number_or_none own (get resource_cmp self.now.modes resource.now)) (own mode) }
-        ensures subtree { subtree result
-            ≡ max (number_or_none subtree (get resource_cmp self.now.modes resource.now)) (subtree mode) }
+impl Draft {
+    /// Where the request on a resource stands, or else where it would go.
+    fn place(&self, resource: &Resource) -> Result<usize, usize>
+        ensures found { IfOk result (IsAt self.now resource.now) }
+        ensures absent { IfErr result (IsGapFor self.now resource.now) }
     {
-        match self.modes.get(resource).copied() {
-            Some(old) => join(old, mode),
-            None => mode,
+        match self.requests.last() {
+            Some((last, _)) if last.cmp(resource).is_lt() => Err(self.requests.len()),
+            _ => self.requests.binary_search_by_key(resource, |&(on, _)| on),
         }
     }
 
     /// Joins a mode to the request on a resource.
     fn request(&mut self, resource: Resource, mode: Mode) -> Result<(), NoMemory>
         ensures own { OnOk result ((r : AnyResource) →
-            own_on self.new.modes.entries r ≡ max (own_on self.old.modes.entries r) (if is_same r resource
-            then own mode else 0)) }
+            own_on self.new r ≡ max (own_on self.old r) (if is_same r resource then own mode else 0)) }
         ensures subtree { OnOk result ((r : AnyResource) →
-            subtree_on self.new.modes.entries r ≡ max (subtree_on self.old.modes.entries r) (if is_same r resource
-            then subtree mode else 0)) }
+            subtree_on self.new r ≡ max (subtree_on self.old r) (if is_same r resource then subtree mode else 0)) }
     {
-        let joined = self.joined(&resource, mode);
-        self.modes.insert(resource, joined)?;
-        Ok(())
+        match self.place(&resource) {
+            Ok(place) => {
+                let joined = join(self.requests[place].1, mode);
+                self.requests[place] = (resource, joined);
+                Ok(())
+            }
+            Err(place) => Ok(self.requests.insert(place, (resource, mode))?),
+        }
     }
 
-    /// Joins a mode to the request on a resource, and its intention to the requests on the ancestors.
+    /// Joins a mode's intention to the requests on the ancestors, from the top down, and the mode to the request on the
+    /// resource. So, for entries in tree order, what isn't requested yet comes at the end.
     fn request_up(&mut self, resource: Resource, mode: Mode) -> Result<(), NoMemory>
         ensures own { OnOk result ((r : AnyResource) →
-            own_on self.new.modes.entries r ≡ max (own_on self.old.modes.entries r) (if is_same r resource
-            then own mode else 0)) }
+            own_on self.new r ≡ max (own_on self.old r) (if is_same r resource then own mode else 0)) }
         ensures subtree { OnOk result ((r : AnyResource) →
-            subtree_on self.new.modes.entries r ≡ max (subtree_on self.old.modes.entries r) (if holds r resource
-            then subtree mode else 0)) }
+            subtree_on self.new r ≡ max (subtree_on self.old r) (if holds r resource then subtree mode else 0)) }
     {
-        self.request(resource, mode)?;
         match resource.parent() {
-            None => Ok(()),
+            None => self.request(resource, mode),
             Some(parent) => {
                 self.request_up(parent, intention(mode))?;
+                self.request(resource, mode)?;
                 Ok(())
             }
         }
     }
+}
 
-    /// The requests for a footprint as it is.
-    pub(crate) fn of(alloc: Global, footprint: &Footprint) -> Result<Requests, NoMemory>
-        ensures { IfOk result (λ requests. IsPlanOf footprint.now requests.modes.entries) }
-    {
-        let mut requests = Requests {
-            modes: BTreeMap::new(alloc),
-        };
-        for (resource, right) in footprint.iter() {
-            requests.request_up(*resource, whole(*right))?;
-        }
-        // The map's length is read for what it tells of the map: its keys ascend.
-        let _len = requests.modes.len();
-        Ok(requests)
+/// The requests for a footprint as it is, in tree order.
+pub(crate) fn requests_for(
+    alloc: Global,
+    footprint: &Footprint,
+) -> Result<Vec<(Resource, Mode)>, NoMemory>
+    ensures { IfOk result (λ requests. IsPlanOf footprint.now requests.items) }
+{
+    let entries = footprint.iter();
+    let room = entries.len().saturating_mul(2).saturating_add(3);
+    let mut draft = Draft {
+        requests: Vec::with_capacity(alloc, room)?,
+    };
+    for (resource, right) in entries {
+        draft.request_up(*resource, whole(*right))?;
     }
+    Ok(draft.requests)
 }

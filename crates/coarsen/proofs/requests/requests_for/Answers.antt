@@ -1,12 +1,16 @@
-use Rattle.std.proofs.Common.{◌≡◌, ap, arith, []}
+use Rattle.std.proofs.Common.{◌≡◌, ap, arith, [], sym, subst}
 use Rattle.std.proofs.lemmas.Map.Iter.{rest_more, rest_all}
 use Rattle.std.specs.Map.Iter.{deref_pair}
+use Rattle.std.specs.Map.{keys_of}
+use Rattle.std.specs.List.Sorted.{IsStrictlySortedBy}
+use Rattle.footprint.specs.Tree.{resource_cmp}
 use Rattle.modes.specs.Rights.{rank_of}
 use Rattle.modes.specs.Modes.{own, subtree}
-use Rattle.coarsen.specs.Subtrees.{greatest, is_same, holds}
+use Rattle.coarsen.specs.Subtrees.{Requests, greatest, is_same, holds, own_on, subtree_on}
 use Rattle.coarsen.proofs.Requesting.{taken}
+use Rattle.coarsen.proofs.Placing.{none_sorted}
 use Rattle.coarsen.proofs.Entries.{right_on-entries}
-use Rattle.coarsen.proofs.requests.Requests.of.Goals as goal
+use Rattle.coarsen.proofs.requests.requests_for.Goals as goal
 
 pub loop-resource-preserved : goal.loop-resource-preserved
 loop-resource-preserved c =
@@ -20,14 +24,19 @@ pub returns : goal.returns
 returns c =
     let none : c.loop-resource.resource-iterator ≡ [] = rest_all deref_pair c.loop-resource.resource-iterator c.next.new.self c.next.result c.in-None.is c.next.ensures.steps in
     record {
-      ordered = c.len-len.ensures.ordered;
+      ordered = c.draft-2.invariant;
       owns = λ r.
           let e : greatest rank_of (is_same r) c.loop-resource.resource-iterator ≡ 0 = ap (greatest rank_of (is_same r)) none in
           let i = c.loop-resource.invariant.owns r in
           let k = right_on-entries c.args.footprint.now r in
-          omega (arith, e, i, k);
+          let d = ap (λ (es : Requests). own_on es r) c.draft-2.view_is in
+          omega (arith, e, i, k, d);
       subtrees = λ r.
           let e : greatest rank_of (holds r) c.loop-resource.resource-iterator ≡ 0 = ap (greatest rank_of (holds r)) none in
           let i = c.loop-resource.invariant.subtrees r in
-          omega (arith, e, i);
+          let d = ap (λ (es : Requests). subtree_on es r) c.draft-2.view_is in
+          omega (arith, e, i, d);
     }
+
+pub invariant_of-draft : goal.invariant_of-draft
+invariant_of-draft c = subst (λ (es : Requests). IsStrictlySortedBy resource_cmp (keys_of es)) (sym c.in_ok-with_capacity.ensures.items) none_sorted

@@ -1,0 +1,13 @@
+use Rattle.std.proofs.Common.{sym}
+use Rattle.modes.specs.Modes.{own, subtree}
+use Rattle.coarsen.proofs.Requesting.{over_both, own_both}
+use Rattle.coarsen.proofs.requests.Draft.+request_up.Goals as goal
+
+pub returns-in_ok-request-in-Some-clause-own : goal.returns-in_ok-request-in-Some-clause-own
+returns-in_ok-request-in-Some-clause-own t c = λ r.
+    own_both _ _ (own c.args.mode) (own c.intention.result) _ _ _ c.intention.ensures.own (c.in_ok-request_up-in-Some.ensures.own r) (c.in_ok-request-in-Some.ensures.own r)
+
+pub returns-in_ok-request-in-Some-clause-subtree : goal.returns-in_ok-request-in-Some-clause-subtree
+returns-in_ok-request-in-Some-clause-subtree t c = λ r.
+    over_both r c.args.resource c.in-Some.parent (subtree c.args.mode) (subtree c.intention.result) _ _ _ (sym c.in-Some.ensures) c.intention.ensures.subtree
+    (c.in_ok-request_up-in-Some.ensures.subtree r) (c.in_ok-request-in-Some.ensures.subtree r)
