@@ -6,7 +6,7 @@ ghost use Rattle.lock_tree.specs.Ready.{ready, IsNextReady};
 ghost use Rattle.lock_tree.specs.Enqueues.{AreBelow};
 
 use crate::enqueued::Enqueued;
-use crate::joining::{join, make_room_for};
+use crate::joining::join;
 use crate::lines::Lines;
 use crate::noting::leave_all;
 use crate::opening::least;
@@ -78,7 +78,7 @@ impl LockTree {
             return Err(EnqueueFault::Full);
         }
         self.transactions.make_place()?;
-        make_room_for(&mut self.lines, plan.requests())?;
+        self.lines.make_room(plan.requests().len())?;
         join(
             &mut self.lines,
             &mut self.transactions,

@@ -37,7 +37,7 @@ pub join_queues-requires-clause-free : goal.join_queues-requires-clause-free
 join_queues-requires-clause-free c = subst (λ (e : Enqueued). length e.plan.value ≤ free_nodes c.args.lines.now.nodes.held) (sym (it (goal.at.join_queues-requires-clause-free c).In-Some)) c.requires.free
 
 pub join_queues-requires-clause-room : goal.join_queues-requires-clause-room
-join_queues-requires-clause-room c = subst (λ (e : Enqueued). AllByRecursion (λ request. HasRoom c.args.lines.now request.0) e.plan.value) (sym (it (goal.at.join_queues-requires-clause-room c).In-Some)) c.requires.room
+join_queues-requires-clause-room c = subst (λ (e : Enqueued). HasRoom c.args.lines.now (length e.plan.value)) (sym (it (goal.at.join_queues-requires-clause-room c).In-Some)) c.requires.room
 
 pub join_queues-requires-clause-plan : goal.join_queues-requires-clause-plan
 join_queues-requires-clause-plan c = ap (λ (e : Enqueued). e.plan.value) (it (goal.at.join_queues-requires-clause-plan c).In-Some) ∙ c.requires.plan
