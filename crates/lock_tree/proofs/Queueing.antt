@@ -10,7 +10,7 @@ use Rattle.footprint.specs.Tree.{resource_cmp}
 use Rattle.modes.specs.declared.mode.Mode.{Mode}
 use Rattle.modes.specs.Modes.{are_compatible}
 use Rattle.coarsen.specs.Subtrees.{Requests}
-use Rattle.lock_tree.specs.declared.enqueued.Enqueued.{Enqueued}
+use Rattle.lock_tree.specs.Entered.{Enqueued}
 use Rattle.lock_tree.specs.Locks.{Waiting}
 use Rattle.lock_tree.specs.Queues.{Queue, mode_on, asks, queue, granted_beside, granted, has_number}
 use Rattle.lock_tree.specs.Enqueues.{AreBelow}

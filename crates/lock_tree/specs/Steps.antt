@@ -9,7 +9,7 @@ use Rattle.request_arena.specs.Following.{without}
 use Rattle.request_arena.specs.Chains.{chain, chain_from, held_at}
 use Rattle.request_arena.specs.Lists.{Lists, IsLive, BeginsChain, free_nodes}
 use Rattle.request_arena.specs.Pushes.{Pushed}
-use Rattle.lock_tree.specs.declared.enqueued.Enqueued.{Enqueued}
+use Rattle.lock_tree.specs.Entered.{Enqueued}
 use Rattle.lock_tree.specs.Lines.{Lines, line, number_of, nodes_of, in_order, others, HasRoom}
 use Rattle.lock_tree.specs.Numbered.{IsNumbered}
 use Rattle.lock_tree.specs.Granted.{AreGranted}

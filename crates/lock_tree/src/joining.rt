@@ -56,7 +56,8 @@ fn join_all(lines: &mut Lines, plan: &[(Resource, Mode)], no: u64) -> Option<Nod
 }
 
 /// Puts a transaction behind the others in the queues of its plan, and notes where its requests stand and whether it is ready.
-fn join_queues(lines: &mut Lines, plan: &[(Resource, Mode)], entry: &mut Enqueued)
+fn join_queues(lines: &mut Lines, plan: &[(Resource, Mode)], entry: &mut Enqueued, no: u64)
+    requires owner { entry.old.no ≡ no }
     requires plan { entry.old.plan.value ≡ plan.now }
     requires numbered { IsNumbered lines.old None }
     requires granted { AreGranted lines.old }
@@ -75,8 +76,9 @@ fn join_queues(lines: &mut Lines, plan: &[(Resource, Mode)], entry: &mut Enqueue
     ensures chained { IsChained lines.new entry.new }
     ensures ready { entry.new.ready ≡ granted_in (line lines.new) entry.new.no entry.new.plan.value }
 {
-    entry.head = join_all(lines, plan, entry.no);
-    entry.ready = are_granted(lines, entry);
+    entry.set_head(join_all(lines, plan, no));
+    let ready = are_granted(lines, entry, no);
+    entry.set_ready(ready);
 }
 
 /// Puts a transaction with its plan, which is not ready, behind all others. There is room for its requests. On an error nothing has changed.
@@ -85,7 +87,9 @@ pub(crate) fn join(
     transactions: &mut Transactions,
     plan: &[(Resource, Mode)],
     entry: Enqueued,
+    no: u64,
 ) -> Result<(), NoMemory>
+    requires owner { entry.no ≡ no }
     requires plan { entry.plan.value ≡ plan.now }
     requires numbered { IsNumbered lines.old None }
     requires granted { AreGranted lines.old }
@@ -114,12 +118,11 @@ pub(crate) fn join(
     ensures err { OnErr result ((lines.new ≡ lines.old)
         × (enqueued transactions.new ≡ enqueued transactions.old)) }
 {
-    let no = entry.no;
-    transactions.push(entry)?;
+    transactions.push(no, entry)?;
     let Some(entry) = transactions.entries.get_mut(&no) else {
         unreachable!()
     };
-    join_queues(lines, plan, entry);
-    push_open(&mut transactions.open, entry);
+    join_queues(lines, plan, entry, no);
+    push_open(&mut transactions.open, entry, no);
     Ok(())
 }

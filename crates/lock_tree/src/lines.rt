@@ -3,7 +3,7 @@
 ghost use Rattle.std.specs.Prelude.{◌≡◌, [], IfOk, OnOk};
 ghost use Rattle.footprint.specs.declared.resource.Resource.{Resource as AnyResource};
 ghost use Rattle.request_arena.specs.Lists.{free_nodes};
-ghost use Rattle.lock_tree.specs.declared.enqueued.Enqueued.{Enqueued as AnyEnqueued};
+ghost use Rattle.lock_tree.specs.Entered.{Enqueued as AnyEnqueued};
 ghost use Rattle.lock_tree.specs.Lines.{line, number_of, HasRoom};
 ghost use Rattle.lock_tree.specs.Numbered.{IsNumbered};
 ghost use Rattle.lock_tree.specs.Granted.{AreGranted};

@@ -84,6 +84,7 @@ impl LockTree {
             &mut self.transactions,
             plan.requests(),
             Enqueued::new(no, plan),
+            no,
         )?;
         Ok(())
     }
@@ -93,7 +94,7 @@ impl LockTree {
         ensures { result ≡ ready self.now.waiting no }
     {
         match self.transactions.get(no) {
-            Some(entry) => entry.ready,
+            Some(entry) => entry.is_ready(),
             None => false,
         }
     }

@@ -15,6 +15,9 @@ invariant_of-self-in_err-make_room c =
     same_tree c.self.inside.arena c.self.inside.transactions c.make_place.new.self c.self.inside.lines c.make_room.new.self made.numbered made.granted made.free made.same made.chained
     c.make_place.ensures.same c.make_place.ensures.indexed c.self.invariant
 
+pub join-requires-clause-owner : goal.join-requires-clause-owner
+join-requires-clause-owner c = ap (λ (w : Waiting). w.no) c.new.ensures.waiting
+
 pub join-requires-clause-known : goal.join-requires-clause-known
 join-requires-clause-known c =
     known_as_before c.self.inside.lines c.make_room.new.self (enqueued c.self.inside.transactions) (enqueued c.make_place.new.self) c.make_room.ensures.same c.make_place.ensures.same c.self.invariant.known
