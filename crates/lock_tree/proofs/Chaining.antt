@@ -1,9 +1,8 @@
 -- The chains of transactions, as queues change.
 use Rattle.std.proofs.Common.{◌≡◌, ℕ, ◌<◌, zero, suc, eqb, Bool, true, false, cond, ◌||◌, List, [], ◌∷◌, ◌++◌, length, map, get_or, Option, None, Some, IfSome, refl, sym, ◌∙◌, ap, subst, arith}
 use Rattle.std.specs.Prelude.{slice_get, slice_set}
-use Rattle.std.specs.BTreeMap.{get}
-use Rattle.std.specs.Option.{option_flatten, option_or}
-use Rattle.footprint.specs.Tree.{resource_cmp}
+use Rattle.std.specs.HashMap.{get}
+use Rattle.std.specs.Option.{option_or}
 use Rattle.std.specs.List.{list_any, remove, AllByRecursion}
 use Rattle.lock_tree.specs.Enqueues.{AreBelow}
 use Rattle.lock_tree.specs.Views.{all_waiting}
@@ -15,8 +14,8 @@ use Rattle.request_arena.specs.declared.node.Held.{Held}
 use Rattle.request_arena.specs.Following.{without, follow}
 use Rattle.request_arena.specs.Chains.{chain, chain_from, held_at, holds, step}
 use Rattle.request_arena.specs.Lists.{Lists, IsLive, BeginsChain, EndsChain}
-use Rattle.lock_tree.specs.declared.enqueued.Enqueued.{Enqueued}
-use Rattle.lock_tree.specs.Lines.{Lines, request_at, nodes_of, number_of, asked}
+use Rattle.lock_tree.specs.Entered.{Enqueued}
+use Rattle.lock_tree.specs.Lines.{Lines, request_at, nodes_of, number_of, asked, resource_eq}
 use Rattle.lock_tree.specs.Chained.{IsPlaced, ArePlaced, Chains, IsChained, AreChained, IsTail, head_or}
 use Rattle.lock_tree.specs.Steps.{IsRemoved, OthersChained, IsShorter}
 use Rattle.lock_tree.proofs.Positions.{get_set_other, stands_still}
@@ -119,7 +118,7 @@ module _ (was now : Lines) (owner id : ℕ) (behind : Option ℕ) (numbers_same 
       let nodes : nodes_of now.nodes number ≡ without id (nodes_of was.nodes number) = ap (λ (qs : List (List ℕ)). get_or qs number []) removed.queues ∙ map_at (without id) was.nodes.queues number refl in
       let at = stands_still id a (nodes_of was.nodes number) placed.place placed.there other in
       record {
-        named = ap (λ m. option_flatten (get resource_cmp m r)) numbers_same ∙ placed.named;
+        named = ap (λ m. get resource_eq m r) numbers_same ∙ placed.named;
         place = at.0;
         there = ap (λ (xs : List ℕ). slice_get xs at.0) nodes ∙ at.1;
         owned = ap (λ o. (asked o).0) (asks_as_before a other) ∙ placed.owned;

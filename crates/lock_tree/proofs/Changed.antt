@@ -5,7 +5,7 @@ use Rattle.std.specs.Map.{lookup, set_value, remove_entry, values_of}
 use Rattle.std.specs.BTreeMap.{is_at, insert_entry}
 use Rattle.std.specs.Ordering.{nat_cmp}
 use Rattle.std.specs.VecDeque.{deque_capacity}
-use Rattle.lock_tree.specs.declared.enqueued.Enqueued.{Enqueued}
+use Rattle.lock_tree.specs.Entered.{Enqueued}
 use Rattle.lock_tree.specs.declared.transactions.Transactions.{Transactions}
 use Rattle.lock_tree.specs.Locks.{IsRising}
 use Rattle.lock_tree.specs.Enqueues.{AreBelow}

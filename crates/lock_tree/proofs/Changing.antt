@@ -1,18 +1,16 @@
 -- The queue of one resource that changes.
 use Rattle.std.proofs.Common.{◌≡◌, ℕ, true, false, cond, Option, None, Some, refl, sym, ◌∙◌, ap, subst}
-use Rattle.std.specs.BTreeMap.{get}
-use Rattle.std.specs.Option.{option_flatten}
+use Rattle.std.specs.HashMap.{get}
 use Rattle.footprint.specs.declared.resource.Resource.{Resource}
-use Rattle.footprint.specs.Tree.{resource_cmp}
 use Rattle.lock_tree.specs.Queues.{Queue}
-use Rattle.lock_tree.specs.Lines.{Lines, line, number_of, numbered, in_order, is_same}
+use Rattle.lock_tree.specs.Lines.{Lines, line, number_of, numbered, in_order, is_same, resource_eq}
 use Rattle.lock_tree.proofs.Resources.{same_resource, itself}
 
 module _ (was now : Lines) (r : Resource) (q : ℕ) (f : Queue → Queue) (numbers : now.numbers ≡ was.numbers) (named : number_of was r ≡ Some q)
     (unique : (s : Resource) (n : ℕ) → number_of was s ≡ Some n → number_of was r ≡ Some n → s ≡ r) (here : in_order now.nodes q ≡ f (in_order was.nodes q))
     (elsewhere : (n : ℕ) → (n ≡ q → ⊥) → in_order now.nodes n ≡ in_order was.nodes n) where
   same_number : (s : Resource) → number_of now s ≡ number_of was s
-  same_number s = ap (λ m. option_flatten (get resource_cmp m s)) numbers
+  same_number s = ap (λ m. get resource_eq m s) numbers
 
   line_there : line now r ≡ f (line was r)
   line_there = ap (numbered now.nodes) (same_number r ∙ named) ∙ here ∙ ap f (sym (ap (numbered was.nodes) named))

@@ -4,7 +4,7 @@ use Rattle.std.proofs.lemmas.Bool.Decides.{nat_tests}
 use Rattle.footprint.specs.declared.resource.Resource.{Resource}
 use Rattle.modes.specs.declared.mode.Mode.{Mode}
 use Rattle.coarsen.specs.Subtrees.{Requests}
-use Rattle.lock_tree.specs.declared.enqueued.Enqueued.{Enqueued}
+use Rattle.lock_tree.specs.Entered.{Enqueued}
 use Rattle.lock_tree.specs.Locks.{AreAbove, IsRising}
 use Rattle.lock_tree.specs.Queues.{Queue, has_number}
 use Rattle.lock_tree.specs.Placing.{place_of}

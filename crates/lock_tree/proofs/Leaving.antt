@@ -8,7 +8,7 @@ use Rattle.footprint.specs.declared.resource.Resource.{Resource}
 use Rattle.modes.specs.declared.mode.Mode.{Mode}
 use Rattle.modes.specs.Modes.{are_compatible}
 use Rattle.coarsen.specs.Subtrees.{Requests}
-use Rattle.lock_tree.specs.declared.enqueued.Enqueued.{Enqueued}
+use Rattle.lock_tree.specs.Entered.{Enqueued}
 use Rattle.lock_tree.specs.Queues.{Queue, mode_on, granted_beside, granted, has_number}
 use Rattle.lock_tree.specs.Lines.{is_same, others}
 use Rattle.lock_tree.specs.Known.{granted_in, Knows, AreKnown}

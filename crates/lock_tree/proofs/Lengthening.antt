@@ -1,12 +1,10 @@
 -- The chains of transactions, as a request comes.
 use Rattle.std.proofs.Common.{◌≡◌, ℕ, ◌<◌, zero, suc, eqb, cond, List, [], ◌∷◌, ◌++◌, length, Option, None, Some, IfSome, refl, sym, ◌∙◌, ap, subst, arith}
 use Rattle.std.specs.Prelude.{slice_get}
-use Rattle.std.specs.BTreeMap.{get}
-use Rattle.std.specs.Option.{option_flatten}
+use Rattle.std.specs.HashMap.{get}
 use Rattle.std.specs.List.{list_any}
 use Rattle.std.proofs.lemmas.Option.{slice_get_within}
 use Rattle.footprint.specs.declared.resource.Resource.{Resource}
-use Rattle.footprint.specs.Tree.{resource_cmp}
 use Rattle.modes.specs.declared.mode.Mode.{Mode}
 use Rattle.request_arena.specs.declared.node.Held.{Held}
 use Rattle.request_arena.specs.declared.node.Request.{Request}
@@ -14,7 +12,7 @@ use Rattle.request_arena.specs.Following.{changed}
 use Rattle.request_arena.specs.Chains.{chain, linked, behind_it}
 use Rattle.request_arena.specs.Lists.{IsLive}
 use Rattle.request_arena.specs.Pushes.{Pushed, appended}
-use Rattle.lock_tree.specs.Lines.{Lines, request_at, nodes_of, number_of}
+use Rattle.lock_tree.specs.Lines.{Lines, request_at, nodes_of, number_of, resource_eq}
 use Rattle.lock_tree.specs.Numbered.{IsNumbered}
 use Rattle.lock_tree.specs.Chained.{IsPlaced, ArePlaced, Chains, IsTail, head_or}
 use Rattle.lock_tree.specs.Steps.{AreLive, OthersChained, IsLonger}
@@ -47,7 +45,7 @@ module _ (was now : Lines) (q id : ℕ) (tail : Option ℕ) (request : Request) 
 
   placed_still : (k : ℕ) → PlacedStill k was now
   placed_still k r number a placed = record {
-    named = ap (λ m. option_flatten (get resource_cmp m r)) numbers_same ∙ placed.named;
+    named = ap (λ m. get resource_eq m r) numbers_same ∙ placed.named;
     place = placed.place;
     there = or_other number q (slice_get (nodes_of now.nodes number) placed.place ≡ Some a)
         (λ same.
@@ -97,7 +95,7 @@ module _ (was now : Lines) (q id : ℕ) (tail : Option ℕ) (request : Request) 
     where
       placed_new : IsPlaced now request.no resource q id
       placed_new = record {
-        named = ap (λ m. option_flatten (get resource_cmp m resource)) numbers_same ∙ named;
+        named = ap (λ m. get resource_eq m resource) numbers_same ∙ named;
         place = length (nodes_of was.nodes q);
         there = ap (λ (xs : List ℕ). slice_get xs (length (nodes_of was.nodes q))) (now_here was mid q id tail request ok within refl refl live pushed) ∙ get_last (nodes_of was.nodes q) id;
         owned = new_number;

@@ -10,11 +10,11 @@ use Rattle.footprint.specs.Tree.{resource_cmp}
 use Rattle.modes.specs.declared.mode.Mode.{Mode}
 use Rattle.modes.specs.Modes.{are_compatible}
 use Rattle.coarsen.specs.Subtrees.{Requests}
-use Rattle.lock_tree.specs.declared.enqueued.Enqueued.{Enqueued}
+use Rattle.lock_tree.specs.Entered.{Enqueued}
 use Rattle.lock_tree.specs.Locks.{Waiting}
 use Rattle.lock_tree.specs.Queues.{Queue, mode_on, asks, queue, granted_beside, granted, has_number}
 use Rattle.lock_tree.specs.Enqueues.{AreBelow}
-use Rattle.lock_tree.specs.Lines.{Lines, HasRoom, is_same, numbers_of, AllUnder}
+use Rattle.lock_tree.specs.Lines.{is_same, numbers_of, AllUnder}
 use Rattle.lock_tree.specs.Known.{granted_in, Knows, AreKnown}
 use Rattle.lock_tree.specs.Views.{all_waiting}
 use Rattle.footprint.proofs.Resources.{resources_total}
@@ -61,9 +61,6 @@ more_joined number other e this rest now new target front sorted is before =
 
 pub still_apart : (e : Resource × Mode) (this rest : Requests) → this ≡ e ∷ rest → IsStrictlySortedBy resource_cmp (keys_of this) → IsStrictlySortedBy resource_cmp (keys_of rest)
 still_apart e this rest front sorted = sorted_rest e rest (subst (λ (p : Requests). IsStrictlySortedBy resource_cmp (keys_of p)) front sorted)
-
-abbrev Rooms : Lines → Requests → Type 0
-Rooms lines plan = AllByRecursion (λ request. HasRoom lines request.0) plan
 
 -- what holds of all other resources goes on holding of the later ones
 module _ (before after : Resource → Type 0) where
@@ -137,16 +134,3 @@ knows_exactly queues e is = record { sound = λ h. sym is ∙ h; complete = λ g
 pub known_and : (queues : Resource → Queue) (es : List Enqueued) (e : Enqueued) → AreKnown queues [] es → Knows queues [] e → AreKnown queues [] (es ++ e ∷ [])
 known_and queues [] e known one = (one, tt)
 known_and queues (f ∷ es) e known one = (known.0, known_and queues es e known.1 one)
-
-rooms_and : (lines : Lines) (plan : Requests) (e : Resource × Mode) → Rooms lines plan → HasRoom lines e.0 → Rooms lines (plan ++ e ∷ [])
-rooms_and lines [] e rooms room = (room, tt)
-rooms_and lines (x ∷ plan) e rooms room = (rooms.0, rooms_and lines plan e rooms.1 room)
-
-rooms_stay : (old new : Lines) (plan : Requests) → ((other : Resource) → HasRoom old other → HasRoom new other) → Rooms old plan → Rooms new plan
-rooms_stay old new [] kept rooms = tt
-rooms_stay old new (e ∷ plan) kept rooms = (kept e.0 rooms.0, rooms_stay old new plan kept rooms.1)
-
--- room for one request more
-pub more_rooms : (old new : Lines) (before now : Requests) (e : Resource × Mode) → now ≡ before ++ e ∷ [] → ((other : Resource) → HasRoom old other → HasRoom new other)
-    → Rooms old before → HasRoom new e.0 → Rooms new now
-more_rooms old new before now e is kept rooms room = subst (Rooms new) (sym is) (rooms_and new before e (rooms_stay old new before kept rooms) room)

@@ -1,11 +1,11 @@
 -- Resources, and what is noted of them.
-use Rattle.std.proofs.Common.{◌≡◌, ℕ, Bool, true, false, cond, Option, None, Some, IsSome, refl, sym, ◌∙◌, ap, subst, Ordering, Less, Equal, Greater}
+use Rattle.std.proofs.Common.{◌≡◌, ℕ, Bool, true, false, cond, Option, refl, ◌∙◌, ap, Ordering, Less, Equal, Greater}
 use Rattle.std.specs.Ordering.{is_eq, ordering_reverse}
-use Rattle.std.specs.Option.{option_flatten}
 use Rattle.footprint.specs.declared.resource.Resource.{Resource}
+use Rattle.footprint.specs.contracts.resource.ResourceOrd.TheImpl.Laws as laws
 use Rattle.footprint.specs.Tree.{resource_cmp}
 use Rattle.footprint.proofs.Resources.{resources_total, exact_resources}
-use Rattle.lock_tree.specs.Lines.{is_same}
+use Rattle.lock_tree.specs.Lines.{is_same, resource_eq}
 
 -- ---- resources that are alike are one
 
@@ -33,25 +33,18 @@ same_or_not a b P same other = elim (is_same a b) as (λ v. is_same a b ≡ v �
 
 -- ---- what is noted of a resource
 
-abbrev Slot : Type 0
-Slot = Option (Option ℕ)
+-- `==` answers what the order does
+pub eq_is_same : (a b : Resource) → resource_eq a b ≡ is_same a b
+eq_is_same a b = laws.lawful.matches_eq a b
+
+-- so a change at one resource is one at those that are alike
+pub changed_as : (old new : Resource → Option ℕ) (r : Resource) (slot : Option ℕ) → ((s : Resource) → new s ≡ cond (resource_eq r s) slot (old s)) → (s : Resource) → new s ≡ cond (is_same r s) slot (old s)
+changed_as old new r slot is s = is s ∙ ap (λ v. cond v slot (old s)) (eq_is_same r s)
 
 -- with a slot of its own, a resource has that
-pub noted_here : (old new : Slot) (r : Resource) (slot : Slot) → new ≡ cond (is_same r r) slot old → new ≡ slot
+pub noted_here : (old new : Option ℕ) (r : Resource) (slot : Option ℕ) → new ≡ cond (is_same r r) slot old → new ≡ slot
 noted_here old new r slot is = is ∙ ap (λ v. cond v slot old) (itself r)
 
 -- and another has what it had
-pub noted_elsewhere : (old new : Slot) (v : Bool) (slot : Slot) → v ≡ false → new ≡ cond v slot old → new ≡ old
+pub noted_elsewhere : (old new : Option ℕ) (v : Bool) (slot : Option ℕ) → v ≡ false → new ≡ cond v slot old → new ≡ old
 noted_elsewhere old new v slot other is = is ∙ ap (λ b. cond b slot old) other
-
--- nothing was noted, and no number is: nothing is to be seen of that
-pub unseen : (old new : Slot) (v : Bool) → (v ≡ true → old ≡ None) → new ≡ cond v (Some None) old → option_flatten new ≡ option_flatten old
-unseen old new true none is = ap option_flatten is ∙ sym (ap option_flatten (none refl))
-unseen old new false none is = ap option_flatten is
-
-some_slot : (o : Option ℕ) → IsSome (Some o)
-some_slot o = refl
-
-pub noted_still : (old new : Slot) (v : Bool) (o : Option ℕ) → new ≡ cond v (Some o) old → IsSome old → IsSome new
-noted_still old new true o is some = subst (λ (s : Slot). IsSome s) (sym is) (some_slot o)
-noted_still old new false o is some = subst (λ (s : Slot). IsSome s) (sym is) some

@@ -5,7 +5,7 @@ use Rattle.std.proofs.lemmas.Bool.Decides.{nat_tests}
 use Rattle.footprint.specs.declared.resource.Resource.{Resource}
 use Rattle.modes.specs.declared.mode.Mode.{Mode}
 use Rattle.coarsen.specs.Subtrees.{Requests}
-use Rattle.lock_tree.specs.declared.enqueued.Enqueued.{Enqueued}
+use Rattle.lock_tree.specs.Entered.{Enqueued}
 use Rattle.lock_tree.specs.declared.transactions.Transactions.{Transactions}
 use Rattle.lock_tree.specs.Indexed.{IsIndexed}
 use Rattle.lock_tree.specs.Locks.{Waiting, used, plan_of, without, with_mark, AreAbove, IsRising}

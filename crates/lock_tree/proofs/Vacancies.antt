@@ -2,18 +2,14 @@
 use Rattle.std.proofs.Common.{◌≡◌, ℕ, ◌+◌, ◌<◌, ◌≤◌, ◌^◌, ◌⊎◌, inl, inr, zero, suc, eqb, true, false, cond, List, [], ◌∷◌, ◌++◌, length, replicate, get_or, Option, None, Some, refl, sym, ◌∙◌, ap, subst, arith}
 use Rattle.std.specs.Prelude.{slice_get, slice_set}
 use Rattle.std.specs.Vec.{vec_capacity}
-use Rattle.std.specs.BTreeMap.{get}
 use Rattle.std.specs.Map.{lookup}
-use Rattle.std.specs.Ordering.{is_eq}
-use Rattle.std.specs.Option.{option_flatten}
 use Rattle.std.proofs.lemmas.Bool.Decides.{nat_tests}
 use Rattle.std.proofs.lemmas.List.{length-set, length_push, length-replicate}
 use Rattle.std.proofs.lemmas.Option.{slice_get_within}
 use Rattle.footprint.specs.declared.resource.Resource.{Resource}
-use Rattle.footprint.specs.Tree.{resource_cmp}
 use Rattle.request_arena.specs.Lists.{Lists, free_nodes}
 use Rattle.lock_tree.specs.declared.line.Line.{Line}
-use Rattle.lock_tree.specs.Lines.{Lines, line, number_of, nodes_of, numbered, requests, is_same}
+use Rattle.lock_tree.specs.Lines.{Lines, line, number_of, nodes_of, numbered, requests, is_same, resource_eq}
 use Rattle.lock_tree.specs.Numbered.{occupied, total, IsNumbered}
 use Rattle.lock_tree.proofs.Positions.{some_is, none_is, get_front, get_last, get_either, get_set_same, get_set_other}
 use Rattle.lock_tree.proofs.Counting.{occupied_few, none_if_empty, none_if_some}
@@ -116,12 +112,12 @@ taken_fresh was now x r ok free none_vacant still vacant_capacity is capacity no
 
 -- ---- and noted
 
-module _ (l now : Lines) (r : Resource) (q : ℕ) (updates : (s : Resource) → get resource_cmp now.numbers s ≡ cond (is_same r s) (Some (Some q)) (get resource_cmp l.numbers s)) where
+module _ (l now : Lines) (r : Resource) (q : ℕ) (updates : (s : Resource) → number_of now s ≡ cond (is_same r s) (Some q) (number_of l s)) where
   pub number_here : number_of (record l { numbers = now.numbers }) r ≡ Some q
-  number_here = ap option_flatten (noted_here (get resource_cmp l.numbers r) (get resource_cmp now.numbers r) r (Some (Some q)) (updates r))
+  number_here = noted_here (number_of l r) (number_of now r) r (Some q) (updates r)
 
   pub number_elsewhere : (s : Resource) → is_same r s ≡ false → number_of (record l { numbers = now.numbers }) s ≡ number_of l s
-  number_elsewhere s other = ap option_flatten (noted_elsewhere (get resource_cmp l.numbers s) (get resource_cmp now.numbers s) (is_same r s) (Some (Some q)) other (updates s))
+  number_elsewhere s other = noted_elsewhere (number_of l s) (number_of now s) (is_same r s) (Some q) other (updates s)
 
   module _ (ok : IsNumbered l (Some q)) (within : q < length l.lines.items) (empty : nodes_of l.nodes q ≡ []) (here : slice_get l.resources.items q ≡ Some r) (none_yet : number_of l r ≡ None) where
     abbrev there : Lines
@@ -182,21 +178,21 @@ closed l q ok filled = record {
 pub vacant_room : (l : Lines) (q : ℕ) → IsNumbered l (Some q) → nodes_of l.nodes q ≡ [] → length l.vacant.items < vec_capacity l.vacant
 vacant_room l q ok empty = let c = ok.count in let g = none_if_empty (nodes_of l.nodes q) empty in let f = ok.vacant_fit in let n = ok.few in omega (arith, c, g, f, n)
 
-module _ (l now : Lines) (r : Resource) (q : ℕ) (updates : (s : Resource) → get resource_cmp now.numbers s ≡ cond (is_same r s) None (get resource_cmp l.numbers s))
+module _ (l now : Lines) (r : Resource) (q : ℕ) (updates : (s : Resource) → number_of now s ≡ cond (is_same r s) None (number_of l s))
     (ok : IsNumbered l (Some q)) (named : number_of l r ≡ Some q) (empty : nodes_of l.nodes q ≡ []) (is : now.vacant.items ≡ l.vacant.items ++ q ∷ []) (capacity : vec_capacity now.vacant ≡ vec_capacity l.vacant) where
   abbrev after : Lines
   after = record l { numbers = now.numbers; vacant = now.vacant }
 
-  pub gone_here : get resource_cmp now.numbers r ≡ None
-  gone_here = updates r ∙ ap (λ v. cond v None (get resource_cmp l.numbers r)) (itself r)
+  pub gone_here : number_of now r ≡ None
+  gone_here = noted_here (number_of l r) (number_of now r) r None (updates r)
 
   still_elsewhere : (s : Resource) → is_same r s ≡ false → number_of after s ≡ number_of l s
-  still_elsewhere s other = ap option_flatten (updates s ∙ ap (λ v. cond v None (get resource_cmp l.numbers s)) other)
+  still_elsewhere s other = noted_elsewhere (number_of l s) (number_of now s) (is_same r s) None other (updates s)
 
   -- a number that is noted afterwards was noted before, and is another
   noted : (s : Resource) (n : ℕ) → number_of after s ≡ Some n → (number_of l s ≡ Some n) × (q ≡ n → ⊥)
   noted s n e = same_or_not r s ((number_of l s ≡ Some n) × (q ≡ n → ⊥))
-      (λ same. absurd (none_is n (sym (ap option_flatten gone_here) ∙ ap (number_of after) same ∙ e)))
+      (λ same. absurd (none_is n (sym gone_here ∙ ap (number_of after) same ∙ e)))
       (λ other.
       let was : number_of l s ≡ Some n = sym (still_elsewhere s other) ∙ e in
       (was, λ k. let t : r ≡ s = unique l (Some q) ok r s n (named ∙ ap Some k) was in not_itself r s t other))
@@ -233,7 +229,7 @@ module _ (l now : Lines) (r : Resource) (q : ℕ) (updates : (s : Resource) → 
 
   pub forgotten_lines : (s : Resource) → line after s ≡ line l s
   forgotten_lines s = same_or_not r s (line after s ≡ line l s)
-      (λ same. let e : line after r ≡ line l r = ap (numbered l.nodes) (ap option_flatten gone_here) ∙ sym (ap (requests l.nodes.held) empty) ∙ sym (ap (numbered l.nodes) named) in
+      (λ same. let e : line after r ≡ line l r = ap (numbered l.nodes) gone_here ∙ sym (ap (requests l.nodes.held) empty) ∙ sym (ap (numbered l.nodes) named) in
       subst (λ (t : Resource). line after t ≡ line l t) same e)
       (λ other. ap (numbered l.nodes) (still_elsewhere s other))
 
@@ -314,7 +310,7 @@ pub none_numbered : (l : Lines) (n : ℕ) → n < 2 ^ 64 → l.nodes ≡ blank n
 none_numbered l n small is no_number no_line no_vacant no_resource lines_fit vacant_fit resources_fit =
     let held : length l.nodes.held ≡ n = ap (λ (x : Lists). length x.held) is ∙ length-replicate n None in
     let queues : length l.nodes.queues ≡ n = ap (λ (x : Lists). length x.queues) is ∙ length-replicate n [] in
-    let unnamed : (r : Resource) (q : ℕ) → number_of l r ≡ Some q → ⊥ = λ r q e. none_is q (sym (ap (λ es. option_flatten (lookup (λ k. is_eq (resource_cmp r k)) es)) no_number) ∙ e) in
+    let unnamed : (r : Resource) (q : ℕ) → number_of l r ≡ Some q → ⊥ = λ r q e. none_is q (sym (ap (lookup (resource_eq r)) no_number) ∙ e) in
     let lines : length l.lines.items ≡ 0 = ap length no_line in let vacant : length l.vacant.items ≡ 0 = ap length no_vacant in let resources : length l.resources.items ≡ 0 = ap length no_resource in
     record {
       few = omega (arith, held, lines);

@@ -6,7 +6,7 @@ use Rattle.footprint.specs.declared.resource.Resource.{Resource}
 use Rattle.coarsen.specs.Subtrees.{Requests}
 use Rattle.request_arena.specs.Chains.{chain_from}
 use Rattle.request_arena.specs.Lists.{IsLive, BeginsChain, EndsChain}
-use Rattle.lock_tree.specs.declared.enqueued.Enqueued.{Enqueued}
+use Rattle.lock_tree.specs.Entered.{Enqueued}
 use Rattle.lock_tree.specs.Lines.{Lines, request_at, nodes_of, number_of}
 
 -- a node of the transaction stands in the queue of a resource, which has that number

@@ -2,7 +2,7 @@
 -- Transactions under their numbers, with the numbers of the open ones.
 use Rattle.std.specs.Prelude.{◌≡◌, ◌≤◌, ◌<◌, ⊤, ℕ, List, [], ◌∷◌, length, Some, slice_index_or}
 use Rattle.std.specs.VecDeque.{deque_capacity}
-use Rattle.lock_tree.specs.declared.enqueued.Enqueued.{Enqueued}
+use Rattle.lock_tree.specs.Entered.{Enqueued}
 use Rattle.lock_tree.specs.declared.transactions.Transactions.{Transactions}
 use Rattle.lock_tree.specs.Locks.{IsRising}
 use Rattle.lock_tree.specs.Placing.{place_of}

@@ -4,7 +4,7 @@ use Rattle.std.specs.Prelude.{◌≡◌, ◌⊎◌, ℕ, Bool, true, List}
 use Rattle.std.specs.List.{list_all, AllByRecursion}
 use Rattle.footprint.specs.declared.resource.Resource.{Resource}
 use Rattle.coarsen.specs.Subtrees.{Requests}
-use Rattle.lock_tree.specs.declared.enqueued.Enqueued.{Enqueued}
+use Rattle.lock_tree.specs.Entered.{Enqueued}
 use Rattle.lock_tree.specs.Queues.{Queue, granted, has_number}
 
 -- each request of the plan is granted to the transaction in these queues

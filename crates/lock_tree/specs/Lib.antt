@@ -2,6 +2,7 @@ pub mod Locks
 pub mod Queues
 pub mod Ready
 pub mod Laws
+pub mod Entered
 pub mod Views
 pub mod Placing
 pub mod Enqueues

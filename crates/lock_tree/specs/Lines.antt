@@ -1,10 +1,10 @@
 -- Of the code: invariants and steps; no promise rests on these words.
 -- The code's queues as the queues that contracts see.
-use Rattle.std.specs.Prelude.{◌<◌, ◌==◌, ℕ, Bool, not, ⊤, List, [], ◌∷◌, map, filter, Option, Some, None, IsSome, slice_get, slice_index_or}
-use Rattle.std.specs.Option.{option_flatten}
+use Rattle.std.specs.Prelude.{◌<◌, ◌≤◌, ◌==◌, ℕ, Bool, not, ⊤, List, [], ◌∷◌, map, filter, Option, Some, None, slice_get, slice_index_or}
 use Rattle.std.specs.Ordering.{eq_by_cmp}
-use Rattle.std.specs.BTreeMap.{get}
+use Rattle.std.specs.HashMap.{get, spare}
 use Rattle.footprint.specs.declared.resource.Resource.{Resource}
+use Rattle.footprint.specs.contracts.resource.ResourcePartialEq.TheImpl as equality
 use Rattle.footprint.specs.Tree.{resource_cmp}
 use Rattle.modes.specs.declared.mode.Mode.{Mode}
 use Rattle.modes.specs.declared.mode.Mode.TheVariants.{IntentionShared}
@@ -40,17 +40,21 @@ abbrev pub numbered : Lists → Option ℕ → Queue
 numbered lists None = []
 numbered lists (Some number) = in_order lists number
 
+-- what `==` answers of two resources
+abbrev pub resource_eq : Resource → Resource → Bool
+resource_eq = equality.ghosts.eq
+
 -- the number of a resource's queue, if anyone asks for the resource
 abbrev pub number_of : Lines → Resource → Option ℕ
-number_of lines resource = option_flatten (get resource_cmp lines.numbers resource)
+number_of lines resource = get resource_eq lines.numbers resource
 
 -- the queue of a resource
 abbrev pub line : Lines → Resource → Queue
 line lines resource = numbered lines.nodes (number_of lines resource)
 
--- a number can be noted for a resource
-abbrev pub HasRoom : Lines → Resource → Type 0
-HasRoom lines resource = IsSome (get resource_cmp lines.numbers resource)
+-- the numbers of so many more resources can be noted
+abbrev pub HasRoom : Lines → ℕ → Type 0
+HasRoom lines count = count ≤ spare lines.numbers
 
 abbrev pub is_same : Resource → Resource → Bool
 is_same a b = eq_by_cmp resource_cmp a b

@@ -1,7 +1,7 @@
 -- Of the code: invariants and steps; no promise rests on these words.
 -- Transactions that are ready and not marked, and the place of a number among others.
 use Rattle.std.specs.Prelude.{◌<◌, ⊤, ℕ, ◌+◌, Bool, ◌&&◌, not, nat_lt, ◌==◌, if◌then◌else◌, List, [], ◌∷◌}
-use Rattle.lock_tree.specs.declared.enqueued.Enqueued.{Enqueued}
+use Rattle.lock_tree.specs.Entered.{Enqueued}
 
 abbrev pub is_open : Enqueued → Bool
 is_open e = not e.marked && e.ready

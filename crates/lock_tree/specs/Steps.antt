@@ -1,9 +1,7 @@
 -- Of the code: invariants and steps; no promise rests on these words.
 -- What a step of the code leaves of the queues.
 use Rattle.std.specs.Prelude.{◌≡◌, ◌≢◌, ◌<◌, ◌+◌, ℕ, true, List, [], ◌∷◌, ◌++◌, length, map, Option, Some, None, IfSome, slice_get, slice_set}
-use Rattle.std.specs.BTreeMap.{get}
 use Rattle.footprint.specs.declared.resource.Resource.{Resource}
-use Rattle.footprint.specs.Tree.{resource_cmp}
 use Rattle.modes.specs.declared.mode.Mode.{Mode}
 use Rattle.coarsen.specs.Subtrees.{Requests}
 use Rattle.request_arena.specs.declared.node.Request.{Request}
@@ -11,7 +9,7 @@ use Rattle.request_arena.specs.Following.{without}
 use Rattle.request_arena.specs.Chains.{chain, chain_from, held_at}
 use Rattle.request_arena.specs.Lists.{Lists, IsLive, BeginsChain, free_nodes}
 use Rattle.request_arena.specs.Pushes.{Pushed}
-use Rattle.lock_tree.specs.declared.enqueued.Enqueued.{Enqueued}
+use Rattle.lock_tree.specs.Entered.{Enqueued}
 use Rattle.lock_tree.specs.Lines.{Lines, line, number_of, nodes_of, in_order, others, HasRoom}
 use Rattle.lock_tree.specs.Numbered.{IsNumbered}
 use Rattle.lock_tree.specs.Granted.{AreGranted}
@@ -26,7 +24,7 @@ pub record IsOpened (was : Lines) (resource : Resource) (number : ℕ) (now : Li
   pub named : number_of now resource ≡ Some number
   pub kept : (other : Resource) (n : ℕ) → number_of was other ≡ Some n → number_of now other ≡ Some n
   pub same : (other : Resource) → line now other ≡ line was other
-  pub room : (other : Resource) → HasRoom was other → HasRoom now other
+  pub room : (count : ℕ) → HasRoom was (count + 1) → HasRoom now count
 
 -- where its queue is empty, a resource has no number
 pub record IsForgotten (was : Lines) (resource : Resource) (number : ℕ) (now : Lines) : Type 0 where
@@ -34,7 +32,7 @@ pub record IsForgotten (was : Lines) (resource : Resource) (number : ℕ) (now :
   pub granted : AreGranted now
   pub lines : now.lines ≡ was.lines
   pub nodes : now.nodes ≡ was.nodes
-  pub gone : nodes_of now.nodes number ≡ [] → get resource_cmp now.numbers resource ≡ None
+  pub gone : nodes_of now.nodes number ≡ [] → number_of now resource ≡ None
   pub kept : (other : Resource) (n i a : ℕ) → number_of was other ≡ Some n → slice_get (nodes_of was.nodes n) i ≡ Some a → number_of now other ≡ Some n
   pub same : (other : Resource) → line now other ≡ line was other
 

@@ -3,10 +3,8 @@
 use Rattle.std.specs.Prelude.{ℕ, Bool, List, map, refl}
 use Rattle.std.specs.Map.{values_of}
 use Rattle.std.specs.Coded.{Coded, code_by, coded×, coded_list, coded_ℕ, coded_bool}
-use Rattle.footprint.specs.contracts.resource.Resource as resource
-use Rattle.modes.specs.contracts.mode.Mode as mode
 use Rattle.coarsen.specs.Subtrees.{Requests}
-use Rattle.lock_tree.specs.declared.enqueued.Enqueued.{Enqueued}
+use Rattle.lock_tree.specs.Entered.{Enqueued, requests_code}
 use Rattle.lock_tree.specs.declared.transactions.Transactions.{Transactions}
 use Rattle.lock_tree.specs.Locks.{Waiting, Locks}
 
@@ -19,9 +17,6 @@ all_waiting es = map waiting_of es
 -- the transactions, in the order of their numbers
 abbrev pub enqueued : Transactions → List Enqueued
 enqueued t = values_of t.entries.entries
-
-abbrev pub requests_code : Coded Requests
-requests_code = coded_list (coded× resource.the_row.coded mode.the_row.coded)
 
 abbrev pub waiting_code : Coded Waiting
 waiting_code = code_by (ℕ × (Requests × Bool)) (coded× coded_ℕ (coded× requests_code coded_bool)) (λ w. (w.no, (w.plan, w.marked))) (λ p. record { no = p.0; plan = p.1.0; marked = p.1.1 }) (λ _. refl)

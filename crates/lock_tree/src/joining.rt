@@ -7,7 +7,6 @@ ghost use Rattle.std.specs.List.Sorted.{IsStrictlySortedBy};
 ghost use Rattle.footprint.specs.declared.resource.Resource.{Resource as AnyResource};
 ghost use Rattle.footprint.specs.Tree.{resource_cmp};
 ghost use Rattle.request_arena.specs.Lists.{free_nodes};
-ghost use Rattle.lock_tree.specs.declared.enqueued.Enqueued.{Enqueued as AnyEnqueued};
 ghost use Rattle.lock_tree.specs.Queues.{asks, mode_on};
 ghost use Rattle.lock_tree.specs.Lines.{line, HasRoom, AllUnder, numbers_of};
 ghost use Rattle.lock_tree.specs.Numbered.{IsNumbered};
@@ -29,29 +28,12 @@ use modes::Mode;
 use request_arena::{NodeId, Request};
 use values::NoMemory;
 
-/// Makes room for each request of a plan.
-pub(crate) fn make_room_for(lines: &mut Lines, plan: &[(Resource, Mode)]) -> Result<(), NoMemory>
-    requires numbered { IsNumbered lines.old None }
-    requires granted { AreGranted lines.old }
-    ensures numbered { IsNumbered lines.new None }
-    ensures granted { AreGranted lines.new }
-    ensures same { (other : AnyResource) → line lines.new other ≡ line lines.old other }
-    ensures free { free_nodes lines.new.nodes.held ≡ free_nodes lines.old.nodes.held }
-    ensures chained { (entry : AnyEnqueued) → IsChained lines.old entry → IsChained lines.new entry }
-    ensures room { OnOk result (AllByRecursion (λ request. HasRoom lines.new request.0) plan.now) }
-{
-    for (resource, _) in plan {
-        lines.make_room(*resource)?;
-    }
-    Ok(())
-}
-
 /// Puts a transaction behind the others in the queues of its plan: the first node of its chain.
 fn join_all(lines: &mut Lines, plan: &[(Resource, Mode)], no: u64) -> Option<NodeId>
     requires numbered { IsNumbered lines.old None }
     requires granted { AreGranted lines.old }
     requires free { length plan.now ≤ free_nodes lines.old.nodes.held }
-    requires room { AllByRecursion (λ request. HasRoom lines.old request.0) plan.now }
+    requires room { HasRoom lines.old (length plan.now) }
     requires apart { IsStrictlySortedBy resource_cmp (keys_of plan.now) }
     requires above { AllByRecursion (λ request. AllUnder no (numbers_of (line lines.old request.0))) plan.now }
     ensures numbered { IsNumbered lines.new None }
@@ -74,12 +56,13 @@ fn join_all(lines: &mut Lines, plan: &[(Resource, Mode)], no: u64) -> Option<Nod
 }
 
 /// Puts a transaction behind the others in the queues of its plan, and notes where its requests stand and whether it is ready.
-fn join_queues(lines: &mut Lines, plan: &[(Resource, Mode)], entry: &mut Enqueued)
+fn join_queues(lines: &mut Lines, plan: &[(Resource, Mode)], entry: &mut Enqueued, no: u64)
+    requires owner { entry.old.no ≡ no }
     requires plan { entry.old.plan.value ≡ plan.now }
     requires numbered { IsNumbered lines.old None }
     requires granted { AreGranted lines.old }
     requires free { length entry.old.plan.value ≤ free_nodes lines.old.nodes.held }
-    requires room { AllByRecursion (λ request. HasRoom lines.old request.0) entry.old.plan.value }
+    requires room { HasRoom lines.old (length entry.old.plan.value) }
     requires apart { IsStrictlySortedBy resource_cmp (keys_of entry.old.plan.value) }
     requires above { AllByRecursion (λ request.
         AllUnder entry.old.no (numbers_of (line lines.old request.0))) entry.old.plan.value }
@@ -93,8 +76,9 @@ fn join_queues(lines: &mut Lines, plan: &[(Resource, Mode)], entry: &mut Enqueue
     ensures chained { IsChained lines.new entry.new }
     ensures ready { entry.new.ready ≡ granted_in (line lines.new) entry.new.no entry.new.plan.value }
 {
-    entry.head = join_all(lines, plan, entry.no);
-    entry.ready = are_granted(lines, entry);
+    entry.set_head(join_all(lines, plan, no));
+    let ready = are_granted(lines, entry, no);
+    entry.set_ready(ready);
 }
 
 /// Puts a transaction with its plan, which is not ready, behind all others. There is room for its requests. On an error nothing has changed.
@@ -103,12 +87,14 @@ pub(crate) fn join(
     transactions: &mut Transactions,
     plan: &[(Resource, Mode)],
     entry: Enqueued,
+    no: u64,
 ) -> Result<(), NoMemory>
+    requires owner { entry.no ≡ no }
     requires plan { entry.plan.value ≡ plan.now }
     requires numbered { IsNumbered lines.old None }
     requires granted { AreGranted lines.old }
     requires free { length entry.plan.value ≤ free_nodes lines.old.nodes.held }
-    requires room { AllByRecursion (λ request. HasRoom lines.old request.0) entry.plan.value }
+    requires room { HasRoom lines.old (length entry.plan.value) }
     requires waits { entry.ready ≡ false }
     requires indexed { IsIndexed transactions.old }
     requires place { HasPlace transactions.old }
@@ -132,12 +118,11 @@ pub(crate) fn join(
     ensures err { OnErr result ((lines.new ≡ lines.old)
         × (enqueued transactions.new ≡ enqueued transactions.old)) }
 {
-    let no = entry.no;
-    transactions.push(entry)?;
+    transactions.push(no, entry)?;
     let Some(entry) = transactions.entries.get_mut(&no) else {
         unreachable!()
     };
-    join_queues(lines, plan, entry);
-    push_open(&mut transactions.open, entry);
+    join_queues(lines, plan, entry, no);
+    push_open(&mut transactions.open, entry, no);
     Ok(())
 }

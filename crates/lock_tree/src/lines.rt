@@ -1,9 +1,9 @@
 //! The queues of resources.
 
-ghost use Rattle.std.specs.Prelude.{◌≡◌, [], length, None, IfOk, OnOk, IsSome};
+ghost use Rattle.std.specs.Prelude.{◌≡◌, [], IfOk, OnOk};
 ghost use Rattle.footprint.specs.declared.resource.Resource.{Resource as AnyResource};
 ghost use Rattle.request_arena.specs.Lists.{free_nodes};
-ghost use Rattle.lock_tree.specs.declared.enqueued.Enqueued.{Enqueued as AnyEnqueued};
+ghost use Rattle.lock_tree.specs.Entered.{Enqueued as AnyEnqueued};
 ghost use Rattle.lock_tree.specs.Lines.{line, number_of, HasRoom};
 ghost use Rattle.lock_tree.specs.Numbered.{IsNumbered};
 ghost use Rattle.lock_tree.specs.Granted.{AreGranted};
@@ -13,7 +13,7 @@ use crate::line::Line;
 use footprint::Resource;
 use request_arena::Queues;
 use std::alloc::Global;
-use std::collections::BTreeMap;
+use std::collections::HashMap;
 use values::NoMemory;
 
 /// The requests on each resource, in order: each is a node of a queue, and of the chain of its transaction. A resource that
@@ -21,8 +21,8 @@ use values::NoMemory;
 #[derive(Drop)]
 pub(crate) struct Lines {
     pub(crate) nodes: Queues,
-    // A resource that none asks for may be there without a number.
-    pub(crate) numbers: BTreeMap<Resource, Option<usize>>,
+    // Found by a hash whose seed is fixed: who picks the keys can make this slow, but no answer depends on it.
+    pub(crate) numbers: HashMap<Resource, usize>,
     // By the queue's number: its resource, and what is granted.
     pub(crate) resources: Vec<Resource>,
     pub(crate) lines: Vec<Line>,
@@ -39,28 +39,25 @@ impl Lines {
     {
         Ok(Lines {
             nodes: Queues::with_capacity(alloc, arena, arena)?,
-            numbers: BTreeMap::new(alloc),
+            numbers: HashMap::new(alloc),
             resources: Vec::with_capacity(alloc, arena)?,
             lines: Vec::with_capacity(alloc, arena)?,
             vacant: Vec::with_capacity(alloc, arena)?,
         })
     }
 
-    /// Makes room for a request on a resource.
-    pub(crate) fn make_room(&mut self, resource: Resource) -> Result<(), NoMemory>
+    /// Makes room for the numbers of so many more resources.
+    pub(crate) fn make_room(&mut self, count: usize) -> Result<(), NoMemory>
         requires numbered { IsNumbered self.old None }
         requires granted { AreGranted self.old }
         ensures numbered { IsNumbered self.new None }
         ensures granted { AreGranted self.new }
         ensures same { (other : AnyResource) → line self.new other ≡ line self.old other }
         ensures free { free_nodes self.new.nodes.held ≡ free_nodes self.old.nodes.held }
-        ensures room { OnOk result (HasRoom self.new resource) }
-        ensures kept { (other : AnyResource) → HasRoom self.old other → HasRoom self.new other }
+        ensures room { OnOk result (HasRoom self.new count) }
         ensures chained { (entry : AnyEnqueued) → IsChained self.old entry → IsChained self.new entry }
     {
-        if !self.numbers.contains_key(&resource) {
-            self.numbers.insert(resource, None)?;
-        }
+        self.numbers.reserve(count)?;
         Ok(())
     }
 
@@ -68,6 +65,6 @@ impl Lines {
     pub(crate) fn number_of(&self, resource: &Resource) -> Option<usize>
         ensures { result ≡ number_of self.now resource.now }
     {
-        self.numbers.get(resource).copied().flatten()
+        self.numbers.get(resource).copied()
     }
 }

@@ -37,7 +37,7 @@ fn note(lines: &Lines, transactions: &mut Transactions, no: u64)
     ensures chained { AreChained lines.now (enqueued transactions.new) }
 {
     if let Some(entry) = transactions.get(no) {
-        let ready = are_granted(lines, entry);
+        let ready = are_granted(lines, entry, no);
         transactions.set_ready(no, ready);
     }
 }
@@ -135,7 +135,7 @@ pub(crate) fn leave_all(
     ensures known { AreKnown (line lines.new) [] (enqueued transactions.new) }
     ensures chained { AreChained lines.new (enqueued transactions.new) }
 {
-    let mut head = entry.head;
+    let mut head = entry.head();
     while let Some(node) = head {
         let number = lines.nodes.queue_of(node);
         let resource = lines.resources[number];

@@ -40,12 +40,12 @@ fn open(lines: &mut Lines, resource: &Resource) -> usize
     requires numbered { IsNumbered lines.old None }
     requires granted { AreGranted lines.old }
     requires free { 0 < free_nodes lines.old.nodes.held }
-    requires room { HasRoom lines.old resource.now }
+    requires room { HasRoom lines.old 1 }
     requires none { number_of lines.old resource.now ≡ None }
     ensures { IsOpened lines.old resource.now result lines.new }
 {
     let number = take(lines, resource);
-    let _ = lines.numbers.insert(*resource, Some(number));
+    let _ = lines.numbers.insert(*resource, number);
     number
 }
 
@@ -54,7 +54,7 @@ pub(crate) fn number_for(lines: &mut Lines, resource: &Resource) -> usize
     requires numbered { IsNumbered lines.old None }
     requires granted { AreGranted lines.old }
     requires free { 0 < free_nodes lines.old.nodes.held }
-    requires room { HasRoom lines.old resource.now }
+    requires room { HasRoom lines.old 1 }
     ensures { IsOpened lines.old resource.now result lines.new }
 {
     match lines.number_of(resource) {

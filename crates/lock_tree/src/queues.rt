@@ -1,12 +1,10 @@
 //! Requests that come into the queue of a resource and leave it.
 
 ghost use Rattle.std.specs.Prelude.{◌≡◌, ◌<◌, ◌+◌, [], ◌∷◌, ◌++◌, ◌==◌, ℕ, Some, None, IfSome, length, slice_get, if◌then◌else◌};
-ghost use Rattle.std.specs.BTreeMap.{get};
 ghost use Rattle.footprint.specs.declared.resource.Resource.{Resource as AnyResource};
-ghost use Rattle.footprint.specs.Tree.{resource_cmp};
 ghost use Rattle.request_arena.specs.Lists.{free_nodes, EndsChain};
 ghost use Rattle.lock_tree.specs.Queues.{granted};
-ghost use Rattle.lock_tree.specs.Lines.{line, nodes_of, in_order, request_at, HasRoom, AllUnder, numbers_of, is_same, others};
+ghost use Rattle.lock_tree.specs.Lines.{line, number_of, nodes_of, in_order, request_at, HasRoom, AllUnder, numbers_of, is_same, others};
 ghost use Rattle.lock_tree.specs.Numbered.{IsNumbered};
 ghost use Rattle.lock_tree.specs.Granted.{AreGranted};
 ghost use Rattle.lock_tree.specs.Chained.{IsPlaced, Begins};
@@ -29,7 +27,7 @@ pub(crate) fn push(
     requires numbered { IsNumbered lines.old None }
     requires granted { AreGranted lines.old }
     requires free { 0 < free_nodes lines.old.nodes.held }
-    requires room { HasRoom lines.old resource.now }
+    requires room { HasRoom lines.old 1 }
     requires above { AllUnder request.no (numbers_of (line lines.old resource.now)) }
     requires tail { IfSome tail (λ t. EndsChain lines.old.nodes t
         × ((request_at lines.old.nodes.held t).0 ≡ request.no)) }
@@ -39,7 +37,7 @@ pub(crate) fn push(
     ensures pushed { (other : AnyResource) →
         line lines.new other ≡ (if is_same other resource.now then line lines.old other ++ (request.no, request.mode) ∷ []
         else line lines.old other) }
-    ensures room { (other : AnyResource) → HasRoom lines.old other → HasRoom lines.new other }
+    ensures room { (count : ℕ) → HasRoom lines.old (count + 1) → HasRoom lines.new count }
     ensures others { OthersChained request.no lines.old lines.new }
     ensures longer { (number : ℕ) × IsLonger request.no resource.now number tail result lines.old lines.new }
 {
@@ -70,7 +68,7 @@ pub(crate) fn remove(
     ensures here { in_order lines.new.nodes number ≡ others no (line lines.old resource.now) }
     ensures stay { result.stay ≡ length (others no (granted (line lines.old resource.now))) }
     ensures first { result.first ≡ slice_get (nodes_of lines.new.nodes number) result.stay }
-    ensures kept { line lines.new resource.now ≡ [] → get resource_cmp lines.new.numbers resource.now ≡ None }
+    ensures kept { line lines.new resource.now ≡ [] → number_of lines.new resource.now ≡ None }
     ensures others { OthersChained no lines.old lines.new }
     ensures shorter { IsShorter no node result.behind lines.old lines.new }
 {

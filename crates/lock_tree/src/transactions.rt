@@ -2,7 +2,7 @@
 
 ghost use Rattle.std.specs.Prelude.{◌≡◌, ◌∷◌, [], ◌++◌, ◌≤◌, ◌<◌, true, length, IfSome, IfNone, OnOk, OnErr, if◌then◌else◌, false, None, Some, ℕ, slice_set, slice_index_or, remove};
 ghost use Rattle.std.specs.VecDeque.{deque_len, deque_capacity};
-ghost use Rattle.lock_tree.specs.declared.enqueued.Enqueued.{Enqueued as AnyEnqueued};
+ghost use Rattle.lock_tree.specs.Entered.{Enqueued as AnyEnqueued};
 ghost use Rattle.lock_tree.specs.Enqueues.{AreBelow};
 ghost use Rattle.lock_tree.specs.Placing.{place_of};
 ghost use Rattle.lock_tree.specs.Views.{all_waiting, enqueued};
@@ -22,7 +22,8 @@ pub(crate) struct Transactions {
 }
 
 /// Notes whether a transaction is open.
-fn note_open(numbers: &mut VecDeque<u64>, entry: &Enqueued)
+fn note_open(numbers: &mut VecDeque<u64>, entry: &Enqueued, no: u64)
+    requires owner { entry.now.no ≡ no }
     requires rising { AreRising numbers.old.items }
     requires room { is_open entry.now ≡ true →
         length (placed entry.now.no true numbers.old.items) ≤ deque_capacity numbers.old }
@@ -30,20 +31,21 @@ fn note_open(numbers: &mut VecDeque<u64>, entry: &Enqueued)
     ensures capacity { deque_capacity numbers.old ≤ deque_capacity numbers.new }
 {
     if entry.is_open() {
-        put(numbers, entry.no);
+        put(numbers, no);
     } else {
-        take_out(numbers, entry.no);
+        take_out(numbers, no);
     }
 }
 
 /// Notes whether a transaction that comes behind the others is open.
-pub(crate) fn push_open(numbers: &mut VecDeque<u64>, entry: &Enqueued)
-    requires { deque_len numbers.old < deque_capacity numbers.old }
+pub(crate) fn push_open(numbers: &mut VecDeque<u64>, entry: &Enqueued, no: u64)
+    requires owner { entry.now.no ≡ no }
+    requires room { deque_len numbers.old < deque_capacity numbers.old }
     ensures items { numbers.new.items ≡ numbers.old.items ++ (if is_open entry.now then entry.now.no ∷ [] else []) }
     ensures capacity { deque_capacity numbers.new ≡ deque_capacity numbers.old }
 {
     if entry.is_open() {
-        numbers.push_back_reserved(entry.no);
+        numbers.push_back_reserved(no);
     }
 }
 
@@ -83,7 +85,8 @@ impl Transactions {
     }
 
     /// Puts a transaction that is not ready behind the others. There is room for it among the open ones.
-    pub(crate) fn push(&mut self, entry: Enqueued) -> Result<(), NoMemory>
+    pub(crate) fn push(&mut self, no: u64, entry: Enqueued) -> Result<(), NoMemory>
+        requires owner { entry.no ≡ no }
         requires indexed { IsIndexed self.old }
         requires place { HasPlace self.old }
         requires waits { is_open entry ≡ false }
@@ -92,7 +95,7 @@ impl Transactions {
         ensures entries { OnOk result (enqueued self.new ≡ enqueued self.old ++ entry ∷ []) }
         ensures err { OnErr result (enqueued self.new ≡ enqueued self.old) }
     {
-        self.entries.insert(entry.no, entry)?;
+        self.entries.insert(no, entry)?;
         Ok(())
     }
 
@@ -106,8 +109,8 @@ impl Transactions {
         ensures none { place_of no (all_waiting (enqueued self.old)) ≡ None → enqueued self.new ≡ enqueued self.old }
     {
         if let Some(entry) = self.entries.get_mut(&no) {
-            entry.marked = mark;
-            note_open(&mut self.open, entry);
+            entry.set_mark(mark);
+            note_open(&mut self.open, entry, no);
         }
     }
 
@@ -121,8 +124,8 @@ impl Transactions {
         ensures none { place_of no (all_waiting (enqueued self.old)) ≡ None → enqueued self.new ≡ enqueued self.old }
     {
         if let Some(entry) = self.entries.get_mut(&no) {
-            entry.ready = ready;
-            note_open(&mut self.open, entry);
+            entry.set_ready(ready);
+            note_open(&mut self.open, entry, no);
         }
     }
 

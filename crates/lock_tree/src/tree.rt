@@ -6,7 +6,7 @@ ghost use Rattle.lock_tree.specs.Ready.{ready, IsNextReady};
 ghost use Rattle.lock_tree.specs.Enqueues.{AreBelow};
 
 use crate::enqueued::Enqueued;
-use crate::joining::{join, make_room_for};
+use crate::joining::join;
 use crate::lines::Lines;
 use crate::noting::leave_all;
 use crate::opening::least;
@@ -78,12 +78,13 @@ impl LockTree {
             return Err(EnqueueFault::Full);
         }
         self.transactions.make_place()?;
-        make_room_for(&mut self.lines, plan.requests())?;
+        self.lines.make_room(plan.requests().len())?;
         join(
             &mut self.lines,
             &mut self.transactions,
             plan.requests(),
             Enqueued::new(no, plan),
+            no,
         )?;
         Ok(())
     }
@@ -93,7 +94,7 @@ impl LockTree {
         ensures { result ≡ ready self.now.waiting no }
     {
         match self.transactions.get(no) {
-            Some(entry) => entry.ready,
+            Some(entry) => entry.is_ready(),
             None => false,
         }
     }

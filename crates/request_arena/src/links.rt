@@ -55,7 +55,9 @@ fn behind(held: Option<Held>, place: usize) -> Option<Held>
 {
     match held {
         Some(held) => Some(Held {
-            behind: Some(NodeId { place }),
+            behind: Some(NodeId {
+                place: place as u32,
+            }),
             ..held
         }),
         None => None,
@@ -81,6 +83,6 @@ pub(crate) fn link_tail(block: &mut Block, tail: Option<NodeId>, place: usize)
     ensures long { length block.new ≡ length block.old }
 {
     if let Some(tail) = tail {
-        set_behind(block, tail.place, place);
+        set_behind(block, tail.place as usize, place);
     }
 }

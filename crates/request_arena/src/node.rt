@@ -16,7 +16,7 @@ pub struct Request {
 /// The name of a node, which stays the same as long as the node is live. Contracts see its number.
 #[derive(Clone, Copy, Debug, PartialEq, Eq)]
 pub struct NodeId {
-    pub(crate) place: usize,
+    pub(crate) place: u32,
 }
 
 impl Model for NodeId {
@@ -27,6 +27,24 @@ impl Model for NodeId {
     ghost view = { λ id. id.place };
 
     ghost inverse = { λ n. record { place = n } };
+}
+
+impl NodeId {
+    ghost use Rattle.std.specs.Prelude.{◌≡◌};
+
+    /// The name with a number.
+    pub fn of(number: u32) -> NodeId
+        ensures { result ≡ number }
+    {
+        NodeId { place: number }
+    }
+
+    /// The number of the name.
+    pub fn number(self) -> u32
+        ensures { result ≡ self }
+    {
+        self.place
+    }
 }
 
 /// What a live node holds: its request, and the node behind it in the chain of its transaction.

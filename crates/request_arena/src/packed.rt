@@ -22,7 +22,7 @@ pub(crate) struct Packed {
 
 impl Packed {
     /// A free node, or the head of a queue.
-    fn free(next: usize, prev: usize, home: usize) -> Packed
+    fn unheld(next: usize, prev: usize, home: usize) -> Packed
         requires next { next < 2 ^ 32 }
         requires prev { prev < 2 ^ 32 }
         requires home { home < 2 ^ 32 }
@@ -57,7 +57,7 @@ impl Packed {
         match behind {
             None => last,
             Some(NodeId { place }) => Packed {
-                behind: place as u32,
+                behind: place,
                 leads: true,
                 ..last
             },
@@ -69,10 +69,10 @@ impl Packed {
         requires { IsSmall node }
         ensures { unpacked result ≡ node }
     {
-        let free = Packed::free(node.next, node.prev, node.home);
+        let unheld = Packed::unheld(node.next, node.prev, node.home);
         match node.held {
-            None => free,
-            Some(held) => free.with(held),
+            None => unheld,
+            Some(held) => unheld.with(held),
         }
     }
 
@@ -82,7 +82,9 @@ impl Packed {
     {
         if self.leads {
             let place = self.behind as usize;
-            Some(NodeId { place })
+            Some(NodeId {
+                place: place as u32,
+            })
         } else {
             None
         }

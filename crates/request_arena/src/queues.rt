@@ -91,7 +91,9 @@ impl Queues {
         set_home(&mut self.block, place, queue);
         self.vacant = rest;
         self.free -= 1;
-        Ok(NodeId { place })
+        Ok(NodeId {
+            place: place as u32,
+        })
     }
 
     /// Takes a node, which is the first of its chain, and it alone, out of its queue and its chain: its request, and the next
@@ -109,13 +111,13 @@ impl Queues {
         ensures begins { IfSome result.1 (λ b. IsLive self.new b × BeginsChain self.new b) }
         ensures firsts { (a : ℕ) → BeginsChain self.old a → BeginsChain self.new a }
     {
-        let node = self.block.get(id.place);
+        let node = self.block.get(id.place as usize);
         let Held { request, behind } = content(node.held);
         set_next(&mut self.block, node.prev, node.next);
         set_prev(&mut self.block, node.next, node.prev);
-        set_held(&mut self.block, id.place, None);
-        set_next(&mut self.block, id.place, self.vacant);
-        self.vacant = id.place;
+        set_held(&mut self.block, id.place as usize, None);
+        set_next(&mut self.block, id.place as usize, self.vacant);
+        self.vacant = id.place as usize;
         self.free += 1;
         (request, behind)
     }
@@ -128,7 +130,9 @@ impl Queues {
     {
         let place = self.block.get(self.nodes + queue).next;
         if place < self.nodes {
-            Some(NodeId { place })
+            Some(NodeId {
+                place: place as u32,
+            })
         } else {
             None
         }
@@ -142,9 +146,11 @@ impl Queues {
             result ≡ slice_get (slice_index_or self.now.queues q []) (i + 1) }
         ensures live { IfSome result (λ next. IsLive self.now next) }
     {
-        let place = self.block.get(id.place).next;
+        let place = self.block.get(id.place as usize).next;
         if place < self.nodes {
-            Some(NodeId { place })
+            Some(NodeId {
+                place: place as u32,
+            })
         } else {
             None
         }
@@ -155,7 +161,7 @@ impl Queues {
         requires { IsLive self.now id }
         ensures { (q i : ℕ) → slice_get (slice_index_or self.now.queues q []) i ≡ Some id → result ≡ q }
     {
-        self.block.get(id.place).home
+        self.block.get(id.place as usize).home
     }
 
     /// The next node of its chain.
@@ -164,7 +170,7 @@ impl Queues {
         ensures rest { chain self.now.held id ≡ id ∷ chain_from self.now.held result }
         ensures live { IfSome result (λ next. IsLive self.now next) }
     {
-        content(self.block.get(id.place).held).behind
+        content(self.block.get(id.place as usize).held).behind
     }
 
     /// The request of a node.
@@ -172,7 +178,7 @@ impl Queues {
         requires { IsLive self.now id }
         ensures { HoldsRequest self.now id result }
     {
-        content(self.block.get(id.place).held).request
+        content(self.block.get(id.place as usize).held).request
     }
 
     /// A node of a queue is live, and stands in no other queue and at no other place of its own.

@@ -1,9 +1,9 @@
-use Rattle.std.proofs.Common.{◌≡◌, ◌∙◌, ◌&&◌, ◌∷◌, ℕ, Bool, true, false, List, Some, IfSome, slice_get, sym, ap, subst, arith}
+use Rattle.std.proofs.Common.{◌≡◌, ◌∙◌, ◌&&◌, ◌∷◌, ℕ, Bool, true, false, List, Option, None, Some, IfSome, slice_get, refl, sym, ap, subst, arith}
 use Rattle.footprint.specs.declared.resource.Resource.{Resource}
 use Rattle.modes.specs.declared.mode.Mode.{Mode}
 use Rattle.coarsen.specs.Subtrees.{Requests}
 use Rattle.request_arena.specs.Chains.{chain_from}
-use Rattle.request_arena.specs.Lists.{IsLive}
+use Rattle.request_arena.specs.Lists.{Lists, IsLive, BeginsChain}
 use Rattle.lock_tree.specs.Queues.{Queue, granted, has_number}
 use Rattle.lock_tree.specs.Lines.{line, numbered, nodes_of, in_order}
 use Rattle.lock_tree.specs.Known.{granted_in}
@@ -11,6 +11,20 @@ use Rattle.lock_tree.specs.Chained.{ArePlaced}
 use Rattle.lock_tree.proofs.Chaining.{First, placed_first, none_placed, chain_live, holds_live}
 use Rattle.lock_tree.proofs.grants.are_granted.Goals as goal
 use Rattle.lock_tree.proofs.grants.are_granted.Goals.{In-Some}
+
+live_first : (lists : Lists) (head : Option ℕ) → IfSome head (λ a. IsLive lists a × BeginsChain lists a) → IfSome head (λ a. IsLive lists a)
+live_first lists None h = tt
+live_first lists (Some a) h = h.0
+
+pub loop-head-init : goal.loop-head-init
+loop-head-init c =
+    let l = c.args.lines.now in let e = c.args.entry.now in let ok = c.requires.chained in (
+      e.plan.value,
+      ok.0,
+      subst (λ (h : Option ℕ). IfSome h (λ a. IsLive l.nodes a)) (sym c.head-head.ensures) (live_first l.nodes e.head ok.1.begins),
+      subst (λ (h : Option ℕ). ArePlaced l e.no e.plan.value ok.0 (chain_from l.nodes.held h)) (sym c.head-head.ensures) ok.1.placed,
+      refl,
+    )
 
 live : (c : In-Some) → IsLive c.args.lines.now.nodes c.in-Some.node
 live c = subst (λ h. IfSome h (λ a. IsLive c.args.lines.now.nodes a)) c.in-Some.is c.loop-head.invariant.2
@@ -39,7 +53,7 @@ is_granted-requires-clause-queue c =
 pub is_granted-requires-clause-there : goal.is_granted-requires-clause-there
 is_granted-requires-clause-there c =
     let r = (looked ((goal.at.is_granted-requires-clause-there c).In-Some)).1 in let e = c.queue_of.ensures r.number r.placed.place r.placed.there in
-    (r.placed.place, c.in-Some.node, ap (λ q. slice_get (nodes_of c.args.lines.now.nodes q) r.placed.place) e ∙ r.placed.there, r.placed.owned)
+    (r.placed.place, c.in-Some.node, ap (λ q. slice_get (nodes_of c.args.lines.now.nodes q) r.placed.place) e ∙ r.placed.there, r.placed.owned ∙ c.requires.owner)
 
 -- a request is granted or not, and the rest
 one_more : (b : Bool) (queues : Resource → Queue) (n : ℕ) (e : Resource × Mode) (this rest : Requests) → this ≡ e ∷ rest → b ≡ has_number n (granted (queues e.0)) → granted_in queues n this ≡ b && granted_in queues n rest
@@ -51,7 +65,7 @@ returns-then-not-is_granted c =
     let l = c.args.lines.now in let n = c.args.entry.now.no in let inv = c.loop-head.invariant in
     sym (sym inv.4
     ∙ one_more false (line l) n r.request inv.0 r.later r.plan_is
-    (c.if-not-is_granted.ensures ∙ ap (λ q. has_number n (granted (in_order l.nodes q))) e ∙ sym (ap (λ o. has_number n (granted (numbered l.nodes o))) r.placed.named)))
+    (c.if-not-is_granted.ensures ∙ ap (λ (k : ℕ). has_number k (granted (in_order l.nodes c.queue_of.result))) (sym c.requires.owner) ∙ ap (λ q. has_number n (granted (in_order l.nodes q))) e ∙ sym (ap (λ o. has_number n (granted (numbered l.nodes o))) r.placed.named)))
 
 pub loop-head-preserved : goal.loop-head-preserved
 loop-head-preserved c =
@@ -62,7 +76,7 @@ loop-head-preserved c =
       c.behind-head.ensures.live,
       r.others,
       sym (one_more true (line l) n r.request inv.0 r.later r.plan_is
-          (c.if-not-is_granted.ensures ∙ ap (λ q. has_number n (granted (in_order l.nodes q))) e ∙ sym (ap (λ o. has_number n (granted (numbered l.nodes o))) r.placed.named))) ∙ inv.4,
+          (c.if-not-is_granted.ensures ∙ ap (λ (k : ℕ). has_number k (granted (in_order l.nodes c.queue_of.result))) (sym c.requires.owner) ∙ ap (λ q. has_number n (granted (in_order l.nodes q))) e ∙ sym (ap (λ o. has_number n (granted (numbered l.nodes o))) r.placed.named))) ∙ inv.4,
     )
 
 pub returns : goal.returns

@@ -1,13 +1,14 @@
-use Rattle.std.proofs.Common.{◌≡◌, ◌+◌, ◌∷◌, ◌++◌, [], ◌<◌, ◌∙◌, ℕ, get_or, Option, Some, length, take, drop, ap, refl, sym, subst, arith}
+use Rattle.std.proofs.Common.{◌≡◌, ◌+◌, ◌-◌, ◌≤◌, ◌∷◌, ◌++◌, [], ◌<◌, ◌∙◌, ℕ, get_or, Option, Some, length, take, drop, ap, refl, sym, subst, arith}
 use Rattle.footprint.specs.declared.resource.Resource.{Resource}
 use Rattle.modes.specs.declared.mode.Mode.{Mode}
 use Rattle.coarsen.specs.Subtrees.{Requests}
-use Rattle.lock_tree.specs.Lines.{line, HasRoom, AllUnder, numbers_of, is_same}
+use Rattle.lock_tree.specs.Lines.{Lines, line, HasRoom, AllUnder, numbers_of, is_same}
 use Rattle.lock_tree.specs.Chained.{Chains, IsTail, head_or}
 use Rattle.lock_tree.proofs.Dropping.{drop_more, take_more}
 use Rattle.lock_tree.proofs.Queueing.{more_joined, still_apart, still_of_later, under_kept}
 use Rattle.lock_tree.proofs.Chaining.{tail_ends, head_is}
 use Rattle.std.specs.List.{AllByRecursion}
+use Rattle.std.specs.HashMap.{spare}
 use Rattle.lock_tree.proofs.joining.join_all.Goals as goal
 
 pub loop-resource-init : goal.loop-resource-init
@@ -16,13 +17,19 @@ loop-resource-init c = record {
   granted = c.requires.granted;
   free = omega arith;
   joined = λ other. refl;
-  room = c.requires.room;
+  room = (let r = c.requires.room in omega (arith, r));
   above = c.requires.above;
   apart = c.requires.apart;
   others = λ entry other ok. ok;
   chained = ([], record { begins = tt; placed = tt });
   tail = refl;
 }
+
+-- one place less is spare, and one request less is left
+room_after : (was now : Lines) (n i : ℕ) → i < n → n ≤ spare was.numbers + i → ((count : ℕ) → HasRoom was (count + 1) → HasRoom now count) → n ≤ spare now.numbers + (i + 1)
+room_after was now n i near room kept =
+    let count : (rest : ℕ) × (n ≡ rest + 1 + i) = (n - (i + 1), omega (arith, near)) in
+    let is = count.1 in let later : count.0 ≤ spare now.numbers = kept count.0 (omega (arith, is, room)) in omega (arith, is, later)
 
 pub loop-resource-preserved : goal.loop-resource-preserved
 loop-resource-preserved c =
@@ -41,7 +48,7 @@ loop-resource-preserved c =
       joined = λ other.
           more_joined c.args.no other e (drop i c.args.plan.now) (drop (i + 1) c.args.plan.now) (line c.loop-resource.lines other) (line now other) _
           front inv.apart (pushed.pushed other) (inv.joined other);
-      room = still_of_later (HasRoom c.loop-resource.lines) (HasRoom now) e (drop i c.args.plan.now) (drop (i + 1) c.args.plan.now) front inv.apart (λ other apart had. pushed.room other had) inv.room;
+      room = (let before = inv.room in let near = c.loop-resource-test.true in let after = room_after c.loop-resource.lines now (length c.args.plan.now) i near before pushed.room in omega (arith, after));
       above = still_of_later (λ r. AllUnder c.args.no (numbers_of (line c.loop-resource.lines r))) (λ r. AllUnder c.args.no (numbers_of (line now r))) e (drop i c.args.plan.now) (drop (i + 1) c.args.plan.now) front inv.apart
           (λ other apart under. under_kept c.args.no (is_same other e.0) (line c.loop-resource.lines other) (line c.loop-resource.lines other ++ (c.args.no, e.1) ∷ []) (line now other) (pushed.pushed other) apart under)
           inv.above;
@@ -62,8 +69,7 @@ pub push-node-requires-clause-free : goal.push-node-requires-clause-free
 push-node-requires-clause-free c = let near = c.loop-resource-test.true in let f = c.loop-resource.invariant.free in let r = c.requires.free in omega (arith, near, f, r)
 
 pub push-node-requires-clause-room : goal.push-node-requires-clause-room
-push-node-requires-clause-room c =
-    (subst (λ (p : Requests). AllByRecursion (λ (request : Resource × Mode). HasRoom c.loop-resource.lines request.0) p) (front_of c.args.plan.now c.loop-resource.resource-index c.loop-resource-item.result c.loop-resource-test.true c.loop-resource-item.is) c.loop-resource.invariant.room).0
+push-node-requires-clause-room c = let near = c.loop-resource-test.true in let room = c.loop-resource.invariant.room in omega (arith, near, room)
 
 pub push-node-requires-clause-above : goal.push-node-requires-clause-above
 push-node-requires-clause-above c =

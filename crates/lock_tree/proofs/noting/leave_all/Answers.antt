@@ -12,6 +12,25 @@ use Rattle.lock_tree.proofs.Chaining.{First, chain_first, placed_length, none_pl
 use Rattle.lock_tree.proofs.noting.leave_all.Goals as goal
 use Rattle.lock_tree.proofs.noting.leave_all.Goals.{In-Some}
 
+pub loop-head-init : goal.loop-head-init
+loop-head-init c =
+    let l = c.args.lines.now in let plan = c.args.entry.now.plan.value in (
+      plan,
+      c.requires.chain.0,
+      record {
+        numbered = c.requires.numbered;
+        granted = c.requires.granted;
+        chain = subst (λ (h : Option ℕ). Chains l c.args.no plan c.requires.chain.0 h) (sym c.head-head.ensures) c.requires.chain.1;
+        free = refl;
+        rest = λ other. refl;
+        left = λ other none. sym (c.requires.elsewhere other none);
+        same = refl;
+        indexed = c.requires.indexed;
+        known = c.requires.known;
+        chained = c.requires.chained;
+      },
+    )
+
 chain_of : (c : In-Some) → Chains c.loop-head.lines c.args.no c.loop-head.invariant.0 c.loop-head.invariant.1 (Some c.in-Some.node)
 chain_of c = subst (λ (h : Option ℕ). Chains c.loop-head.lines c.args.no c.loop-head.invariant.0 c.loop-head.invariant.1 h) c.in-Some.is c.loop-head.invariant.2.chain
 

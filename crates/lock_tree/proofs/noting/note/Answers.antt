@@ -1,5 +1,5 @@
 use Rattle.std.proofs.Common.{◌≡◌, sym, ap, ◌∙◌, subst}
-use Rattle.lock_tree.specs.declared.enqueued.Enqueued.{Enqueued}
+use Rattle.lock_tree.specs.Entered.{Enqueued}
 use Rattle.lock_tree.specs.Views.{all_waiting, enqueued}
 use Rattle.lock_tree.specs.Lines.{line}
 use Rattle.lock_tree.specs.Known.{granted_in, AreKnown}
@@ -7,6 +7,10 @@ use Rattle.lock_tree.proofs.Places.{at}
 use Rattle.lock_tree.proofs.Knowing.{flag_unseen, noted_at, none_to_note}
 use Rattle.lock_tree.proofs.Trees.{number_at}
 use Rattle.lock_tree.proofs.noting.note.Goals as goal
+
+pub are_granted-ready-requires-clause-owner : goal.are_granted-ready-requires-clause-owner
+are_granted-ready-requires-clause-owner c =
+    let r = c.in-Some.ensures.found in ap (λ (e : Enqueued). e.no) r.there ∙ number_at c.args.no (enqueued c.args.transactions.now) r.place c.in-Some.entry.now r.exact
 
 pub returns-in-Some-clause-same : goal.returns-in-Some-clause-same
 returns-in-Some-clause-same c =

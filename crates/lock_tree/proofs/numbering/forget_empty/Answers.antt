@@ -1,6 +1,7 @@
-use Rattle.std.proofs.Common.{◌≡◌, ℕ, List, [], ◌∷◌, Option, is_some, true, false, refl, ap, arith}
+use Rattle.std.proofs.Common.{◌≡◌, ℕ, List, [], ◌∷◌, Option, None, is_some, true, false, refl, ap, arith}
 use Rattle.std.specs.Prelude.{slice_get}
-use Rattle.lock_tree.specs.Lines.{Lines, nodes_of}
+use Rattle.lock_tree.specs.Lines.{Lines, nodes_of, number_of}
+use Rattle.lock_tree.proofs.Resources.{changed_as}
 use Rattle.lock_tree.proofs.Vacancies.{closed, vacant_room, gone_here, forgotten, forgotten_lines, forgotten_kept}
 use Rattle.lock_tree.proofs.numbering.forget_empty.Goals as goal
 
@@ -27,7 +28,7 @@ returns-then-is_none c =
     let l = c.args.lines.now in let q = c.args.number in let r = c.args.resource.now in
     let now : Lines = record l { numbers = c.remove.new.self; vacant = c.push_reserved.new.self } in
     let empty = no_first (nodes_of l.nodes q) c.first.result c.first.ensures.node c.if-is_none.ensures in
-    let updates = c.remove.ensures.updates.0 in let is = c.push_reserved.ensures.items in let capacity = c.push_reserved.ensures.capacity in
+    let updates = changed_as (number_of l) (number_of now) r None c.remove.ensures.updates.0 in let is = c.push_reserved.ensures.items in let capacity = c.push_reserved.ensures.capacity in
     record {
       numbered = forgotten l now r q updates c.requires.numbered c.requires.named empty is capacity;
       granted = c.requires.granted;

@@ -1,4 +1,4 @@
-use Rattle.std.proofs.Common.{refl, sym}
+use Rattle.std.proofs.Common.{refl, sym, arith}
 use Rattle.lock_tree.proofs.Vacancies.{reopened}
 use Rattle.lock_tree.proofs.numbering.number_for.Goals as goal
 
@@ -13,5 +13,5 @@ returns-in-Some c =
       named = named;
       kept = λ s n e. e;
       same = λ s. refl;
-      room = λ s h. h;
+      room = λ count h. omega (arith, h);
     }

@@ -1,6 +1,6 @@
 use Rattle.std.proofs.Common.{◌≡◌, Option, None, IfNone, sym, subst, ap, ◌∙◌}
 use Rattle.std.specs.Map.{values_of}
-use Rattle.lock_tree.specs.declared.enqueued.Enqueued.{Enqueued}
+use Rattle.lock_tree.specs.Entered.{Enqueued}
 use Rattle.lock_tree.specs.Placing.{place_of}
 use Rattle.lock_tree.specs.Views.{all_waiting, enqueued}
 use Rattle.lock_tree.proofs.Places.{none_some}

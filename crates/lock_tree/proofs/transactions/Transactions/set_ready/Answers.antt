@@ -1,28 +1,35 @@
-use Rattle.std.proofs.Common.{refl, sym, ap, ◌∙◌, slice_set}
-use Rattle.lock_tree.specs.declared.enqueued.Enqueued.{Enqueued}
+use Rattle.std.proofs.Common.{sym, ap, ◌∙◌, slice_set}
+use Rattle.lock_tree.specs.Entered.{Enqueued}
 use Rattle.lock_tree.specs.Views.{enqueued}
 use Rattle.lock_tree.proofs.Places.{none_some}
 use Rattle.lock_tree.proofs.Marks.{rising_numbers}
 use Rattle.lock_tree.proofs.Named.{found, absent}
-use Rattle.lock_tree.proofs.Changed.{it_stands, not_absent, room_to_change, changed_at, changed_index}
+use Rattle.lock_tree.proofs.Changed.{it_stands, not_absent, number, room_to_change, changed_at, changed_index}
 use Rattle.lock_tree.proofs.transactions.Transactions.set_ready.Goals as goal
+use Rattle.lock_tree.proofs.transactions.Transactions.set_ready.Goals.{In-Some}
+
+pub note_open-requires-clause-owner : goal.note_open-requires-clause-owner
+note_open-requires-clause-owner c =
+    let e = c.in-Some.entry.now in ap (λ (x : Enqueued). x.no) c.set_ready.ensures ∙ number c.args.self.now c.args.no e c.requires (sym c.in-Some.ensures.value)
 
 pub note_open-requires-clause-rising : goal.note_open-requires-clause-rising
 note_open-requires-clause-rising c = rising_numbers c.args.self.now.open.items (enqueued c.args.self.now) c.requires.open_ones c.requires.rising
 
 pub note_open-requires-clause-room : goal.note_open-requires-clause-room
-note_open-requires-clause-room c = room_to_change c.args.self.now c.args.no c.in-Some.entry.now c.requires (sym c.in-Some.ensures.value) (record c.in-Some.entry.now { ready = c.args.ready }) refl
+note_open-requires-clause-room c =
+    room_to_change c.args.self.now c.args.no c.in-Some.entry.now c.requires (sym c.in-Some.ensures.value) c.set_ready.new.self (ap (λ (x : Enqueued). x.no) c.set_ready.ensures)
 
 pub returns-in-Some-clause-indexed : goal.returns-in-Some-clause-indexed
 returns-in-Some-clause-indexed c =
-    let e = c.in-Some.entry.now in let w : Enqueued = record e { ready = c.args.ready } in
+    let e = c.in-Some.entry.now in let w = c.set_ready.new.self in
     changed_index c.args.self.now c.args.no e c.requires (sym c.in-Some.ensures.value)
-    (record { entries = c.get_mut.follows.lender w; «open» = c.note_open.new.numbers }) w refl (c.get_mut.follows.holds w).0 c.note_open.ensures.items c.note_open.ensures.capacity
+    (record { entries = c.get_mut.follows.lender w; «open» = c.note_open.new.numbers }) w (ap (λ (x : Enqueued). x.no) c.set_ready.ensures) (c.get_mut.follows.holds w).0 c.note_open.ensures.items c.note_open.ensures.capacity
 
 pub returns-in-Some-clause-there : goal.returns-in-Some-clause-there
 returns-in-Some-clause-there c = λ place d h.
-    let e = c.in-Some.entry.now in let w : Enqueued = record e { ready = c.args.ready } in let t = c.args.self.now in
+    let e = c.in-Some.entry.now in let w = c.set_ready.new.self in let t = c.args.self.now in
     changed_at t c.args.no e c.requires (sym c.in-Some.ensures.value) w (c.get_mut.follows.lender w).entries place (c.get_mut.follows.holds w).0 h
+    ∙ ap (λ (x : Enqueued). slice_set (enqueued t) place x) c.set_ready.ensures
     ∙ ap (λ (x : Enqueued). slice_set (enqueued t) place (record x { ready = c.args.ready }))
     (it_stands c.args.no (enqueued t) e place d (found c.args.no t.entries.entries e c.requires.named (sym c.in-Some.ensures.value)) h)
 

@@ -9,7 +9,7 @@ use Rattle.lock_tree.proofs.tree.LockTree.is_ready.Goals as goal
 pub returns-in-Some : goal.returns-in-Some
 returns-in-Some c =
     let r = c.in-Some.ensures.found in
-    ready_flag c.self.inside.lines (enqueued c.self.inside.transactions) (enqueued c.self.inside.transactions) c.args.self.now.waiting c.args.no r.place c.in-Some.entry.now refl
+    c.is_ready.ensures ∙ ready_flag c.self.inside.lines (enqueued c.self.inside.transactions) (enqueued c.self.inside.transactions) c.args.self.now.waiting c.args.no r.place c.in-Some.entry.now refl
     (ap (λ (l : Locks). l.waiting) c.self.view_is) c.self.invariant.lines c.self.invariant.known (sym r.exact) r.within r.there
 
 pub returns-in-None : goal.returns-in-None
