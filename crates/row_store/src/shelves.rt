@@ -145,6 +145,51 @@ pub(crate) fn put_row(shelves: &mut Shelves, at: &Resource, name: &RowName, row:
     }
 }
 
+/// Adds a shelf with a place for one name, where there is no shelf.
+#[tactic(auto, using(crate::proofs::Exact::get_same))]
+fn add_place(
+    alloc: Global,
+    shelves: &mut Shelves,
+    at: &Resource,
+    name: &RowName,
+) -> Result<(), NoMemory>
+    requires { has_shelf shelves.old at.now ≡ false }
+    ensures seen { (d : AnyResource) (q : AnyName) → seen_at shelves.new d q ≡ seen_at shelves.old d q }
+    ensures kept { (d : AnyResource) (q : AnyName) → has_place shelves.old d q ≡ true →
+        has_place shelves.new d q ≡ true }
+    ensures there { OnOk result (has_place shelves.new at.now name.now ≡ true) }
+    ensures shelves { (d : AnyResource) → has_shelf shelves.old d ≡ true → has_shelf shelves.new d ≡ true }
+    ensures away { (d : AnyResource) → is_away shelves.new d ≡ is_away shelves.old d }
+{
+    let mut shelf = Shelf::new(alloc);
+    shelf.make_place(name)?;
+    shelves.insert(*at, shelf)?;
+    Ok(())
+}
+
+/// The row that stands at a name, once more. Sees to it that the name has a place.
+#[tactic(auto, using(crate::proofs::Exact::get_same))]
+pub(crate) fn lend_row(
+    alloc: Global,
+    shelves: &mut Shelves,
+    at: &Resource,
+    name: &RowName,
+) -> Result<Option<Arc<Row>>, NoMemory>
+    ensures row { IfOk result (λ row. shared_row row ≡ (seen_at shelves.old at.now name.now).row) }
+    ensures seen { (d : AnyResource) (q : AnyName) → seen_at shelves.new d q ≡ seen_at shelves.old d q }
+    ensures kept { (d : AnyResource) (q : AnyName) → has_place shelves.old d q ≡ true →
+        has_place shelves.new d q ≡ true }
+    ensures there { OnOk result (has_place shelves.new at.now name.now ≡ true) }
+    ensures shelves { (d : AnyResource) → has_shelf shelves.old d ≡ true → has_shelf shelves.new d ≡ true }
+    ensures away { (d : AnyResource) → is_away shelves.new d ≡ is_away shelves.old d }
+{
+    if let Some(shelf) = shelves.get_mut(at) {
+        return shelf.lend_row(name);
+    }
+    add_place(alloc, shelves, at, name)?;
+    Ok(None)
+}
+
 /// The row that stands at a name, once more.
 pub(crate) fn share_row(
     shelves: &Shelves,
