@@ -14,17 +14,16 @@ use Rattle.coarsen.specs.Plans.{IsPlanOver}
 use Rattle.coarsen.specs.Clashes.{locks_row}
 use Rattle.workspace.specs.Overlay.{applied}
 use Rattle.row_store.specs.declared.held.HeldRows.{HeldRows}
-use Rattle.row_store.specs.Places.{Shelves, PlaceOf, is_away, seen_at, emptied, full, written}
+use Rattle.row_store.specs.Places.{Shelves, PlaceOf, full, written}
 use Rattle.row_store.specs.Shelving.{shelf_of}
 use Rattle.row_store.specs.Locked.{gives, name_of, is_of, is_named, locks_shelf, locks_itself}
 use Rattle.row_store.specs.Named.{listed, is_listed, names_listed, row_in, reads_itself, AreDistinct}
-use Rattle.row_store.specs.Held.{row_by_name, rows_by_name, IsLoanByName, AreRowsReady, AreRowsTaken, AreRowsBack}
+use Rattle.row_store.specs.Held.{row_by_name, rows_by_name, IsLoanByName, AreRowsReady, AreRowsBack}
 use Rattle.row_store.specs.Views.{found}
 use Rattle.row_store.proofs.Lists.{listed_names, none_listed, some_test}
 use Rattle.row_store.proofs.Locks.{locks_either}
 use Rattle.row_store.proofs.Rows.{get-rows_at, get-applied, named_append, same_database}
 use Rattle.row_store.proofs.Kept.{cases, neither, shelf_reads}
-use Rattle.row_store.proofs.Lent.{IsOut}
 use Rattle.row_store.proofs.Back.{IsBack, Gives}
 
 read_step : (r w x l m n : Bool) → (r && x) || l ≡ true → (w && x) || m ≡ false → (l ≡ true → m ≡ false → n ≡ true) → ((r && not w) && x) || n ≡ true
@@ -104,21 +103,7 @@ loan_ready tables plan old mid held over ready = record {
   distinct = ready.distinct;
 }
 
--- ---- out of a store, and back
-
-pub rows_out : (tables : List TableShape) (old mid new : Shelves) (held : HeldRows)
-    → ((d : Resource) (q : RowName) → seen_at mid d q ≡ seen_at old d q)
-    → ((d : Resource) → is_away mid d ≡ is_away old d)
-    → AreRowsTaken tables mid new held
-    → IsOut tables old mid new mid mid [] (names_listed held.written.items)
-rows_out tables old mid new held same away taken = record {
-  seen = λ q. taken.seen q ∙ ap (λ (p : PlaceOf). if is_listed held.written.items q then emptied p else p) (same (shelf_of tables q) q);
-  places = λ q off. taken.places (shelf_of tables q) q;
-  shelves = taken.shelves;
-  away = λ q. taken.away (shelf_of tables q) ∙ away (shelf_of tables q);
-  moved = λ q. refl;
-  same = λ q. same (shelf_of tables q) q;
-}
+-- ---- given back
 
 pub gives_rows : (tables : List TableShape) (plan : Requests) (held : HeldRows) → IsLoanByName tables plan held
     → Gives tables plan (λ q. full (row_by_name held q)) [] (names_listed held.written.items)

@@ -1,8 +1,7 @@
 -- Lists of named rows.
-use Rattle.std.proofs.Common.{◌≡◌, ℕ, zero, suc, ◌+◌, ◌<◌, Bool, true, false, ◌&&◌, ◌||◌, if◌then◌else◌, List, [], ◌∷◌, ◌++◌, take, set, length, get_or, refl, sym, ap, ◌∙◌, Option, Some, None, is_some, arith}
+use Rattle.std.proofs.Common.{◌≡◌, ℕ, zero, suc, ◌<◌, Bool, true, false, ◌&&◌, ◌||◌, if◌then◌else◌, List, [], ◌∷◌, ◌++◌, take, set, length, get_or, refl, sym, ap, ◌∙◌, Option, Some, None, is_some, arith}
 use Rattle.std.specs.Option.{option_or}
 use Rattle.std.specs.Cmp.{eq_by_cmp_equiv}
-use Rattle.std.proofs.lemmas.List.{map_more}
 use Rattle.values.specs.declared.name.RowName.{RowName}
 use Rattle.values.specs.Database.{RowOf}
 use Rattle.row_store.specs.declared.named.NamedRow.{NamedRow}
@@ -58,17 +57,6 @@ distinct_push [] n d f = (refl, tt)
 distinct_push (m ∷ ms) n d f =
     let both = or_split (is_name m n) (is_named ms n) f in
     (named_append ms (n ∷ []) m ∙ neither_now (is_named ms m) (is_name n m) d.0 (turned_name n m ∙ both.0), distinct_push ms n d.1 both.1)
-
-or_false : (b : Bool) → b || false ≡ b
-or_false true = refl
-or_false false = refl
-
--- one more entry
-pub listed_more : (es : List NamedRow) (i : ℕ) (e : NamedRow) (q : RowName) → i < length es → e ≡ get_or es i e
-    → is_listed (take (i + 1) es) q ≡ (is_listed (take i es) q || is_name e.name q)
-listed_more es i e q l is =
-    ap (λ ns. is_named ns q) (map_more (λ (x : NamedRow). x.name) es i e l ∙ ap (λ (x : NamedRow). names_listed (take i es) ++ (x.name ∷ [])) (sym is))
-    ∙ named_append (names_listed (take i es)) (e.name ∷ []) q ∙ ap (λ b. is_listed (take i es) q || b) (or_false (is_name e.name q))
 
 -- the first entry of a name
 pub found_at : (es : List NamedRow) (i : ℕ) (e : NamedRow) (q : RowName) → i < length es → e ≡ get_or es i e

@@ -73,13 +73,7 @@ abbrev pub IsReady : List TableShape → Requests → AllShelves → AllShelves 
 IsReady tables plan old new (Rows held) = AreRowsReady tables plan old new held
 IsReady tables plan old new (Shelves held) = AreShelvesReady tables plan old new held
 
--- ---- taken out of the store
-
-pub record AreRowsTaken (tables : List TableShape) (old new : AllShelves) (held : HeldRows) : Type 0 where
-  pub seen : AreEmptied tables (names_listed held.written.items) old new
-  pub places : (shelf : Resource) (name : RowName) → has_place new shelf name ≡ has_place old shelf name
-  pub shelves : (shelf : Resource) → has_shelf new shelf ≡ has_shelf old shelf
-  pub away : (shelf : Resource) → is_away new shelf ≡ is_away old shelf
+-- ---- taken out of the store: a row that is lent by its name stays there, and counts
 
 -- first the shelves are moved, and then the places of names are emptied
 pub record AreShelvesTaken (tables : List TableShape) (old new : AllShelves) (before after : HeldShelves) : Type 0 where
@@ -99,7 +93,7 @@ pub record AreShelvesTaken (tables : List TableShape) (old new : AllShelves) (be
   pub still_away : (shelf : Resource) → is_away new shelf ≡ is_away moved shelf
 
 abbrev pub IsTaken : List TableShape → AllShelves → AllShelves → Holdings → Holdings → Type 0
-IsTaken tables old new (Rows before) (Rows after) = (after ≡ before) × AreRowsTaken tables old new before
+IsTaken tables old new (Rows before) (Rows after) = (after ≡ before) × (new ≡ old)
 IsTaken tables old new (Rows before) (Shelves after) = ⊥
 IsTaken tables old new (Shelves before) (Rows after) = ⊥
 IsTaken tables old new (Shelves before) (Shelves after) = AreShelvesTaken tables old new before after

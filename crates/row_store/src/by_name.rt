@@ -1,4 +1,4 @@
-//! Rows that are lent by their names: out of a store, and back.
+//! Rows that are lent by their names, and given back.
 
 ghost use Rattle.std.specs.Prelude.{◌≡◌, true, false, not, ◌&&◌, if◌then◌else◌, None, IfOk};
 ghost use Rattle.std.specs.Map.{keys_of};
@@ -11,13 +11,12 @@ ghost use Rattle.coarsen.specs.Plans.{IsPlanOver};
 ghost use Rattle.row_store.specs.Places.{seen_at, has_shelf, is_away, has_place, written};
 ghost use Rattle.row_store.specs.Shelving.{shelf_of};
 ghost use Rattle.row_store.specs.Locked.{gives, name_of, locks_itself};
-ghost use Rattle.row_store.specs.Moving.{AreEmptied};
 ghost use Rattle.row_store.specs.Named.{listed, is_listed, names_listed, reads_only, reads_itself, AreDistinct, AreListed};
 ghost use Rattle.row_store.specs.Views.{found};
 
 use crate::locked::{gives, name_of};
 use crate::named::NamedRow;
-use crate::shelves::{Shelves, empty_place, lend_row, put_row, share_row};
+use crate::shelves::{Shelves, lend_row, put_row, share_row};
 use crate::shelving::shelf_of;
 use catalogue::Catalogue;
 use footprint::{Resource, Right};
@@ -93,18 +92,6 @@ pub(crate) fn read_rows(
         }
     }
     Ok(rows)
-}
-
-/// Empties the places of the names of a list. Their rows count as before.
-pub(crate) fn empty_listed(catalogue: &Catalogue, shelves: &mut Shelves, rows: &[NamedRow])
-    ensures seen { AreEmptied catalogue.now (names_listed rows.now) shelves.old shelves.new }
-    ensures places { (d : AnyResource) (q : AnyName) → has_place shelves.new d q ≡ has_place shelves.old d q }
-    ensures shelves { (d : AnyResource) → has_shelf shelves.new d ≡ has_shelf shelves.old d }
-    ensures away { (d : AnyResource) → is_away shelves.new d ≡ is_away shelves.old d }
-{
-    for entry in rows {
-        empty_place(shelves, &shelf_of(catalogue, entry.name), &entry.name);
-    }
 }
 
 /// Moves the rows of a list into their places in the store. It takes no memory and copies no row.

@@ -70,9 +70,12 @@ pub(crate) struct HeldShelves {
     pub(crate) written_names: Vec<RowName>,
 }
 
-/// What a loan holds. Rows are lent by their names where the plan locks no shelf whole and few rows, and on shelves elsewhere.
+/// What a loan holds.
 #[derive(Drop)]
 pub(crate) enum Holdings {
+    /// Of a plan that locks no shelf whole, and few rows: the rows by their names. Those that are lent to be written stay in
+    /// the store, too, where nobody is shown them.
     Rows(HeldRows),
+    /// Of any other plan: shelves.
     Shelves(HeldShelves),
 }

@@ -16,7 +16,7 @@ ghost use Rattle.row_store.specs.Named.{names_listed, reads_itself, AreDistinct,
 ghost use Rattle.row_store.specs.Held.{IsReady, IsTaken, AreShelvesTaken, CanGoBack, IsBackFrom};
 ghost use Rattle.row_store.specs.Views.{found};
 
-use crate::by_name::{empty_listed, put_listed, read_rows, written_rows};
+use crate::by_name::{put_listed, read_rows, written_rows};
 use crate::exchange::{copy_shelves, make_shelves, put_shelves, take_shelves};
 use crate::held::{HeldRows, HeldShelves, Holdings};
 use crate::locked::{locked_names, locked_shelves};
@@ -188,7 +188,8 @@ fn take_out_shelves(
     }
 }
 
-/// Takes what is lent to be written out of the store. It takes no memory.
+/// Takes what is lent to be written out of the store. A row that is lent by its name stays, and counts until another is given
+/// back in its place. It takes no memory.
 pub(crate) fn take_out(
     alloc: Global,
     catalogue: &Catalogue,
@@ -198,10 +199,7 @@ pub(crate) fn take_out(
     ensures { IsTaken catalogue.now shelves.old shelves.new held result }
 {
     match held {
-        Holdings::Rows(held) => {
-            empty_listed(catalogue, shelves, &held.written);
-            Holdings::Rows(held)
-        }
+        Holdings::Rows(held) => Holdings::Rows(held),
         Holdings::Shelves(held) => {
             Holdings::Shelves(take_out_shelves(alloc, catalogue, shelves, held))
         }
