@@ -5,10 +5,12 @@ use Rattle.std.specs.BTreeMap.{BTreeMap, is_at}
 use Rattle.std.specs.FinMap.{get}
 use Rattle.std.specs.declared.snapshot.Snapshot.{Snapshot}
 use Rattle.values.specs.declared.name.RowName.{RowName}
+use Rattle.values.specs.Database.{Database}
 use Rattle.catalogue.specs.Shapes.{TableShape}
 use Rattle.proclang_types.specs.declared.right.Right.TheVariants.{Write}
 use Rattle.footprint.specs.declared.resource.Resource.{Resource}
 use Rattle.coarsen.specs.Subtrees.{Requests}
+use Rattle.coarsen.specs.Plans.{IsPlanOver}
 use Rattle.coarsen.specs.Clashes.{locks_row}
 use Rattle.coarsen.specs.Laws.{LockedRowsConflict}
 use Rattle.row_store.specs.Places.{Shelves, PlaceOf, has_shelf, is_away, has_place, settled, full}
@@ -39,34 +41,41 @@ other_place true n h s off = absurd (cc)
 other_place false true h s off = absurd (cc)
 other_place false false h s off = refl
 
-pub record IsBack (tables : List TableShape) (old new held : Shelves) (at : List Resource) (ns : List RowName) : Type 0 where
+-- what is given back at row names: all of it is here, and it is what the plan locks to write
+pub record Gives (tables : List TableShape) (plan : Requests) (from : RowName → PlaceOf) (at : List Resource) (ns : List RowName) : Type 0 where
+  pub over : IsPlanOver tables plan
+  pub written_shelves : (name : RowName) → among at (shelf_of tables name) ≡ locks_shelf plan Write (shelf_of tables name)
+  pub written_names : (name : RowName) → is_named ns name ≡ locks_itself plan Write name
+  pub here : (name : RowName) → (from name).row ≡ (from name).counts_as
+
+pub record IsBack (tables : List TableShape) (old new : Shelves) (from : RowName → PlaceOf) (at : List Resource) (ns : List RowName) : Type 0 where
   pub seen : (q : RowName) → found tables new q
-      ≡ (if among at (shelf_of tables q) then found tables held q else (if is_named ns q then full (found tables held q).row else found tables old q))
+      ≡ (if among at (shelf_of tables q) then from q else (if is_named ns q then full (from q).row else found tables old q))
   pub places : (q : RowName) → among at (shelf_of tables q) ≡ false → is_named ns q ≡ false → has_place new (shelf_of tables q) q ≡ has_place old (shelf_of tables q) q
   pub away : (q : RowName) → is_away new (shelf_of tables q) ≡ (if among at (shelf_of tables q) then false else is_away old (shelf_of tables q))
 
 -- what the plan locks to write are its shelves and its names
-loan_locks : (tables : List TableShape) (plan : Requests) (held : Shelves) (at : List Resource) (ns : List RowName) → IsLoan tables plan held at ns
+loan_locks : (tables : List TableShape) (plan : Requests) (from : RowName → PlaceOf) (at : List Resource) (ns : List RowName) → Gives tables plan from at ns
     → (q : RowName) → locks_row tables plan q Write ≡ (among at (shelf_of tables q) || is_named ns q)
-loan_locks tables plan held at ns loan q =
+loan_locks tables plan from at ns loan q =
     locks_either tables plan loan.over Write q
     ∙ ap (λ b. b || locks_shelf plan Write (shelf_of tables q)) (sym (loan.written_names q)) ∙ ap (λ b. is_named ns q || b) (sym (loan.written_shelves q))
     ∙ or_turn (is_named ns q) (among at (shelf_of tables q))
 
-pub found_back : (tables : List TableShape) (plan : Requests) (old new held : Shelves) (at : List Resource) (ns : List RowName)
-    → IsBack tables old new held at ns → IsLoan tables plan held at ns → (q : RowName)
-    → found tables new q ≡ (if locks_row tables plan q Write then settled (found tables held q) else found tables old q)
-found_back tables plan old new held at ns back loan q =
+pub found_back : (tables : List TableShape) (plan : Requests) (old new : Shelves) (from : RowName → PlaceOf) (at : List Resource) (ns : List RowName)
+    → IsBack tables old new from at ns → Gives tables plan from at ns → (q : RowName)
+    → found tables new q ≡ (if locks_row tables plan q Write then settled (from q) else found tables old q)
+found_back tables plan old new from at ns back loan q =
     let a : Bool = among at (shelf_of tables q) in
     let n : Bool = is_named ns q in
-    let h : PlaceOf = found tables held q in
+    let h : PlaceOf = from q in
     let s : PlaceOf = found tables old q in
     back.seen q
     ∙ elim (cases (a || n)) [
       | inl on ↦ back_place a n h s (loan.here q) on ∙ ap (λ b. if b then settled h else s) (sym on)
       | inr off ↦ other_place a n h s off ∙ ap (λ b. if b then settled h else s) (sym off)
     ]
-    ∙ ap (λ b. if b then settled h else s) (sym (loan_locks tables plan held at ns loan q))
+    ∙ ap (λ b. if b then settled h else s) (sym (loan_locks tables plan from at ns loan q))
 
 pub out_and_back : (tables : List TableShape) (plan : Requests) (old new held : Shelves) (at : List Resource) (ns : List RowName) (lent : BTreeMap ℕ (Snapshot Requests)) (number : ℕ)
     → IsLoan tables plan held at ns → lent_at lent number ≡ Some plan → IsRowStore tables old lent
@@ -77,7 +86,7 @@ pub out_and_back : (tables : List TableShape) (plan : Requests) (old new held : 
     → ((q : RowName) → among at (shelf_of tables q) ≡ false → is_named ns q ≡ false → has_place new (shelf_of tables q) q ≡ has_place old (shelf_of tables q) q)
     → ((d : Resource) → (among at d ≡ true → has_shelf old d ≡ true) → (among at d ≡ true → has_shelf held d ≡ true)
     → is_away new d ≡ (if among at d then is_away held d else is_away old d))
-    → IsBack tables old new held at ns
+    → IsBack tables old new (found tables held) at ns
 out_and_back tables plan old new held at ns lent number loan out kept seen places away = record {
   seen = λ q. seen q
       (λ h. kept.with_shelf number plan out q (sym (loan.written_shelves q) ∙ h)) (λ h. loan.with_shelf q h)
@@ -92,28 +101,28 @@ settled_counts : (b : Bool) (h s : PlaceOf) → h.row ≡ h.counts_as → (if b 
 settled_counts true h s here = here
 settled_counts false h s here = refl
 
-pub shown_back : (tables : List TableShape) (plan : Requests) (old new held : Shelves) (at : List Resource) (ns : List RowName)
-    → IsBack tables old new held at ns → IsLoan tables plan held at ns → (q : RowName)
-    → get (rows_of tables new) q ≡ (if locks_row tables plan q Write then get (rows_of tables held) q else get (rows_of tables old) q)
-shown_back tables plan old new held at ns back loan q =
+pub shown_back : (tables : List TableShape) (plan : Requests) (old new : Shelves) (from : RowName → PlaceOf) (at : List Resource) (ns : List RowName)
+    → IsBack tables old new from at ns → Gives tables plan from at ns → (rows : Database) (q : RowName) → get rows q ≡ (from q).counts_as
+    → get (rows_of tables new) q ≡ (if locks_row tables plan q Write then get rows q else get (rows_of tables old) q)
+shown_back tables plan old new from at ns back loan rows q shown =
     let w : Bool = locks_row tables plan q Write in
-    get-rows_of tables new q ∙ ap (λ p. p.counts_as) (found_back tables plan old new held at ns back loan q)
-    ∙ settled_counts w (found tables held q) (found tables old q) (loan.here q)
-    ∙ ap (λ o. if w then o else (found tables old q).counts_as) (sym (get-rows_of tables held q))
-    ∙ ap (λ o. if w then get (rows_of tables held) q else o) (sym (get-rows_of tables old q))
+    get-rows_of tables new q ∙ ap (λ p. p.counts_as) (found_back tables plan old new from at ns back loan q)
+    ∙ settled_counts w (from q) (found tables old q) (loan.here q)
+    ∙ ap (λ o. if w then o else (found tables old q).counts_as) (sym shown)
+    ∙ ap (λ o. if w then get rows q else o) (sym (get-rows_of tables old q))
 
 settled_here : (b : Bool) (h s : PlaceOf) → (b ≡ false → s.row ≡ s.counts_as) → (if b then settled h else s).row ≡ (if b then settled h else s).counts_as
 settled_here true h s here = refl
 settled_here false h s here = here refl
 
 -- what another plan that is lent locks to write is not given back
-apart_from : (tables : List TableShape) (plan : Requests) (old held : Shelves) (at : List Resource) (ns : List RowName) (lent : BTreeMap ℕ (Snapshot Requests)) (number : ℕ)
-    → LockedRowsConflict → IsLoan tables plan held at ns → lent_at lent number ≡ Some plan → IsRowStore tables old lent
+apart_from : (tables : List TableShape) (plan : Requests) (old : Shelves) (from : RowName → PlaceOf) (at : List Resource) (ns : List RowName) (lent : BTreeMap ℕ (Snapshot Requests)) (number : ℕ)
+    → LockedRowsConflict → Gives tables plan from at ns → lent_at lent number ≡ Some plan → IsRowStore tables old lent
     → (i : ℕ) (p : Requests) → lent_at lent i ≡ Some p → (number ≡ i → ⊥) → (q : RowName) → locks_itself p Write q ≡ true
     → among at (shelf_of tables q) || is_named ns q ≡ false
-apart_from tables plan old held at ns lent number law loan out kept i p e ne q locks = elim (cases (among at (shelf_of tables q) || is_named ns q)) [
+apart_from tables plan old from at ns lent number law loan out kept i p e ne q locks = elim (cases (among at (shelf_of tables q) || is_named ns q)) [
   | inl on ↦
-      let mine : locks_row tables plan q Write ≡ true = loan_locks tables plan held at ns loan q ∙ on in
+      let mine : locks_row tables plan q Write ≡ true = loan_locks tables plan from at ns loan q ∙ on in
       let theirs : locks_row tables p q Write ≡ true = locks_either tables p (kept.over i p e) Write q ∙ or_left (locks_itself p Write q) (locks_shelf p Write (shelf_of tables q)) locks in
       absurd (kept.apart number i plan p out e ne (law tables plan p (kept.sound number plan out) (kept.sound i p e) q mine (write_reads tables p q theirs)))
   | inr off ↦ off
@@ -122,16 +131,16 @@ apart_from tables plan old held at ns lent number law loan out kept i p e ne q l
 some_same : (x y : Requests) → Some x ≡ Some y → x ≡ y
 some_same x y h = cc
 
-pub kept_back : (tables : List TableShape) (plan : Requests) (old new held : Shelves) (at : List Resource) (ns : List RowName) (lent then_lent : BTreeMap ℕ (Snapshot Requests)) (number : ℕ)
-    → IsBack tables old new held at ns → ((d : Resource) → has_shelf new d ≡ has_shelf old d) → IsLoan tables plan held at ns
+pub kept_back : (tables : List TableShape) (plan : Requests) (old new : Shelves) (from : RowName → PlaceOf) (at : List Resource) (ns : List RowName) (lent then_lent : BTreeMap ℕ (Snapshot Requests)) (number : ℕ)
+    → IsBack tables old new from at ns → ((d : Resource) → has_shelf new d ≡ has_shelf old d) → Gives tables plan from at ns
     → lent_at lent number ≡ Some plan → ((i : ℕ) → lent_at then_lent i ≡ cond (is_at (nat_cmp number) i) None (lent_at lent i))
     → LockedRowsConflict → IsRowStore tables old lent → IsRowStore tables new then_lent
-kept_back tables plan old new held at ns lent then_lent number back shelves loan out taken law kept = record {
+kept_back tables plan old new from at ns lent then_lent number back shelves loan out taken law kept = record {
   here = λ q h.
       let w : Bool = locks_row tables plan q Write in
-      let is = found_back tables plan old new held at ns back loan q in
+      let is = found_back tables plan old new from at ns back loan q in
       ap (λ p. p.row) is
-      ∙ settled_here w (found tables held q) (found tables old q) (λ off. kept.here q (λ i p e. elim (lent_before lent then_lent number taken i p e) [
+      ∙ settled_here w (from q) (found tables old q) (λ off. kept.here q (λ i p e. elim (lent_before lent then_lent number taken i p e) [
         | inl same ↦
             let one : plan ≡ p = some_same plan p (sym out ∙ ap (lent_at lent) same ∙ e) in
             ap (λ r. locks_row tables r q Write) (sym one) ∙ off
@@ -141,7 +150,7 @@ kept_back tables plan old new held at ns lent then_lent number back shelves loan
   with_shelf = λ i p e q h. shelves (shelf_of tables q) ∙ kept.with_shelf i p (lent_left lent then_lent number taken i p e).1 q h;
   with_place = λ i p e q off h.
       let was = lent_left lent then_lent number taken i p e in
-      let others = neither (among at (shelf_of tables q)) (is_named ns q) (apart_from tables plan old held at ns lent number law loan out kept i p was.1 was.0 q h) in
+      let others = neither (among at (shelf_of tables q)) (is_named ns q) (apart_from tables plan old from at ns lent number law loan out kept i p was.1 was.0 q h) in
       back.places q others.0 others.1 ∙ kept.with_place i p was.1 q off h;
   away = λ q h. elim (cases (among at (shelf_of tables q))) [
     | inl on ↦ let clash : true ≡ false = sym h ∙ back.away q ∙ ap (λ b. if b then false else is_away old (shelf_of tables q)) on in absurd (cc)

@@ -161,6 +161,15 @@ none_are tables shelves table part db none shown =
     ∙ kept_alike (is_in_part tables table part q) None (get db q) (λ h. shown q h ∙ no_shelf q shelves tables table part none h)
     ∙ sym (get_part tables table part db q) ∙ get-entries there q))
 
+-- where the partition has no name it has no row
+pub no_rows : (tables : List TableShape) (table part : ℕ) (db : Database) → ((q : RowName) → is_in_part tables table part q ≡ true → ⊥) → [] ≡ rows_in_part tables table part db
+no_rows tables table part db no_name =
+    let there : Database = part_rows tables table part db in
+    ap by_key (same_entries name_cmp names_total exact_names [] (entries there) tt (entries_sorted there) (λ q.
+    nothing (is_in_part tables table part q)
+    ∙ kept_alike (is_in_part tables table part q) None (get db q) (λ h. absurd (no_name q h))
+    ∙ sym (get_part tables table part db q) ∙ get-entries there q))
+
 -- at the end of a walk over the shelf
 pub walked : (tables : List TableShape) (table part : ℕ) (es rest : Entries) (db : Database) (old new : List (ℕ × Bor RowOf)) → IsStrictlySortedBy name_cmp (map (λ e. e.0) es)
     → ((q : RowName) → is_in_part tables table part q ≡ true → get db q ≡ standing (lookup (is_at (name_cmp q)) es))

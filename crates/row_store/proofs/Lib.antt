@@ -1,11 +1,17 @@
 pub mod Back
+pub mod ByName
+pub mod Incoming
+pub mod LongNames
+pub mod Outgoing
 pub mod Copies
 pub mod Exact
 pub mod Gathered
 pub mod Kept
 pub mod Lent
 pub mod Locks
+pub mod Lists
 pub mod Numbers
+pub mod Ordered
 pub mod Rows
 pub mod Scans
 pub mod Sharing

@@ -36,7 +36,7 @@ at_least right true n = sym (and_true (nat_le (rank_of right) n))
 at_least Read false n = sym (and_false (nat_le 1 n))
 at_least Write false n = sym (and_false (nat_le 2 n))
 
-itself : (n : ℕ) → (n == n) ≡ true
+pub itself : (n : ℕ) → (n == n) ≡ true
 itself n = grind (arith, nat_tests)
 
 none_least : (right : Right) → nat_le (rank_of right) 0 ≡ false
@@ -153,11 +153,11 @@ pub locks_either : (tables : List TableShape) (requests : Requests) → IsPlanOv
     → locks_row tables requests q right ≡ (locks_itself requests right q || locks_shelf requests right (shelf_of tables q))
 locks_either tables requests over right q = covers_any requests right (row_resource tables q) ∙ each tables requests over right q
 
-first : (a b : Bool) → a && b ≡ true → a ≡ true
+pub first : (a b : Bool) → a && b ≡ true → a ≡ true
 first true b h = refl
 first false b h = h
 
-second : (a b : Bool) → a && b ≡ true → b ≡ true
+pub second : (a b : Bool) → a && b ≡ true → b ≡ true
 second true b h = h
 second false b h = absurd (cc)
 

@@ -32,7 +32,7 @@ one_more : (a b : Bool) (n m : Option RowOf) → (a ≡ true → n ≡ m) → (i
 one_more true b n m h = h refl
 one_more false b n m h = refl
 
-get-rows_at : (row : RowName → Option RowOf) (names : List RowName) (q : RowName) → get (rows_at row names) q ≡ (if is_named names q then row q else None)
+pub get-rows_at : (row : RowName → Option RowOf) (names : List RowName) (q : RowName) → get (rows_at row names) q ≡ (if is_named names q then row q else None)
 get-rows_at row [] q = get-empty name_cmp q
 get-rows_at row (n ∷ ns) q =
     get-with_write (rows_at row ns) n (row n) q
@@ -48,7 +48,7 @@ or_true true = refl
 or_true false = refl
 
 -- a place has its name among the names
-named_append : (ms ns : List RowName) (q : RowName) → is_named (ms ++ ns) q ≡ (is_named ms q || is_named ns q)
+pub named_append : (ms ns : List RowName) (q : RowName) → is_named (ms ++ ns) q ≡ (is_named ms q || is_named ns q)
 named_append [] ns q = refl
 named_append (m ∷ ms) ns q = ap (λ b. is_name m q || b) (named_append ms ns q) ∙ or_assoc (is_name m q) (is_named ms q) (is_named ns q)
 
@@ -120,7 +120,7 @@ row_put tables old new name row h = same_database _ _ (λ q.
     ∙ sym (get-with_write (rows_of tables old) name (Some row) q))
 
 -- writes that are made
-get-applied : (writes : List (RowName × Option RowOf)) (db : Database) (q : RowName) (p : PlaceOf) → get db q ≡ p.counts_as
+pub get-applied : (writes : List (RowName × Option RowOf)) (db : Database) (q : RowName) (p : PlaceOf) → get db q ≡ p.counts_as
     → get (applied writes db) q ≡ (written (lookup (is_at (name_cmp q)) writes) p).counts_as
 get-applied [] db q p h = h
 get-applied (w ∷ ws) db q p h =

@@ -1,9 +1,10 @@
 -- Of the code: invariants and steps; no promise rests on these words.
 -- Where the place of a row name stands.
-use Rattle.std.specs.Prelude.{ℕ, pos, List, Option, Some, None, unwrap_or, slice_get}
+use Rattle.std.specs.Prelude.{◌≡◌, ℕ, ◌^◌, pos, true, false, nat_lt, List, Option, Some, None, unwrap_or, slice_get}
 use Rattle.values.specs.declared.name.RowName.{RowName}
 use Rattle.catalogue.specs.Shapes.{TableShape}
 use Rattle.catalogue.specs.Places.{partition_of, partition_numbered}
+use Rattle.workspace.specs.Scan.{is_in_part}
 use Rattle.footprint.specs.declared.resource.Resource.{Resource}
 use Rattle.footprint.specs.declared.resource.Resource.TheVariants.{Db, Table}
 use Rattle.footprint.specs.declared.resource.InTable.TheVariants.{WholeTable, Part}
@@ -25,3 +26,9 @@ shelf_at tables table part = shelf_in tables table part (slice_get tables table)
 -- the place of a row name stands on the shelf of its partition
 unfoldable pub shelf_of : List TableShape → RowName → Resource
 shelf_of tables name = shelf_at tables name.table (unwrap_or (partition_of tables name.table name.key) 0)
+
+-- a partition with a name has one whose key is no row's of a resource
+abbrev pub HasLongNames : List TableShape → Type 0
+HasLongNames tables =
+    (table part : ℕ) (name : RowName) → is_in_part tables table part name ≡ true
+    → (long : RowName) × (is_in_part tables table part long ≡ true) × (nat_lt long.key (2 ^ 63) ≡ false)

@@ -1,19 +1,26 @@
-//! What a loan holds, taken from a store's shelves and put back.
+//! What a loan holds, made ready in a store, taken out of it and put back.
 
 ghost use Rattle.std.specs.Prelude.{◌≡◌, true, false, if◌then◌else◌, IfOk};
+ghost use Rattle.std.specs.Map.{keys_of};
+ghost use Rattle.std.specs.List.Sorted.{IsStrictlySortedBy};
 ghost use Rattle.values.specs.declared.name.RowName.{RowName as AnyName};
 ghost use Rattle.proclang_types.specs.declared.right.Right.TheVariants.{Read, Write};
 ghost use Rattle.footprint.specs.declared.resource.Resource.{Resource as AnyResource};
+ghost use Rattle.footprint.specs.Tree.{resource_cmp};
 ghost use Rattle.coarsen.specs.Plans.{IsPlanOver, IsWellFormed};
 ghost use Rattle.coarsen.specs.Clashes.{locks_row};
 ghost use Rattle.row_store.specs.Places.{seen_at, full, settled, has_shelf, is_away, has_place};
 ghost use Rattle.row_store.specs.Shelving.{shelf_of};
 ghost use Rattle.row_store.specs.Locked.{among, is_named, locks_shelf, locks_itself};
+ghost use Rattle.row_store.specs.Named.{names_listed, reads_itself, AreDistinct, AreListed};
+ghost use Rattle.row_store.specs.Held.{IsReady, IsTaken, AreShelvesTaken, CanGoBack, IsBackFrom};
 ghost use Rattle.row_store.specs.Views.{found};
 
-use crate::exchange::{copy_shelves, make_shelves, put_shelves};
+use crate::by_name::{put_listed, read_rows, written_rows};
+use crate::exchange::{copy_shelves, make_shelves, put_shelves, take_shelves};
+use crate::held::{HeldRows, HeldShelves, Holdings};
 use crate::locked::{locked_names, locked_shelves};
-use crate::moving::{make_places, put_rows, share_rows};
+use crate::moving::{empty_places, make_places, put_rows, share_rows};
 use crate::shelves::Shelves;
 use catalogue::Catalogue;
 use coarsen::Plan;
@@ -21,18 +28,10 @@ use footprint::{Resource, Right};
 use modes::Mode;
 use std::alloc::Global;
 use std::collections::BTreeMap;
-use values::{NoMemory, RowName};
+use values::NoMemory;
 
-/// What a loan holds.
-#[derive(Drop)]
-pub(crate) struct Holdings {
-    /// The rows at the names that the plan locks, on shelves of which none is away.
-    pub(crate) shelves: Shelves,
-    /// The shelves that the plan locks whole to write: they are given back whole.
-    pub(crate) written_shelves: Vec<Resource>,
-    /// The names that the plan locks by themselves to write: their rows are given back.
-    pub(crate) written_names: Vec<RowName>,
-}
+/// How many requests a plan has at most whose rows are lent by their names: a name is looked for among all of them.
+const FEW_REQUESTS: usize = 64;
 
 /// The rows at the names that requests lock, shared with the store, and an empty shelf for each of those that will be moved
 /// here, whose rows aren't shared.
@@ -64,16 +63,15 @@ fn share(
     Ok(copies)
 }
 
-/// What a loan of a plan holds, but for the shelves and the rows that it will write: they still stand in the store. All that
-/// is to be moved has its place in the store and in the loan then.
-pub(crate) fn hold(
+/// What a loan of a plan holds on shelves, but for the shelves and the rows that it will write: they still stand in the
+/// store. All that is to be moved has its place in the store and in the loan then.
+fn hold_shelves(
     alloc: Global,
     catalogue: &Catalogue,
     shelves: &mut Shelves,
     plan: &Plan,
-) -> Result<Holdings, NoMemory>
+) -> Result<HeldShelves, NoMemory>
     requires { IsPlanOver catalogue.now plan.now }
-    ensures sound { IsWellFormed plan.now }
     ensures seen { (d : AnyResource) (q : AnyName) → seen_at shelves.new d q ≡ seen_at shelves.old d q }
     ensures kept { (d : AnyResource) (q : AnyName) → has_place shelves.old d q ≡ true →
         has_place shelves.new d q ≡ true }
@@ -106,15 +104,110 @@ pub(crate) fn hold(
     make_shelves(alloc, shelves, &written_shelves)?;
     make_places(alloc, catalogue, shelves, &written_names)?;
     let shared = share(alloc, catalogue, shelves, requests, &written_shelves)?;
-    Ok(Holdings {
+    Ok(HeldShelves {
         shelves: shared,
         written_shelves,
         written_names,
     })
 }
 
-/// Puts back what a loan is to give back. It takes no memory and copies no row.
-pub(crate) fn put_back(catalogue: &Catalogue, shelves: &mut Shelves, held: Holdings)
+/// The rows at the names that requests lock by themselves, shared with the store. Those names that are locked to write have
+/// their places in the store then.
+fn hold_rows(
+    alloc: Global,
+    catalogue: &Catalogue,
+    shelves: &mut Shelves,
+    requests: &[(Resource, Mode)],
+) -> Result<HeldRows, NoMemory>
+    requires over { IsPlanOver catalogue.now requests.now }
+    requires sorted { IsStrictlySortedBy resource_cmp (keys_of requests.now) }
+    ensures seen { (d : AnyResource) (q : AnyName) → seen_at shelves.new d q ≡ seen_at shelves.old d q }
+    ensures kept { (d : AnyResource) (q : AnyName) → has_place shelves.old d q ≡ true →
+        has_place shelves.new d q ≡ true }
+    ensures shelves { (d : AnyResource) → has_shelf shelves.old d ≡ true → has_shelf shelves.new d ≡ true }
+    ensures away { (d : AnyResource) → is_away shelves.new d ≡ is_away shelves.old d }
+    ensures written { IfOk result (λ held.
+        AreListed catalogue.now held.written.items (locks_itself requests.now Write) shelves.old) }
+    ensures read { IfOk result (λ held. AreListed catalogue.now held.read.items (reads_itself requests.now) shelves.old) }
+    ensures there { IfOk result (λ held. (q : AnyName) → locks_itself requests.now Write q ≡ true →
+        has_place shelves.new (shelf_of catalogue.now q) q ≡ true) }
+    ensures distinct { IfOk result (λ held. AreDistinct (names_listed held.written.items)) }
+{
+    let read = read_rows(alloc, catalogue, shelves, requests)?;
+    let written = written_rows(alloc, catalogue, shelves, requests)?;
+    Ok(HeldRows { written, read })
+}
+
+/// What a loan of a plan holds, but for what it will write: that still stands in the store, and has its place there. All
+/// memory for the loan is taken then.
+pub(crate) fn hold(
+    alloc: Global,
+    catalogue: &Catalogue,
+    shelves: &mut Shelves,
+    plan: &Plan,
+) -> Result<Holdings, NoMemory>
+    requires { IsPlanOver catalogue.now plan.now }
+    ensures sound { IsWellFormed plan.now }
+    ensures seen { (d : AnyResource) (q : AnyName) → seen_at shelves.new d q ≡ seen_at shelves.old d q }
+    ensures kept { (d : AnyResource) (q : AnyName) → has_place shelves.old d q ≡ true →
+        has_place shelves.new d q ≡ true }
+    ensures shelves { (d : AnyResource) → has_shelf shelves.old d ≡ true → has_shelf shelves.new d ≡ true }
+    ensures away { (d : AnyResource) → is_away shelves.new d ≡ is_away shelves.old d }
+    ensures ready { IfOk result (λ held. IsReady catalogue.now plan.now shelves.old shelves.new held) }
+{
+    let requests = plan.requests();
+    let read_shelves = locked_shelves(alloc, catalogue, requests, Right::Read)?;
+    if read_shelves.is_empty() && requests.len() <= FEW_REQUESTS {
+        let rows = hold_rows(alloc, catalogue, shelves, requests)?;
+        return Ok(Holdings::Rows(rows));
+    }
+    let held = hold_shelves(alloc, catalogue, shelves, plan)?;
+    Ok(Holdings::Shelves(held))
+}
+
+/// Takes the shelves and the rows that are lent to be written out of the store.
+fn take_out_shelves(
+    alloc: Global,
+    catalogue: &Catalogue,
+    shelves: &mut Shelves,
+    held: HeldShelves,
+) -> HeldShelves
+    ensures { AreShelvesTaken catalogue.now shelves.old shelves.new held result }
+{
+    let HeldShelves {
+        shelves: mut slots,
+        written_shelves,
+        written_names,
+    } = held;
+    take_shelves(alloc, shelves, &mut slots, &written_shelves);
+    empty_places(catalogue, shelves, &written_names);
+    HeldShelves {
+        shelves: slots,
+        written_shelves,
+        written_names,
+    }
+}
+
+/// Takes what is lent to be written out of the store. A row that is lent by its name stays, and counts until another is given
+/// back in its place. It takes no memory.
+pub(crate) fn take_out(
+    alloc: Global,
+    catalogue: &Catalogue,
+    shelves: &mut Shelves,
+    held: Holdings,
+) -> Holdings
+    ensures { IsTaken catalogue.now shelves.old shelves.new held result }
+{
+    match held {
+        Holdings::Rows(held) => Holdings::Rows(held),
+        Holdings::Shelves(held) => {
+            Holdings::Shelves(take_out_shelves(alloc, catalogue, shelves, held))
+        }
+    }
+}
+
+/// Puts back what a loan is to give back of its shelves. It takes no memory and copies no row.
+fn put_back_shelves(catalogue: &Catalogue, shelves: &mut Shelves, held: HeldShelves)
     ensures seen { (q : AnyName) → (among held.written_shelves.items (shelf_of catalogue.now q) ≡ true →
         has_shelf shelves.old (shelf_of catalogue.now q) ≡ true) →
         (among held.written_shelves.items (shelf_of catalogue.now q) ≡ true →
@@ -136,11 +229,23 @@ pub(crate) fn put_back(catalogue: &Catalogue, shelves: &mut Shelves, held: Holdi
         → is_away shelves.new d
         ≡ (if among held.written_shelves.items d then is_away held.shelves d else is_away shelves.old d) }
 {
-    let Holdings {
+    let HeldShelves {
         shelves: mut from,
         written_shelves,
         written_names,
     } = held;
     put_shelves(shelves, &mut from, &written_shelves);
     put_rows(catalogue, shelves, &mut from, &written_names);
+}
+
+/// Puts back what a loan is to give back. It takes no memory and copies no row.
+pub(crate) fn put_back(catalogue: &Catalogue, shelves: &mut Shelves, held: Holdings)
+    requires { CanGoBack catalogue.now shelves.old held }
+    ensures back { IsBackFrom catalogue.now shelves.old shelves.new held }
+    ensures shelves { (d : AnyResource) → has_shelf shelves.new d ≡ has_shelf shelves.old d }
+{
+    match held {
+        Holdings::Rows(held) => put_listed(catalogue, shelves, held.written),
+        Holdings::Shelves(held) => put_back_shelves(catalogue, shelves, held),
+    }
 }

@@ -1,13 +1,16 @@
 //! The rows of a database.
 #![tactic(auto)]
 
+mod by_name;
 mod exchange;
 mod filling;
+mod held;
 mod laws;
 mod lending;
 mod loan;
 mod locked;
 mod moving;
+mod named;
 mod place;
 mod scan;
 mod shelf;

@@ -8,7 +8,7 @@ ghost use Rattle.proclang_types.specs.declared.right.Right.TheVariants.{Write};
 ghost use Rattle.coarsen.specs.Clashes.{locks_row};
 ghost use Rattle.workspace.specs.Overlay.{applied};
 
-use crate::lending::Holdings;
+use crate::held::Holdings;
 use crate::writing::write;
 use catalogue::Catalogue;
 use coarsen::Plan;
@@ -30,21 +30,15 @@ pub struct Loan {
 
 impl Model for Loan {
     ghost use Rattle.row_store.specs.Stock.{Lent, lent_code};
-    ghost use Rattle.row_store.specs.Views.{rows_of, IsLoan};
+    ghost use Rattle.row_store.specs.Held.{rows_held, IsLoanOf};
 
     ghost Value = { Lent };
 
     ghost coded = { lent_code };
 
-    ghost view = { λ l. record {
-      tables = l.catalogue;
-      plan = l.plan.value;
-      rows = rows_of l.catalogue
-          l.held.shelves;
-    } };
+    ghost view = { λ l. record { tables = l.catalogue; plan = l.plan.value; rows = rows_held l.catalogue l.held } };
 
-    ghost invariant = { λ l.
-        IsLoan l.catalogue l.plan.value l.held.shelves l.held.written_shelves.items l.held.written_names.items };
+    ghost invariant = { λ l. IsLoanOf l.catalogue l.plan.value l.held };
 }
 
 impl Loan {
@@ -58,7 +52,12 @@ impl Loan {
         ensures rows { OnOk result (self.new.rows ≡ applied writes.entries self.old.rows) }
         ensures err { OnErr result (self.new ≡ self.old) }
     {
-        write(self.alloc, &self.catalogue, &mut self.held.shelves, writes)?;
+        match &mut self.held {
+            Holdings::Rows(held) => held.apply(self.alloc, writes)?,
+            Holdings::Shelves(held) => {
+                write(self.alloc, &self.catalogue, &mut held.shelves, writes)?;
+            }
+        }
         Ok(())
     }
 

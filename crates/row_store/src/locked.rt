@@ -17,7 +17,7 @@ use std::alloc::Global;
 use values::{Key, NoMemory, RowName, TableNo};
 
 /// Whether a mode gives a right on the resource itself.
-fn gives(right: Right, mode: Mode) -> bool
+pub(crate) fn gives(right: Right, mode: Mode) -> bool
     ensures { result ≡ gives right mode }
 {
     match (right, mode.own_right()) {
@@ -27,7 +27,7 @@ fn gives(right: Right, mode: Mode) -> bool
 }
 
 /// The row name of a resource that is one.
-fn name_of(resource: &Resource) -> Option<RowName>
+pub(crate) fn name_of(resource: &Resource) -> Option<RowName>
     ensures { result ≡ name_of resource.now }
 {
     match *resource {

@@ -1,13 +1,13 @@
 //! Places: what stands at row names.
 
-ghost use Rattle.std.specs.Prelude.{◌≡◌, Some, None, Option};
+ghost use Rattle.std.specs.Prelude.{◌≡◌, Some, None, Option, IfOk};
 ghost use Rattle.values.specs.Database.{RowOf};
 ghost use Rattle.row_store.specs.Places.{place_of, seen_over, full, settled, shared_row};
 
 use std::alloc::AllocError;
 use std::snapshot::Snapshot;
 use std::sync::Arc;
-use values::Row;
+use values::{NoMemory, Row};
 
 /// A place: a row name with a row or with none. While its row is lent to be written the row is away, and counts as it was
 /// lent. A place that says nothing of what counts was made on a shelf, and there counts what the shelf says.
@@ -24,6 +24,16 @@ impl Place {
     {
         let counts_as = Some(Snapshot::of(&row));
         Place { row, counts_as }
+    }
+
+    /// The row that stands at the place, once more.
+    pub(crate) fn share(&self) -> Result<Option<Arc<Row>>, NoMemory>
+        ensures { IfOk result (λ row. shared_row row ≡ (place_of self.now).row) }
+    {
+        match &self.row {
+            Some(row) => Ok(Some(row.clone()?)),
+            None => Ok(None),
+        }
     }
 
     /// A place for a row to come.

@@ -70,6 +70,22 @@ impl Shelf {
         Ok(())
     }
 
+    /// The row that stands at a name, once more. Sees to it that the name has a place.
+    #[tactic(auto, using(crate::proofs::Exact::own_same))]
+    pub(crate) fn lend_row(&mut self, name: &RowName) -> Result<Option<Arc<Row>>, NoMemory>
+        ensures row { IfOk result (λ row. shared_row row ≡ (seen_in self.old name.now).row) }
+        ensures seen { (q : AnyName) → seen_in self.new q ≡ seen_in self.old q }
+        ensures kept { (q : AnyName) → has_in self.old q ≡ true → has_in self.new q ≡ true }
+        ensures there { OnOk result (has_in self.new name.now ≡ true) }
+        ensures away { is_out self.new ≡ is_out self.old }
+    {
+        if let Some(place) = self.places.get(name) {
+            return place.share();
+        }
+        self.places.insert(*name, Place::reserved())?;
+        Ok(None)
+    }
+
     /// Empties the place of a name. Its row counts as before.
     #[tactic(auto, using(crate::proofs::Exact::own_same))]
     pub(crate) fn empty_place(&mut self, name: &RowName)
@@ -135,10 +151,7 @@ impl Shelf {
         let Some(place) = self.places.get(name) else {
             return Ok(None);
         };
-        let Some(row) = &place.row else {
-            return Ok(None);
-        };
-        Ok(Some(row.clone()?))
+        place.share()
     }
 
     /// The row that stands at a name.

@@ -2,7 +2,7 @@
 
 ghost use Rattle.std.specs.Prelude.{◌≡◌, unwrap_or};
 ghost use Rattle.catalogue.specs.Places.{partition_of};
-ghost use Rattle.row_store.specs.Shelving.{shelf_of, shelf_at};
+ghost use Rattle.row_store.specs.Shelving.{shelf_of, shelf_at, HasLongNames};
 
 use catalogue::Catalogue;
 use footprint::{InPart, InTable, Resource};
@@ -17,6 +17,14 @@ pub(crate) fn part_of(catalogue: &Catalogue, name: &RowName) -> u32
     } else {
         0
     }
+}
+
+/// A law; nothing is done. A partition with a name has a name that is no resource's.
+pub(crate) fn has_long_names(catalogue: &Catalogue)
+    ensures { HasLongNames catalogue.now }
+{
+    // The rules of catalogues say it: a table has partitions.
+    let _tables = catalogue.len();
 }
 
 /// The resource at which the shelf of a partition stands: the partition itself, if the catalogue has it.

@@ -11,11 +11,9 @@ ghost use Rattle.workspace.specs.Overlay.{applied};
 ghost use Rattle.row_store.specs.Laws.{AreLentAlone};
 ghost use Rattle.row_store.specs.Stock.{with_rows};
 
-use crate::exchange::take_shelves;
 use crate::filling::filled;
-use crate::lending::{hold, put_back};
+use crate::lending::{hold, put_back, take_out};
 use crate::loan::Loan;
-use crate::moving::empty_places;
 use crate::shelves::Shelves;
 use crate::writing::write;
 use catalogue::Catalogue;
@@ -89,12 +87,10 @@ impl RowStore {
     {
         locked_rows_conflict();
         clashes_are_either_way();
-        let mut held = hold(self.alloc, &self.catalogue, &mut self.shelves, plan)?;
+        let ready = hold(self.alloc, &self.catalogue, &mut self.shelves, plan)?;
         let catalogue = self.catalogue.clone()?;
         self.lent.insert(no, Snapshot::of(plan))?;
-        let written = &held.written_shelves;
-        take_shelves(self.alloc, &mut self.shelves, &mut held.shelves, written);
-        empty_places(&self.catalogue, &mut self.shelves, &held.written_names);
+        let held = take_out(self.alloc, &self.catalogue, &mut self.shelves, ready);
         Ok(Loan {
             alloc: self.alloc,
             catalogue,

@@ -1,9 +1,10 @@
 //! What is shown: by a store the rows that are not lent to be written, by a loan the names that its plan locks.
 
+use crate::held::Holdings;
 use crate::loan::Loan;
 use crate::scan::{next_row, push_rows};
 use crate::shelves::row_at;
-use crate::shelving::shelf_of;
+use crate::shelving::{has_long_names, shelf_of};
 use crate::store::RowStore;
 use std::alloc::AllocError;
 use values::{Key, Row, RowName, TableNo};
@@ -49,11 +50,23 @@ impl RowView for Loan {
 
     fn row(&self, table: TableNo, key: Key) -> Option<&Row> {
         let name = RowName::new(table, key);
-        row_at(&self.held.shelves, &shelf_of(&self.catalogue, name), &name)
+        match &self.held {
+            Holdings::Rows(held) => held.row(&name),
+            Holdings::Shelves(held) => {
+                row_at(&held.shelves, &shelf_of(&self.catalogue, name), &name)
+            }
+        }
     }
 
     fn next_row(&self, table: TableNo, part: u32, after: Option<Key>) -> Option<(Key, &Row)> {
-        next_row(&self.catalogue, &self.held.shelves, table, part, &after)
+        has_long_names(&self.catalogue);
+        match &self.held {
+            // The plan locks no shelf whole, so that the loan shows no partition.
+            Holdings::Rows(_) => None,
+            Holdings::Shelves(held) => {
+                next_row(&self.catalogue, &held.shelves, table, part, &after)
+            }
+        }
     }
 
     fn push_rows<'a>(
@@ -62,6 +75,13 @@ impl RowView for Loan {
         part: u32,
         gathered: &mut Vec<(Key, &'a Row)>,
     ) -> Result<(), AllocError> {
-        push_rows(&self.catalogue, &self.held.shelves, table, part, gathered)
+        has_long_names(&self.catalogue);
+        match &self.held {
+            // The plan locks no shelf whole, so that the loan shows no partition.
+            Holdings::Rows(_) => Ok(()),
+            Holdings::Shelves(held) => {
+                push_rows(&self.catalogue, &held.shelves, table, part, gathered)
+            }
+        }
     }
 }

@@ -20,7 +20,7 @@ use values::{NoMemory, Row, RowName};
 type Writes = BTreeMap<RowName, Option<Arc<Row>>>;
 
 /// A row, or none, to be shared.
-fn shared(alloc: Global, row: Option<Row>) -> Result<Option<Arc<Row>>, NoMemory>
+pub(crate) fn shared(alloc: Global, row: Option<Row>) -> Result<Option<Arc<Row>>, NoMemory>
     ensures { IfOk result (λ shared. shared_row shared ≡ row) }
 {
     match row {

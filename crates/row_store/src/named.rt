@@ -1,0 +1,85 @@
+//! Rows by their names, in short lists.
+
+ghost use Rattle.std.specs.Prelude.{◌≡◌, true, Some, None, ◌&&◌, if◌then◌else◌, option_map, is_some, IfOk};
+ghost use Rattle.std.specs.Option.{option_or};
+ghost use Rattle.std.specs.BTreeMap as tree;
+ghost use Rattle.values.specs.declared.name.RowName.{RowName as AnyName};
+ghost use Rattle.values.specs.Database.{name_cmp};
+ghost use Rattle.row_store.specs.Places.{shared_row, is_name};
+ghost use Rattle.row_store.specs.Named.{listed, is_listed, names_listed};
+
+use crate::writing::shared;
+use std::alloc::Global;
+use std::collections::BTreeMap;
+use std::sync::Arc;
+use values::{NoMemory, Row, RowName};
+
+/// A name with its row, or with none.
+#[derive(Drop)]
+pub(crate) struct NamedRow {
+    pub(crate) name: RowName,
+    pub(crate) row: Option<Arc<Row>>,
+}
+
+/// Whether two names are one.
+fn is_name(a: &RowName, b: &RowName) -> bool
+    ensures { result ≡ is_name a.now b.now }
+{
+    a == b
+}
+
+/// The first entry of a name.
+pub(crate) fn entry_of<'a>(rows: &'a [NamedRow], name: &RowName) -> Option<&'a NamedRow>
+    ensures { option_map (λ e. shared_row e.now.row) result ≡ listed rows.now name.now }
+{
+    for entry in rows {
+        if is_name(&entry.name, name) {
+            return Some(entry);
+        }
+    }
+    None
+}
+
+/// Gives a name that is listed a row, or none.
+fn set_row(rows: &mut Vec<NamedRow>, name: &RowName, row: Option<Arc<Row>>)
+    ensures names { names_listed rows.new.items ≡ names_listed rows.old.items }
+    ensures rows { (q : AnyName) →
+        listed rows.new.items q ≡ (if is_name name.now q && is_listed rows.old.items q then Some (shared_row row)
+        else listed rows.old.items q) }
+{
+    for place in 0..rows.len() {
+        if is_name(&rows[place].name, name) {
+            rows[place].row = row;
+            return;
+        }
+    }
+}
+
+/// Gives names that are listed the rows of another list.
+pub(crate) fn set_rows(rows: &mut Vec<NamedRow>, made: Vec<NamedRow>)
+    requires { (q : AnyName) → is_some (listed made.items q) ≡ true → is_listed rows.old.items q ≡ true }
+    ensures names { names_listed rows.new.items ≡ names_listed rows.old.items }
+    ensures rows { (q : AnyName) →
+        listed rows.new.items q ≡ option_or (listed made.items q) (listed rows.old.items q) }
+{
+    let mut left = made;
+    while let Some(NamedRow { name, row }) = left.pop() {
+        set_row(rows, &name, row);
+    }
+}
+
+/// A list of writes, with rows that can be put in place without memory.
+pub(crate) fn listed_writes(
+    alloc: Global,
+    writes: BTreeMap<RowName, Option<Row>>,
+) -> Result<Vec<NamedRow>, NoMemory>
+    ensures { IfOk result (λ made. (q : AnyName) → listed made.items q ≡ tree.get name_cmp writes q) }
+{
+    let mut left = writes;
+    let mut made = Vec::new(alloc);
+    while let Some((name, row)) = left.pop_first() {
+        let row = shared(alloc, row)?;
+        made.push(NamedRow { name, row })?;
+    }
+    Ok(made)
+}
