@@ -99,17 +99,32 @@ fn execute_each<R: Threads + Wait + Sync + AllocGlobal>(
     Some(answer)
 }
 
-/// An engine on the setup, with so many workers and this threshold; the log, and the report.
-fn engine_and_texts<R: rt::Files + AllocGlobal>(
-    rt: &R,
-    workers: usize,
-    threshold: usize,
-) -> Option<(Engine, String, String)> {
+/// An engine on the setup, with so many workers and this threshold.
+fn engine<R: rt::Files + AllocGlobal>(rt: &R, workers: usize, threshold: usize) -> Option<Engine> {
     let settings = settings(workers, threshold)?;
     let setup = text(rt, "setup.json")?;
     let setup = read_setup(rt.alloc(), setup.as_bytes()).ok()?;
-    let engine = Engine::new(rt.alloc(), setup, settings).ok()?;
-    Some((engine, text(rt, "log")?, text(rt, "report")?))
+    Engine::new(rt.alloc(), setup, settings).ok()
+}
+
+/// An engine executes the batches of a log, which is to be reported so.
+fn execute_log<R: Threads + Wait + Sync + AllocGlobal>(
+    rt: &R,
+    refusal: &mut Refusal,
+    engine: &mut Engine,
+    [log, report]: [&str; 2],
+    then: Then,
+) -> Option<Answer> {
+    let alloc = rt.alloc();
+    // (room for what comes of each batch)
+    let mut done = Vec::with_capacity(alloc, 8).ok()?;
+    refusal.approach();
+    let ended = execute_each(rt, engine, log, then, &mut done);
+    refusal.pass();
+    match ended {
+        Some(answer) => Some(answer.if_right(is_end(alloc, report, engine, &done)?)),
+        None => Some(Answer::Wrong),
+    }
 }
 
 /// The batches are executed on so many workers, with this threshold.
@@ -120,17 +135,15 @@ pub(crate) fn try_batches<R: Threads + Wait + Sync + rt::Files + AllocGlobal>(
     threshold: usize,
     then: Then,
 ) -> Option<Answer> {
-    let alloc = rt.alloc();
-    let (mut engine, log, report) = engine_and_texts(rt, workers, threshold)?;
-    // (room for what comes of each batch)
-    let mut done = Vec::with_capacity(alloc, 8).ok()?;
-    refusal.approach();
-    let ended = execute_each(rt, &mut engine, log.as_str(), then, &mut done);
-    refusal.pass();
-    match ended {
-        Some(answer) => Some(answer.if_right(is_end(alloc, report.as_str(), &engine, &done)?)),
-        None => Some(Answer::Wrong),
-    }
+    let (log, report) = (text(rt, "log")?, text(rt, "report")?);
+    let mut engine = engine(rt, workers, threshold)?;
+    execute_log(
+        rt,
+        refusal,
+        &mut engine,
+        [log.as_str(), report.as_str()],
+        then,
+    )
 }
 
 /// The report is written, on so many workers, with this threshold.

@@ -45,15 +45,22 @@ fn is_run(alloc: Global, engine: &Engine, done: &BatchDone) -> Option<bool> {
     is_of_log(alloc, lines.as_str(), engine.rows())
 }
 
-/// Whether an engine on this setup runs the log as it was reckoned.
-pub(crate) fn runs_on<R: Wait + AllocGlobal>(rt: &R, setup: Setup) -> Option<bool> {
+// No engine is at hand where one of the functions below gives up: what is let go there is part of its proof.
+
+/// Whether an engine runs the log as it was reckoned.
+fn runs<R: Wait + AllocGlobal>(rt: &R, engine: &mut Engine) -> Option<bool> {
     let alloc = rt.alloc();
-    let mut engine = engine_on(alloc, setup, 1)?;
     let batch = batch(alloc, engine.procs())?;
     match engine.run_alone(rt, alloc, batch, &[]) {
-        Ok(done) => is_run(alloc, &engine, &done),
+        Ok(done) => is_run(alloc, engine, &done),
         Err(_) => Some(false),
     }
+}
+
+/// Whether an engine on this setup runs the log as it was reckoned.
+pub(crate) fn runs_on<R: Wait + AllocGlobal>(rt: &R, setup: Setup) -> Option<bool> {
+    let mut engine = engine_on(rt.alloc(), setup, 1)?;
+    runs(rt, &mut engine)
 }
 
 /// How an unfinished batch is gone on with.
@@ -109,6 +116,23 @@ fn choices(alloc: Global, count: usize) -> Result<Vec<u64>, AllocError> {
     Ok(choices)
 }
 
+/// An engine runs the log on one thread, by so many choices of events.
+fn run_alone<R: Threads + Wait + Sync + AllocGlobal>(
+    rt: &R,
+    refusal: &mut Refusal,
+    engine: &mut Engine,
+    count: usize,
+    then: Then,
+) -> Option<Answer> {
+    let alloc = rt.alloc();
+    let choices = choices(alloc, count).ok()?;
+    let batch = batch(alloc, engine.procs())?;
+    refusal.approach();
+    let ended = engine.run_alone(rt, alloc, batch, &choices);
+    refusal.pass();
+    gone_on_with(rt, engine, ended, then)
+}
+
 /// The log on one thread, by so many choices of events.
 pub(crate) fn try_alone<R: Threads + Wait + Sync + AllocGlobal>(
     rt: &R,
@@ -118,12 +142,22 @@ pub(crate) fn try_alone<R: Threads + Wait + Sync + AllocGlobal>(
 ) -> Option<Answer> {
     let alloc = rt.alloc();
     let mut engine = engine_on(alloc, bank(alloc)?, 1)?;
+    run_alone(rt, refusal, &mut engine, count, then)
+}
+
+/// An engine runs the log on its workers.
+fn execute<R: Threads + Wait + Sync + AllocGlobal>(
+    rt: &R,
+    refusal: &mut Refusal,
+    engine: &mut Engine,
+    then: Then,
+) -> Option<Answer> {
+    let alloc = rt.alloc();
     let batch = batch(alloc, engine.procs())?;
-    let choices = choices(alloc, count).ok()?;
     refusal.approach();
-    let ended = engine.run_alone(rt, alloc, batch, &choices);
+    let ended = engine.execute(rt, alloc, batch, &OpenGate);
     refusal.pass();
-    gone_on_with(rt, &mut engine, ended, then)
+    gone_on_with(rt, engine, ended, then)
 }
 
 /// The log on so many workers.
@@ -135,11 +169,26 @@ pub(crate) fn try_workers<R: Threads + Wait + Sync + AllocGlobal>(
 ) -> Option<Answer> {
     let alloc = rt.alloc();
     let mut engine = engine_on(alloc, bank(alloc)?, workers)?;
+    execute(rt, refusal, &mut engine, then)
+}
+
+/// An engine runs the log on its workers, and goes on where a thread was refused at first, and once more where memory was refused
+/// then.
+fn resume<R: Threads + Wait + Sync + AllocGlobal>(
+    rt: &R,
+    refusal: &mut Refusal,
+    engine: &mut Engine,
+    then: Then,
+) -> Option<Answer> {
+    let alloc = rt.alloc();
     let batch = batch(alloc, engine.procs())?;
-    refusal.approach();
-    let ended = engine.execute(rt, alloc, batch, &OpenGate);
-    refusal.pass();
-    gone_on_with(rt, &mut engine, ended, then)
+    let mut ended = engine.execute(rt, alloc, batch, &OpenGate);
+    if ended.is_err() && engine.is_busy() {
+        refusal.approach();
+        ended = then.go_on(rt, engine);
+        refusal.pass();
+    }
+    gone_on_with(rt, engine, ended, then)
 }
 
 /// The log on two workers, gone on with where a thread was refused at first, and once more where memory was refused then; where
@@ -151,12 +200,5 @@ pub(crate) fn try_resume<R: Threads + Wait + Sync + AllocGlobal>(
 ) -> Option<Answer> {
     let alloc = rt.alloc();
     let mut engine = engine_on(alloc, bank(alloc)?, 2)?;
-    let batch = batch(alloc, engine.procs())?;
-    let mut ended = engine.execute(rt, alloc, batch, &OpenGate);
-    if ended.is_err() && engine.is_busy() {
-        refusal.approach();
-        ended = then.go_on(rt, &mut engine);
-        refusal.pass();
-    }
-    gone_on_with(rt, &mut engine, ended, then)
+    resume(rt, refusal, &mut engine, then)
 }
