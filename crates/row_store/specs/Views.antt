@@ -62,7 +62,7 @@ pub record IsRowStore (tables : List TableShape) (shelves : Shelves) (lent : BTr
   pub apart : (number other : ℕ) (plan others : Requests) → lent_at lent number ≡ Some plan → lent_at lent other ≡ Some others
       → (number ≡ other → ⊥) → ModesClash plan others → ⊥
 
--- What holds of a loan of a plan: what it gives back are the shelves and the row names that the plan locks to write, all of
+-- What holds of a loan that has shelves: what it gives back are the shelves and the row names that the plan locks to write, all of
 -- them have their place in it, and all its rows and shelves are here.
 pub record IsLoan (tables : List TableShape) (plan : Requests) (shelves : Shelves) (at : List Resource) (names : List RowName) : Type 0 where
   pub over : IsPlanOver tables plan

@@ -9,8 +9,9 @@ use std::snapshot::Snapshot;
 use std::sync::Arc;
 use values::{NoMemory, Row};
 
-/// A place: a row name with a row or with none. While its row is lent to be written the row is away, and counts as it was
-/// lent. A place that says nothing of what counts was made on a shelf, and there counts what the shelf says.
+/// A place: a row name with a row or with none. While its row is lent to be written, not by its name alone but on a shelf,
+/// the row is away, and counts as it was lent. A place that says nothing of what counts was made on a shelf, and there counts
+/// what the shelf says.
 #[derive(Drop)]
 pub(crate) struct Place {
     pub(crate) row: Option<Arc<Row>>,
