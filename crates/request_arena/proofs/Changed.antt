@@ -51,6 +51,20 @@ module _ {X : Type 0} where
   written_over (y ∷ xs) zero x = refl
   written_over (y ∷ xs) (suc i) x = ap (λ l. y ∷ l) (written_over xs i x)
 
+  -- two changes of one item are one
+  pub changed_twice : (xs : List X) (i : ℕ) (f g : X → X) → changed (changed xs i f) i g ≡ changed xs i (λ x. g (f x))
+  changed_twice [] i f g = refl
+  changed_twice (x ∷ xs) zero f g = refl
+  changed_twice (x ∷ xs) (suc i) f g = ap (λ l. x ∷ l) (changed_twice xs i f g)
+
+  -- changes that do not see one another, in either order
+  pub changed_in_turn : (f g : X → X) → ((x : X) → g (f x) ≡ f (g x)) → (xs : List X) (i j : ℕ) → changed (changed xs i f) j g ≡ changed (changed xs j g) i f
+  changed_in_turn f g same [] i j = refl
+  changed_in_turn f g same (x ∷ xs) zero zero = ap (λ y. y ∷ xs) (same x)
+  changed_in_turn f g same (x ∷ xs) zero (suc j) = refl
+  changed_in_turn f g same (x ∷ xs) (suc i) zero = refl
+  changed_in_turn f g same (x ∷ xs) (suc i) (suc j) = ap (λ l. x ∷ l) (changed_in_turn f g same xs i j)
+
   pub get_same : (xs : List X) (k : ℕ) (v : X) → k < length xs → slice_get (slice_set xs k v) k ≡ Some v
   get_same xs k v p = let it = item_at xs k p in ap (λ l. slice_get l k) (written_over xs k v) ∙ changed_here xs k (λ _. v) it.0 it.1
 

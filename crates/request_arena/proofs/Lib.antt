@@ -7,6 +7,7 @@ pub mod Extending
 pub mod Firsts
 pub mod Holding
 pub mod Homes
+pub mod InPlace
 pub mod Linked
 pub mod Neighbours
 pub mod Nodes

@@ -154,7 +154,7 @@ all_nodes [] = refl
 all_nodes (None ∷ hs) = omega (arith, all_nodes hs)
 all_nodes (Some h ∷ hs) = omega (arith, all_nodes hs)
 
-nodes_within : (c : ℕ) (ns : List Node) → length (held_in c ns) ≤ c
+pub nodes_within : (c : ℕ) (ns : List Node) → length (held_in c ns) ≤ c
 nodes_within zero ns = omega arith
 nodes_within (suc c) [] = omega arith
 nodes_within (suc c) (n ∷ ns) = omega (arith, nodes_within c ns)

@@ -1,8 +1,9 @@
 -- What stands at the places of the block, and after one was written to.
 use Rattle.std.proofs.Common.{◌≡◌, ◌≢◌, ℕ, zero, suc, ◌+◌, ◌*◌, ◌/◌, ◌<◌, ◌≤◌, map, List, [], ◌∷◌, ◌++◌, length, Some, slice_get, slice_set, slice_index_or, refl, ap, ◌∙◌, arith, get_or-set_same, get_or-set_other}
 use Rattle.request_arena.specs.declared.node.Node.{Node}
-use Rattle.request_arena.proofs.Changed.{none_some, some_same}
+use Rattle.request_arena.proofs.Changed.{none_some, some_same, written}
 use Rattle.request_arena.specs.declared.packed.Packed.{Packed}
+use Rattle.request_arena.specs.Following.{changed}
 use Rattle.request_arena.specs.Packed.{unpacked}
 use Rattle.request_arena.specs.Places.{index_of, fresh, at_place, tabulated, laid}
 
@@ -100,3 +101,13 @@ pub read_past : (xs : List Node) (i : ℕ) (d : Node) → length xs ≤ i → sl
 read_past [] i d p = refl
 read_past (x ∷ xs) zero d p = absurd (omega (arith, p))
 read_past (x ∷ xs) (suc i) d p = read_past xs i d (omega (arith, p))
+
+-- a node that lies there is changed in place
+pub laid_changed : (nodes queues : ℕ) (ws : List Packed) (place : ℕ) (p v : Packed) (f : Node → Node) → place < nodes + queues → index_of nodes place < length ws
+    → slice_get ws (index_of nodes place) ≡ Some p → unpacked v ≡ f (unpacked p)
+    → laid nodes queues (slice_set ws (index_of nodes place) v) ≡ changed (laid nodes queues ws) place f
+laid_changed nodes queues ws place p v f low room there as_f =
+    let long = tabulated_length (at_place nodes ws) 0 (nodes + queues) in
+    let here : at_place nodes ws place ≡ unpacked p = read_item (map unpacked ws) (index_of nodes place) (unpacked p) (fresh nodes place) (map_get unpacked ws (index_of nodes place) p there) in
+    laid_set nodes queues ws place v low room ∙ ap (slice_set (laid nodes queues ws) place) as_f
+    ∙ written (laid nodes queues ws) place f (unpacked p) (laid_get nodes queues ws place (omega (arith, low, long)) ∙ ap Some here)

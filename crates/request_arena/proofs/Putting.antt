@@ -1,11 +1,12 @@
 -- The first free node v is put at the back of a queue: the block after the writes of `push_back`.
-use Rattle.std.proofs.Common.{◌≡◌, ◌≢◌, ℕ, suc, ◌+◌, ◌<◌, ◌≤◌, inl, inr, false, List, [], ◌∷◌, ◌++◌, length, Some, None, slice_get, slice_set, slice_index_or, sym, ◌∙◌, ap, subst, arith}
+use Rattle.std.proofs.Common.{◌≡◌, ◌≢◌, ℕ, zero, suc, ◌+◌, ◌<◌, ◌≤◌, inl, inr, false, List, [], ◌∷◌, ◌++◌, length, Some, None, slice_get, slice_set, slice_index_or, refl, sym, ◌∙◌, ap, subst, arith}
 use Rattle.request_arena.specs.declared.node.Node.{Node}
 use Rattle.request_arena.specs.declared.node.Held.{Held}
 use Rattle.request_arena.specs.Linked.{spread, held_in, queue_of, IsLinked}
 use Rattle.request_arena.specs.Lists.{free_nodes}
-use Rattle.request_arena.specs.Nodes.{next, prev, home, live, with_next, with_prev, with_held}
+use Rattle.request_arena.specs.Nodes.{next, prev, home, live, with_next, with_prev, with_home, with_held}
 use Rattle.request_arena.specs.Walks.{Used, IsRing}
+use Rattle.request_arena.proofs.Changed.{changed_in_turn}
 use Rattle.request_arena.proofs.Walks.{true_false, followed_walk}
 use Rattle.request_arena.proofs.Rings.{Enters, ring_longer, ring_kept, ring_pushed}
 use Rattle.request_arena.proofs.Nodes.{long_next, long_prev, long_held, next_put, next_beside, next_of_prev, next_of_held, prev_of_next, prev_put, prev_beside, prev_of_held, live_of_next, live_of_prev, live_put, live_beside, held_of_next, held_of_prev, held_set, free_there, one_less_free}
@@ -13,6 +14,18 @@ use Rattle.request_arena.proofs.Homes.{home_of_next, home_of_prev, home_of_held}
 use Rattle.request_arena.proofs.Spread.{spread_set, spread_at}
 use Rattle.request_arena.proofs.Stacks.{Top, top_of, stack_kept}
 use Rattle.request_arena.proofs.Linked.{used_in, queue_is}
+
+-- a node that is written whole is written field by field
+whole : (ns : List Node) (v s l q : ℕ) (h : Held) → slice_set ns v (record { next = s; prev = l; home = q; held = Some h }) ≡ with_home (with_prev (with_next (with_held ns v (Some h)) v s) v l) v q
+whole [] v s l q h = refl
+whole (n ∷ ns) zero s l q h = refl
+whole (n ∷ ns) (suc v) s l q h = ap (λ b. n ∷ b) (whole ns v s l q h)
+
+-- the queue that it notes may be noted after its neighbours lead to it
+noted_last : (ns : List Node) (v l s q : ℕ) → with_prev (with_next (with_home ns v q) l v) s v ≡ with_home (with_prev (with_next ns l v) s v) v q
+noted_last ns v l s q =
+    ap (λ b. with_prev b s v) (changed_in_turn (λ n. record n { home = q }) (λ n. record n { next = v }) (λ n. refl) ns v l)
+    ∙ changed_in_turn (λ n. record n { home = q }) (λ n. record n { prev = v }) (λ n. refl) (with_next ns l v) v s
 
 module _ (ns : List Node) (c k v m : ℕ) (was : IsLinked ns c k v (suc m)) (q : ℕ) (in_range : q < k) (h : Held) where
   -- the head of the queue, and the last place before it
@@ -132,7 +145,7 @@ module _ (ns : List Node) (c k v m : ℕ) (was : IsLinked ns c k v (suc m)) (q :
   homes_put a = home_of_prev behind_last s a v ∙ home_of_next both_ways l a v ∙ home_of_prev onward v a l ∙ home_of_next filled v a s ∙ home_of_held ns v a (Some h)
 
   -- the writes, where `push_back` has read the last place
-  pub put_by : (b1 b2 b3 b4 b5 : List Node) (a : ℕ) → a ≡ l → b1 ≡ with_held ns v (Some h) → b2 ≡ with_next b1 v s → b3 ≡ with_prev b2 v a → b4 ≡ with_next b3 a v → b5 ≡ with_prev b4 s v → b5 ≡ put
-  put_by b1 b2 b3 b4 b5 a at e1 e2 e3 e4 e5 =
-      let d2 : b2 ≡ onward = e2 ∙ ap (λ b. with_next b v s) e1 in let d3 : b3 ≡ both_ways = e3 ∙ (λ i. with_prev (d2 i) v (at i)) in
-      e5 ∙ ap (λ b. with_prev b s v) (e4 ∙ (λ i. with_next (d3 i) (at i) v))
+  pub put_by : (b1 b2 b3 : List Node) (a : ℕ) → a ≡ l → b1 ≡ slice_set ns v (record { next = s; prev = a; home = q; held = Some h }) → b2 ≡ with_next b1 a v → b3 ≡ with_prev b2 s v → b3 ≡ with_home put v q
+  put_by b1 b2 b3 a at e1 e2 e3 =
+      let d1 : b1 ≡ with_home both_ways v q = e1 ∙ ap (λ p. slice_set ns v (record { next = s; prev = p; home = q; held = Some h })) at ∙ whole ns v s l q h in
+      e3 ∙ ap (λ b. with_prev b s v) (e2 ∙ (λ i. with_next (d1 i) (at i) v)) ∙ noted_last both_ways v l s q

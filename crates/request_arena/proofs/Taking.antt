@@ -106,9 +106,9 @@ module _ (ns : List Node) (c k v free : ℕ) (was : IsLinked ns c k v free) (x :
   room_to_free h is = omega (arith, few_free_nodes c taken, (linked_taken h is).count)
 
   -- the writes, where `remove` has read the links of the node
-  pub taken_by : (n : Node) → slice_get ns x ≡ Some n → (b1 b2 b3 b4 : List Node) → b1 ≡ with_next ns n.prev n.next → b2 ≡ with_prev b1 n.next n.prev
-      → b3 ≡ with_held b2 x None → b4 ≡ with_next b3 x v → b4 ≡ taken
-  taken_by n is b1 b2 b3 b4 e1 e2 e3 e4 =
+  pub taken_by : (n : Node) → slice_get ns x ≡ Some n → (b1 b2 b3 : List Node) → b1 ≡ with_next ns n.prev n.next → b2 ≡ with_prev b1 n.next n.prev
+      → b3 ≡ with_next (with_held b2 x None) x v → b3 ≡ taken
+  taken_by n is b1 b2 b3 e1 e2 e3 =
       let at_b : n.prev ≡ b = sym (ap prev_of is) in let at_f : n.next ≡ f = sym (ap next_of is) in
       let d1 : b1 ≡ bridged = e1 ∙ (λ i. with_next ns (at_b i) (at_f i)) in let d2 : b2 ≡ bridged_back = e2 ∙ (λ i. with_prev (d1 i) (at_f i) (at_b i)) in
-      e4 ∙ ap (λ l. with_next l x v) (e3 ∙ ap (λ l. with_held l x None) d2)
+      e3 ∙ ap (λ l. with_next (with_held l x None) x v) d2

@@ -19,8 +19,8 @@ const MOST_PLACES: usize = 1 << 30;
 /// Nothing is written to a place before it is used, so a large block costs as much as is used of it.
 #[derive(Drop)]
 pub(crate) struct Block {
-    written: Row,
-    nodes: usize,
+    pub(crate) written: Row,
+    pub(crate) nodes: usize,
     queues: usize,
 }
 
@@ -37,6 +37,7 @@ impl Model for Block {
 }
 
 /// Where a place lies in the block.
+#[inline(always)]
 fn index_of(nodes: usize, place: usize) -> usize
     requires { place < 2 ^ 32 }
     ensures { result ≡ index_of nodes place }
@@ -65,6 +66,7 @@ fn place_at(nodes: usize, index: usize) -> usize
 }
 
 /// What stands at a place that nothing was written to.
+#[inline(always)]
 fn fresh(nodes: usize, place: usize) -> Node
     requires fits { place < 2 ^ 32 }
     requires nodes { nodes < 2 ^ 32 }
@@ -81,6 +83,7 @@ fn fresh(nodes: usize, place: usize) -> Node
 }
 
 /// What stands at an index of a row, or what would stand there if nothing was written to it.
+#[inline(always)]
 fn read(row: &Row, index: usize, unwritten: Node) -> Node
     requires { IsSmall unwritten }
     ensures small { IsSmall result }
@@ -107,6 +110,8 @@ fn write_next(written: &mut Row, nodes: usize)
 }
 
 /// Writes what stands there to all places as far as one.
+#[cold]
+#[inline(never)]
 fn write_up_to(written: &mut Row, nodes: usize, index: usize)
     requires nodes { nodes < 2 ^ 30 }
     requires fits { written.old.room < 2 ^ 31 }
@@ -118,6 +123,26 @@ fn write_up_to(written: &mut Row, nodes: usize, index: usize)
     for _ in written.len()..index + 1 {
         write_next(written, nodes);
     }
+}
+
+/// Where a place lies, to which something was written now.
+#[inline(always)]
+pub(crate) fn reach(written: &mut Row, nodes: usize, place: usize) -> usize
+    requires small { place < 2 ^ 32 }
+    requires nodes { nodes < 2 ^ 30 }
+    requires fits { written.old.room < 2 ^ 31 }
+    requires room { index_of nodes place < written.old.room }
+    ensures is { result ≡ index_of nodes place }
+    ensures far { result < length written.new.items }
+    ensures capacity { written.new.room ≡ written.old.room }
+    ensures same { (place : ℕ) → at_place nodes written.new.items place ≡ at_place nodes written.old.items place }
+{
+    let index = index_of(nodes, place);
+    if index < written.len() {
+        return index;
+    }
+    write_up_to(written, nodes, index);
+    index
 }
 
 /// The room that so many nodes, or heads, take with the runs between them.
@@ -151,6 +176,7 @@ impl Block {
     }
 
     /// What stands at a place.
+    #[inline(always)]
     pub(crate) fn get(&self, place: usize) -> Node
         requires { place < length self.now }
         ensures is { slice_get self.now place ≡ Some result }
@@ -163,14 +189,14 @@ impl Block {
         )
     }
 
-    /// Writes to a place.
+    /// Writes all that stands at a place.
+    #[inline(always)]
     pub(crate) fn set(&mut self, place: usize, node: Node)
         requires there { place < length self.old }
         requires small { IsSmall node }
         ensures { self.new ≡ slice_set self.old place node }
     {
-        let index = index_of(self.nodes, place);
-        write_up_to(&mut self.written, self.nodes, index);
+        let index = reach(&mut self.written, self.nodes, place);
         self.written.set(index, Packed::of(node));
     }
 }

@@ -22,6 +22,7 @@ pub(crate) struct Packed {
 
 impl Packed {
     /// A free node, or the head of a queue.
+    #[inline(always)]
     fn unheld(next: usize, prev: usize, home: usize) -> Packed
         requires next { next < 2 ^ 32 }
         requires prev { prev < 2 ^ 32 }
@@ -41,6 +42,7 @@ impl Packed {
     }
 
     /// The same node as a live one, which holds that.
+    #[inline(always)]
     fn with(self, held: Held) -> Packed
         requires { IsSmallHeld (Some held) }
         ensures { unpacked result ≡ record (unpacked self) { held = Some held } }
@@ -65,6 +67,7 @@ impl Packed {
     }
 
     /// A node whose links lead to places below 2^32.
+    #[inline(always)]
     pub(crate) fn of(node: Node) -> Packed
         requires { IsSmall node }
         ensures { unpacked result ≡ node }
@@ -76,6 +79,7 @@ impl Packed {
         }
     }
 
+    #[inline(always)]
     fn behind(&self) -> Option<NodeId>
         ensures is { result ≡ behind_it self.now }
         ensures small { IfSome result (λ place. place < 2 ^ 32) }
@@ -90,6 +94,7 @@ impl Packed {
         }
     }
 
+    #[inline(always)]
     fn held(&self) -> Option<Held>
         ensures is { result ≡ held_there self.now }
         ensures small { IsSmallHeld result }
@@ -106,6 +111,7 @@ impl Packed {
         }
     }
 
+    #[inline(always)]
     pub(crate) fn node(&self) -> Node
         ensures is { result ≡ unpacked self.now }
         ensures small { IsSmall result }

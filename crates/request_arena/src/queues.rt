@@ -7,8 +7,7 @@ ghost use Rattle.request_arena.specs.Lists.{IsLive, EndsChain, BeginsChain, Hold
 ghost use Rattle.request_arena.specs.Pushes.{Pushed};
 
 use crate::block::Block;
-use crate::links::{link_tail, set_held, set_home, set_next, set_prev};
-use crate::node::{Held, NodeId, Request, content};
+use crate::node::{Held, Node, NodeId, Request, content};
 use std::alloc::Global;
 use std::marker::Model;
 use values::NoMemory;
@@ -80,15 +79,18 @@ impl Queues {
             request,
             behind: None,
         };
-        link_tail(&mut self.block, tail, place);
+        self.block.link_tail(tail, place);
         let rest = self.block.get(place).next;
         let last = self.block.get(head).prev;
-        set_held(&mut self.block, place, Some(held));
-        set_next(&mut self.block, place, head);
-        set_prev(&mut self.block, place, last);
-        set_next(&mut self.block, last, place);
-        set_prev(&mut self.block, head, place);
-        set_home(&mut self.block, place, queue);
+        let node = Node {
+            next: head,
+            prev: last,
+            home: queue,
+            held: Some(held),
+        };
+        self.block.set(place, node);
+        self.block.set_next(last, place);
+        self.block.set_prev(head, place);
         self.vacant = rest;
         self.free -= 1;
         Ok(NodeId {
@@ -113,16 +115,16 @@ impl Queues {
     {
         let node = self.block.get(id.place as usize);
         let Held { request, behind } = content(node.held);
-        set_next(&mut self.block, node.prev, node.next);
-        set_prev(&mut self.block, node.next, node.prev);
-        set_held(&mut self.block, id.place as usize, None);
-        set_next(&mut self.block, id.place as usize, self.vacant);
+        self.block.set_next(node.prev, node.next);
+        self.block.set_prev(node.next, node.prev);
+        self.block.set_free(id.place as usize, self.vacant);
         self.vacant = id.place as usize;
         self.free += 1;
         (request, behind)
     }
 
     /// The first node of the queue.
+    #[inline]
     pub fn first(&self, queue: usize) -> Option<NodeId>
         requires { queue < length self.now.queues }
         ensures node { result ≡ slice_get (slice_index_or self.now.queues queue []) 0 }
@@ -139,6 +141,7 @@ impl Queues {
     }
 
     /// The next node of its queue.
+    #[inline]
     pub fn next(&self, id: NodeId) -> Option<NodeId>
         requires { IsLive self.now id }
         ensures node { (q i : ℕ) → q < length self.now.queues →
@@ -157,6 +160,7 @@ impl Queues {
     }
 
     /// The queue of a node.
+    #[inline]
     pub fn queue_of(&self, id: NodeId) -> usize
         requires { IsLive self.now id }
         ensures { (q i : ℕ) → slice_get (slice_index_or self.now.queues q []) i ≡ Some id → result ≡ q }
@@ -165,6 +169,7 @@ impl Queues {
     }
 
     /// The next node of its chain.
+    #[inline]
     pub fn behind(&self, id: NodeId) -> Option<NodeId>
         requires { IsLive self.now id }
         ensures rest { chain self.now.held id ≡ id ∷ chain_from self.now.held result }
@@ -174,6 +179,7 @@ impl Queues {
     }
 
     /// The request of a node.
+    #[inline]
     pub fn get(&self, id: NodeId) -> Request
         requires { IsLive self.now id }
         ensures { HoldsRequest self.now id result }
@@ -186,6 +192,13 @@ impl Queues {
         ensures live { (q i a : ℕ) → slice_get (slice_index_or self.now.queues q []) i ≡ Some a → IsLive self.now a }
         ensures apart { (q r i j a : ℕ) → slice_get (slice_index_or self.now.queues q []) i ≡ Some a →
             slice_get (slice_index_or self.now.queues r []) j ≡ Some a → (q ≡ r) × (i ≡ j) }
+    {
+        let _nodes = self.nodes;
+    }
+
+    /// There are fewer nodes than 2^30.
+    pub fn nodes_are_few(&self)
+        ensures { length self.now.held < 2 ^ 30 }
     {
         let _nodes = self.nodes;
     }

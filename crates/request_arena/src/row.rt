@@ -67,6 +67,7 @@ impl Row {
     }
 
     /// How many nodes there are.
+    #[inline(always)]
     pub(crate) fn len(&self) -> usize
         ensures { result ≡ length self.now.items }
     {
@@ -74,6 +75,7 @@ impl Row {
     }
 
     /// The node at an index.
+    #[inline(always)]
     pub(crate) fn get(&self, index: usize) -> Packed
         requires { index < length self.now.items }
         ensures { slice_get self.now.items index ≡ Some result }
@@ -82,6 +84,7 @@ impl Row {
     }
 
     /// Puts a node where another was.
+    #[inline(always)]
     pub(crate) fn set(&mut self, index: usize, node: Packed)
         requires { index < length self.old.items }
         ensures { self.new ≡ record self.old { items = slice_set self.old.items index node } }

@@ -35,20 +35,12 @@ set_prev-requires c =
     let on = live_of i.block i.nodes i.queues i.vacant i.free linked x c.requires.live.0 there in
     record { there = rw c.set_next.ensures.long (subst (λ a. a < length i.block) (ap next_of c.get-node.ensures.is) (after_in i.block i.nodes i.queues i.vacant i.free linked x on)); small = c.get-node.ensures.small.prev }
 
-pub set_held-requires : goal.set_held-requires
-set_held-requires c =
+pub set_free-requires : goal.set_free-requires
+set_free-requires c =
     let i = c.self.inside in let x = c.id.inside.place in let named = c.id.view_is in let linked = c.self.invariant.0 in
     let there = ap (λ (l : Lists). slice_get l.held x) c.self.view_is ∙ ap (slice_get c.args.self.now.held) named ∙ c.requires.live.1 in
     let on = live_of i.block i.nodes i.queues i.vacant i.free linked x c.requires.live.0 there in
-    let same : length c.set_prev.new.block ≡ length i.block = c.set_prev.ensures.long ∙ c.set_next.ensures.long in
-    record { there = rw same (here_in i.block i.nodes i.queues i.vacant i.free linked x on); small = tt }
-
-pub set_next-requires-2 : goal.set_next-requires-2
-set_next-requires-2 c =
-    let i = c.self.inside in let x = c.id.inside.place in let named = c.id.view_is in let linked = c.self.invariant.0 in
-    let there = ap (λ (l : Lists). slice_get l.held x) c.self.view_is ∙ ap (slice_get c.args.self.now.held) named ∙ c.requires.live.1 in
-    let on = live_of i.block i.nodes i.queues i.vacant i.free linked x c.requires.live.0 there in
-    let same : length c.set_held.new.block ≡ length i.block = c.set_held.ensures.long ∙ c.set_prev.ensures.long ∙ c.set_next.ensures.long in
+    let same : length c.set_prev.new.self ≡ length i.block = c.set_prev.ensures.long ∙ c.set_next.ensures.long in
     record { there = rw same (here_in i.block i.nodes i.queues i.vacant i.free linked x on); small = c.self.invariant.3 }
 
 pub overflow_add-self : goal.overflow_add-self
@@ -69,14 +61,14 @@ invariant_of-self c =
     let i = c.self.inside in let x = c.id.inside.place in let named = c.id.view_is in let linked = c.self.invariant.0 in
     let there = ap (λ (l : Lists). slice_get l.held x) c.self.view_is ∙ ap (slice_get c.args.self.now.held) named ∙ c.requires.live.1 in
     let on = live_of i.block i.nodes i.queues i.vacant i.free linked x c.requires.live.0 there in
-    let e = taken_by i.block i.nodes i.queues i.vacant i.free linked x on c.get-node.result c.get-node.ensures.is c.set_next.new.block c.set_prev.new.block c.set_held.new.block c.set_next-2.new.block
-    c.set_next.ensures.nodes c.set_prev.ensures.nodes c.set_held.ensures.nodes c.set_next-2.ensures.nodes in
+    let e = taken_by i.block i.nodes i.queues i.vacant i.free linked x on c.get-node.result c.get-node.ensures.is c.set_next.new.self c.set_prev.new.self c.set_free.new.self
+    c.set_next.ensures.nodes c.set_prev.ensures.nodes c.set_free.ensures.nodes in
     let gone = ap (held_in i.nodes) e ∙ held_taken i.block i.nodes i.queues i.vacant i.free linked x on in
     let first : Begins (held_in i.nodes i.block) x = subst (λ (l : Lists). BeginsChain l x) (sym c.self.view_is) (subst (λ n. BeginsChain c.args.self.now n) (sym named) c.requires.first) in
     let more : suc i.free ≡ i.free + 1 = omega arith in (
       subst (λ b. IsLinked b i.nodes i.queues x (i.free + 1)) (sym e) (subst (λ m. IsLinked (taken i.block i.nodes i.queues i.vacant i.free linked x on) i.nodes i.queues x m) more (linked_taken i.block i.nodes i.queues i.vacant i.free linked x on c.requires.live.0 there)),
       subst AreChains (sym gone) (chains_removed (held_in i.nodes i.block) c.self.invariant.1 x (ap holds there) first),
-      homes_removed i.block c.set_next-2.new.block i.nodes i.queues c.self.invariant.2 x (λ a. ap (λ b. home b a) e ∙ homes_taken i.block i.nodes i.queues i.vacant i.free linked x on a)
+      homes_removed i.block c.set_free.new.self i.nodes i.queues c.self.invariant.2 x (λ a. ap (λ b. home b a) e ∙ homes_taken i.block i.nodes i.queues i.vacant i.free linked x on a)
           (ap (λ b. spread (queue_of b i.nodes) i.nodes i.queues) e ∙ queues_taken i.block i.nodes i.queues i.vacant i.free linked x on),
       (let there_in = here_in i.block i.nodes i.queues i.vacant i.free linked x on in let long = linked.long in let fits = linked.fits in omega (arith, there_in, long, fits)),
     )
@@ -92,8 +84,8 @@ returns-clause-gone c =
     let i = c.self.inside in let x = c.id.inside.place in let named = c.id.view_is in let linked = c.self.invariant.0 in
     let there = ap (λ (l : Lists). slice_get l.held x) c.self.view_is ∙ ap (slice_get c.args.self.now.held) named ∙ c.requires.live.1 in
     let on = live_of i.block i.nodes i.queues i.vacant i.free linked x c.requires.live.0 there in
-    let e = taken_by i.block i.nodes i.queues i.vacant i.free linked x on c.get-node.result c.get-node.ensures.is c.set_next.new.block c.set_prev.new.block c.set_held.new.block c.set_next-2.new.block
-    c.set_next.ensures.nodes c.set_prev.ensures.nodes c.set_held.ensures.nodes c.set_next-2.ensures.nodes in
+    let e = taken_by i.block i.nodes i.queues i.vacant i.free linked x on c.get-node.result c.get-node.ensures.is c.set_next.new.self c.set_prev.new.self c.set_free.new.self
+    c.set_next.ensures.nodes c.set_prev.ensures.nodes c.set_free.ensures.nodes in
     let gone = ap (held_in i.nodes) e ∙ held_taken i.block i.nodes i.queues i.vacant i.free linked x on in
     gone ∙ ap (λ (l : Lists). slice_set l.held x None) c.self.view_is ∙ ap (λ n. slice_set c.args.self.now.held n None) named
 
@@ -102,8 +94,8 @@ returns-clause-queues c =
     let i = c.self.inside in let x = c.id.inside.place in let named = c.id.view_is in let linked = c.self.invariant.0 in
     let there = ap (λ (l : Lists). slice_get l.held x) c.self.view_is ∙ ap (slice_get c.args.self.now.held) named ∙ c.requires.live.1 in
     let on = live_of i.block i.nodes i.queues i.vacant i.free linked x c.requires.live.0 there in
-    let e = taken_by i.block i.nodes i.queues i.vacant i.free linked x on c.get-node.result c.get-node.ensures.is c.set_next.new.block c.set_prev.new.block c.set_held.new.block c.set_next-2.new.block
-    c.set_next.ensures.nodes c.set_prev.ensures.nodes c.set_held.ensures.nodes c.set_next-2.ensures.nodes in
+    let e = taken_by i.block i.nodes i.queues i.vacant i.free linked x on c.get-node.result c.get-node.ensures.is c.set_next.new.self c.set_prev.new.self c.set_free.new.self
+    c.set_next.ensures.nodes c.set_prev.ensures.nodes c.set_free.ensures.nodes in
     ap (λ b. spread (queue_of b i.nodes) i.nodes i.queues) e ∙ queues_taken i.block i.nodes i.queues i.vacant i.free linked x on
     ∙ ap (λ (l : Lists). map (without x) l.queues) c.self.view_is ∙ ap (λ n. map (without n) c.args.self.now.queues) named
 
@@ -112,23 +104,23 @@ returns-clause-rest c =
     let i = c.self.inside in let x = c.id.inside.place in let named = c.id.view_is in let linked = c.self.invariant.0 in
     let there = ap (λ (l : Lists). slice_get l.held x) c.self.view_is ∙ ap (slice_get c.args.self.now.held) named ∙ c.requires.live.1 in
     let on = live_of i.block i.nodes i.queues i.vacant i.free linked x c.requires.live.0 there in
-    let e = taken_by i.block i.nodes i.queues i.vacant i.free linked x on c.get-node.result c.get-node.ensures.is c.set_next.new.block c.set_prev.new.block c.set_held.new.block c.set_next-2.new.block
-    c.set_next.ensures.nodes c.set_prev.ensures.nodes c.set_held.ensures.nodes c.set_next-2.ensures.nodes in
+    let e = taken_by i.block i.nodes i.queues i.vacant i.free linked x on c.get-node.result c.get-node.ensures.is c.set_next.new.self c.set_prev.new.self c.set_free.new.self
+    c.set_next.ensures.nodes c.set_prev.ensures.nodes c.set_free.ensures.nodes in
     let gone = ap (held_in i.nodes) e ∙ held_taken i.block i.nodes i.queues i.vacant i.free linked x on in
     let first : Begins (held_in i.nodes i.block) x = subst (λ (l : Lists). BeginsChain l x) (sym c.self.view_is) (subst (λ n. BeginsChain c.args.self.now n) (sym named) c.requires.first) in
     let held : slice_get (held_in i.nodes i.block) x ≡ Some (Some c.content-behind.result) =
     there ∙ ap Some (sym (held_read i.nodes i.block x c.requires.live.0 c.get-node.result there c.get-node.ensures.is) ∙ c.content-behind.ensures) in
     ap (chain c.args.self.now.held) (sym named) ∙ ap (λ (l : Lists). chain l.held x) (sym c.self.view_is)
     ∙ chain_rest (held_in i.nodes i.block) c.self.invariant.1.end x (ap holds there) first c.content-behind.result.behind (ap (behind_or (length (held_in i.nodes i.block))) held)
-    ∙ ap (λ l. x ∷ chain_from l c.content-behind.result.behind) (sym gone) ∙ ap (λ n. n ∷ chain_from (held_in i.nodes c.set_next-2.new.block) c.content-behind.result.behind) named
+    ∙ ap (λ l. x ∷ chain_from l c.content-behind.result.behind) (sym gone) ∙ ap (λ n. n ∷ chain_from (held_in i.nodes c.set_free.new.self) c.content-behind.result.behind) named
 
 pub returns-clause-chains : goal.returns-clause-chains
 returns-clause-chains c a z h =
     let i = c.self.inside in let x = c.id.inside.place in let named = c.id.view_is in let linked = c.self.invariant.0 in
     let there = ap (λ (l : Lists). slice_get l.held x) c.self.view_is ∙ ap (slice_get c.args.self.now.held) named ∙ c.requires.live.1 in
     let on = live_of i.block i.nodes i.queues i.vacant i.free linked x c.requires.live.0 there in
-    let e = taken_by i.block i.nodes i.queues i.vacant i.free linked x on c.get-node.result c.get-node.ensures.is c.set_next.new.block c.set_prev.new.block c.set_held.new.block c.set_next-2.new.block
-    c.set_next.ensures.nodes c.set_prev.ensures.nodes c.set_held.ensures.nodes c.set_next-2.ensures.nodes in
+    let e = taken_by i.block i.nodes i.queues i.vacant i.free linked x on c.get-node.result c.get-node.ensures.is c.set_next.new.self c.set_prev.new.self c.set_free.new.self
+    c.set_next.ensures.nodes c.set_prev.ensures.nodes c.set_free.ensures.nodes in
     let gone = ap (held_in i.nodes) e ∙ held_taken i.block i.nodes i.queues i.vacant i.free linked x on in
     let first : Begins (held_in i.nodes i.block) x = subst (λ (l : Lists). BeginsChain l x) (sym c.self.view_is) (subst (λ n. BeginsChain c.args.self.now n) (sym named) c.requires.first) in
     ap (λ l. chain l a) gone
@@ -140,8 +132,8 @@ returns-clause-begins c =
     let i = c.self.inside in let x = c.id.inside.place in let named = c.id.view_is in let linked = c.self.invariant.0 in
     let there = ap (λ (l : Lists). slice_get l.held x) c.self.view_is ∙ ap (slice_get c.args.self.now.held) named ∙ c.requires.live.1 in
     let on = live_of i.block i.nodes i.queues i.vacant i.free linked x c.requires.live.0 there in
-    let e = taken_by i.block i.nodes i.queues i.vacant i.free linked x on c.get-node.result c.get-node.ensures.is c.set_next.new.block c.set_prev.new.block c.set_held.new.block c.set_next-2.new.block
-    c.set_next.ensures.nodes c.set_prev.ensures.nodes c.set_held.ensures.nodes c.set_next-2.ensures.nodes in
+    let e = taken_by i.block i.nodes i.queues i.vacant i.free linked x on c.get-node.result c.get-node.ensures.is c.set_next.new.self c.set_prev.new.self c.set_free.new.self
+    c.set_next.ensures.nodes c.set_prev.ensures.nodes c.set_free.ensures.nodes in
     let gone = ap (held_in i.nodes) e ∙ held_taken i.block i.nodes i.queues i.vacant i.free linked x on in
     let first : Begins (held_in i.nodes i.block) x = subst (λ (l : Lists). BeginsChain l x) (sym c.self.view_is) (subst (λ n. BeginsChain c.args.self.now n) (sym named) c.requires.first) in
     let held : slice_get (held_in i.nodes i.block) x ≡ Some (Some c.content-behind.result) =
@@ -154,7 +146,7 @@ returns-clause-firsts c a begins =
     let i = c.self.inside in let x = c.id.inside.place in let named = c.id.view_is in let linked = c.self.invariant.0 in
     let there = ap (λ (l : Lists). slice_get l.held x) c.self.view_is ∙ ap (slice_get c.args.self.now.held) named ∙ c.requires.live.1 in
     let on = live_of i.block i.nodes i.queues i.vacant i.free linked x c.requires.live.0 there in
-    let e = taken_by i.block i.nodes i.queues i.vacant i.free linked x on c.get-node.result c.get-node.ensures.is c.set_next.new.block c.set_prev.new.block c.set_held.new.block c.set_next-2.new.block
-    c.set_next.ensures.nodes c.set_prev.ensures.nodes c.set_held.ensures.nodes c.set_next-2.ensures.nodes in
+    let e = taken_by i.block i.nodes i.queues i.vacant i.free linked x on c.get-node.result c.get-node.ensures.is c.set_next.new.self c.set_prev.new.self c.set_free.new.self
+    c.set_next.ensures.nodes c.set_prev.ensures.nodes c.set_free.ensures.nodes in
     let gone = ap (held_in i.nodes) e ∙ held_taken i.block i.nodes i.queues i.vacant i.free linked x on in
     subst (λ hs. Begins hs a) (sym gone) (firsts_removed (held_in i.nodes i.block) x (ap holds there) a (subst (λ (l : Lists). Begins l.held a) (sym c.self.view_is) begins))
