@@ -42,7 +42,7 @@ module _ (was now : Lines) (q id : ℕ) (tail : Option ℕ) (request : Request) 
   pub now_elsewhere : (n : ℕ) → (n ≡ q → ⊥) → nodes_of now.nodes n ≡ nodes_of was.nodes n
   now_elsewhere = added_elsewhere was now q id tail node ok within many capacity pushed.fresh pushed.queues pushed.held
 
-  pub now_few : length (nodes_of now.nodes q) < 2 ^ 64
+  pub now_few : length (nodes_of now.nodes q) < 2 ^ 32
   now_few = let few = queue_few now.nodes.queues q in let room = now_numbered.room in let small = now_numbered.small in omega (arith, few, room, small)
 
   -- the node was in no queue

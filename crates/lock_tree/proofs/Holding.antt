@@ -64,8 +64,18 @@ pub fits_counted : (held : List Mode) (c : Mode) → all_spare held c ≡ list_a
 fits_counted [] c = refl
 fits_counted (h ∷ held) c = sym (step c held h) ∙ ap (λ v. are_compatible h c && v) (fits_counted held c)
 
+all_five : (a b c d e : Bool) → ((((a && b) && c) && d) && e) ≡ (a && (b && (c && (d && (e && true)))))
+all_five false b c d e = refl
+all_five true false c d e = refl
+all_five true true false d e = refl
+all_five true true true false e = refl
+all_five true true true true false = refl
+all_five true true true true true = refl
+
 pub counts_fit : (counts : Held) (held : List Mode) (c : Mode) → AreHeld counts held
-    → list_all (λ (x : ℕ × Mode). spares x.0 x.1 c) ((counts.intention_shared, IntentionShared) ∷ (counts.intention_exclusive, IntentionExclusive) ∷ (counts.shared, Shared) ∷ (counts.shared_intention_exclusive, SharedIntentionExclusive) ∷ (counts.exclusive, Exclusive) ∷ [])
+    → ((((spares counts.intention_shared IntentionShared c && spares counts.intention_exclusive IntentionExclusive c) && spares counts.shared Shared c) && spares counts.shared_intention_exclusive SharedIntentionExclusive c) && spares counts.exclusive Exclusive c)
     ≡ list_all (λ h. are_compatible h c) held
-counts_fit counts held c is = (λ i. spares (is.intention_shared i) IntentionShared c && (spares (is.intention_exclusive i) IntentionExclusive c
+counts_fit counts held c is =
+    all_five (spares counts.intention_shared IntentionShared c) (spares counts.intention_exclusive IntentionExclusive c) (spares counts.shared Shared c) (spares counts.shared_intention_exclusive SharedIntentionExclusive c) (spares counts.exclusive Exclusive c)
+    ∙ (λ i. spares (is.intention_shared i) IntentionShared c && (spares (is.intention_exclusive i) IntentionExclusive c
     && (spares (is.shared i) Shared c && (spares (is.shared_intention_exclusive i) SharedIntentionExclusive c && (spares (is.exclusive i) Exclusive c && true))))) ∙ fits_counted held c

@@ -37,7 +37,7 @@ module _ (was now : Lines) (q i a : ℕ) (behind : Option ℕ) (ok : IsNumbered 
   pub now_elsewhere : (n : ℕ) → (n ≡ q → ⊥) → nodes_of now.nodes n ≡ nodes_of was.nodes n
   now_elsewhere = left_elsewhere was now q i a (live q i a there).0 ok within many capacity there once (live q i a there).1 queues removed.gone
 
-  pub now_few : length (nodes_of now.nodes q) < 2 ^ 64
+  pub now_few : length (nodes_of now.nodes q) < 2 ^ 32
   now_few = let few = queue_few now.nodes.queues q in let room = now_numbered.room in let small = now_numbered.small in omega (arith, few, room, small)
 
   pub now_free : free_nodes now.nodes.held ≡ free_nodes was.nodes.held + 1

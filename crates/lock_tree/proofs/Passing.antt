@@ -38,7 +38,7 @@ module _ (was now : Lines) (q id : ℕ) (tail : Option ℕ) (h : Held) (ok : IsN
   added = record {
     few = (let a = ok.few in let n = added_nodes in omega (arith, a, many, n));
     many = (let m = ok.many in let n = added_nodes in let k : length now.nodes.queues ≡ length was.nodes.queues = ap length queues ∙ length-set was.nodes.queues q (nodes_of was.nodes q ++ id ∷ []) in omega (arith, m, n, k));
-    small = (let s = ok.small in let n = added_nodes in subst (λ (k : ℕ). k < 2 ^ 64) (sym n) s);
+    small = (let s = ok.small in let n = added_nodes in subst (λ (k : ℕ). k < 2 ^ 32) (sym n) s);
     named = λ r n e. (
       (let l = (ok.named r n e).0 in omega (arith, l, many)),
       λ empty. or_other n q (None ≡ Some n) (λ same. absurd (filled (ap (nodes_of now.nodes) (sym same) ∙ empty)))
@@ -87,7 +87,7 @@ module _ (was now : Lines) (q i a : ℕ) (h : Held) (ok : IsNumbered was None) (
   left = record {
     few = (let a = ok.few in let n = left_nodes in omega (arith, a, many, n));
     many = (let m = ok.many in let n = left_nodes in let k : length now.nodes.queues ≡ length was.nodes.queues = ap length queues ∙ length-set was.nodes.queues q (without a (nodes_of was.nodes q)) in omega (arith, m, n, k));
-    small = (let s = ok.small in let n = left_nodes in subst (λ (k : ℕ). k < 2 ^ 64) (sym n) s);
+    small = (let s = ok.small in let n = left_nodes in subst (λ (k : ℕ). k < 2 ^ 32) (sym n) s);
     named = λ r n e. (
       (let l = (ok.named r n e).0 in omega (arith, l, many)),
       λ empty. or_other n q (Some q ≡ Some n) (λ same. ap Some (sym same)) (λ other. absurd (none_is n ((ok.named r n e).1 (sym (left_elsewhere n other) ∙ empty)))),

@@ -306,7 +306,7 @@ blank n = record { queues = replicate n []; held = replicate n None }
 pub all_free : (lists : Lists) (n : ℕ) → lists ≡ blank n → free_nodes lists.held ≡ n
 all_free lists n is = ap (λ (x : Lists). free_nodes x.held) is ∙ free_all n
 
-pub none_numbered : (l : Lines) (n : ℕ) → n < 2 ^ 64 → l.nodes ≡ blank n → l.numbers.entries ≡ [] → l.lines.items ≡ [] → l.vacant.items ≡ [] → l.resources.items ≡ [] → n ≤ vec_capacity l.lines → n ≤ vec_capacity l.vacant → n ≤ vec_capacity l.resources → IsNumbered l None
+pub none_numbered : (l : Lines) (n : ℕ) → length l.nodes.held < 2 ^ 32 → l.nodes ≡ blank n → l.numbers.entries ≡ [] → l.lines.items ≡ [] → l.vacant.items ≡ [] → l.resources.items ≡ [] → n ≤ vec_capacity l.lines → n ≤ vec_capacity l.vacant → n ≤ vec_capacity l.resources → IsNumbered l None
 none_numbered l n small is no_number no_line no_vacant no_resource lines_fit vacant_fit resources_fit =
     let held : length l.nodes.held ≡ n = ap (λ (x : Lists). length x.held) is ∙ length-replicate n None in
     let queues : length l.nodes.queues ≡ n = ap (λ (x : Lists). length x.queues) is ∙ length-replicate n [] in
@@ -315,7 +315,7 @@ none_numbered l n small is no_number no_line no_vacant no_resource lines_fit vac
     record {
       few = omega (arith, held, lines);
       many = omega (arith, held, queues);
-      small = subst (λ (k : ℕ). k < 2 ^ 64) (sym held) small;
+      small = small;
       named = λ r q e. absurd (unnamed r q e);
       noted = λ r q e. absurd (unnamed r q e);
       as_many = omega (arith, lines, resources);

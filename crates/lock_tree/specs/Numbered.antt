@@ -34,7 +34,7 @@ gap queues (Some number) = none (slice_index_or queues number [])
 pub record IsNumbered (lines : Lines) (open_one : Option ℕ) : Type 0 where
   pub few : length lines.lines.items ≤ length lines.nodes.held
   pub many : length lines.nodes.queues ≡ length lines.nodes.held
-  pub small : length lines.nodes.held < 2 ^ 64
+  pub small : length lines.nodes.held < 2 ^ 32
   pub named : (r : Resource) (number : ℕ) → number_of lines r ≡ Some number → (number < length lines.lines.items) × (nodes_of lines.nodes number ≡ [] → open_one ≡ Some number)
   pub noted : (r : Resource) (number : ℕ) → number_of lines r ≡ Some number → slice_get lines.resources.items number ≡ Some r
   pub as_many : length lines.resources.items ≡ length lines.lines.items

@@ -17,7 +17,7 @@ use request_arena::{Full, NodeId, Queues, Request};
 /// Goes on behind what is granted of a queue, as long as each request is compatible with all before it.
 fn extended(lines: &Lines, number: usize) -> Line
     requires live { AreLive lines.now.nodes }
-    requires few { length (nodes_of lines.now.nodes number) < 2 ^ 64 }
+    requires few { length (nodes_of lines.now.nodes number) < 2 ^ 32 }
     requires within { number < length lines.now.lines.items }
     requires queue { number < length lines.now.nodes.queues }
     requires front { (x : AnyLine) → slice_get lines.now.lines.items number ≡ Some x →
@@ -139,7 +139,7 @@ pub(crate) struct Left {
     /// The next of its chain.
     pub(crate) behind: Option<NodeId>,
     /// How many of the others were granted before.
-    pub(crate) stay: usize,
+    pub(crate) stay: u32,
     /// The one behind these in the queue.
     pub(crate) first: Option<NodeId>,
 }

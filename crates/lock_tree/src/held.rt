@@ -11,27 +11,19 @@ use modes::{Mode, compatible};
 /// How many requests are granted in each mode.
 #[derive(Clone, Copy)]
 pub(crate) struct Held {
-    intention_shared: usize,
-    intention_exclusive: usize,
-    shared: usize,
-    shared_intention_exclusive: usize,
-    exclusive: usize,
+    intention_shared: u32,
+    intention_exclusive: u32,
+    shared: u32,
+    shared_intention_exclusive: u32,
+    exclusive: u32,
 }
 
 /// Whether none of so many requests in a mode bars another mode.
-fn spares(count: usize, held: Mode, mode: Mode) -> bool
+#[inline(always)]
+fn spares(count: u32, held: Mode, mode: Mode) -> bool
     ensures { result ≡ spares count held mode }
 {
     count == 0 || compatible(held, mode)
-}
-
-/// Whether none of the modes that are counted bars another.
-fn all_spare(counts: &[(usize, Mode)], mode: Mode) -> bool
-    ensures { result ≡ list_all (λ count. spares count.0 count.1 mode) counts.now }
-{
-    counts
-        .iter()
-        .all(|(count, held)| spares(*count, *held, mode))
 }
 
 impl Held {
@@ -50,7 +42,7 @@ impl Held {
 
     /// One more request is granted in a mode.
     pub(crate) fn add(&mut self, mode: Mode)
-        requires { (held : List AnyMode) × AreHeld self.old held × (length held + 1 < 2 ^ 64) }
+        requires { (held : List AnyMode) × AreHeld self.old held × (length held + 1 < 2 ^ 32) }
         ensures { (held more : List AnyMode) → AreHeld self.old held →
             ((m : AnyMode) → times m more ≡ times m (mode ∷ held)) → AreHeld self.new more }
     {
@@ -82,16 +74,14 @@ impl Held {
     pub(crate) fn fits(&self, mode: Mode) -> bool
         ensures { (held : List AnyMode) → AreHeld self.now held → result ≡ list_all (λ h. are_compatible h mode) held }
     {
-        let counts = [
-            (self.intention_shared, Mode::IntentionShared),
-            (self.intention_exclusive, Mode::IntentionExclusive),
-            (self.shared, Mode::Shared),
-            (
+        spares(self.intention_shared, Mode::IntentionShared, mode)
+            & spares(self.intention_exclusive, Mode::IntentionExclusive, mode)
+            & spares(self.shared, Mode::Shared, mode)
+            & spares(
                 self.shared_intention_exclusive,
                 Mode::SharedIntentionExclusive,
-            ),
-            (self.exclusive, Mode::Exclusive),
-        ];
-        all_spare(&counts, mode)
+                mode,
+            )
+            & spares(self.exclusive, Mode::Exclusive, mode)
     }
 }

@@ -12,7 +12,7 @@ use request_arena::NodeId;
 /// wait.
 #[derive(Clone, Copy)]
 pub(crate) struct Line {
-    pub(crate) granted: usize,
+    pub(crate) granted: u32,
     pub(crate) held: Held,
     pub(crate) waiting: Option<NodeId>,
 }

@@ -37,8 +37,10 @@ impl Lines {
         ensures empty { IfOk result (λ lines. (r : AnyResource) → line lines r ≡ []) }
         ensures free { IfOk result (λ lines. free_nodes lines.nodes.held ≡ arena) }
     {
+        let nodes = Queues::with_capacity(alloc, arena, arena)?;
+        nodes.nodes_are_few();
         Ok(Lines {
-            nodes: Queues::with_capacity(alloc, arena, arena)?,
+            nodes,
             numbers: HashMap::new(alloc),
             resources: Vec::with_capacity(alloc, arena)?,
             lines: Vec::with_capacity(alloc, arena)?,

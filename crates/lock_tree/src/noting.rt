@@ -22,6 +22,7 @@ use crate::queues::remove;
 use crate::transactions::Transactions;
 use footprint::Resource;
 use request_arena::NodeId;
+use std::snapshot::Snapshot;
 
 /// Notes whether a transaction is ready.
 fn note(lines: &Lines, transactions: &mut Transactions, no: u64)
@@ -47,7 +48,7 @@ fn note_granted(
     lines: &Lines,
     transactions: &mut Transactions,
     number: usize,
-    mut place: usize,
+    mut place: u32,
     mut first: Option<NodeId>,
 )
     requires numbered { IsNumbered lines.now None }
@@ -74,18 +75,18 @@ fn note_granted(
 }
 
 /// Takes the first node of a transaction's chain out of the queue of its resource, and notes who gets ready: the next of
-/// the chain.
+/// the chain. The resource is there as clauses see it, which costs nothing.
 fn leave_one(
     lines: &mut Lines,
     transactions: &mut Transactions,
-    resource: &Resource,
+    resource: &Snapshot<Resource>,
     number: usize,
     node: NodeId,
     no: u64,
 ) -> Option<NodeId>
     requires numbered { IsNumbered lines.old None }
     requires granted { AreGranted lines.old }
-    requires placed { IsPlaced lines.old no resource.now number node }
+    requires placed { IsPlaced lines.old no resource.now.value number node }
     requires begins { Begins lines.old (Some node) }
     requires indexed { IsIndexed transactions.old }
     requires others { AllByRecursion (λ waiting.
@@ -96,7 +97,7 @@ fn leave_one(
     ensures granted { AreGranted lines.new }
     ensures free { free_nodes lines.new.nodes.held ≡ free_nodes lines.old.nodes.held + 1 }
     ensures left { (other : AnyResource) →
-        line lines.new other ≡ (if is_same other resource.now then others no (line lines.old other)
+        line lines.new other ≡ (if is_same other resource.now.value then others no (line lines.old other)
         else line lines.old other) }
     ensures shorter { IsShorter no node result lines.old lines.new }
     ensures indexed { IsIndexed transactions.new }
@@ -138,7 +139,7 @@ pub(crate) fn leave_all(
     let mut head = entry.head();
     while let Some(node) = head {
         let number = lines.nodes.queue_of(node);
-        let resource = lines.resources[number];
+        let resource = Snapshot::of(&lines.resources[number]);
         head = leave_one(lines, transactions, &resource, number, node, no);
     }
 }

@@ -11,6 +11,7 @@ ghost use Rattle.lock_tree.specs.Steps.{IsOpened, IsForgotten};
 use crate::line::push_empty;
 use crate::lines::Lines;
 use footprint::Resource;
+use std::snapshot::Snapshot;
 
 /// Takes a number that is no resource's for one: the number that became vacant last, or else the least. A node is free.
 fn take(lines: &mut Lines, resource: &Resource) -> usize
@@ -64,14 +65,15 @@ pub(crate) fn number_for(lines: &mut Lines, resource: &Resource) -> usize
 }
 
 /// Forgets a resource whose queue has become empty: its number is vacant.
-pub(crate) fn forget_empty(lines: &mut Lines, resource: &Resource, number: usize)
+pub(crate) fn forget_empty(lines: &mut Lines, resource: &Snapshot<Resource>, number: usize)
     requires numbered { IsNumbered lines.old (Some number) }
     requires granted { AreGranted lines.old }
-    requires named { number_of lines.old resource.now ≡ Some number }
-    ensures { IsForgotten lines.old resource.now number lines.new }
+    requires named { number_of lines.old resource.now.value ≡ Some number }
+    ensures { IsForgotten lines.old resource.now.value number lines.new }
 {
     if lines.nodes.first(number).is_none() {
-        lines.numbers.remove(resource);
+        let resource = lines.resources[number];
+        lines.numbers.remove(&resource);
         lines.vacant.push_reserved(number);
     }
 }

@@ -15,6 +15,7 @@ use crate::lines::Lines;
 use crate::numbering::{forget_empty, number_for};
 use footprint::Resource;
 use request_arena::{NodeId, Request};
+use std::snapshot::Snapshot;
 
 /// Puts a request behind the others on its resource, and behind the tail of its transaction's chain: its node. There is room
 /// for it.
@@ -46,29 +47,29 @@ pub(crate) fn push(
 }
 
 /// Takes the first node of a transaction's chain out of the queue of its resource, and forgets the resource where none asks
-/// for it.
+/// for it. The resource is there as clauses see it, which costs nothing.
 pub(crate) fn remove(
     lines: &mut Lines,
-    resource: &Resource,
+    resource: &Snapshot<Resource>,
     number: usize,
     node: NodeId,
     no: u64,
 ) -> Left
     requires numbered { IsNumbered lines.old None }
     requires granted { AreGranted lines.old }
-    requires placed { IsPlaced lines.old no resource.now number node }
+    requires placed { IsPlaced lines.old no resource.now.value number node }
     requires begins { Begins lines.old (Some node) }
     ensures numbered { IsNumbered lines.new None }
     ensures granted { AreGranted lines.new }
     ensures within { number < length lines.new.lines.items }
     ensures free { free_nodes lines.new.nodes.held ≡ free_nodes lines.old.nodes.held + 1 }
     ensures left { (other : AnyResource) →
-        line lines.new other ≡ (if is_same other resource.now then others no (line lines.old other)
+        line lines.new other ≡ (if is_same other resource.now.value then others no (line lines.old other)
         else line lines.old other) }
-    ensures here { in_order lines.new.nodes number ≡ others no (line lines.old resource.now) }
-    ensures stay { result.stay ≡ length (others no (granted (line lines.old resource.now))) }
+    ensures here { in_order lines.new.nodes number ≡ others no (line lines.old resource.now.value) }
+    ensures stay { result.stay ≡ length (others no (granted (line lines.old resource.now.value))) }
     ensures first { result.first ≡ slice_get (nodes_of lines.new.nodes number) result.stay }
-    ensures kept { line lines.new resource.now ≡ [] → number_of lines.new resource.now ≡ None }
+    ensures kept { line lines.new resource.now.value ≡ [] → number_of lines.new resource.now.value ≡ None }
     ensures others { OthersChained no lines.old lines.new }
     ensures shorter { IsShorter no node result.behind lines.old lines.new }
 {

@@ -56,7 +56,7 @@ leave_one-head-requires-clause-placed c =
     let l = c.loop-head.lines in
     let near = slice_get_within l.resources.items r.number r.request.0 (c.loop-head.invariant.2.numbered.noted r.request.0 r.number r.placed.named) in
     let at = slice_get_read l.resources.items (length l.resources.items) c.queue_of-number.result c.index.result.now refl (omega (arith, near, e)) c.index.ensures in
-    subst (λ (x : Resource). IsPlaced l c.args.no x c.queue_of-number.result c.in-Some.node) (resource_is d c.queue_of-number.result c.index.result.now r e at)
+    subst (λ (x : Resource). IsPlaced l c.args.no x c.queue_of-number.result c.in-Some.node) (resource_is d c.queue_of-number.result c.of-resource.result.value r e (at ∙ ap Some (sym c.of-resource.ensures)))
     (subst (λ (n : ℕ). IsPlaced l c.args.no r.request.0 n c.in-Some.node) (sym e) r.placed)
 
 -- what is left of the chain
@@ -81,7 +81,7 @@ loop-head-preserved c =
     let e = c.queue_of-number.ensures r.number r.placed.place r.placed.there in
     let near = slice_get_within l.resources.items r.number r.request.0 (inv.numbered.noted r.request.0 r.number r.placed.named) in
     let at = slice_get_read l.resources.items (length l.resources.items) c.queue_of-number.result c.index.result.now refl (omega (arith, near, e)) c.index.ensures in
-    let is = resource_is d c.queue_of-number.result c.index.result.now r e at in
+    let is = resource_is d c.queue_of-number.result c.of-resource.result.value r e (at ∙ ap Some (sym c.of-resource.ensures)) in
     let gone : (other : Resource) → line now other ≡ cond (is_same other r.request.0) (others c.args.no (line l other)) (line l other) =
     λ other. left.left other ∙ ap (λ (x : Resource). cond (is_same other x) (others c.args.no (line l other)) (line l other)) (sym is) in (
       r.later,

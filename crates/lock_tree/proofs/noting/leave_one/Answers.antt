@@ -12,7 +12,7 @@ note_granted-requires-clause-known c =
     let old = line c.args.lines.now in
     let now = c.remove-left.new.lines in
     let k = c.args.no in
-    let r = c.args.resource.now in
+    let r = c.args.resource.now.value in
     let is : drop c.remove-left.result.stay (granted (in_order now.nodes c.args.number)) ≡ newly k (old r) =
     ap (λ m. drop m (granted (in_order now.nodes c.args.number))) c.remove-left.ensures.stay
     ∙ ap (λ (xs : Queue). drop (length (others k (granted (old r)))) (granted xs)) c.remove-left.ensures.here in

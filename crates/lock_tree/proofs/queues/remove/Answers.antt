@@ -7,7 +7,7 @@ use Rattle.lock_tree.proofs.queues.remove.Goals as goal
 
 pub returns-clause-left : goal.returns-clause-left
 returns-clause-left c = λ other.
-    let l = c.args.lines.now in let mid = c.leave-left.new.lines in let r = c.args.resource.now in let left = c.leave-left.ensures.left in
+    let l = c.args.lines.now in let mid = c.leave-left.new.lines in let r = c.args.resource.now.value in let left = c.leave-left.ensures.left in
     c.forget_empty.ensures.same other
     ∙ line_changed l mid r c.args.number (others c.args.no) left.numbers c.requires.placed.named (λ s n e f. unique l None c.requires.numbered s r n e f) left.here left.elsewhere other
 
