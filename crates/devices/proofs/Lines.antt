@@ -14,9 +14,9 @@ first_not b rest h = elim (is_newline b) as (λ v. (v || has_newline rest) ≡ f
 pub rest_not : (b : ℕ) (rest : List ℕ) → has_newline (b ∷ rest) ≡ false → has_newline rest ≡ false
 rest_not b rest h = elim (is_newline b) as (λ v. (v || has_newline rest) ≡ false → has_newline rest ≡ false) [ true ↦ λ e. cc | false ↦ λ e. e ] h
 
-pub has_newline-push : (line : List ℕ) (b : ℕ) → has_newline line ≡ false → is_newline b ≡ false → has_newline (line ++ b ∷ []) ≡ false
-has_newline-push [] b h e = rw e refl
-has_newline-push (x ∷ xs) b h e = rw (first_not x xs h, has_newline-push xs b (rest_not x xs h) e) refl
+pub has_newline-append : (line piece : List ℕ) → has_newline line ≡ false → has_newline piece ≡ false → has_newline (line ++ piece) ≡ false
+has_newline-append [] piece h e = e
+has_newline-append (x ∷ xs) piece h e = rw (first_not x xs h, has_newline-append xs piece (rest_not x xs h) e) refl
 
 pub newlines_in-line : (line : List ℕ) → has_newline line ≡ false → newlines_in line ≡ 0
 newlines_in-line [] h = refl

@@ -1,11 +1,11 @@
 -- Where a reader stands after it took bytes.
-use Rattle.std.proofs.Common.{◌≡◌, ℕ, ◌+◌, ◌<◌, ◌^◌, List, [], ◌∷◌, ◌++◌, length, append-nil, false, Option, refl, sym, ◌∙◌, ap, subst, arith, inl, inr, length-append}
+use Rattle.std.proofs.Common.{◌≡◌, ℕ, ◌+◌, ◌<◌, ◌^◌, List, [], ◌∷◌, ◌++◌, length, false, Option, refl, sym, ◌∙◌, ap, arith, inl, inr, length-append}
 use Rattle.std.specs.Io.KnownBytes.{Consumes, IsAtEnd, Keeps}
-use Rattle.std.proofs.KnownBytes.{Consumes-trans, Consumes-kept}
+use Rattle.std.proofs.KnownBytes.{Consumes-kept}
 use Rattle.devices.specs.Devices.{Passes}
-use Rattle.devices.specs.Lines.{has_newline, is_newline, line_number, lines_of, newline, newlines_in, next_number, numbered_lines}
+use Rattle.devices.specs.Lines.{has_newline, line_number, lines_of, newline, newlines_in, next_number, numbered_lines}
 use Rattle.devices.specs.LineReader.{LosesLine, Position, position_after, Takes, TakesLine}
-use Rattle.devices.proofs.Lines.{has_newline-push, lines_of-last, lines_of-newline, newlines_in-line, newlines_in-newline, numbered_lines-last, numbered_lines-newline}
+use Rattle.devices.proofs.Lines.{has_newline-append, lines_of-last, lines_of-newline, newlines_in-line, newlines_in-newline, numbered_lines-last, numbered_lines-newline}
 use Rattle.devices.proofs.Passing.{Passes-from_consumes, Passes-at_end}
 
 length-lines_of-newline : (line : List ℕ) → has_newline line ≡ false → length (lines_of (line ++ newline ∷ [])) ≡ 1
@@ -39,30 +39,27 @@ after_line p q line h small same none some =
 
 -- ---- what a call of the reader takes
 
-pub line_taken : (a m c : Option (List ℕ)) (p : Position) (line : List ℕ) (b k : ℕ) → has_newline line ≡ false →
-    Consumes a m line → Consumes m c (b ∷ []) → b ≡ newline → k ≡ next_number p.newlines →
-    TakesLine a c p (record { newlines = k; begun = k }) line
-line_taken a m c p line b k h first second e f =
-    let P : ℕ → Type 0 = λ v. Consumes a c (line ++ v ∷ []) in
-    (h, inl (subst P e (Consumes-trans a m c line (b ∷ []) first second), rw f (sym (after_newline p line h))))
+pub line_taken : (a c : Option (List ℕ)) (p : Position) (line : List ℕ) (m k : ℕ) → has_newline line ≡ false →
+    Consumes a c (line ++ newline ∷ []) → m ≡ next_number p.newlines → k ≡ next_number p.newlines →
+    TakesLine a c p (record { newlines = m; begun = k }) line
+line_taken a c p line m k h taken e f = (h, inl (taken, rw (e, f) (sym (after_newline p line h))))
 
 pub last_taken : (a m c : Option (List ℕ)) (p q : Position) (line : List ℕ) → has_newline line ≡ false → 0 < length line → p.newlines < 2 ^ 64 → q.newlines ≡ p.newlines →
-    Consumes a m line → Consumes m c [] → IsAtEnd c → q.begun ≡ next_number p.newlines → TakesLine a c p q line
+    Consumes a m line → Keeps m c → IsAtEnd c → q.begun ≡ next_number p.newlines → TakesLine a c p q line
 last_taken a m c p q line h some small same first second end f =
-    let taken : Consumes a c line = rw append-nil at (Consumes-trans a m c line [] first second) in
-    (h, inr (some, (taken, after_line p q line h small same (λ none. absurd (omega arith)) (λ _. f)), end))
+    (h, inr (some, (Consumes-kept a m c line first second, after_line p q line h small same (λ none. absurd (omega arith)) (λ _. f)), end))
 
 pub line_lost : (a m c : Option (List ℕ)) (p q : Position) (line : List ℕ) → has_newline line ≡ false → p.newlines < 2 ^ 64 → q.newlines ≡ p.newlines →
     (length line ≡ 0 → q.begun ≡ p.begun) → (0 < length line → q.begun ≡ next_number p.newlines) → Consumes a m line → Keeps m c → LosesLine a c p q
 line_lost a m c p q line h small same none some first second =
     (line, h, (Consumes-kept a m c line first second, after_line p q line h small same none some))
 
-pub byte_lost : (a m c : Option (List ℕ)) (p q : Position) (line : List ℕ) (b : ℕ) → has_newline line ≡ false → is_newline b ≡ false → p.newlines < 2 ^ 64 → q.newlines ≡ p.newlines →
-    Consumes a m line → Consumes m c (b ∷ []) → q.begun ≡ next_number p.newlines → LosesLine a c p q
-byte_lost a m c p q line b h e small same first second f =
-    let whole = has_newline-push line b h e in
-    let some : 0 < length (line ++ b ∷ []) = simp length-append (omega arith) in
-    (line ++ b ∷ [], whole, (Consumes-trans a m c line (b ∷ []) first second, after_line p q (line ++ b ∷ []) whole small same (λ none. absurd (omega arith)) (λ _. f)))
+pub piece_lost : (a c : Option (List ℕ)) (p q : Position) (line piece : List ℕ) → has_newline line ≡ false → has_newline piece ≡ false → 0 < length piece → p.newlines < 2 ^ 64 →
+    q.newlines ≡ p.newlines → Consumes a c (line ++ piece) → q.begun ≡ next_number p.newlines → LosesLine a c p q
+piece_lost a c p q line piece h e some small same taken f =
+    let whole = has_newline-append line piece h e in
+    let more : 0 < length (line ++ piece) = simp length-append (omega arith) in
+    (line ++ piece, whole, (taken, after_line p q (line ++ piece) whole small same (λ none. absurd (omega arith)) (λ _. f)))
 
 -- ---- a line taken is the first of the lines that were left
 

@@ -1,10 +1,11 @@
 //! The reader of a source's lines.
 
-ghost use Rattle.std.specs.Prelude.{◌≡◌, ◌≤◌, ◌<◌, ◌||◌, [], ◌∷◌, ◌++◌, length, true, None, Err, IfOk, IfErr, OnOk, OnErr, IfSome, IsNone, IsOk, IsOkAnd, option_to_list};
+ghost use Rattle.std.specs.Prelude.{◌≡◌, ◌≤◌, ◌<◌, ◌||◌, if◌then◌else◌, [], ◌∷◌, ◌++◌, length, take, slice_index, true, false, None, Err, IfOk, IfErr, OnOk, OnErr, IfSome, IsNone, IsOk, IsOkAnd, option_to_list};
 ghost use Rattle.std.specs.Result.{is_err};
 ghost use Rattle.std.specs.Io.KnownBytes.{Consumes, Keeps, IsAtEnd};
 ghost use Rattle.devices.specs.Devices.{Passes};
-ghost use Rattle.devices.specs.Lines.{has_newline, numbered_lines};
+ghost use Rattle.devices.specs.Lines.{has_newline, newline, numbered_lines};
+ghost use Rattle.devices.specs.Pieces.{LosesPiece, says_end, TakesPiece};
 
 use crate::device::{DeviceFailed, Source};
 use std::alloc::{AllocError, Global};
@@ -39,14 +40,32 @@ const BUFFER_LEN: usize = 4096;
 /// A line has room for so many bytes at first, so that few lines take memory twice.
 const LINE_ROOM: usize = 64;
 
-/// Puts a byte behind those of a line.
-fn push(line: &mut Vec<u8>, byte: u8) -> Result<(), AllocError>
-    ensures { OnOk result (line.new.items ≡ line.old.items ++ byte ∷ []) }
+/// Where the first newline of some bytes stands, or how many they are where they have none.
+fn line_end(bytes: &[u8]) -> usize
+    ensures within { result ≤ length bytes.now }
+    ensures before { has_newline (take result bytes.now) ≡ false }
+    ensures at { result < length bytes.now → slice_index bytes.now result ≡ newline }
 {
-    if line.is_empty() {
-        line.reserve(LINE_ROOM)?;
+    for (place, byte) in bytes.iter().enumerate() {
+        if *byte == b'\n' {
+            return place;
+        }
     }
-    line.push(byte)?;
+    bytes.len()
+}
+
+/// Puts a piece behind the bytes of a line.
+fn push_piece(line: &mut Vec<u8>, piece: &[u8]) -> Result<(), AllocError>
+    ensures ok { OnOk result (line.new.items ≡ line.old.items ++ piece.now) }
+    ensures some { OnErr result (0 < length piece.now) }
+{
+    if piece.is_empty() {
+        return Ok(());
+    }
+    if line.is_empty() {
+        line.reserve(piece.len().max(LINE_ROOM))?;
+    }
+    line.extend_from_slice(piece)?;
     Ok(())
 }
 
@@ -116,31 +135,34 @@ impl<'a, S: Source> LineReader<'a, S> {
         Ok(())
     }
 
-    // The next byte, which is then taken.
-    fn next_byte(&mut self) -> Result<Option<u8>, DeviceFailed>
+    // Takes what came of a line of that number: the bytes before the newline and then the newline,
+    // or all that came. The bytes go behind those of the line, and are lost where memory is
+    // refused. Answers whether the line ends.
+    fn take_piece(&mut self, number: u64, line: &mut Vec<u8>) -> Result<bool, AllocError>
+        requires { self.old.start < self.old.end }
         ensures same { source_name self.new ≡ source_name self.old }
-        ensures stays { (self.new.newlines ≡ self.old.newlines) × (self.new.begun ≡ self.old.begun) ×
-            (self.new.fault ≡ self.old.fault) }
-        ensures bytes { IfOk result (λ o.
-            Consumes (unread S.left self.old) (unread S.left self.new) (option_to_list o)) }
-        ensures end { IfOk result (λ o. IsNone o → IsAtEnd (unread S.left self.new)) }
-        ensures err { OnErr result (Keeps (unread S.left self.old) (unread S.left self.new)) }
-        ensures late { 0 < length (came self.old) → (source_of self.new ≡ source_of self.old) ×
-            IsOkAnd result (λ o. came self.old ≡ option_to_list o ++ came self.new) }
-        ensures spent { OnErr result (came self.new ≡ []) }
-        ensures fails { S.failed (source_of self.new) ≡ (S.failed (source_of self.old) || is_err result) }
+        ensures source { source_of self.new ≡ source_of self.old }
+        ensures stays { self.new.fault ≡ self.old.fault }
+        ensures begun { self.new.begun ≡ number }
+        ensures newlines { self.new.newlines ≡ (if says_end result then number else self.old.newlines) }
+        ensures piece { IfOk result (λ ends. TakesPiece ends (came self.old) (came self.new) line.old.items line.new.items) }
+        ensures lost { OnErr result (LosesPiece (came self.old) (came self.new)) }
     {
-        self.fill()?;
+        self.begun = number;
+        let from = self.start;
+        let count = line_end(&self.buffer[from..self.end]);
+        self.start = from + count;
+        push_piece(line, &self.buffer[from..self.start])?;
         if self.start == self.end {
-            return Ok(None);
+            return Ok(false);
         }
-        let byte = self.buffer[self.start];
         self.start += 1;
-        Ok(Some(byte))
+        self.newlines = number;
+        Ok(true)
     }
 
-    // The next line, where the reader has no fault. A line grows by a byte each turn, and none is
-    // longer than memory, so the loop ends.
+    // The next line, where the reader has no fault. A line grows each turn, and none is longer than
+    // memory, so the loop ends.
     fn take_line(&mut self, alloc: Global) -> Result<Option<Vec<u8>>, LineReadFault>
         ensures same { source_name self.new ≡ source_name self.old }
         ensures stays { self.new.fault ≡ self.old.fault }
@@ -163,21 +185,20 @@ impl<'a, S: Source> LineReader<'a, S> {
     {
         let number = self.newlines.saturating_add(1);
         let mut line = Vec::new(alloc);
-        'bytes: loop {
-            match self.next_byte() {
-                Ok(Some(byte)) => {
-                    self.begun = number;
-                    if byte == b'\n' {
-                        self.newlines = number;
-                        return Ok(Some(line));
-                    }
-                    if push(&mut line, byte).is_err() {
-                        return Err(LineReadFault::Memory { line: number });
-                    }
+        'pieces: loop {
+            if self.fill().is_err() {
+                return Err(LineReadFault::Io { line: number });
+            }
+            if self.start == self.end {
+                if line.is_empty() {
+                    return Ok(None);
                 }
-                Ok(None) if line.is_empty() => return Ok(None),
-                Ok(None) => return Ok(Some(line)),
-                Err(DeviceFailed) => return Err(LineReadFault::Io { line: number }),
+                return Ok(Some(line));
+            }
+            match self.take_piece(number, &mut line) {
+                Ok(true) => return Ok(Some(line)),
+                Ok(false) => {}
+                Err(AllocError) => return Err(LineReadFault::Memory { line: number }),
             }
         }
     }

@@ -1,46 +1,75 @@
-use Rattle.std.proofs.Common.{◌≡◌, [], append-nil, length, refl, rules}
-use Rattle.std.proofs.KnownBytes.{Consumes-trans}
-use Rattle.std.proofs.lemmas.Bool.{ne_eqb}
+use Rattle.std.proofs.Common.{◌≡◌, ◌∙◌, ◌<◌, [], ap, append-nil, false, true, length, refl, rules, arith}
+use Rattle.std.proofs.KnownBytes.{Consumes-kept}
+use Rattle.std.proofs.lemmas.Bool.{both_ways}
 use Rattle.std.proofs.lemmas.List.{nil_from_length}
-use Rattle.devices.specs.LineReader.{position_of}
+use Rattle.devices.specs.LineReader.{came, position_of, source_of}
+use Rattle.devices.specs.Lines.{has_newline}
 use Rattle.devices.proofs.Passing.{Passes-at_end}
-use Rattle.devices.proofs.Positions.{byte_lost, last_taken, line_lost, line_taken, numbered_of_line}
+use Rattle.devices.proofs.Pieces.{came_some, grown_longer, grown_taken, grown_whole, more_taken, piece_as}
+use Rattle.devices.proofs.Positions.{last_taken, line_lost, line_taken, numbered_of_line, piece_lost}
 use Rattle.devices.proofs.line_reader.LineReader.take_line.Goals as goal
-
-pub returns-then-byte-eq10-clause-line : goal.returns-then-byte-eq10-clause-line
-returns-then-byte-eq10-clause-line g c =
-    line_taken _ _ _ (position_of c.args.self.now) _ _ _ c.bytes.invariant.line c.bytes.invariant.taken
-    (rw c.in-Ok-Some.field-0-is at c.in-Ok-Some.ensures.bytes) (search rules) (search rules)
-
-pub returns-then-byte-eq10-clause-numbered : goal.returns-then-byte-eq10-clause-numbered
-returns-then-byte-eq10-clause-numbered g c =
-    numbered_of_line _ _ (position_of c.args.self.now) _ _ (search rules)
-    (line_taken _ _ _ (position_of c.args.self.now) _ _ _ c.bytes.invariant.line c.bytes.invariant.taken
-    (rw c.in-Ok-Some.field-0-is at c.in-Ok-Some.ensures.bytes) (search rules) (search rules))
 
 pub returns-then-is_err-clause-lost : goal.returns-then-is_err-clause-lost
 returns-then-is_err-clause-lost g c =
-    byte_lost _ _ _ (position_of c.args.self.now) _ _ _ c.bytes.invariant.line (ne_eqb _ _ c.if-byte-eq10.false) (search rules) (search rules) c.bytes.invariant.taken
-    (rw c.in-Ok-Some.field-0-is at c.in-Ok-Some.ensures.bytes) (search rules)
+    line_lost _ _ _ (position_of c.args.self.now) (position_of c.fill.new.self) _ c.pieces.invariant.line (search rules) (search rules) (search rules) (search rules) c.pieces.invariant.taken c.fill.ensures.bytes
 
-pub returns-in-Ok-None-clause-end : goal.returns-in-Ok-None-clause-end
-returns-in-Ok-None-clause-end g c = λ _.
-    let short : length c.bytes.line.items ≡ 0 = search rules in
-    let none : c.bytes.line.items ≡ [] = nil_from_length _ short in
-    Passes-at_end _ _ _ c.bytes.line.items (none, refl)
-    (rw append-nil at (Consumes-trans _ _ _ _ _ c.bytes.invariant.taken (rw c.in-Ok-None.field-0-is at c.in-Ok-None.ensures.bytes))) (search rules)
+pub returns-then-is_empty-clause-end : goal.returns-then-is_empty-clause-end
+returns-then-is_empty-clause-end g c = λ _.
+    let short : length c.pieces.line.items ≡ 0 = search rules in
+    let none : c.pieces.line.items ≡ [] = nil_from_length _ short in
+    Passes-at_end _ _ _ c.pieces.line.items (none, refl)
+    (Consumes-kept _ _ _ c.pieces.line.items c.pieces.invariant.taken c.fill.ensures.bytes) (search rules)
 
-pub returns-in-Ok-None-2-clause-line : goal.returns-in-Ok-None-2-clause-line
-returns-in-Ok-None-2-clause-line g c =
-    last_taken _ _ _ (position_of c.args.self.now) (position_of c.next_byte.new.self) _ c.bytes.invariant.line (search rules) (search rules) (search rules) c.bytes.invariant.taken
-    (rw c.in-Ok-None.field-0-is at c.in-Ok-None.ensures.bytes) (search rules) (search rules)
+pub returns-then-self-clause-line : goal.returns-then-self-clause-line
+returns-then-self-clause-line g c =
+    last_taken _ _ _ (position_of c.args.self.now) (position_of c.fill.new.self) _ c.pieces.invariant.line (search rules) (search rules) (search rules) c.pieces.invariant.taken
+    c.fill.ensures.bytes (search rules) (search rules)
 
-pub returns-in-Ok-None-2-clause-numbered : goal.returns-in-Ok-None-2-clause-numbered
-returns-in-Ok-None-2-clause-numbered g c =
-    numbered_of_line _ _ (position_of c.args.self.now) (position_of c.next_byte.new.self) _ (search rules)
-    (last_taken _ _ _ (position_of c.args.self.now) (position_of c.next_byte.new.self) _ c.bytes.invariant.line (search rules) (search rules) (search rules) c.bytes.invariant.taken
-    (rw c.in-Ok-None.field-0-is at c.in-Ok-None.ensures.bytes) (search rules) (search rules))
+pub returns-then-self-clause-numbered : goal.returns-then-self-clause-numbered
+returns-then-self-clause-numbered g c =
+    numbered_of_line _ _ (position_of c.args.self.now) (position_of c.fill.new.self) _ (search rules)
+    (last_taken _ _ _ (position_of c.args.self.now) (position_of c.fill.new.self) _ c.pieces.invariant.line (search rules) (search rules) (search rules) c.pieces.invariant.taken
+    c.fill.ensures.bytes (search rules) (search rules))
+
+pub returns-in-Ok-true-clause-line : goal.returns-in-Ok-true-clause-line
+returns-in-Ok-true-clause-line g c =
+    line_taken _ _ (position_of c.args.self.now) _ _ _ (grown_whole true _ _ _ _ c.pieces.invariant.line (piece_as _ true _ _ _ _ c.in-Ok-true.field-0-test c.in-Ok-true.ensures.piece))
+    (grown_taken _ _ _ (g.S.Source.left (source_of c.fill.new.self)) (g.S.Source.left (source_of c.take_piece.new.self)) (came c.fill.new.self) (came c.take_piece.new.self) _ _
+    c.pieces.invariant.taken c.fill.ensures.bytes (search rules) (piece_as _ true _ _ _ _ c.in-Ok-true.field-0-test c.in-Ok-true.ensures.piece)) (search rules) (search rules)
+
+pub returns-in-Ok-true-clause-numbered : goal.returns-in-Ok-true-clause-numbered
+returns-in-Ok-true-clause-numbered g c =
+    numbered_of_line _ _ (position_of c.args.self.now) (position_of c.take_piece.new.self) _ (search rules)
+    (returns-in-Ok-true-clause-line g c)
+
+pub pieces-preserved : goal.pieces-preserved
+pieces-preserved g c =
+    let piece = piece_as _ false (came c.fill.new.self) (came c.take_piece.new.self) c.pieces.line.items c.take_piece.new.line.items c.in-Ok-false.field-0-test c.in-Ok-false.ensures.piece in
+    let longer : length c.pieces.line.items < length c.take_piece.new.line.items = grown_longer _ _ _ _ piece in
+    record {
+      same = search rules;
+      stays = search rules;
+      taken = rw append-nil at (grown_taken _ _ _ (g.S.Source.left (source_of c.fill.new.self)) (g.S.Source.left (source_of c.take_piece.new.self)) (came c.fill.new.self) (came c.take_piece.new.self) _ _
+          c.pieces.invariant.taken c.fill.ensures.bytes (search rules) (piece_as _ false _ _ _ _ c.in-Ok-false.field-0-test c.in-Ok-false.ensures.piece));
+      line = grown_whole false _ _ _ _ c.pieces.invariant.line (piece_as _ false _ _ _ _ c.in-Ok-false.field-0-test c.in-Ok-false.ensures.piece);
+      newlines = search rules;
+      none = λ e. absurd (omega arith);
+      some = search rules;
+      late = λ has.
+          let before = (c.pieces.invariant.late has).1 in
+          let kept = c.fill.ensures.late (came_some c.pieces.self.buffer c.pieces.self.start c.pieces.self.end before) in
+          absurd (both_ways _ (piece.all refl).0 (ap has_newline kept.2 ∙ before));
+      fails = search rules;
+    }
+
+pub pieces-smaller : goal.pieces-smaller
+pieces-smaller g c =
+    let longer : length c.pieces.line.items < length c.take_piece.new.line.items = grown_longer _ _ _ _ (piece_as _ false _ _ _ _ c.in-Ok-false.field-0-test c.in-Ok-false.ensures.piece) in
+    search rules
 
 pub returns-in-Err-clause-lost : goal.returns-in-Err-clause-lost
 returns-in-Err-clause-lost g c =
-    line_lost _ _ _ (position_of c.args.self.now) (position_of c.next_byte.new.self) _ c.bytes.invariant.line (search rules) (search rules) (search rules) (search rules) c.bytes.invariant.taken (search rules)
+    let lost = c.in-Err.ensures.lost in
+    piece_lost _ _ (position_of c.args.self.now) (position_of c.take_piece.new.self) _ lost.piece c.pieces.invariant.line lost.whole lost.some (search rules) (search rules)
+    (more_taken _ _ (g.S.Source.left (source_of c.fill.new.self)) (g.S.Source.left (source_of c.take_piece.new.self)) (came c.fill.new.self) (came c.take_piece.new.self) _ _
+    c.pieces.invariant.taken c.fill.ensures.bytes (search rules) lost.taken) (search rules)

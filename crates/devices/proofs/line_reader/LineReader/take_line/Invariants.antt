@@ -4,8 +4,8 @@ use Rattle.devices.specs.Lines.{has_newline, next_number}
 use Rattle.devices.specs.LineReader.{came, source_of, source_name, unread}
 use Rattle.devices.proofs.line_reader.LineReader.take_line.Given as goal
 
-abbrev pub invariant-bytes : goal.invariant-bytes
-invariant-bytes g l = record {
+abbrev pub invariant-pieces : goal.invariant-pieces
+invariant-pieces g l = record {
   same : source_name l.self ≡ source_name l.initial.self;
   stays : l.self.fault ≡ l.initial.self.fault;
   taken : Consumes (unread g.S.Source.left l.initial.self) (unread g.S.Source.left l.self) l.line.items;
@@ -17,5 +17,5 @@ invariant-bytes g l = record {
   fails : g.S.Source.failed (source_of l.self) ≡ g.S.Source.failed (source_of l.initial.self);
 }
 
-abbrev pub decreases-bytes : goal.decreases-bytes
-decreases-bytes g l = 2 ^ 63 - vec_len l.line
+abbrev pub decreases-pieces : goal.decreases-pieces
+decreases-pieces g l = 2 ^ 63 - vec_len l.line
