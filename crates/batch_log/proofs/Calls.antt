@@ -17,7 +17,9 @@ use Rattle.proclang_types.specs.Procedures.{ProcParts}
 use Rattle.proclang_types.specs.Syntax.{ParamShape}
 use Rattle.requests.specs.ProcLists.{proc_named}
 use Rattle.requests.specs.Requests.{Call, fits, IsShort, AreArgs}
-use Rattle.batch_log.specs.declared.fault.LogFaultKind.TheVariants.{NotJson, UnknownProc, Args}
+use Rattle.batch_log.specs.declared.fault.LogFaultKind.{LogFaultKind}
+use Rattle.batch_log.specs.declared.fault.LogFaultKind.TheVariants.{NotJson, UnknownProc, Args, Memory}
+use Rattle.batch_log.specs.Faults.{is_memory}
 use Rattle.batch_log.specs.Lines.{all_fit, call_said, document_said, line_said}
 
 -- ---- a line's bytes
@@ -122,6 +124,29 @@ some_found (Some p) e = (p, refl)
 pub call_unsaid : (procs : List ProcParts) (name : List ℕ) (ds : List Data) → is_some (proc_named procs name) ≡ true → values_said ds ≡ None → call_said procs name ds ≡ Err Args
 unfolding call_said
 call_unsaid procs name ds h said = rw (said, (some_found (proc_named procs name) h).1) refl
+
+-- the fault of a call whose values are not had
+fault_unsaid : (procs : List ProcParts) (name : List ℕ) (ds : List Data) (fault : LogFaultKind) (b : Bool) → is_some (proc_named procs name) ≡ b →
+    (is_some (proc_named procs name) ≡ true → fault ≡ Args) → (is_some (proc_named procs name) ≡ false → fault ≡ UnknownProc) → values_said ds ≡ None → call_said procs name ds ≡ Err fault
+fault_unsaid procs name ds fault true e known unknown said = call_unsaid procs name ds e said ∙ ap Err (sym (known e))
+fault_unsaid procs name ds fault false e known unknown said = call_unknown procs name ds e ∙ ap Err (sym (unknown e))
+
+pub call_faulted : (procs : List ProcParts) (name : List ℕ) (ds : List Data) (fault : LogFaultKind) →
+    (is_some (proc_named procs name) ≡ true → fault ≡ Args) → (is_some (proc_named procs name) ≡ false → fault ≡ UnknownProc) → values_said ds ≡ None → call_said procs name ds ≡ Err fault
+call_faulted procs name ds fault known unknown said = fault_unsaid procs name ds fault (is_some (proc_named procs name)) refl known unknown said
+
+fault_unread : (procs : List ProcParts) (name : List ℕ) (ds : List Data) (fault : LogFaultKind) (b : Bool) → is_some (proc_named procs name) ≡ b →
+    (is_some (proc_named procs name) ≡ true → fault ≡ Memory) → (is_some (proc_named procs name) ≡ false → fault ≡ UnknownProc) → is_memory fault ≡ false → call_said procs name ds ≡ Err fault
+fault_unread procs name ds fault true e known unknown other = absurd (differ (sym (ap is_memory (known e)) ∙ other))
+  where
+    differ : true ≡ false → ⊥
+    differ f = cc
+fault_unread procs name ds fault false e known unknown other = call_unknown procs name ds e ∙ ap Err (sym (unknown e))
+
+-- memory is not told of a call by an unknown name
+pub call_unread : (procs : List ProcParts) (name : List ℕ) (ds : List Data) (fault : LogFaultKind) →
+    (is_some (proc_named procs name) ≡ true → fault ≡ Memory) → (is_some (proc_named procs name) ≡ false → fault ≡ UnknownProc) → is_memory fault ≡ false → call_said procs name ds ≡ Err fault
+call_unread procs name ds fault known unknown other = fault_unread procs name ds fault (is_some (proc_named procs name)) refl known unknown other
 
 -- a call that isn't refused for its values has right ones
 right : (ps : List ParamShape) (vs : List Value) (b : Bool) → all_fit ps vs ≡ b → ((AreArgs ps vs → ⊥) → ⊥) → all_fit ps vs ≡ true

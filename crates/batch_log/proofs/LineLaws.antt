@@ -1,5 +1,5 @@
 -- What is read of a line is what it says, what it says is read, and its fault is the first rule that it breaks.
-use Rattle.std.proofs.Common.{◌≡◌, ◌⊎◌, inl, inr, ℕ, Bool, true, false, if◌then◌else◌, List, [], ◌∷◌, ◌++◌, Option, Some, None, option_map, option_and_then, is_some, Result, Ok, Err, refl, sym, ap, ◌∙◌, subst}
+use Rattle.std.proofs.Common.{◌≡◌, ℕ, Bool, true, false, if◌then◌else◌, List, [], ◌∷◌, ◌++◌, Option, Some, None, option_map, option_and_then, is_some, Result, Ok, refl, sym, ap, ◌∙◌, subst}
 use Rattle.std.specs.Prelude.{codes}
 use Rattle.std.specs.Str.{bytes_eq, is_utf8}
 use Rattle.std.proofs.lemmas.Slice.Eq.{bytes_eq-Decides}
@@ -19,7 +19,7 @@ use Rattle.proclang_types.specs.Procedures.{ProcParts}
 use Rattle.requests.specs.ProcLists.{proc_named}
 use Rattle.requests.specs.Requests as requests
 use Rattle.batch_log.specs.declared.fault.LogFaultKind.{LogFaultKind}
-use Rattle.batch_log.specs.declared.fault.LogFaultKind.TheVariants.{NotJson, Shape, UnknownProc, Args}
+use Rattle.batch_log.specs.declared.fault.LogFaultKind.TheVariants.{Shape, UnknownProc, Args}
 use Rattle.batch_log.specs.declared.line.LogLine.{LogLine}
 use Rattle.batch_log.specs.declared.line.LogLine.TheVariants.{Call, Cut}
 use Rattle.batch_log.specs.Forms.{Form, call_form, cut_form, words_form, items_form, line_form}

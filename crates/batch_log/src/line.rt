@@ -1,8 +1,9 @@
 //! What a line says.
 
-ghost use Rattle.std.specs.Prelude.{◌≡◌, map, IfErr, IfOk, false, Some};
+ghost use Rattle.std.specs.Prelude.{◌≡◌, map, IfErr, IfOk, is_some, true, false, Some};
 ghost use Rattle.serde_json.specs.View.{view};
 ghost use Rattle.documents.specs.Reading.{Reads};
+ghost use Rattle.requests.specs.ProcLists.{proc_named};
 ghost use Rattle.batch_log.specs.Faults.{is_io, is_memory};
 ghost use Rattle.batch_log.specs.Lines.{call_said, document_said, line_said, IsOver};
 
@@ -23,6 +24,18 @@ pub enum LogLine {
     Cut,
 }
 
+/// The fault of a call whose values are not had. A name that no procedure has is told before it.
+fn unless_unknown(procs: &Procs, name: &str, fault: LogFaultKind) -> LogFaultKind
+    ensures known { is_some (proc_named procs.now.procs name.now) ≡ true → result ≡ fault }
+    ensures unknown { is_some (proc_named procs.now.procs name.now) ≡ false → result ≡ LogFaultKind.UnknownProc }
+{
+    if procs.has(name) {
+        fault
+    } else {
+        LogFaultKind::UnknownProc
+    }
+}
+
 /// The call of the procedure of that name with the values that the documents say.
 fn read_call(
     alloc: Global,
@@ -34,13 +47,10 @@ fn read_call(
     ensures tables { IfOk result (λ r. r.proc.tables ≡ procs.now.tables) }
     ensures no_device { IfErr result (λ kind. is_io kind ≡ false) }
 {
-    if !procs.has(name) {
-        return Err(LogFaultKind::UnknownProc);
-    }
     let values = match read_values(alloc, documents) {
         Ok(Some(values)) => values,
-        Ok(None) => return Err(LogFaultKind::Args),
-        Err(_) => return Err(LogFaultKind::Memory),
+        Ok(None) => return Err(unless_unknown(procs, name, LogFaultKind::Args)),
+        Err(_) => return Err(unless_unknown(procs, name, LogFaultKind::Memory)),
     };
     match Request::new(procs, name, values) {
         Ok(request) => Ok(request),

@@ -1,15 +1,25 @@
-use Rattle.std.proofs.Common.{◌≡◌, map, Some, rules, sym}
+use Rattle.std.proofs.Common.{◌≡◌, ap, is_some, map, None, Option, Some, rules, sym}
 use Rattle.serde_json.specs.View.{view}
 use Rattle.catalogue.specs.Said.{values_said}
+use Rattle.proclang_types.specs.Procedures.{ProcParts}
+use Rattle.requests.specs.ProcLists.{proc_named}
 use Rattle.requests.specs.declared.request.RequestFault.TheVariants.{Args}
-use Rattle.batch_log.proofs.Calls.{call_made, call_refused, call_unknown, call_unsaid}
+use Rattle.batch_log.proofs.Calls.{call_made, call_faulted, call_refused, call_unknown, call_unread}
 use Rattle.batch_log.proofs.line.read_call.Goals as goal
 
-pub returns-then-not-has-clause-exact : goal.returns-then-not-has-clause-exact
-returns-then-not-has-clause-exact c = λ _. call_unknown _ _ _ (search rules)
-
 pub returns-in-Ok-None-clause-exact : goal.returns-in-Ok-None-clause-exact
-returns-in-Ok-None-clause-exact c = λ _. call_unsaid _ _ _ (search rules) (sym (rw c.in-Ok-None.field-0-is at c.in-Ok-None.ensures))
+returns-in-Ok-None-clause-exact c = λ _.
+    call_faulted c.args.procs.now.procs c.args.name.now (map view c.args.documents.now) _ c.unless_unknown.ensures.known c.unless_unknown.ensures.unknown
+    (sym (rw c.in-Ok-None.field-0-is at c.in-Ok-None.ensures))
+
+pub returns-in-Err-clause-exact : goal.returns-in-Err-clause-exact
+returns-in-Err-clause-exact c =
+    call_unread c.args.procs.now.procs c.args.name.now (map view c.args.documents.now) _ c.unless_unknown-in-Err.ensures.known c.unless_unknown-in-Err.ensures.unknown
+
+pub returns-in-Err-UnknownProc-clause-exact : goal.returns-in-Err-UnknownProc-clause-exact
+returns-in-Err-UnknownProc-clause-exact c = λ _.
+    let none : proc_named c.args.procs.now.procs c.args.name.now ≡ None = c.new.ensures.unknown.0 (search rules) in
+    call_unknown c.args.procs.now.procs c.args.name.now (map view c.args.documents.now) (ap (λ (found : Option ProcParts). is_some found) none)
 
 pub returns-in-Ok-clause-exact : goal.returns-in-Ok-clause-exact
 returns-in-Ok-clause-exact c =
