@@ -4,6 +4,7 @@ pub mod Slots
 pub mod Logs
 pub mod Numbers
 pub mod Steps
+pub mod Restored
 pub mod Admitting
 pub mod Leading
 pub mod Known

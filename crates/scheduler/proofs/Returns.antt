@@ -6,10 +6,8 @@ use Rattle.values.specs.declared.name.RowName.{RowName}
 use Rattle.catalogue.specs.Shapes.{TableShape}
 use Rattle.values.specs.Database.{Database}
 use Rattle.proclang_types.specs.declared.right.Right.TheVariants.{Read, Write}
-use Rattle.coarsen.specs.Subtrees.{Requests, own_over}
+use Rattle.coarsen.specs.Subtrees.{Requests}
 use Rattle.coarsen.specs.Clashes.{locks_row}
-use Rattle.footprint.specs.Tree.{row_resource}
-use Rattle.std.proofs.lemmas.Bool.Decides.{nat_tests}
 use Rattle.lock_tree.specs.Locks.{Locks, plan_of, with_mark, without}
 use Rattle.lock_tree.specs.Ready.{ready}
 use Rattle.meaning.specs.declared.outcome.Outcome.{Outcome}
@@ -36,13 +34,7 @@ use Rattle.scheduler.proofs.Numbers.{lent_here}
 use Rattle.scheduler.proofs.Steps.{ran, taken_back, settled, same_phase}
 use Rattle.scheduler.proofs.Leading.{settled_before, settled_set}
 use Rattle.scheduler.proofs.Known.{Known, Keeps, work_in, schedule_in}
-
--- what is locked to write is locked to read
-one_of : (x : ℕ) → nat_le 2 x ≡ true → nat_le 1 x ≡ true
-one_of x e = let m : 2 ≤ x = grind (arith, nat_tests) in grind (arith, nat_tests)
-
-pub read_too : (tables : List TableShape) (plan : Requests) (name : RowName) → locks_row tables plan name Write ≡ true → locks_row tables plan name Read ≡ true
-read_too tables plan name e = one_of (own_over plan (row_resource tables name)) e
+use Rattle.scheduler.proofs.Restored.{read_too}
 
 -- a job whose loan alone has changed
 same_but_rows : (lent job : JobOf) (rows : Database) → job ≡ record lent { loan = record (lent.loan) { rows = rows } }

@@ -48,16 +48,16 @@ eq_not i j n = elim (nat_lt i j) as (λ b. nat_lt i j ≡ b → eq_by_cmp nat_cm
   | false ↦ λ e. ap is_eq (sym (nat_cmp_is i j Greater (let m : j ≤ i = grind (arith, nat_tests) in more i j m n)))
 ] refl
 
-inserted : (m new : FinMap nat_cmp Requests) (k : ℕ) (p : Requests) → new ≡ insert m k p → get new k ≡ Some p
+pub inserted : (m new : FinMap nat_cmp Requests) (k : ℕ) (p : Requests) → new ≡ insert m k p → get new k ≡ Some p
 inserted m new k p e = ap (λ (x : FinMap nat_cmp Requests). get x k) e ∙ get-insert nat_cmp_total m k p k ∙ ap (λ b. cond b (Some p) (get m k)) (eq_is k k refl)
 
-not_inserted : (m new : FinMap nat_cmp Requests) (k : ℕ) (p : Requests) → new ≡ insert m k p → (i : ℕ) → i ≢ k → get new i ≡ get m i
+pub not_inserted : (m new : FinMap nat_cmp Requests) (k : ℕ) (p : Requests) → new ≡ insert m k p → (i : ℕ) → i ≢ k → get new i ≡ get m i
 not_inserted m new k p e i n = ap (λ (x : FinMap nat_cmp Requests). get x i) e ∙ get-insert nat_cmp_total m k p i ∙ ap (λ b. cond b (Some p) (get m i)) (eq_not i k n)
 
-removed : (m new : FinMap nat_cmp Requests) (k : ℕ) → new ≡ remove m k → get new k ≡ None
+pub removed : (m new : FinMap nat_cmp Requests) (k : ℕ) → new ≡ remove m k → get new k ≡ None
 removed m new k e = ap (λ (x : FinMap nat_cmp Requests). get x k) e ∙ get-remove nat_cmp_total m k k ∙ ap (λ b. cond b None (get m k)) (eq_is k k refl)
 
-not_removed : (m new : FinMap nat_cmp Requests) (k : ℕ) → new ≡ remove m k → (i : ℕ) → i ≢ k → get new i ≡ get m i
+pub not_removed : (m new : FinMap nat_cmp Requests) (k : ℕ) → new ≡ remove m k → (i : ℕ) → i ≢ k → get new i ≡ get m i
 not_removed m new k e i n = ap (λ (x : FinMap nat_cmp Requests). get x i) e ∙ get-remove nat_cmp_total m k i ∙ ap (λ b. cond b None (get m i)) (eq_not i k n)
 
 -- what is kept, with one slot changed or one more

@@ -1,49 +1,45 @@
 //! Jobs and their runs.
 
-ghost use Rattle.std.specs.Prelude.{◌≡◌, is_some, IfOk, OnErr, Some};
-ghost use Rattle.scheduler.specs.JobRuns.{LocksTouched, ComesOf, IsDoneOf};
+ghost use Rattle.std.specs.Prelude.{◌≡◌, is_some, IfOk, IfErr};
+ghost use Rattle.scheduler.specs.JobRuns.{LocksTouched, IsDoneOf};
 
-use interp::{Effect, Entry, run};
+use crate::parts::Parts;
+use interp::Entry;
 use meaning::Outcome;
 use row_store::Loan;
 use std::alloc::Global;
 use std::marker::Model;
-use values::NoMemory;
 
-/// A transaction that is out: its number, its entry, and a loan of the rows that its plan locks.
+/// A transaction that is out: its number, its entry, and a loan of the rows that its plan locks. It is a handle: to move it is to
+/// move a word.
 #[derive(Drop)]
 pub struct Job {
-    alloc: Global,
-    no: u64,
-    entry: Entry,
-    loan: Loan,
+    parts: Box<Parts>,
 }
 
 impl Model for Job {
-    ghost use Rattle.std.specs.Prelude.{◌≡◌};
-    ghost use Rattle.scheduler.specs.JobRuns.{JobOf, job_code, LocksTouched};
+    ghost use Rattle.scheduler.specs.JobRuns.{JobOf, job_code};
 
     ghost Value = { JobOf };
 
     ghost coded = { job_code };
 
-    ghost view = { λ j. record { no = j.no; entry = j.entry; loan = j.loan } };
-
-    ghost invariant = { λ j. (j.entry.request.proc.tables ≡ j.loan.tables) × LocksTouched j.entry j.loan };
+    ghost view = { λ j. j.parts.value };
 }
 
 impl Job {
-    /// A job of these. The entry is over the loan's tables, and the loan's plan locks each row name that it may touch.
-    pub(crate) fn new(alloc: Global, no: u64, entry: Entry, loan: Loan) -> Job
+    /// A job of these. The entry is over the loan's tables, and the loan's plan locks each row name that it may touch. Where memory
+    /// is refused the loan comes back.
+    pub(crate) fn new(alloc: Global, no: u64, entry: Entry, loan: Loan) -> Result<Job, Loan>
         requires tables { entry.request.proc.tables ≡ loan.tables }
         requires locks { LocksTouched entry loan }
-        ensures { result ≡ record { no = no; entry = entry; loan = loan } }
+        ensures job { IfOk result (λ job. job ≡ record { no = no; entry = entry; loan = loan }) }
+        ensures back { IfErr result (λ back. back ≡ loan) }
     {
-        Job {
-            alloc,
-            no,
-            entry,
-            loan,
+        let parts = Parts::new(alloc, no, entry, loan);
+        match Box::new(alloc, parts) {
+            Ok(parts) => Ok(Job { parts }),
+            Err(refused) => Err(refused.value.into_loan()),
         }
     }
 
@@ -51,15 +47,15 @@ impl Job {
     pub fn no(&self) -> u64
         ensures { result ≡ self.now.no }
     {
-        self.no
+        self.parts.no()
     }
 
     /// The job's loan.
     pub(crate) fn into_loan(self) -> Loan
         ensures { result ≡ self.loan }
     {
-        let Job { loan, .. } = self;
-        loan
+        let Job { parts } = self;
+        Box::into_inner(parts).into_loan()
     }
 }
 
@@ -105,22 +101,12 @@ impl Done {
     }
 }
 
-/// Runs the entry on the loan, and makes its writes there.
-fn run_on_loan(job: &mut Job) -> Result<Outcome, NoMemory>
-    ensures err { OnErr result (job.new ≡ job.old) }
-    ensures run { IfOk result (λ outcome. ComesOf job.old (Some outcome) job.new) }
-{
-    let Effect { outcome, writes } = run(job.alloc, job.loan.catalogue(), &job.entry, &job.loan)?;
-    job.loan.apply(writes)?;
-    Ok(outcome)
-}
-
 /// Runs a job. On every database that agrees with the loan on what its plan locks, the entry has the outcome that comes
 /// back, and leaves the rows that the loan then shows. Where memory is refused the job comes back as it was lent.
 pub fn run_job(job: Job) -> Done
     ensures { IsDoneOf job result }
 {
     let mut job = job;
-    let outcome = run_on_loan(&mut job).ok();
+    let outcome = job.parts.run_on_loan().ok();
     Done { job, outcome }
 }

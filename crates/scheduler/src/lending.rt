@@ -10,6 +10,7 @@ ghost use Rattle.coarsen.specs.Clashes.{locks_row, ModesClash};
 ghost use Rattle.meaning.specs.Frame.{touches};
 ghost use Rattle.interp.specs.Entries.{entry_shape};
 ghost use Rattle.lock_tree.specs.Locks.{plan_of, with_mark, without};
+ghost use Rattle.lock_tree.specs.Ready.{ready};
 
 use crate::job::Job;
 use coarsen::Plan;
@@ -18,6 +19,16 @@ use lock_tree::LockTree;
 use row_store::RowStore;
 use std::alloc::Global;
 use values::NoMemory;
+
+/// Whether a transaction is ready. The least of those that are open is, without a look for it.
+pub(crate) fn is_ready(locks: &LockTree, no: u64) -> bool
+    ensures { result ≡ ready locks.now.waiting no }
+{
+    match locks.next_ready() {
+        Some(least) if least == no => true,
+        _ => locks.is_ready(no),
+    }
+}
 
 /// The job of a transaction: the rows that its plan locks are lent to it, and it is marked. On an error nothing has changed.
 pub(crate) fn lend_to(
@@ -51,8 +62,16 @@ pub(crate) fn lend_to(
 {
     let entry = entry.clone()?;
     let loan = store.lend(no, plan)?;
-    locks.mark(no);
-    Ok(Job::new(alloc, no, entry, loan))
+    match Job::new(alloc, no, entry, loan) {
+        Ok(job) => {
+            locks.mark(no);
+            Ok(job)
+        }
+        Err(loan) => {
+            store.give_back(no, loan);
+            Err(NoMemory)
+        }
+    }
 }
 
 /// Puts what a transaction left into the store, and takes its requests out of the lock tree.

@@ -6,6 +6,7 @@ mod finished;
 mod job;
 mod laws;
 mod lending;
+mod parts;
 mod planning;
 mod playing;
 mod scheduler;

@@ -8,7 +8,7 @@ ghost use Rattle.scheduler.specs.Schedules.{log_of, phases_of, KeepsItsJobs};
 ghost use Rattle.scheduler.specs.Moments.{AnswersAt, PlaysAt};
 
 use crate::job::run_job;
-use crate::lending::{give_back, lend_to};
+use crate::lending::{give_back, is_ready, lend_to};
 use crate::scheduler::{AdmitFault, Scheduler};
 use crate::slot::{Slot, count_settled, is_idle, put, take_held, take_run};
 use coarsen::clashes_are_either_way;
@@ -65,7 +65,7 @@ impl Scheduler {
         if !is_idle(&self.slots, place) {
             return StepAnswer::Refused;
         }
-        if !self.locks.is_ready(no) {
+        if !is_ready(&self.locks, no) {
             return StepAnswer::Refused;
         }
         match lend_to(
