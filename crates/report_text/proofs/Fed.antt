@@ -1,5 +1,5 @@
 -- What a hasher was fed.
-use Rattle.std.proofs.Common.{◌≡◌, ℕ, ◌==◌, Bool, true, false, cond, List, [], ◌∷◌, ◌++◌, ◌+◌, ◌<◌, ◌≤◌, drop, get_or, length, append_assoc, append-nil, refl, sym, ap, ◌∙◌, subst, string_bytes, arith}
+use Rattle.std.proofs.Common.{◌≡◌, ℕ, ◌==◌, Bool, true, false, cond, List, [], ◌∷◌, ◌++◌, ◌+◌, ◌<◌, ◌≤◌, drop, get_or, length, append_assoc, append-nil, refl, sym, ap, ◌∙◌, subst, arith}
 use Rattle.std.specs.Borrow.{Bor}
 use Rattle.std.proofs.lemmas.Bool.Decides.{nat_tests}
 use Rattle.std.proofs.lemmas.List.{drop_all, drop_more}
@@ -17,12 +17,12 @@ use Rattle.report_text.proofs.Sorting.{Keyed}
 use Rattle.std.specs.FinMap.{entries}
 
 -- a line was appended
-pub more_fed : (old new : Feed) (all line : List ℕ) → new.hasher ≡ old.hasher → string_bytes new.text ≡ string_bytes old.text ++ line → IsFed old all → IsFed new (all ++ line)
+pub more_fed : (old new : Feed) (all line : List ℕ) → new.hasher ≡ old.hasher → new.text.items ≡ old.text.items ++ line → IsFed old all → IsFed new (all ++ line)
 more_fed old new all line same more is =
-    (is.0, subst (λ h. Holds256 h is.0) (sym same) is.1, ap (λ t. is.0 ++ t) more ∙ sym (append_assoc is.0 (string_bytes old.text) line) ∙ ap (λ t. t ++ line) is.2)
+    (is.0, subst (λ h. Holds256 h is.0) (sym same) is.1, ap (λ t. is.0 ++ t) more ∙ sym (append_assoc is.0 old.text.items line) ∙ ap (λ t. t ++ line) is.2)
 
 -- all was given
-pub all_given : (feed : Feed) (all : List ℕ) → string_bytes feed.text ≡ [] → IsFed feed all → Holds256 feed.hasher all
+pub all_given : (feed : Feed) (all : List ℕ) → feed.text.items ≡ [] → IsFed feed all → Holds256 feed.hasher all
 all_given feed all none is = subst (Holds256 feed.hasher) (sym (append-nil is.0) ∙ ap (λ t. is.0 ++ t) (sym none) ∙ is.2) is.1
 
 -- the line of the next row

@@ -21,6 +21,17 @@ pub fn digest_text(alloc: Global, text: &[u8]) -> Result<String, AllocError>
     hex::encode(alloc, Sha256::digest(text))
 }
 
+/// A table's name; nothing for a table that the catalogue doesn't have.
+pub(crate) fn table_name(catalogue: &Catalogue, table: TableNo) -> &str
+    ensures { result.now ≡ table_name catalogue.now table }
+{
+    if table.place() < catalogue.len() {
+        catalogue.table_name(table)
+    } else {
+        ""
+    }
+}
+
 /// Appends a table's name; nothing for a table that the catalogue doesn't have.
 pub fn push_table_name(
     text: &mut String,
@@ -29,11 +40,7 @@ pub fn push_table_name(
 ) -> Result<(), AllocError>
     ensures { OnOk result (string_bytes text.new ≡ string_bytes text.old ++ table_name catalogue.now table) }
 {
-    if table.place() < catalogue.len() {
-        text.push_str(catalogue.table_name(table))
-    } else {
-        Ok(())
-    }
+    text.push_str(table_name(catalogue, table))
 }
 
 /// Appends a row line: the table's name, the key, the values, and a newline.

@@ -4,7 +4,8 @@ ghost use Rattle.std.specs.Prelude.{◌≡◌, ◌++◌, [], List, ℕ, IfOk, On
 ghost use Rattle.report_text.specs.Texts.{digest, row_line};
 ghost use Rattle.report_text.specs.Feeding.{IsFed};
 
-use crate::digest::{digest_of, push_row_line};
+use crate::digest::digest_of;
+use crate::scratch::Scratch;
 use catalogue::Catalogue;
 use sha2::{Digest, Sha256};
 use std::alloc::{AllocError, Global};
@@ -17,7 +18,7 @@ const PIECE: usize = 4096;
 #[derive(Drop)]
 pub(crate) struct Feed {
     hasher: Sha256,
-    text: String,
+    text: Vec<u8>,
 }
 
 impl Feed {
@@ -27,16 +28,16 @@ impl Feed {
     {
         Feed {
             hasher: Sha256::new(),
-            text: String::new(alloc),
+            text: Vec::new(alloc),
         }
     }
 
     /// Gives the hasher what it was not given yet.
     fn hand_over(&mut self)
         ensures fed { (all : List ℕ) → IsFed self.old all → IsFed self.new all }
-        ensures none { string_bytes self.new.text ≡ [] }
+        ensures none { self.new.text.items ≡ [] }
     {
-        self.hasher.update(self.text.as_bytes());
+        self.hasher.update(self.text.as_slice());
         self.text.clear();
     }
 
@@ -47,11 +48,12 @@ impl Feed {
         catalogue: &Catalogue,
         name: &RowName,
         row: &Row,
+        scratch: &mut Scratch,
     ) -> Result<(), AllocError>
         ensures { (all : List ℕ) → IsFed self.old all →
             OnOk result (IsFed self.new (all ++ row_line catalogue.now name.now row.now)) }
     {
-        push_row_line(alloc, &mut self.text, catalogue, name, row)?;
+        scratch.push_line(alloc, catalogue, name, row, &mut self.text)?;
         if self.text.len() >= PIECE {
             self.hand_over();
         }
@@ -64,7 +66,7 @@ impl Feed {
     {
         let mut feed = self;
         feed.hand_over();
-        let Feed { hasher, text: _ } = feed;
+        let Feed { hasher, .. } = feed;
         digest_of(alloc, hasher)
     }
 }

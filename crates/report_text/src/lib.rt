@@ -9,7 +9,9 @@ mod laws;
 mod lines;
 mod plan_lines;
 mod rows_in_order;
+mod scratch;
 mod values_text;
+mod words;
 
 pub use digest::{digest_of, digest_text, push_table_name, row_line};
 pub use laws::{every_row_has_its_line, every_row_left_by_calls_has_its_line};

@@ -7,6 +7,7 @@ ghost use Rattle.report_text.specs.Merge.{rows_of, ShowsAll};
 
 use crate::feed::Feed;
 use crate::gathered::rows_of_table;
+use crate::scratch::Scratch;
 use catalogue::Catalogue;
 use std::alloc::{AllocError, Global};
 use values::{Key, Row, RowName, TableNo};
@@ -23,8 +24,10 @@ fn feed_rows(
     ensures { (all : List ℕ) → IsFed feed.old all →
         OnOk result (IsFed feed.new (all ++ table_lines catalogue.now table rows.now)) }
 {
+    let mut scratch = Scratch::new(alloc);
     for row in rows {
-        feed.push_row(alloc, catalogue, &RowName::new(table, row.0), row.1)?;
+        let name = RowName::new(table, row.0);
+        feed.push_row(alloc, catalogue, &name, row.1, &mut scratch)?;
     }
     Ok(())
 }
