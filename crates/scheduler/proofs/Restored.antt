@@ -1,5 +1,5 @@
 -- A loan that goes back as it was lent leaves the store as it was.
-use Rattle.std.proofs.Common.{◌≡◌, ◌≤◌, ℕ, nat_le, true, false, Option, Some, None, List, refl, sym, ap, ◌∙◌, arith, if◌then◌else◌, inl, inr}
+use Rattle.std.proofs.Common.{◌≡◌, ◌≤◌, ℕ, nat_le, true, false, Some, None, List, refl, sym, ap, ◌∙◌, arith, if◌then◌else◌, inl, inr}
 use Rattle.std.proofs.lemmas.Bool.Decides.{nat_tests}
 use Rattle.std.specs.FinMap.{FinMap, get, insert, remove, same_map, nat_cmp-IsAntisymmetric}
 use Rattle.std.specs.Cmp.{nat_cmp_total}
@@ -58,8 +58,8 @@ module _ (old mid : Stock) (number : ℕ) (plan : Requests) (loan back : Lent) (
   restored new shows tables rows new_tables new_rows new_lent =
       let shown : (name : RowName) → locks_row old.tables plan name Read ≡ true → get back.rows name ≡ get old.rows name = λ name locked. ap (λ (l : Lent). get l.rows name) same ∙ shows name locked in
       let seen : (name : RowName) → get new.rows name ≡ (if locks_row old.tables plan name Write then get back.rows name else get old.rows name) = λ name.
-          new_rows name
-          ∙ ap (λ (x : List TableShape × (Requests × Database)). if locks_row x.0 x.1.0 name Write then get back.rows name else get x.1.1 name) (λ i. (back_tables i, (back_plan i, rows i))) in
+      new_rows name
+      ∙ ap (λ (x : List TableShape × (Requests × Database)). if locks_row x.0 x.1.0 name Write then get back.rows name else get x.1.1 name) (λ i. (back_tables i, (back_plan i, rows i))) in
       let d : new.rows ≡ old.rows = same_rows old.tables plan old.rows back.rows new.rows shown seen in
       let l : new.lent ≡ old.lent = new_lent ∙ ap (λ (m : FinMap nat_cmp Requests). remove m number) lent ∙ same_lent old.lent number plan none in
       λ i. record { tables = (new_tables ∙ tables) i; rows = d i; lent = l i }

@@ -1,12 +1,10 @@
 -- Jobs that come back.
-use Rattle.std.proofs.Common.{◌≡◌, ◌<◌, ◌≤◌, ◌+◌, ◌-◌, ℕ, nat_le, ◌&&◌, true, false, List, length, map, Option, Some, None, IsSome, slice_get, slice_set, refl, sym, ap, ◌∙◌, subst, arith, if◌then◌else◌}
+use Rattle.std.proofs.Common.{◌≡◌, ◌<◌, ◌+◌, ◌-◌, ℕ, ◌&&◌, true, false, List, length, map, Option, Some, None, IsSome, slice_get, slice_set, refl, sym, ap, ◌∙◌, subst, if◌then◌else◌}
 use Rattle.std.proofs.lemmas.Option.{slice_get_within}
 use Rattle.std.specs.FinMap.{get, remove}
 use Rattle.values.specs.declared.name.RowName.{RowName}
-use Rattle.catalogue.specs.Shapes.{TableShape}
 use Rattle.values.specs.Database.{Database}
 use Rattle.proclang_types.specs.declared.right.Right.TheVariants.{Read, Write}
-use Rattle.coarsen.specs.Subtrees.{Requests}
 use Rattle.coarsen.specs.Clashes.{locks_row}
 use Rattle.lock_tree.specs.Locks.{Locks, plan_of, with_mark, without}
 use Rattle.lock_tree.specs.Ready.{ready}

@@ -1,6 +1,5 @@
 use Rattle.std.proofs.Common.{◌≡◌, ◌<◌, ◌≤◌, ◌+◌, ◌++◌, ◌∷◌, [], List, length, false, Some, slice_get, refl, sym, ap, ◌∙◌, subst, arith}
 use Rattle.std.proofs.lemmas.Option.{slice_get_read}
-use Rattle.lock_tree.specs.Locks.{Locks, used}
 use Rattle.coarsen.specs.Subtrees.{Requests}
 use Rattle.scheduler_core.specs.declared.event.Event.TheVariants.{Admit}
 use Rattle.scheduler_core.specs.Events.{enabled}
