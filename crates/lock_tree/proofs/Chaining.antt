@@ -15,7 +15,8 @@ use Rattle.request_arena.specs.Following.{without, follow}
 use Rattle.request_arena.specs.Chains.{chain, chain_from, held_at, holds, step}
 use Rattle.request_arena.specs.Lists.{Lists, IsLive, BeginsChain, EndsChain}
 use Rattle.lock_tree.specs.Entered.{Enqueued}
-use Rattle.lock_tree.specs.Lines.{Lines, request_at, nodes_of, number_of, asked, resource_eq}
+use Rattle.lock_tree.specs.Keys.{resource_eq}
+use Rattle.lock_tree.specs.Lines.{Lines, request_at, nodes_of, number_of, asked}
 use Rattle.lock_tree.specs.Chained.{IsPlaced, ArePlaced, Chains, IsChained, AreChained, IsTail, head_or}
 use Rattle.lock_tree.specs.Steps.{IsRemoved, OthersChained, IsShorter}
 use Rattle.lock_tree.proofs.Positions.{get_set_other, stands_still}

@@ -3,7 +3,8 @@ use Rattle.std.proofs.Common.{◌≡◌, ℕ, true, false, cond, Option, None, S
 use Rattle.std.specs.HashMap.{get}
 use Rattle.footprint.specs.declared.resource.Resource.{Resource}
 use Rattle.lock_tree.specs.Queues.{Queue}
-use Rattle.lock_tree.specs.Lines.{Lines, line, number_of, numbered, in_order, is_same, resource_eq}
+use Rattle.lock_tree.specs.Keys.{resource_eq}
+use Rattle.lock_tree.specs.Lines.{Lines, line, number_of, numbered, in_order, is_same}
 use Rattle.lock_tree.proofs.Resources.{same_resource, itself}
 
 module _ (was now : Lines) (r : Resource) (q : ℕ) (f : Queue → Queue) (numbers : now.numbers ≡ was.numbers) (named : number_of was r ≡ Some q)

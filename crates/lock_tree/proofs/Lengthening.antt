@@ -12,7 +12,8 @@ use Rattle.request_arena.specs.Following.{changed}
 use Rattle.request_arena.specs.Chains.{chain, linked, behind_it}
 use Rattle.request_arena.specs.Lists.{IsLive}
 use Rattle.request_arena.specs.Pushes.{Pushed, appended}
-use Rattle.lock_tree.specs.Lines.{Lines, request_at, nodes_of, number_of, resource_eq}
+use Rattle.lock_tree.specs.Keys.{resource_eq}
+use Rattle.lock_tree.specs.Lines.{Lines, request_at, nodes_of, number_of}
 use Rattle.lock_tree.specs.Numbered.{IsNumbered}
 use Rattle.lock_tree.specs.Chained.{IsPlaced, ArePlaced, Chains, IsTail, head_or}
 use Rattle.lock_tree.specs.Steps.{AreLive, OthersChained, IsLonger}

@@ -5,14 +5,10 @@ use Rattle.footprint.specs.declared.resource.Resource.{Resource}
 use Rattle.footprint.specs.contracts.resource.ResourceOrd.TheImpl.Laws as laws
 use Rattle.footprint.specs.Tree.{resource_cmp}
 use Rattle.footprint.proofs.Resources.{resources_total, exact_resources}
-use Rattle.lock_tree.specs.Lines.{is_same, resource_eq}
+use Rattle.lock_tree.specs.Keys.{resource_eq, tied}
+use Rattle.lock_tree.specs.Lines.{is_same}
 
 -- ---- resources that are alike are one
-
-tied : (o : Ordering) → is_eq o ≡ true → o ≡ Equal
-tied Less h = absurd (cc)
-tied Equal h = refl
-tied Greater h = absurd (cc)
 
 pub same_resource : (a b : Resource) → is_same a b ≡ true → a ≡ b
 same_resource a b h = exact_resources a b (tied (resource_cmp a b) h)

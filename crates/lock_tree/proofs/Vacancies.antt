@@ -9,7 +9,8 @@ use Rattle.std.proofs.lemmas.Option.{slice_get_within}
 use Rattle.footprint.specs.declared.resource.Resource.{Resource}
 use Rattle.request_arena.specs.Lists.{Lists, free_nodes}
 use Rattle.lock_tree.specs.declared.line.Line.{Line}
-use Rattle.lock_tree.specs.Lines.{Lines, line, number_of, nodes_of, numbered, requests, is_same, resource_eq}
+use Rattle.lock_tree.specs.Keys.{resource_eq}
+use Rattle.lock_tree.specs.Lines.{Lines, line, number_of, nodes_of, numbered, requests, is_same}
 use Rattle.lock_tree.specs.Numbered.{occupied, total, IsNumbered}
 use Rattle.lock_tree.proofs.Positions.{some_is, none_is, get_front, get_last, get_either, get_set_same, get_set_other}
 use Rattle.lock_tree.proofs.Counting.{occupied_few, none_if_empty, none_if_some}

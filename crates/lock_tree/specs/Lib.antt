@@ -12,6 +12,7 @@ pub mod Granted
 pub mod Numbered
 pub mod Chained
 pub mod Steps
+pub mod Keys
 pub mod Known
 pub mod Sound
 pub mod Open

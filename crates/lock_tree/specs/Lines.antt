@@ -4,13 +4,13 @@ use Rattle.std.specs.Prelude.{◌<◌, ◌≤◌, ◌==◌, ℕ, Bool, not, ⊤,
 use Rattle.std.specs.Ordering.{eq_by_cmp}
 use Rattle.std.specs.HashMap.{get, spare}
 use Rattle.footprint.specs.declared.resource.Resource.{Resource}
-use Rattle.footprint.specs.contracts.resource.ResourcePartialEq.TheImpl as equality
 use Rattle.footprint.specs.Tree.{resource_cmp}
 use Rattle.modes.specs.declared.mode.Mode.{Mode}
 use Rattle.modes.specs.declared.mode.Mode.TheVariants.{IntentionShared}
 use Rattle.request_arena.specs.declared.node.Held.{Held}
 use Rattle.request_arena.specs.Lists.{Lists}
 use Rattle.lock_tree.specs.declared.lines.Lines.{Lines as CodeLines}
+use Rattle.lock_tree.specs.Keys.{resource_eq}
 use Rattle.lock_tree.specs.Queues.{Queue}
 
 abbrev pub Lines : Type 0
@@ -39,10 +39,6 @@ in_order lists number = requests lists.held (nodes_of lists number)
 abbrev pub numbered : Lists → Option ℕ → Queue
 numbered lists None = []
 numbered lists (Some number) = in_order lists number
-
--- what `==` answers of two resources
-abbrev pub resource_eq : Resource → Resource → Bool
-resource_eq = equality.ghosts.eq
 
 -- the number of a resource's queue, if anyone asks for the resource
 abbrev pub number_of : Lines → Resource → Option ℕ

@@ -13,6 +13,7 @@ mod noting;
 mod numbering;
 mod opening;
 mod queues;
+mod resource_key;
 mod room;
 mod transactions;
 mod tree;

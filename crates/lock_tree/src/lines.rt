@@ -10,6 +10,7 @@ ghost use Rattle.lock_tree.specs.Granted.{AreGranted};
 ghost use Rattle.lock_tree.specs.Chained.{IsChained};
 
 use crate::line::Line;
+use crate::resource_key::ResourceKey;
 use footprint::Resource;
 use request_arena::Queues;
 use std::alloc::Global;
@@ -22,7 +23,7 @@ use values::NoMemory;
 pub(crate) struct Lines {
     pub(crate) nodes: Queues,
     // Found by a hash whose seed is fixed: who picks the keys can make this slow, but no answer depends on it.
-    pub(crate) numbers: HashMap<Resource, usize>,
+    pub(crate) numbers: HashMap<ResourceKey, usize>,
     // By the queue's number: its resource, and what is granted.
     pub(crate) resources: Vec<Resource>,
     pub(crate) lines: Vec<Line>,
@@ -67,6 +68,9 @@ impl Lines {
     pub(crate) fn number_of(&self, resource: &Resource) -> Option<usize>
         ensures { result ≡ number_of self.now resource.now }
     {
-        self.numbers.get(resource).copied()
+        let key = ResourceKey {
+            resource: *resource,
+        };
+        self.numbers.get(&key).copied()
     }
 }

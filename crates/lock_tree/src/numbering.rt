@@ -10,6 +10,7 @@ ghost use Rattle.lock_tree.specs.Steps.{IsOpened, IsForgotten};
 
 use crate::line::push_empty;
 use crate::lines::Lines;
+use crate::resource_key::ResourceKey;
 use footprint::Resource;
 use std::snapshot::Snapshot;
 
@@ -46,7 +47,10 @@ fn open(lines: &mut Lines, resource: &Resource) -> usize
     ensures { IsOpened lines.old resource.now result lines.new }
 {
     let number = take(lines, resource);
-    let _ = lines.numbers.insert(*resource, number);
+    let key = ResourceKey {
+        resource: *resource,
+    };
+    let _ = lines.numbers.insert(key, number);
     number
 }
 
@@ -72,8 +76,10 @@ pub(crate) fn forget_empty(lines: &mut Lines, resource: &Snapshot<Resource>, num
     ensures { IsForgotten lines.old resource.now.value number lines.new }
 {
     if lines.nodes.first(number).is_none() {
-        let resource = lines.resources[number];
-        lines.numbers.remove(&resource);
+        let key = ResourceKey {
+            resource: lines.resources[number],
+        };
+        lines.numbers.remove(&key);
         lines.vacant.push_reserved(number);
     }
 }

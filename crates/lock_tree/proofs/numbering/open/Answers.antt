@@ -2,7 +2,8 @@ use Rattle.std.proofs.Common.{◌≡◌, ◌<◌, [], ◌∙◌, Some, Result, O
 use Rattle.std.specs.Result.{OnOk}
 use Rattle.std.specs.HashMap.{get, spare}
 use Rattle.footprint.specs.declared.resource.Resource.{Resource}
-use Rattle.lock_tree.specs.Lines.{Lines, number_of, nodes_of, numbered, resource_eq}
+use Rattle.lock_tree.specs.Keys.{resource_eq}
+use Rattle.lock_tree.specs.Lines.{Lines, number_of, nodes_of, numbered}
 use Rattle.lock_tree.proofs.Resources.{changed_as}
 use Rattle.lock_tree.proofs.Vacancies.{number_here, opened, opened_kept, opened_lines}
 use Rattle.lock_tree.proofs.numbering.open.Goals as goal
