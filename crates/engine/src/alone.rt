@@ -1,11 +1,11 @@
 //! Running the transactions of a batch on one thread, event by event.
 
-ghost use Rattle.std.specs.Prelude.{◌≡◌, ◌+◌, ◌*◌, ◌-◌, ◌≤◌, ◌^◌, ℕ, true, false, unwrap_or, option_copied, length, slice_get, IfOk, OnOk, OnErr};
+ghost use Rattle.std.specs.Prelude.{◌≡◌, ◌+◌, ◌*◌, ◌-◌, ◌≤◌, ◌^◌, ℕ, true, false, Some, None, option_copied, length, slice_get, IfOk, OnOk, OnErr};
 ghost use Rattle.scheduler_core.specs.Events.{step};
 ghost use Rattle.scheduler_core.specs.Choices.{chosen};
 ghost use Rattle.scheduler_core.specs.Phases.{is_done, progress, was_run};
 ghost use Rattle.scheduler.specs.Schedules.{log_of, phases_of, KeepsItsJobs};
-ghost use Rattle.scheduler.specs.Moments.{can_make, events_at, IsChoiceAt};
+ghost use Rattle.scheduler.specs.Moments.{can_make, events_at, IsChoiceAt, IsNextAt};
 ghost use Rattle.engine.specs.Engines.{NoneIsOut, StaysSettled};
 ghost use Rattle.engine.specs.Listeners.{AreCounted, HearsOn};
 
@@ -14,16 +14,38 @@ use scheduler::{Event, Scheduler, StepAnswer};
 use scheduler_core::each_step_goes_on;
 use values::NoMemory;
 
-/// The event of a choice among those that are enabled, and of choice 0 where there is none; `None` exactly where all is done.
-fn chosen_event(scheduler: &Scheduler, choice: Option<&u64>) -> Result<Option<Event>, NoMemory>
+/// So many transactions are admitted at a time, where no choice says otherwise: their requests stay near at hand until they run.
+const AHEAD: usize = 16;
+
+/// The event of a choice among those that are enabled. Behind the last choice it is to admit, where more are to be admitted and
+/// that can be done, and else the next step of the least transaction. `None` exactly where all is done.
+fn chosen_event(
+    scheduler: &Scheduler,
+    choice: Option<&u64>,
+    admits: bool,
+) -> Result<Option<Event>, NoMemory>
     requires { KeepsItsJobs scheduler.now }
-    ensures event { IfOk result (λ event.
-        event ≡ chosen (unwrap_or (option_copied choice.entry) 0) (events_at scheduler.now)) }
+    ensures chosen { (n : ℕ) → option_copied choice.entry ≡ Some n →
+        IfOk result (λ event. event ≡ chosen n (events_at scheduler.now)) }
+    ensures behind { option_copied choice.entry ≡ None → admits ≡ true →
+        IfOk result (λ event. event ≡ chosen 0 (events_at scheduler.now)) }
+    ensures least { option_copied choice.entry ≡ None → admits ≡ false →
+        IfOk result (IsNextAt scheduler.now) }
     ensures enabled { IfOk result (IsChoiceAt scheduler.now) }
 {
     match choice {
         Some(n) => scheduler.choose(*n),
-        None => Ok(scheduler.first_event()),
+        None if admits => Ok(scheduler.first_event()),
+        None => Ok(scheduler.next_event()),
+    }
+}
+
+/// How many transactions are admitted and not settled after an event, of so many before it.
+fn admitted_after(event: Event, admitted: usize) -> usize {
+    match event {
+        Event::Admit => admitted.saturating_add(1),
+        Event::Settle(_) => admitted.saturating_sub(1),
+        Event::Lend(_) | Event::Run(_) => admitted,
     }
 }
 
@@ -80,7 +102,8 @@ fn go_on<L: Listener>(
     made
 }
 
-/// Makes the events of the choices, and those of choice 0 after the last, until all is done or memory is refused.
+/// Makes the events of the choices, and behind the last those of the least transactions, of which few are admitted at a time,
+/// until all is done or memory is refused.
 fn make_all<L: Listener>(
     scheduler: &mut Scheduler,
     listener: &mut L,
@@ -96,8 +119,10 @@ fn make_all<L: Listener>(
     ensures done { OnOk result (is_done (log_of scheduler.new.work) (phases_of scheduler.new) ≡ true) }
 {
     let mut choices = choices.iter();
-    'steps: while let Some(event) = chosen_event(scheduler, choices.next())? {
+    let mut admitted = 0;
+    'steps: while let Some(event) = chosen_event(scheduler, choices.next(), admitted < AHEAD)? {
         go_on(scheduler, listener, event)?;
+        admitted = admitted_after(event, admitted);
     }
     Ok(())
 }
@@ -144,8 +169,8 @@ fn settle_runs<L: Listener>(scheduler: &mut Scheduler, listener: &mut L, first: 
     scheduler.settle_held();
 }
 
-/// Runs the transactions that are left: each step makes the event that the next choice gives, and choice 0 after the last.
-/// Where memory is refused, what was run is settled, and the rows of what was only lent are taken back. The listener hears of
+/// Runs the transactions that are left: each step makes the event that the next choice gives, and behind the last choice the next
+/// step of the least transaction, with few admitted behind it. Where memory is refused, what was run is settled, and the rows of what was only lent are taken back. The listener hears of
 /// each as it is settled. They are so many, numbered from a first one on.
 pub(crate) fn run_left<L: Listener>(
     scheduler: &mut Scheduler,

@@ -207,7 +207,8 @@ impl Engine {
         Ok(())
     }
 
-    /// Runs a batch on worker threads, over lanes. A worker passes the gate once for each job that it claimed, before it runs it.
+    /// Runs a batch on worker threads, over lanes; a job that is the only one out may be run on the calling thread. Who runs a job passes
+    /// the gate once for it, before.
     ///
     /// The replies are those of the batch's entries one by one on the rows before it, and the rows afterwards are theirs.
     pub fn execute<R: Threads + Wait + Sync, G: Gate>(
@@ -281,8 +282,8 @@ impl Engine {
         }
     }
 
-    /// Runs a batch on one thread, without a gate: each step makes the event that `choose` gives for the next choice, and for 0
-    /// after the last. It may wait, since it publishes how many are settled.
+    /// Runs a batch on one thread, without a gate: each step makes the event that `choose` gives for the next choice, and behind the
+    /// last the next step of the least transaction, with few admitted behind it. It may wait, since it publishes how many are settled.
     pub fn run_alone<R: Wait>(
         &mut self,
         rt: &R,

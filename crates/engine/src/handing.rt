@@ -7,36 +7,45 @@ ghost use Rattle.lanes.specs.Seats.{SchedulerSeatOf, jobs_in};
 ghost use Rattle.engine.specs.Engines.{NoneIsOut, StaysSettled};
 ghost use Rattle.engine.specs.HandedOut.{AreInLanes};
 ghost use Rattle.engine.specs.Listeners.{AreCounted, HearsOn, settled_in};
+ghost use Rattle.engine.specs.Workers.{HoldsNoJob};
 
+use crate::gate::Gate;
 use crate::listener::{Listener, tell};
 use crate::quarters::{Drowsiness, Quarters};
-use lanes::{Lanes, SchedulerSeat};
+use crate::worker::run_one;
+use lanes::{Lanes, SchedulerSeat, WorkerSeat};
 use scheduler::{AdmitFault, Scheduler};
 use std::sync::Wait;
 use values::NoMemory;
 
-/// Admits transactions while there are more and there is room.
-fn admit_all(scheduler: &mut Scheduler) -> Result<(), NoMemory>
+/// So many transactions are admitted and not settled at a time: workers find jobs among them that don't wait for one another, and
+/// their requests stay near at hand.
+const AHEAD: usize = 256;
+
+/// Admits transactions while there are more, there is room, and not too many of them are admitted and not settled. So many are.
+fn admit_ahead(scheduler: &mut Scheduler, admitted: &mut usize) -> Result<(), NoMemory>
     ensures work { scheduler.new.work ≡ scheduler.old.work }
     ensures lanes { (seat : SchedulerSeatOf) → AreInLanes scheduler.old seat → AreInLanes scheduler.new seat }
     ensures settled { StaysSettled (phases_of scheduler.old) (phases_of scheduler.new) }
     ensures none_settled { settled_in scheduler.new ≡ settled_in scheduler.old }
 {
-    'admits: loop {
+    'admits: while *admitted < AHEAD {
         match scheduler.admit() {
-            Ok(_) => {}
+            Ok(_) => *admitted += 1,
             Err(AdmitFault::AllAdmitted | AdmitFault::Full) => return Ok(()),
             Err(AdmitFault::NoMemory) => return Err(NoMemory),
         }
     }
+    Ok(())
 }
 
-/// Lends its rows to the next ready transaction and puts the job into a lane, where a worker will find it; `false` where none is
-/// ready. A lane is free.
+/// Lends its rows to the next ready transaction and puts the job into a lane, and calls a worker for it where it is not the only one
+/// that is out; `false` where none is ready. A lane is free.
 fn hand_out(
     scheduler: &mut Scheduler,
     lanes: &Lanes,
     seat: &mut SchedulerSeat,
+    out: usize,
     quarters: &Quarters,
 ) -> Result<bool, NoMemory>
     requires seat { seat.old.lanes ≡ lanes.now }
@@ -57,20 +66,22 @@ fn hand_out(
     quarters.expect_job();
     match lanes.put(seat, job) {
         Ok(_) => {
-            quarters.wake_worker();
+            quarters.wake_worker_beside(out);
             Ok(true)
         }
         Err(_) => unreachable!(),
     }
 }
 
-/// Admits what can be admitted, and hands out jobs until each lane has one or none is ready. So many jobs are out.
+/// Admits what is to be admitted, and hands out jobs until each lane has one or none is ready. So many jobs are out, and so many
+/// transactions are admitted and not settled.
 fn hand_out_all(
     scheduler: &mut Scheduler,
     lanes: &Lanes,
     seat: &mut SchedulerSeat,
     count: usize,
     out: &mut usize,
+    admitted: &mut usize,
     quarters: &Quarters,
 ) -> Result<(), NoMemory>
     requires seat { seat.old.lanes ≡ lanes.now }
@@ -84,9 +95,9 @@ fn hand_out_all(
     ensures none_settled { settled_in scheduler.new ≡ settled_in scheduler.old }
     ensures out { out.new ≡ jobs_in seat.new.jobs }
 {
-    admit_all(scheduler)?;
+    admit_ahead(scheduler, admitted)?;
     'jobs: while *out < count {
-        if !hand_out(scheduler, lanes, seat, quarters)? {
+        if !hand_out(scheduler, lanes, seat, *out, quarters)? {
             return Ok(());
         }
         *out += 1;
@@ -131,22 +142,45 @@ fn take_in<L: Listener>(
     if is_run { Ok(true) } else { Err(NoMemory) }
 }
 
-/// Settles what workers deliver next, until nothing more is found, and tells the listener. It sleeps until something is delivered. An
-/// error says that a job came back without a run, for want of memory.
-fn take_in_next<R: Wait, L: Listener>(
+/// Runs a job that waits, where it is the only one out; `false` where none was run.
+fn run_only_job<G: Gate>(
+    lanes: &Lanes,
+    hand: &mut WorkerSeat,
+    out: usize,
+    quarters: &Quarters,
+    gate: &G,
+) -> bool
+    requires hand { hand.old.lanes ≡ lanes.now }
+    requires free { HoldsNoJob hand.old }
+    ensures hand { hand.new.lanes ≡ lanes.now }
+    ensures free { HoldsNoJob hand.new }
+{
+    out == 1 && run_one(lanes, hand, quarters, gate)
+}
+
+/// Settles what is delivered next, until nothing more is found, and tells the listener. Where one job alone is out and waits, no worker
+/// could do anything beside it, so it is run here. Else this sleeps until something is delivered. An error says that a job came back
+/// without a run, for want of memory.
+fn take_in_next<R: Wait, G: Gate, L: Listener>(
     rt: &R,
     scheduler: &mut Scheduler,
     listener: &mut L,
     lanes: &Lanes,
     seat: &mut SchedulerSeat,
+    hand: &mut WorkerSeat,
     out: &mut usize,
     quarters: &Quarters,
+    gate: &G,
 ) -> Result<(), NoMemory>
     requires seat { seat.old.lanes ≡ lanes.now }
+    requires hand { hand.old.lanes ≡ lanes.now }
+    requires free { HoldsNoJob hand.old }
     requires lanes { AreInLanes scheduler.old seat.old }
     requires out { out.old ≡ jobs_in seat.old.jobs }
     requires told { AreCounted scheduler.old (L.account listener.old) }
     ensures seat { seat.new.lanes ≡ lanes.now }
+    ensures hand { hand.new.lanes ≡ lanes.now }
+    ensures free { HoldsNoJob hand.new }
     ensures work { scheduler.new.work ≡ scheduler.old.work }
     ensures lanes { AreInLanes scheduler.new seat.new }
     ensures settled { StaysSettled (phases_of scheduler.old) (phases_of scheduler.new) }
@@ -163,6 +197,9 @@ fn take_in_next<R: Wait, L: Listener>(
             is_found = true;
         } else if is_found {
             break;
+        } else if run_only_job(lanes, hand, *out, quarters, gate) {
+            quarters.rise_scheduler(drowsiness);
+            drowsiness = Drowsiness::Busy;
         } else {
             drowsiness = quarters.rest_scheduler(rt, drowsiness);
         }
@@ -170,23 +207,34 @@ fn take_in_next<R: Wait, L: Listener>(
     Ok(())
 }
 
+/// How many transactions are still admitted and not settled, of so many, where the jobs that are out went from one number to a lesser.
+fn without_settled(admitted: usize, out_before: usize, out: usize) -> usize {
+    admitted.saturating_sub(out_before.saturating_sub(out))
+}
+
 /// Hands out jobs and takes in what comes of them, until all is done or memory is refused.
-fn hand_over<R: Wait, L: Listener>(
+fn hand_over<R: Wait, G: Gate, L: Listener>(
     rt: &R,
     scheduler: &mut Scheduler,
     listener: &mut L,
     lanes: &Lanes,
     seat: &mut SchedulerSeat,
+    hand: &mut WorkerSeat,
     count: usize,
     out: &mut usize,
     quarters: &Quarters,
+    gate: &G,
 ) -> Result<(), NoMemory>
     requires seat { seat.old.lanes ≡ lanes.now }
+    requires hand { hand.old.lanes ≡ lanes.now }
+    requires free { HoldsNoJob hand.old }
     requires lanes { AreInLanes scheduler.old seat.old }
     requires count { count ≡ lanes.now.count }
     requires out { out.old ≡ jobs_in seat.old.jobs }
     requires told { AreCounted scheduler.old (L.account listener.old) }
     ensures seat { seat.new.lanes ≡ lanes.now }
+    ensures hand { hand.new.lanes ≡ lanes.now }
+    ensures free { HoldsNoJob hand.new }
     ensures work { scheduler.new.work ≡ scheduler.old.work }
     ensures lanes { AreInLanes scheduler.new seat.new }
     ensures settled { StaysSettled (phases_of scheduler.old) (phases_of scheduler.new) }
@@ -195,32 +243,43 @@ fn hand_over<R: Wait, L: Listener>(
     ensures out { out.new ≡ jobs_in seat.new.jobs }
     ensures done { OnOk result (is_done (log_of scheduler.new.work) (phases_of scheduler.new) ≡ true) }
 {
+    let mut admitted = 0;
     for _ in rt.forever() {
         if scheduler.is_done() {
             break;
         }
-        hand_out_all(scheduler, lanes, seat, count, out, quarters)?;
-        take_in_next(rt, scheduler, listener, lanes, seat, out, quarters)?;
+        hand_out_all(scheduler, lanes, seat, count, out, &mut admitted, quarters)?;
+        let handed_out = *out;
+        take_in_next(
+            rt, scheduler, listener, lanes, seat, hand, out, quarters, gate,
+        )?;
+        admitted = without_settled(admitted, handed_out, *out);
     }
     Ok(())
 }
 
 /// Takes in what comes of the jobs that are out, until none is.
 #[tactic(auto, using(crate::proofs::EmptyLanes::empty_rests))]
-fn take_in_all<R: Wait, L: Listener>(
+fn take_in_all<R: Wait, G: Gate, L: Listener>(
     rt: &R,
     scheduler: &mut Scheduler,
     listener: &mut L,
     lanes: &Lanes,
     seat: &mut SchedulerSeat,
+    hand: &mut WorkerSeat,
     out: &mut usize,
     quarters: &Quarters,
+    gate: &G,
 )
     requires seat { seat.old.lanes ≡ lanes.now }
+    requires hand { hand.old.lanes ≡ lanes.now }
+    requires free { HoldsNoJob hand.old }
     requires lanes { AreInLanes scheduler.old seat.old }
     requires out { out.old ≡ jobs_in seat.old.jobs }
     requires told { AreCounted scheduler.old (L.account listener.old) }
     ensures seat { seat.new.lanes ≡ lanes.now }
+    ensures hand { hand.new.lanes ≡ lanes.now }
+    ensures free { HoldsNoJob hand.new }
     ensures empty { jobs_in seat.new.jobs ≡ 0 }
     ensures work { scheduler.new.work ≡ scheduler.old.work }
     ensures settled { StaysSettled (phases_of scheduler.old) (phases_of scheduler.new) }
@@ -232,28 +291,36 @@ fn take_in_all<R: Wait, L: Listener>(
         if *out == 0 {
             break;
         }
-        let _ = take_in_next(rt, scheduler, listener, lanes, seat, out, quarters);
+        let _ = take_in_next(
+            rt, scheduler, listener, lanes, seat, hand, out, quarters, gate,
+        );
     }
 }
 
 /// Hands the transactions that are left to the workers, and settles them as they come back. Where memory is refused, no more
 /// are handed out, and those that are out are taken in first. Each job that the seat has put is collected, before and after. The
 /// listener hears of each transaction as it is settled.
-pub(crate) fn schedule<R: Wait, L: Listener>(
+pub(crate) fn schedule<R: Wait, G: Gate, L: Listener>(
     rt: &R,
     scheduler: &mut Scheduler,
     listener: &mut L,
     lanes: &Lanes,
     seat: &mut SchedulerSeat,
+    hand: &mut WorkerSeat,
     count: usize,
     quarters: &Quarters,
+    gate: &G,
 ) -> Result<(), NoMemory>
     requires seat { seat.old.lanes ≡ lanes.now }
+    requires hand { hand.old.lanes ≡ lanes.now }
+    requires free { HoldsNoJob hand.old }
     requires count { count ≡ lanes.now.count }
     requires empty { jobs_in seat.old.jobs ≡ 0 }
     requires none_out { NoneIsOut (phases_of scheduler.old) }
     requires told { AreCounted scheduler.old (L.account listener.old) }
     ensures seat { seat.new.lanes ≡ lanes.now }
+    ensures hand { hand.new.lanes ≡ lanes.now }
+    ensures free { HoldsNoJob hand.new }
     ensures empty { jobs_in seat.new.jobs ≡ 0 }
     ensures work { scheduler.new.work ≡ scheduler.old.work }
     ensures settled { StaysSettled (phases_of scheduler.old) (phases_of scheduler.new) }
@@ -264,10 +331,13 @@ pub(crate) fn schedule<R: Wait, L: Listener>(
 {
     let mut out = 0;
     let ended = hand_over(
-        rt, scheduler, listener, lanes, seat, count, &mut out, quarters,
+        rt, scheduler, listener, lanes, seat, hand, count, &mut out, quarters, gate,
     );
     if ended.is_err() {
-        take_in_all(rt, scheduler, listener, lanes, seat, &mut out, quarters);
+        quarters.wake_worker();
+        take_in_all(
+            rt, scheduler, listener, lanes, seat, hand, &mut out, quarters, gate,
+        );
     }
     ended
 }

@@ -6,6 +6,7 @@ ghost use Rattle.scheduler.specs.Schedules.{log_of, phases_of};
 ghost use Rattle.lanes.specs.Seats.{jobs_in};
 ghost use Rattle.engine.specs.Engines.{NoneIsOut, StaysSettled};
 ghost use Rattle.engine.specs.Listeners.{AreCounted, HearsOn};
+ghost use Rattle.engine.specs.Workers.{HoldsNoJob};
 
 use crate::engine::ExecFault;
 use crate::gate::Gate;
@@ -13,7 +14,7 @@ use crate::handing::schedule;
 use crate::listener::Listener;
 use crate::worker::{Worker, start};
 use crate::workplace::{HeadSeat, Workplace};
-use lanes::SchedulerSeat;
+use lanes::{SchedulerSeat, WorkerSeat};
 use scheduler::Scheduler;
 use std::sync::Wait;
 use std::thread::Scope;
@@ -66,10 +67,13 @@ pub struct WorkerPool<'s, E, R, G> {
     gate: &'s G,
     place: &'s Workplace,
     seat: SchedulerSeat,
+    hand: WorkerSeat,
     /// How many workers were started.
     started: usize,
     ghost seated: { seat.lanes ≡ place.now },
     ghost empty: { jobs_in seat.jobs ≡ 0 },
+    ghost at_hand: { hand.lanes ≡ place.now },
+    ghost free: { HoldsNoJob hand },
 }
 
 impl<'s, E, R, G> Drop for WorkerPool<'s, E, R, G> {
@@ -80,6 +84,7 @@ impl<'s, E, R, G> Drop for WorkerPool<'s, E, R, G> {
             gate: _,
             place,
             seat: _,
+            hand: _,
             started: _,
         } = self;
         place.quarters.end();
@@ -87,7 +92,7 @@ impl<'s, E, R, G> Drop for WorkerPool<'s, E, R, G> {
 }
 
 impl<'s, E, R: Wait + Sync, G: Gate> WorkerPool<'s, E, R, G> {
-    /// A pool without a worker, whose workers will pass this gate: once for each job that they claimed, before they run it.
+    /// A pool without a worker. Who runs a job passes this gate, once for each job that it claimed, before it runs it.
     pub fn new(
         rt: &'s R,
         scope: &'s Scope<'s, E>,
@@ -97,13 +102,14 @@ impl<'s, E, R: Wait + Sync, G: Gate> WorkerPool<'s, E, R, G> {
     ) -> WorkerPool<'s, E, R, G>
         requires { head ≡ place.now }
     {
-        let HeadSeat { seat } = head;
+        let HeadSeat { seat, hand } = head;
         WorkerPool {
             rt,
             scope,
             gate,
             place,
             seat,
+            hand,
             started: 0,
         }
     }
@@ -162,8 +168,10 @@ impl<'s, E, R: Wait + Sync, G: Gate> WorkerPool<'s, E, R, G> {
                     &mut listener,
                     &place.lanes,
                     &mut self.seat,
+                    &mut self.hand,
                     place.count,
                     &place.quarters,
+                    self.gate,
                 )
                 .map_err(Refusal::from)
             }

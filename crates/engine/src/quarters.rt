@@ -130,6 +130,13 @@ impl Quarters {
         }
     }
 
+    /// Wakes a worker as `wake_worker` does, where other jobs are out beside the one that was put.
+    pub(crate) fn wake_worker_beside(&self, others: usize) {
+        if others > 0 {
+            self.wake_worker();
+        }
+    }
+
     /// Takes a worker that has found no job a step nearer to its sleep, or lets it sleep until it is woken. It says that it will sleep
     /// before it is no longer counted among those that look, and looks once more after that.
     pub(crate) fn rest_worker<R: Wait>(
@@ -161,6 +168,11 @@ impl Quarters {
         if is_counted {
             self.looking.fetch_sub(1, Ordering::SeqCst);
         }
+        self.take_job();
+    }
+
+    /// Says that a job was claimed, and wakes a worker where more jobs wait.
+    pub(crate) fn take_job(&self) {
         self.waiting.fetch_sub(1, Ordering::SeqCst);
         self.wake_worker();
     }

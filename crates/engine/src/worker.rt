@@ -42,6 +42,30 @@ fn find_job(lanes: &Lanes, seat: &mut WorkerSeat, quarters: &Quarters) -> Option
     }
 }
 
+/// Claims a job that waits, if there is one, and delivers what comes of it, as a worker does; `false` where none was found.
+#[tactic(auto, using(crate::proofs::Worked::delivered, crate::proofs::Worked::none_claimed))]
+pub(crate) fn run_one<G: Gate>(
+    lanes: &Lanes,
+    seat: &mut WorkerSeat,
+    quarters: &Quarters,
+    gate: &G,
+) -> bool
+    requires lanes { seat.old.lanes ≡ lanes.now }
+    requires free { HoldsNoJob seat.old }
+    ensures lanes { seat.new.lanes ≡ lanes.now }
+    ensures free { HoldsNoJob seat.new }
+{
+    let Some((lane, job)) = find_job(lanes, seat, quarters) else {
+        return false;
+    };
+    quarters.take_job();
+    gate.enter(job.no());
+    let done = run_job(job);
+    quarters.expect_result();
+    lanes.deliver(seat, lane, done);
+    true
+}
+
 impl Duty for Worker<'_, '_> {
     /// Claims jobs and delivers what comes of each before it claims the next, until it finds none after the workers were told to end.
     /// It passes the gate once for each job that it claimed, before it runs it, and sleeps while it finds none.

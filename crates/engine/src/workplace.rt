@@ -4,7 +4,7 @@ ghost use Rattle.std.specs.Prelude.{◌≡◌, IfOk};
 
 use crate::quarters::Quarters;
 use crate::settings::Settings;
-use lanes::{Lanes, SchedulerSeat};
+use lanes::{Lanes, SchedulerSeat, WorkerSeat};
 use std::alloc::Global;
 use std::marker::Model;
 use values::NoMemory;
@@ -31,15 +31,19 @@ impl Model for Workplace {
     ghost invariant = { λ place. place.count ≡ place.lanes.count };
 }
 
-/// The one seat from which jobs are handed out at a workplace. Each that it handed out has come back.
+/// The one seat from which jobs are handed out at a workplace, and a worker's seat for the same thread. Each job that was handed out
+/// has come back.
 #[derive(Drop)]
 pub struct HeadSeat {
     pub(crate) seat: SchedulerSeat,
+    /// Where it runs a job itself.
+    pub(crate) hand: WorkerSeat,
 }
 
 impl Model for HeadSeat {
     ghost use Rattle.std.specs.Prelude.{◌≡◌};
     ghost use Rattle.lanes.specs.Seats.{LanesOf, lanes_code, jobs_in};
+    ghost use Rattle.engine.specs.Workers.{HoldsNoJob};
 
     ghost Value = { LanesOf };
 
@@ -47,12 +51,13 @@ impl Model for HeadSeat {
 
     ghost view = { λ head. head.seat.lanes };
 
-    ghost invariant = { λ head. jobs_in head.seat.jobs ≡ 0 };
+    ghost invariant = { λ head. (jobs_in head.seat.jobs ≡ 0) × (head.hand.lanes ≡ head.seat.lanes) × HoldsNoJob head.hand };
 }
 
 impl Workplace {
     /// A workplace with as many lanes, and room for as many workers, as the settings say, and its seat. `NoMemory` comes only where
     /// memory is refused.
+    #[tactic(auto, using(crate::proofs::Worked::none_at_first))]
     pub fn new(alloc: Global, settings: Settings) -> Result<(Workplace, HeadSeat), NoMemory>
         ensures seat { IfOk result (λ made. made.1 ≡ made.0) }
         ensures count { IfOk result (λ made. made.0.count ≡ settings.lanes) }
@@ -62,13 +67,14 @@ impl Workplace {
             lanes: count,
             ..
         } = settings;
-        let (lanes, seat) = Lanes::new(alloc, count)?;
+        let (lanes, mut seat) = Lanes::new(alloc, count)?;
+        let hand = lanes.worker_seat(&mut seat)?;
         let quarters = Quarters::new(alloc, workers)?;
         let place = Workplace {
             lanes,
             count,
             quarters,
         };
-        Ok((place, HeadSeat { seat }))
+        Ok((place, HeadSeat { seat, hand }))
     }
 }

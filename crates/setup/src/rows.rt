@@ -1,6 +1,6 @@
 //! Reading starting rows.
 
-ghost use Rattle.std.specs.Prelude.{◌≡◌, ◌<◌, true, false, List, [], length, map, Some, Ok, IfOk, IfErr, OnOk};
+ghost use Rattle.std.specs.Prelude.{◌≡◌, ◌<◌, ◌++◌, ◌∷◌, true, false, List, [], length, map, Some, Ok, IfOk, IfErr, OnOk};
 ghost use Rattle.serde_json.specs.View.{view};
 ghost use Rattle.documents.specs.FirstFault.{first};
 ghost use Rattle.documents.specs.Reading.{Reads};
@@ -34,22 +34,24 @@ fn read_row(
     }
 }
 
-/// A row that the document says.
+/// A row that the document says, whose name joins those of the rows before it.
 #[tactic(auto, unfolding(crate::specs::Rows::row_at))]
 fn read_one(
     alloc: Global,
     catalogue: &Catalogue,
-    names: &BTreeSet<RowName>,
+    names: &mut BTreeSet<RowName>,
     document: &Value,
 ) -> Result<(TableNo, Key, Row), SetupFault>
-    ensures { (before : List RowAt) → HoldsNames names.now before →
+    ensures row { (before : List RowAt) → HoldsNames names.old before →
         Reads is_memory (λ r. r) result (row_at catalogue.now before (view document.now)) }
+    ensures names { (before : List RowAt) → HoldsNames names.old before →
+        IfOk result (λ r. HoldsNames names.new (before ++ r ∷ [])) }
 {
     let (name, key, values) = text_number_list(document).ok_or(SetupFault::Shape)?;
     let table = catalogue.table(name).ok_or(SetupFault::RowTable)?;
     let key = Key::new(key).ok_or(SetupFault::RowKey)?;
     let row = read_row(alloc, catalogue, table, values)?.ok_or(SetupFault::RowValue)?;
-    if names.contains(&RowName::new(table, key)) {
+    if !names.insert(RowName::new(table, key))? {
         return Err(SetupFault::RowTwice);
     }
     Ok((table, key, row))
@@ -67,9 +69,7 @@ fn read_document(
     let mut names = BTreeSet::new(alloc);
     let mut rows = Vec::new(alloc);
     for document in documents {
-        let (table, key, row) = read_one(alloc, catalogue, &names, document)?;
-        names.insert(RowName::new(table, key))?;
-        rows.push((table, key, row))?;
+        rows.push(read_one(alloc, catalogue, &mut names, document)?)?;
     }
     Ok(rows)
 }

@@ -4,6 +4,7 @@ use Rattle.lanes.specs.Seats.{jobs_in}
 use Rattle.engine.specs.Engines.{StaysSettled}
 use Rattle.engine.specs.HandedOut.{AreInLanes}
 use Rattle.engine.specs.Listeners.{AreCounted, HearsOn}
+use Rattle.engine.specs.Workers.{HoldsNoJob}
 use Rattle.engine.proofs.handing.hand_over.Given as goal
 
 -- so many jobs are out, and they are in the lanes
@@ -16,3 +17,5 @@ invariant-loop g l =
     × (l.out ≡ jobs_in l.seat.jobs)
     × AreCounted l.scheduler (g.L.Listener.account l.listener)
     × HearsOn (g.L.Listener.account l.fn.listener) (g.L.Listener.account l.listener)
+    × (l.hand.lanes ≡ l.lanes)
+    × HoldsNoJob l.hand

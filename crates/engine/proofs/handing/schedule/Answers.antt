@@ -6,7 +6,7 @@ use Rattle.engine.proofs.EmptyLanes.{none_lanes, rests_empty}
 use Rattle.engine.proofs.handing.schedule.Goals as goal
 
 pub hand_over-ended-requires-clause-lanes : goal.hand_over-ended-requires-clause-lanes
-hand_over-ended-requires-clause-lanes g c = none_lanes c.args.scheduler.now c.args.seat.now c.requires.empty c.requires.none_out
+hand_over-ended-requires-clause-lanes g c κs within = none_lanes c.args.scheduler.now c.args.seat.now c.requires.empty c.requires.none_out
 
 pub returns-else-is_err-clause-none_out : goal.returns-else-is_err-clause-none_out
 returns-else-is_err-clause-none_out g c =

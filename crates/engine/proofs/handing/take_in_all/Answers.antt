@@ -12,4 +12,6 @@ loop-preserved g c =
       c.take_in_next.ensures.out,
       c.take_in_next.ensures.told,
       hears_on (g.L.Listener.account c.args.listener.now) (g.L.Listener.account c.loop.listener) (g.L.Listener.account c.take_in_next.new.listener) c.loop.invariant.6 c.take_in_next.ensures.onward,
+      c.take_in_next.ensures.hand,
+      c.take_in_next.ensures.free,
     )

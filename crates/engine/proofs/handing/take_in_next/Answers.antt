@@ -15,6 +15,22 @@ loop-preserved g c =
       c.take_in.ensures.out,
       c.take_in.ensures.told,
       hears_on (g.L.Listener.account c.args.listener.now) (g.L.Listener.account c.loop.listener) (g.L.Listener.account c.take_in.new.listener) c.loop.invariant.6 c.take_in.ensures.onward,
+      c.run_only_job.ensures.hand,
+      c.run_only_job.ensures.free,
+    )
+
+pub loop-preserved-then-run_only_job : goal.loop-preserved-then-run_only_job
+loop-preserved-then-run_only_job g c =
+    let was = c.loop.invariant in (
+      c.take_in.ensures.seat,
+      c.take_in.ensures.lanes,
+      c.take_in.ensures.work ∙ was.2,
+      λ place is. c.take_in.ensures.settled place (was.3 place is),
+      c.take_in.ensures.out,
+      c.take_in.ensures.told,
+      hears_on (g.L.Listener.account c.args.listener.now) (g.L.Listener.account c.loop.listener) (g.L.Listener.account c.take_in.new.listener) c.loop.invariant.6 c.take_in.ensures.onward,
+      c.run_only_job.ensures.hand,
+      c.run_only_job.ensures.free,
     )
 
 pub loop-preserved-then-branch : goal.loop-preserved-then-branch
@@ -27,6 +43,8 @@ loop-preserved-then-branch g c =
       c.take_in.ensures.out,
       c.take_in.ensures.told,
       hears_on (g.L.Listener.account c.args.listener.now) (g.L.Listener.account c.loop.listener) (g.L.Listener.account c.take_in.new.listener) c.loop.invariant.6 c.take_in.ensures.onward,
+      was.7,
+      was.8,
     )
 
 pub returns-in_err-take_in-clause-onward : goal.returns-in_err-take_in-clause-onward

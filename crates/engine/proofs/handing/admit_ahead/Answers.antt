@@ -4,7 +4,7 @@ use Rattle.scheduler.specs.Schedules.{Schedule, phases_of}
 use Rattle.engine.specs.HandedOut.{AreInLanes}
 use Rattle.engine.specs.Listeners.{settled_in}
 use Rattle.engine.proofs.InLanes.{admitted_lanes, admitted_settled, admitted_counts}
-use Rattle.engine.proofs.handing.admit_all.Goals as goal
+use Rattle.engine.proofs.handing.admit_ahead.Goals as goal
 
 pub admits-preserved : goal.admits-preserved
 admits-preserved c =

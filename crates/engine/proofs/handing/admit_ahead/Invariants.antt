@@ -4,7 +4,7 @@ use Rattle.lanes.specs.Seats.{SchedulerSeatOf}
 use Rattle.engine.specs.Engines.{StaysSettled}
 use Rattle.engine.specs.HandedOut.{AreInLanes}
 use Rattle.engine.specs.Listeners.{settled_in}
-use Rattle.engine.proofs.handing.admit_all.Given as goal
+use Rattle.engine.proofs.handing.admit_ahead.Given as goal
 
 abbrev pub invariant-admits : goal.invariant-admits
 invariant-admits l =
