@@ -1,4 +1,4 @@
-use Rattle.std.proofs.Common.{length, ap, ◌∙◌, refl}
+use Rattle.std.proofs.Common.{length, ap, ◌∙◌}
 use Rattle.request_arena.specs.Rows.{RowOf}
 use Rattle.request_arena.specs.Chains.{behind_it}
 use Rattle.request_arena.proofs.Changed.{changed_length}
