@@ -1,5 +1,5 @@
 -- The rows of a table are those of its partitions.
-use Rattle.std.proofs.Common.{◌≡◌, ℕ, ◌+◌, ◌%◌, ◌<◌, ◌≤◌, ◌==◌, ◌&&◌, ◌||◌, Bool, true, false, cond, nat_lt, unwrap_or, List, [], ◌∷◌, ◌++◌, map, Option, Some, None, option_map, slice_get, refl, sym, ap, ◌∙◌, subst, arith, Less, IsPermutation}
+use Rattle.std.proofs.Common.{◌≡◌, ℕ, ◌+◌, ◌%◌, ◌<◌, ◌≤◌, ◌==◌, ◌&&◌, ◌||◌, Bool, true, false, cond, nat_lt, unwrap_or, List, [], ◌∷◌, ◌++◌, drop, length, map, take, Option, Some, None, option_map, slice_get, refl, sym, ap, ◌∙◌, subst, arith, Less, IsPermutation}
 use Rattle.std.specs.Borrow.{Bor}
 use Rattle.std.specs.List.{AllByRecursion}
 use Rattle.std.specs.List.Sorted.{IsNonDecreasingBy, IsStrictlySortedBy}
@@ -7,7 +7,7 @@ use Rattle.std.specs.Ordering.{nat_cmp}
 use Rattle.std.specs.FinMap.{entries, entries_sorted, get-entries}
 use Rattle.std.specs.FinMap.Entries.{find-where_key, is_sorted-where_key, same_entries}
 use Rattle.std.proofs.lemmas.Bool.Decides.{nat_tests}
-use Rattle.std.proofs.lemmas.List.{map-append}
+use Rattle.std.proofs.lemmas.List.{map-append, take_at}
 use Rattle.std.proofs.lemmas.List.Elements.{filter_agree}
 use Rattle.std.proofs.lemmas.List.Sorted.{IsPermutation-append_left, IsPermutation-cons, IsPermutation-map, IsPermutation-middle, IsPermutation-refl, IsPermutation-sym, IsPermutation-trans}
 use Rattle.values.specs.declared.name.RowName.{RowName}
@@ -133,6 +133,13 @@ rise table (e ∷ es) a = elim (is_of table e.0) as (λ (t : Bool). is_of table 
 referred_keys : (rows : List (ℕ × Bor RowOf)) → map (λ e. e.0) rows ≡ keys (referred rows)
 referred_keys [] = refl
 referred_keys (row ∷ rows) = ap (λ ks. row.0 ∷ ks) (referred_keys rows)
+
+-- elements that were moved within a slice of a Vec, and then sorted
+pub moved_sorted : {X : Type 0} (items lent moved sorted : List X) (n : ℕ) → lent ≡ items → length moved ≡ n → IsPermutation lent moved →
+    IsPermutation (take n (moved ++ drop (length moved) items)) sorted → IsPermutation items sorted
+moved_sorted {X} items lent moved sorted n e l p q =
+    IsPermutation-trans items moved sorted (subst (λ (xs : List X). IsPermutation xs moved) e p)
+    (subst (λ (xs : List X). IsPermutation xs sorted) (take_at moved (drop (length moved) items) n l) q)
 
 -- rows that were gathered, in the order of their keys
 pub sorted_rows : (table : ℕ) (db : Database) (old new : List (ℕ × Bor RowOf)) → IsPermutation (by_key (rows_of table db)) (referred old) → IsPermutation old new → IsNonDecreasingBy (λ e. e.0) new
