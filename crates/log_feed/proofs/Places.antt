@@ -4,7 +4,7 @@ use Rattle.std.specs.Prelude.{Vec, IfOk, IfErr, IfSome, IsNone}
 use Rattle.std.specs.declared.alloc.Global.{Global}
 use Rattle.std.proofs.lemmas.List.{length-append, nil_from_length}
 use Rattle.devices.specs.Lines.{has_newline, is_newline, newline, next_number}
-use Rattle.devices.proofs.Lines.{has_newline-push, numbered_lines-newline, numbered_lines-last}
+use Rattle.devices.proofs.Lines.{has_newline-append, numbered_lines-newline, numbered_lines-last}
 use Rattle.proclang_types.specs.Procedures.{ProcParts}
 use Rattle.requests.specs.ProcLists.{ProcsParts}
 use Rattle.requests.specs.Requests as requests
@@ -60,7 +60,7 @@ pub IsAt-byte : (procs : ProcsParts) (place : Place) (ended : List Calls) (fed :
 IsAt-byte procs place ended fed b at h = record {
   batches = λ more. rw (append_assoc fed (b ∷ []) more, append_assoc place.line (b ∷ []) more) (at.batches (b ∷ more));
   fault = λ more. rw (append_assoc fed (b ∷ []) more, append_assoc place.line (b ∷ []) more) (at.fault (b ∷ more));
-  one_line = has_newline-push place.line b at.one_line h;
+  one_line = has_newline-append place.line (b ∷ []) at.one_line (rw h refl);
 }
 
 -- ---- a call
