@@ -8,11 +8,13 @@
 The prover must refuse each of them. Those that are tried in one check change functions of their own each. The check says of each
 function that goals of it are open, or else that it has no proof since it calls one that has none. So an edit is refused
 where each function that it changes has an open goal of its own. The others are tried in the next check without those,
-and alone at last: then an open goal in one of those functions refuses the edit, and where it changes a definition, any.
+and alone at last: then an open goal in one of those functions refuses the edit, and where it changes a definition or a type,
+any in the whole crate.
 The checks are those by which `rt ci` tries an edit, on copies of the crate, so nothing in the checkout changes; but where
-edits change bodies alone, the functions that they change are checked, with those that these call, and no others. They go on
-from a copy of the work that the crate's own checks kept; what the crate stands on is built first where it isn't. The crates
-are tried side by side. It ends with how many were refused and how many not, and with status 1 where an edit isn't refused.
+edits change code alone, the functions that they change are checked, with those that these call, and no others, and all of the
+crate only where that refuses nothing. They go on from a copy of the work that the crate's own checks kept; what the crate
+stands on is built first where it isn't. The crates are tried side by side, the last first: they have the dearest proofs. It
+ends with how many were refused and how many not, and with status 1 where an edit isn't refused.
 """
 import importlib.machinery
 import importlib.util
@@ -23,7 +25,7 @@ import subprocess
 import sys
 import tempfile
 from concurrent.futures import ThreadPoolExecutor
-from functools import cache
+from functools import cache, cached_property
 from pathlib import Path
 
 IMPL = re.compile(r"impl\b(.*)")
@@ -105,8 +107,9 @@ class Edit:
             texts[file] = text.replace(old, new)
         return texts if self.changes else None
 
-    def functions(self):
-        """The names of the functions that it changes, `None` where it changes something else, too."""
+    @cached_property
+    def touched(self):
+        """The names of the functions that it changes, and `None` among them where it changes something else, too."""
         found = set()
         for file, text in self.made_on({}).items():
             before = (self.crate / file).read_text()
@@ -114,7 +117,15 @@ class Edit:
             for number, (old, new) in enumerate(zip(before.split("\n"), text.split("\n")), 1):
                 if old != new:
                     found.add(next((name for first, last, name in functions if first <= number <= last), None))
-        return None if None in found else found
+        return found
+
+    def functions(self):
+        """The names of the functions that it changes, `None` where it changes something else, too."""
+        return None if None in self.touched else self.touched
+
+    def bodies(self):
+        """The names of the functions that it changes, where all that it changes is code."""
+        return self.touched - {None} if all(file.startswith("src/") for file, _, _ in self.changes) else set()
 
 
 def checked(crate, texts, kept, functions):
@@ -135,9 +146,9 @@ def check(crate, texts, kept, functions):
 
 
 def functions_in(edits):
-    """The functions that the edits change, `None` where one of them changes something else, too."""
-    changed = [edit.functions() for edit in edits]
-    return None if None in changed else set().union(*changed)
+    """The functions that the edits change, `None` where one of them changes something else than code, or code but no function."""
+    changed = [edit.bodies() for edit in edits]
+    return set().union(*changed) if all(changed) else None
 
 
 def group_of(edits):
@@ -164,9 +175,12 @@ def refused_together(crate, edits, kept):
 
 
 def is_refused_alone(crate, edit, kept):
-    functions = edit.functions()
-    is_refused, opened = check(crate, edit.made_on({}), kept, functions)
-    return is_refused and (functions is None or bool(functions & opened))
+    bodies = edit.bodies()
+    if bodies:
+        is_refused, opened = check(crate, edit.made_on({}), kept, bodies)
+        if is_refused and bodies & opened:
+            return True
+    return edit.functions() is None and check(crate, edit.made_on({}), kept, None)[0]
 
 
 def not_refused(crate, edits):
@@ -217,7 +231,7 @@ def main(word, *names):
     crates = crates_with(edits[word], names)
     tried = {name: [edit for edit in edits[word] if edit.crate.name == name] for name in crates}
     with ThreadPoolExecutor(len(os.sched_getaffinity(0))) as pool:
-        failed = sum(map(len, pool.map(lambda name: not_refused(crates[name], tried[name]), crates)))
+        failed = sum(map(len, pool.map(lambda name: not_refused(crates[name], tried[name]), reversed(crates))))
     print(f"{sum(map(len, tried.values())) - failed} edits refused, {failed} not")
     return 1 if failed else 0
 

@@ -31,7 +31,7 @@ Without an edit in the gate are laws, which have no body; `Entry::request`, `Row
 `Procs::new`, `ProcFault::from` and `LineFault::from`, for which no other answer can be written down with what their
 crates have; each other `from` of a fault, which says only which refusal is answered; the orders of `RowName` and of
 `Resource`, which are derived; `calvin_c_feed`, `calvin_c_end`, `calvin_c_fault` and `calvin_c_close`, which promise no more than
-to return; and `NoMemory::from`, `OpenGate::enter` and `Display`, which promise nothing.
+to return; and `NoMemory::from`, `Gate::is_open`, `OpenGate::enter` and `Display`, which promise nothing.
 
 | crate | function | in the gate | beside it |
 |---|---|---|---|

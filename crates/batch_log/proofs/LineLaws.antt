@@ -71,7 +71,7 @@ spelled d f e =
     let ds = and_then_ok items_form (elements d) f e in
     rw (elements_said d ds.0 ds.1) (items_said ds.0 f ds.2)
 
-form_again : (d : Data) (f : Form) → SpellsLine d f → line_form d ≡ Some f
+pub form_again : (d : Data) (f : Form) → SpellsLine d f → line_form d ≡ Some f
 unfolding line_form words_form
 form_again d (call_form name ds) h = ap (λ (x : Data). option_and_then items_form (elements x)) h ∙ ap (option_map (call_form name)) (elements_again ds)
 form_again d cut_form h = ap (λ (x : Data). option_and_then items_form (elements x)) h

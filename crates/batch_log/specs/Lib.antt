@@ -4,6 +4,7 @@ pub mod CutLaws
 pub mod Lines
 pub mod Log
 pub mod Moves
+pub mod Plain
 pub mod Reader
 pub mod Taken
 pub mod LineRules

@@ -11,8 +11,9 @@ ghost use Rattle.batch_log.specs.Moves.{Moves};
 ghost use Rattle.batch_log.specs.Taken.{IsFirstLine, LosesFirst, TakesCalls};
 
 use crate::fault::{LogFault, LogFaultKind, device_fault};
-use crate::line::{LogLine, read_log_line};
+use crate::line::{LogLine, read_line_with};
 use devices::{LineReader, Source};
+use json::Scratch;
 use requests::{Procs, Request};
 use std::alloc::Global;
 
@@ -31,6 +32,7 @@ fn next_said<S: Source>(
     alloc: Global,
     procs: &Procs,
     lines: &mut LineReader<'_, S>,
+    scratch: &mut Scratch,
 ) -> Result<Option<LogLine>, LogFault>
     ensures same { source_name lines.new ≡ source_name lines.old }
     ensures line { IfOk result (λ o. IfSome o (λ said. Passes
@@ -62,7 +64,7 @@ fn next_said<S: Source>(
         Ok(None) => return Ok(None),
         Err(fault) => return Err(device_fault(fault)),
     };
-    match read_log_line(alloc, procs, &line) {
+    match read_line_with(alloc, procs, &line, scratch) {
         Ok(said) => Ok(Some(said)),
         Err(kind) => Err(fault_of_line(lines, kind)),
     }
@@ -110,8 +112,9 @@ pub(crate) fn read_batch<S: Source>(
         S.failed (source_of lines.new) ≡ (S.failed (source_of lines.old) || ends_in_io result) }
 {
     let mut calls = Vec::new(alloc);
+    let mut scratch = Scratch::new(alloc);
     'lines: loop {
-        let call = match next_said(alloc, procs, lines) {
+        let call = match next_said(alloc, procs, lines, &mut scratch) {
             Ok(Some(LogLine::Call(call))) => call,
             Ok(Some(LogLine::Cut)) => return Ok(Some(calls)),
             Ok(None) if calls.is_empty() => return Ok(None),

@@ -6,6 +6,7 @@ mod fault;
 mod form;
 mod laws;
 mod line;
+mod plain_line;
 mod reader;
 
 pub use devices::{DeviceFailed, ReadSource, Sink, Source, WriteSink, write_all};

@@ -36,7 +36,7 @@ pub fn read_value(alloc: Global, document: &Json) -> Result<Option<Value>, NoMem
 pub fn read_values(alloc: Global, documents: &[Json]) -> Result<Option<Vec<Value>>, NoMemory>
     ensures { IfOk result (λ values. option_map (λ v. v.items) values ≡ values_said (map view documents.now)) }
 {
-    let mut values = Vec::new(alloc);
+    let mut values = Vec::with_capacity(alloc, documents.len())?;
     for document in documents {
         match read_value(alloc, document)? {
             Some(value) => values.push(value)?,

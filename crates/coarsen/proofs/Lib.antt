@@ -16,3 +16,4 @@ pub mod Coarsened
 pub mod PlanLaws
 pub mod Apart
 pub mod Placing
+pub mod ThePlan

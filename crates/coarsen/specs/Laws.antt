@@ -1,10 +1,11 @@
 -- Claimed: what contracts promise to a reader rests on these words.
 -- Laws of the tree, of coarsening, of plans and of clashes.
-use Rattle.std.specs.Prelude.{◌≡◌, ◌≤◌, ◌↔◌, ◌⊎◌, ℕ, true, false, if◌then◌else◌, nat_lt, max, List, Some, None}
+use Rattle.std.specs.Prelude.{◌≡◌, ◌<◌, ◌≤◌, ◌↔◌, ◌⊎◌, ℕ, true, false, if◌then◌else◌, nat_lt, max, List, length, Some, None}
 use Rattle.std.specs.List.{Contains, list_any}
 use Rattle.std.specs.FinMap.{entries, get, empty}
 use Rattle.values.specs.declared.name.RowName.{RowName}
 use Rattle.catalogue.specs.Shapes.{TableShape}
+use Rattle.catalogue.specs.Rules.{IsCatalogue}
 use Rattle.proclang_types.specs.declared.right.Right.{Right}
 use Rattle.proclang_types.specs.declared.right.Right.TheVariants.{Read, Write}
 use Rattle.footprint.specs.declared.resource.Resource.{Resource}
@@ -15,9 +16,10 @@ use Rattle.modes.specs.declared.mode.Mode.{Mode}
 use Rattle.modes.specs.Rights.{rank_of}
 use Rattle.modes.specs.Modes.{own, subtree}
 use Rattle.coarsen.specs.declared.level.Level.{Level}
-use Rattle.coarsen.specs.Subtrees.{Requests, holds, greatest, right_on, right_under}
+use Rattle.coarsen.specs.Subtrees.{Requests, holds, greatest, right_on, right_under, covers_by_requests}
 use Rattle.coarsen.specs.Coarsening.{needed, lifted, children, parent_at, is_parent, coarsened}
-use Rattle.coarsen.specs.Plans.{IsPlanOf, IsWellFormed}
+use Rattle.coarsen.specs.Plans.{IsPlanOf, IsPlanFor, IsWellFormed, IsPlanOver}
+use Rattle.coarsen.specs.ThePlan.{plan_for}
 use Rattle.coarsen.specs.Clashes.{locks_row, Clash, ModesClash}
 
 -- a resource holds itself and what it is an ancestor of, and nothing else
@@ -59,6 +61,20 @@ pub record PlansAreExact : Type 0 where
   pub requests : (f : FootprintOf) (plan : Requests) → IsPlanOf f plan → (r : Resource) (m : Mode)
       → Contains plan (r, m) ↔ ((own m ≡ right_on f r) × (subtree m ≡ right_under f r))
   pub one : (f : FootprintOf) (a b : Requests) → IsPlanOf f a → IsPlanOf f b → a ≡ b
+
+-- the plan for a footprint is that which is put together, and no other
+abbrev pub PlanIsOne : Type 0
+PlanIsOne = (k c : ℕ) (f : FootprintOf) (plan : Requests) → IsPlanFor k c f plan ↔ (plan ≡ plan_for k c f)
+
+-- the plan for a footprint is well formed, covers what the footprint covers, has at most c requests, and is over each catalogue that
+-- the footprint is of
+pub record PlansServe : Type 0 where
+  pub sound : (k c : ℕ) (f : FootprintOf) (plan : Requests) → IsPlanFor k c f plan → IsWellFormed plan
+  pub covered : (k c : ℕ) (f : FootprintOf) (plan : Requests) → IsPlanFor k c f plan → (resource : Resource) (right : Right) → covers f resource right ≡ true
+      → covers_by_requests plan resource right ≡ true
+  pub size : (k c : ℕ) (f : FootprintOf) (plan : Requests) → 0 < c → IsPlanFor k c f plan → length plan ≤ c
+  pub over : (k c : ℕ) (f : FootprintOf) (plan : Requests) → IsPlanFor k c f plan → (tables : List TableShape) → IsCatalogue tables → IsFootprintOf tables f
+      → IsPlanOver tables plan
 
 -- plans clash either way
 pub record ClashEitherWay : Type 0 where

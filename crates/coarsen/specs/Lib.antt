@@ -1,6 +1,7 @@
 pub mod Subtrees
 pub mod Coarsening
 pub mod Plans
+pub mod ThePlan
 pub mod Clashes
 pub mod Requests
 pub mod Laws

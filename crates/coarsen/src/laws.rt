@@ -1,6 +1,6 @@
 //! Laws of the definitions, as contracts of functions that do nothing.
 
-ghost use Rattle.coarsen.specs.Laws.{HoldsDescendants, DropsCovered, ReplacesMany, CoversWithoutExcess, PlansAreExact, ClashEitherWay, LockedRowsConflict, FootprintsAreOf};
+ghost use Rattle.coarsen.specs.Laws.{HoldsDescendants, DropsCovered, ReplacesMany, CoversWithoutExcess, PlansAreExact, PlanIsOne, PlansServe, ClashEitherWay, LockedRowsConflict, FootprintsAreOf};
 
 /// The subtree of a resource is the resource and what has it as an ancestor.
 pub fn subtrees_are_of_ancestors()
@@ -26,6 +26,16 @@ pub fn coarsened_footprints_cover()
 /// Which requests a plan has.
 pub fn plans_are_exact()
     ensures { PlansAreExact }
+{}
+
+/// The plan for a footprint is one, and can be put together.
+pub fn plan_is_one()
+    ensures { PlanIsOne }
+{}
+
+/// What each plan for a footprint is good for.
+pub fn plans_serve()
+    ensures { PlansServe }
 {}
 
 /// If one plan clashes with another, the other clashes with it.

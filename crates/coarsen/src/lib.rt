@@ -12,7 +12,7 @@ mod subtree;
 pub use clashes::clash;
 pub use laws::{
     clashes_are_either_way, coarsened_footprints_cover, covered_entries_go,
-    footprints_are_of_catalogues, locked_rows_conflict, many_entries_become_one, plans_are_exact,
-    subtrees_are_of_ancestors,
+    footprints_are_of_catalogues, locked_rows_conflict, many_entries_become_one, plan_is_one,
+    plans_are_exact, plans_serve, subtrees_are_of_ancestors,
 };
 pub use plan::Plan;

@@ -56,11 +56,13 @@ out_at [] place slot is = absurd (none_some slot is)
 out_at (x ∷ slots) zero slot is = ap (λ s. Some (phase_in s)) (some_is x slot is)
 out_at (x ∷ slots) (suc place) slot is = out_at slots place slot is
 
-pushed_out : (slots : List Slot) (place : ℕ) → is_out (slice_get (map phase_in (slots ++ Idle ∷ [])) place) ≡ true → is_out (slice_get (map phase_in slots) place) ≡ true
-pushed_out [] zero out = absurd (let e : false ≡ true = out in cc)
-pushed_out [] (suc place) out = absurd (let e : false ≡ true = out in cc)
-pushed_out (s ∷ slots) zero out = out
-pushed_out (s ∷ slots) (suc place) out = pushed_out slots place out
+-- what is out with one more slot that isn't out, was out before
+pushed_out : (slots : List Slot) (x : Slot) → is_out (Some (phase_in x)) ≡ false → (place : ℕ) → is_out (slice_get (map phase_in (slots ++ x ∷ [])) place) ≡ true
+    → is_out (slice_get (map phase_in slots) place) ≡ true
+pushed_out [] x home zero out = absurd (let e : true ≡ false = sym out ∙ home in cc)
+pushed_out [] x home (suc place) out = absurd (let e : false ≡ true = out in cc)
+pushed_out (s ∷ slots) x home zero out = out
+pushed_out (s ∷ slots) x home (suc place) out = pushed_out slots x home place out
 
 pushed_settled : (slots : List Slot) → StaysSettled (map phase_in slots) (map phase_in (slots ++ Idle ∷ []))
 pushed_settled [] place settled = absurd (let e : false ≡ true = settled in cc)
@@ -104,15 +106,19 @@ lent_out slots k new place out = elim (same_or_other place k) [
 
 -- ---- admitting
 
-pub admitted_lanes : (s : Schedule) (seat : SchedulerSeatOf) → AreInLanes s seat → AreInLanes (record s { slots = s.slots ++ Idle ∷ [] }) seat
-admitted_lanes s seat h = record {
+-- one more slot that isn't out
+pub pushed_lanes : (s : Schedule) (x : Slot) → is_out (Some (phase_in x)) ≡ false → (seat : SchedulerSeatOf) → AreInLanes s seat → AreInLanes (record s { slots = s.slots ++ x ∷ [] }) seat
+pushed_lanes s x home seat h = record {
   each = λ lane job there. let o = h.each lane job there in record {
-    out = pushed_at s.slots Idle Lent (job.no - s.work.first) o.out;
+    out = pushed_at s.slots x Lent (job.no - s.work.first) o.out;
     lent = o.lent;
   };
   apart = h.apart;
-  all = λ place out. h.all place (pushed_out s.slots place out);
+  all = λ place out. h.all place (pushed_out s.slots x home place out);
 }
+
+pub admitted_lanes : (s : Schedule) (seat : SchedulerSeatOf) → AreInLanes s seat → AreInLanes (record s { slots = s.slots ++ Idle ∷ [] }) seat
+admitted_lanes s seat h = pushed_lanes s Idle refl seat h
 
 pub admitted_settled : (s : Schedule) → StaysSettled (phases_of s) (phases_of (record s { slots = s.slots ++ Idle ∷ [] }))
 admitted_settled s = pushed_settled s.slots

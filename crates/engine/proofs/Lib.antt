@@ -11,3 +11,4 @@ pub mod EmptyLanes
 pub mod Stops
 pub mod Sent
 pub mod Worked
+pub mod Straight

@@ -17,6 +17,7 @@ use Rattle.values.proofs.name.RowName.TheSendSync as row_name
 use Rattle.values.proofs.row.Row.TheSendSync as row
 use Rattle.footprint.proofs.resource.Resource.TheSendSync as resource
 use Rattle.meaning.proofs.outcome.Outcome.TheSendSync as outcome
+use Rattle.row_store.proofs.contents.Contents.TheSendSync as contents
 use Rattle.row_store.specs.contracts.loan.Loan as loan
 use Rattle.scheduler.specs.contracts.job.Job as job
 use Rattle.scheduler.specs.contracts.job.Done as done
@@ -92,7 +93,7 @@ entry_send : IsSend entry.the_row
 entry_send = search (sendable, crosses, footing.the_field_send, footing.the_field_sync, request_send, request_sync) depth 30
 
 loan_send : IsSend loan.the_row
-loan_send = search (sendable, crosses, maps.crosses, catalogue.the_send, row_name.the_send, row.the_send, row.the_sync, resource.the_send) depth 30
+loan_send = search (sendable, crosses, maps.crosses, catalogue.the_send, row_name.the_send, row.the_send, row.the_sync, resource.the_send, contents.the_field_send) depth 30
 
 job_send : IsSend job.the_row
 job_send = search (sendable, crosses, entry_send, loan_send) depth 30

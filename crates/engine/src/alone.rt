@@ -1,53 +1,19 @@
 //! Running the transactions of a batch on one thread, event by event.
 
-ghost use Rattle.std.specs.Prelude.{◌≡◌, ◌+◌, ◌*◌, ◌-◌, ◌≤◌, ◌^◌, ℕ, true, false, Some, None, option_copied, length, slice_get, IfOk, OnOk, OnErr};
+ghost use Rattle.std.specs.Prelude.{◌≡◌, ◌+◌, ◌*◌, ◌-◌, ◌<◌, ◌≤◌, ◌^◌, ℕ, true, false, length, slice_get, IfOk, OnOk, OnErr};
 ghost use Rattle.scheduler_core.specs.Events.{step};
-ghost use Rattle.scheduler_core.specs.Choices.{chosen};
 ghost use Rattle.scheduler_core.specs.Phases.{is_done, progress, was_run};
 ghost use Rattle.scheduler.specs.Schedules.{log_of, phases_of, KeepsItsJobs};
-ghost use Rattle.scheduler.specs.Moments.{can_make, events_at, IsChoiceAt, IsNextAt};
+ghost use Rattle.scheduler.specs.Moments.{can_make};
+ghost use Rattle.lanes.specs.Seats.{SchedulerSeatOf};
 ghost use Rattle.engine.specs.Engines.{NoneIsOut, StaysSettled};
+ghost use Rattle.engine.specs.HandedOut.{AreInLanes};
 ghost use Rattle.engine.specs.Listeners.{AreCounted, HearsOn};
 
 use crate::listener::{Listener, tell};
 use scheduler::{Event, Scheduler, StepAnswer};
 use scheduler_core::each_step_goes_on;
 use values::NoMemory;
-
-/// So many transactions are admitted at a time, where no choice says otherwise: their requests stay near at hand until they run.
-const AHEAD: usize = 16;
-
-/// The event of a choice among those that are enabled. Behind the last choice it is to admit, where more are to be admitted and
-/// that can be done, and else the next step of the least transaction. `None` exactly where all is done.
-fn chosen_event(
-    scheduler: &Scheduler,
-    choice: Option<&u64>,
-    admits: bool,
-) -> Result<Option<Event>, NoMemory>
-    requires { KeepsItsJobs scheduler.now }
-    ensures chosen { (n : ℕ) → option_copied choice.entry ≡ Some n →
-        IfOk result (λ event. event ≡ chosen n (events_at scheduler.now)) }
-    ensures behind { option_copied choice.entry ≡ None → admits ≡ true →
-        IfOk result (λ event. event ≡ chosen 0 (events_at scheduler.now)) }
-    ensures least { option_copied choice.entry ≡ None → admits ≡ false →
-        IfOk result (IsNextAt scheduler.now) }
-    ensures enabled { IfOk result (IsChoiceAt scheduler.now) }
-{
-    match choice {
-        Some(n) => scheduler.choose(*n),
-        None if admits => Ok(scheduler.first_event()),
-        None => Ok(scheduler.next_event()),
-    }
-}
-
-/// How many transactions are admitted and not settled after an event, of so many before it.
-fn admitted_after(event: Event, admitted: usize) -> usize {
-    match event {
-        Event::Admit => admitted.saturating_add(1),
-        Event::Settle(_) => admitted.saturating_sub(1),
-        Event::Lend(_) | Event::Run(_) => admitted,
-    }
-}
 
 /// Makes an enabled event, and tells the listener of what it settles. Where memory is refused nothing has changed.
 fn make<L: Listener>(
@@ -102,8 +68,101 @@ fn go_on<L: Listener>(
     made
 }
 
-/// Makes the events of the choices, and behind the last those of the least transactions, of which few are admitted at a time,
-/// until all is done or memory is refused.
+/// Runs the next transaction on the rows themselves and tells the listener, where all that are admitted are settled. Whether it
+/// did so; where it did not, or memory is refused, nothing has changed.
+pub(crate) fn run_next<L: Listener>(
+    scheduler: &mut Scheduler,
+    listener: &mut L,
+) -> Result<bool, NoMemory>
+    requires told { AreCounted scheduler.old (L.account listener.old) }
+    ensures work { scheduler.new.work ≡ scheduler.old.work }
+    ensures keeps { KeepsItsJobs scheduler.old → KeepsItsJobs scheduler.new }
+    ensures lanes { (seat : SchedulerSeatOf) → AreInLanes scheduler.old seat → AreInLanes scheduler.new seat }
+    ensures further { IfOk result (λ ran. ran ≡ true →
+        progress (phases_of scheduler.old) < progress (phases_of scheduler.new)) }
+    ensures same { IfOk result (λ ran. ran ≡ false → scheduler.new ≡ scheduler.old) }
+    ensures settled { StaysSettled (phases_of scheduler.old) (phases_of scheduler.new) }
+    ensures told { AreCounted scheduler.new (L.account listener.new) }
+    ensures onward { HearsOn (L.account listener.old) (L.account listener.new) }
+{
+    let Some(no) = scheduler.run_next()? else {
+        return Ok(false);
+    };
+    tell(scheduler, no, listener);
+    Ok(true)
+}
+
+/// Goes on where no choice says how: the next transaction is run on the rows themselves where all that are admitted are settled, and
+/// else the least of those that aren't makes its next step. `false` exactly where all is done.
+fn step_on<L: Listener>(scheduler: &mut Scheduler, listener: &mut L) -> Result<bool, NoMemory>
+    requires keeps { KeepsItsJobs scheduler.old }
+    requires told { AreCounted scheduler.old (L.account listener.old) }
+    ensures work { scheduler.new.work ≡ scheduler.old.work }
+    ensures keeps { KeepsItsJobs scheduler.new }
+    ensures further { IfOk result (λ more. more ≡ true →
+        progress (phases_of scheduler.old) < progress (phases_of scheduler.new)) }
+    ensures most { IfOk result (λ more. more ≡ true →
+        progress (phases_of scheduler.new) ≤ 4 * length scheduler.new.work.entries) }
+    ensures done { IfOk result (λ more. more ≡ false →
+        is_done (log_of scheduler.new.work) (phases_of scheduler.new) ≡ true) }
+    ensures settled { StaysSettled (phases_of scheduler.old) (phases_of scheduler.new) }
+    ensures told { AreCounted scheduler.new (L.account listener.new) }
+    ensures onward { HearsOn (L.account listener.old) (L.account listener.new) }
+{
+    each_step_goes_on();
+    if run_next(scheduler, listener)? {
+        scheduler.observe();
+        return Ok(true);
+    }
+    let Some(event) = scheduler.next_event() else {
+        return Ok(false);
+    };
+    go_on(scheduler, listener, event)?;
+    Ok(true)
+}
+
+/// Makes the events that choices pick, until all is done or memory is refused.
+fn make_chosen<L: Listener>(
+    scheduler: &mut Scheduler,
+    listener: &mut L,
+    choices: &[u64],
+) -> Result<(), NoMemory>
+    requires keeps { KeepsItsJobs scheduler.old }
+    requires told { AreCounted scheduler.old (L.account listener.old) }
+    ensures work { scheduler.new.work ≡ scheduler.old.work }
+    ensures keeps { KeepsItsJobs scheduler.new }
+    ensures settled { StaysSettled (phases_of scheduler.old) (phases_of scheduler.new) }
+    ensures told { AreCounted scheduler.new (L.account listener.new) }
+    ensures onward { HearsOn (L.account listener.old) (L.account listener.new) }
+{
+    for choice in choices {
+        let Some(event) = scheduler.choose(*choice)? else {
+            return Ok(());
+        };
+        go_on(scheduler, listener, event)?;
+    }
+    Ok(())
+}
+
+/// Goes on until all is done or memory is refused.
+fn make_rest<L: Listener>(scheduler: &mut Scheduler, listener: &mut L) -> Result<(), NoMemory>
+    requires keeps { KeepsItsJobs scheduler.old }
+    requires told { AreCounted scheduler.old (L.account listener.old) }
+    ensures work { scheduler.new.work ≡ scheduler.old.work }
+    ensures keeps { KeepsItsJobs scheduler.new }
+    ensures settled { StaysSettled (phases_of scheduler.old) (phases_of scheduler.new) }
+    ensures told { AreCounted scheduler.new (L.account listener.new) }
+    ensures onward { HearsOn (L.account listener.old) (L.account listener.new) }
+    ensures done { OnOk result (is_done (log_of scheduler.new.work) (phases_of scheduler.new) ≡ true) }
+{
+    'steps: loop {
+        if !step_on(scheduler, listener)? {
+            return Ok(());
+        }
+    }
+}
+
+/// Makes the events of the choices, and goes on behind the last, until all is done or memory is refused.
 fn make_all<L: Listener>(
     scheduler: &mut Scheduler,
     listener: &mut L,
@@ -118,13 +177,8 @@ fn make_all<L: Listener>(
     ensures onward { HearsOn (L.account listener.old) (L.account listener.new) }
     ensures done { OnOk result (is_done (log_of scheduler.new.work) (phases_of scheduler.new) ≡ true) }
 {
-    let mut choices = choices.iter();
-    let mut admitted = 0;
-    'steps: while let Some(event) = chosen_event(scheduler, choices.next(), admitted < AHEAD)? {
-        go_on(scheduler, listener, event)?;
-        admitted = admitted_after(event, admitted);
-    }
-    Ok(())
+    make_chosen(scheduler, listener, choices)?;
+    make_rest(scheduler, listener)
 }
 
 /// Settles the transaction of a number, if it was run, and tells the listener.
@@ -169,9 +223,10 @@ fn settle_runs<L: Listener>(scheduler: &mut Scheduler, listener: &mut L, first: 
     scheduler.settle_held();
 }
 
-/// Runs the transactions that are left: each step makes the event that the next choice gives, and behind the last choice the next
-/// step of the least transaction, with few admitted behind it. Where memory is refused, what was run is settled, and the rows of what was only lent are taken back. The listener hears of
-/// each as it is settled. They are so many, numbered from a first one on.
+/// Runs the transactions that are left: each step makes the event that the next choice gives. Behind the last choice what is admitted
+/// goes on to its end, and each further transaction is run on the rows themselves. Where memory is refused, what was run is settled,
+/// and the rows of what was only lent are taken back. The listener hears of each as it is settled. They are so many, numbered from a
+/// first one on.
 pub(crate) fn run_left<L: Listener>(
     scheduler: &mut Scheduler,
     listener: &mut L,

@@ -5,6 +5,12 @@
 pub trait Gate: Sync {
     /// Passes with the job of the transaction of that number.
     fn enter(&self, no: u64);
+
+    /// Whether each job passes at once and nothing is noted of it, whenever that is asked: then the scheduler's thread may run a
+    /// brief call without passing. `false` unless a gate says otherwise.
+    fn is_open(&self) -> bool {
+        false
+    }
 }
 
 /// Lets every job pass at once.
@@ -13,4 +19,8 @@ pub struct OpenGate;
 
 impl Gate for OpenGate {
     fn enter(&self, _no: u64) {}
+
+    fn is_open(&self) -> bool {
+        true
+    }
 }

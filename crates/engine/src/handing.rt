@@ -9,6 +9,8 @@ ghost use Rattle.engine.specs.HandedOut.{AreInLanes};
 ghost use Rattle.engine.specs.Listeners.{AreCounted, HearsOn, settled_in};
 ghost use Rattle.engine.specs.Workers.{HoldsNoJob};
 
+use crate::alone::run_next;
+use crate::brief::is_brief;
 use crate::gate::Gate;
 use crate::listener::{Listener, tell};
 use crate::quarters::{Drowsiness, Quarters};
@@ -207,12 +209,33 @@ fn take_in_next<R: Wait, G: Gate, L: Listener>(
     Ok(())
 }
 
+/// Runs the next transaction here, where no job is out and all that are admitted are settled, the gate is open, and the call is
+/// brief: no worker could do anything beside it before it is done. Whether it did so.
+fn run_brief<G: Gate, L: Listener>(
+    scheduler: &mut Scheduler,
+    listener: &mut L,
+    out: usize,
+    gate: &G,
+) -> Result<bool, NoMemory>
+    requires told { AreCounted scheduler.old (L.account listener.old) }
+    ensures work { scheduler.new.work ≡ scheduler.old.work }
+    ensures lanes { (seat : SchedulerSeatOf) → AreInLanes scheduler.old seat → AreInLanes scheduler.new seat }
+    ensures settled { StaysSettled (phases_of scheduler.old) (phases_of scheduler.new) }
+    ensures told { AreCounted scheduler.new (L.account listener.new) }
+    ensures onward { HearsOn (L.account listener.old) (L.account listener.new) }
+{
+    if out > 0 || !gate.is_open() || !scheduler.next_entry().is_some_and(is_brief) {
+        return Ok(false);
+    }
+    run_next(scheduler, listener)
+}
+
 /// How many transactions are still admitted and not settled, of so many, where the jobs that are out went from one number to a lesser.
 fn without_settled(admitted: usize, out_before: usize, out: usize) -> usize {
     admitted.saturating_sub(out_before.saturating_sub(out))
 }
 
-/// Hands out jobs and takes in what comes of them, until all is done or memory is refused.
+/// Runs what is brief, and hands out other jobs and takes in what comes of them, until all is done or memory is refused.
 fn hand_over<R: Wait, G: Gate, L: Listener>(
     rt: &R,
     scheduler: &mut Scheduler,
@@ -248,12 +271,14 @@ fn hand_over<R: Wait, G: Gate, L: Listener>(
         if scheduler.is_done() {
             break;
         }
-        hand_out_all(scheduler, lanes, seat, count, out, &mut admitted, quarters)?;
-        let handed_out = *out;
-        take_in_next(
-            rt, scheduler, listener, lanes, seat, hand, out, quarters, gate,
-        )?;
-        admitted = without_settled(admitted, handed_out, *out);
+        if !run_brief(scheduler, listener, *out, gate)? {
+            hand_out_all(scheduler, lanes, seat, count, out, &mut admitted, quarters)?;
+            let handed_out = *out;
+            take_in_next(
+                rt, scheduler, listener, lanes, seat, hand, out, quarters, gate,
+            )?;
+            admitted = without_settled(admitted, handed_out, *out);
+        }
     }
     Ok(())
 }

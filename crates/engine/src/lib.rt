@@ -3,6 +3,7 @@
 
 mod alone;
 mod beginning;
+mod brief;
 mod ending;
 mod engine;
 mod gate;

@@ -12,6 +12,9 @@ use values::NoMemory;
 /// How often a thread looks again at once after it has looked in vain.
 const LOOKS: u32 = 64;
 
+/// While more jobs than this wait for a worker, the scheduler's thread is not woken to make more.
+const FEW_WAIT: usize = 1;
+
 /// How near a thread is to its sleep.
 #[derive(Clone, Copy, Debug, PartialEq, Eq)]
 pub(crate) enum Drowsiness {
@@ -187,9 +190,10 @@ impl Quarters {
         self.finished.load(Ordering::SeqCst) > 0
     }
 
-    /// Wakes the scheduler's thread if it sleeps.
+    /// Wakes the scheduler's thread if it sleeps and few jobs wait for a worker. Where more wait it sleeps on: whoever delivers what
+    /// comes of one of these finds fewer that wait, and wakes it for all that was delivered.
     pub(crate) fn wake_scheduler(&self) {
-        if self.scheduler.call() {
+        if self.waiting.load(Ordering::SeqCst) <= FEW_WAIT && self.scheduler.call() {
             self.scheduler.parker.unpark();
         }
     }

@@ -15,5 +15,6 @@ pub mod Steps
 pub mod Keys
 pub mod Known
 pub mod Sound
+pub mod Requested
 pub mod Open
 pub mod Indexed

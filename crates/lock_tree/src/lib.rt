@@ -13,8 +13,8 @@ mod noting;
 mod numbering;
 mod opening;
 mod queues;
+mod requested;
 mod resource_key;
-mod room;
 mod transactions;
 mod tree;
 

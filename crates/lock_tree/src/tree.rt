@@ -1,16 +1,11 @@
 //! The lock tree.
 
-ghost use Rattle.std.specs.Prelude.{◌≡◌, ◌↔◌, ◌<◌, ◌+◌, [], ◌∷◌, ◌++◌, ◌&&◌, not, true, false, length, IsSome, IfOk, OnOk, OnErr, Err};
+ghost use Rattle.std.specs.Prelude.{◌≡◌, ◌↔◌, ◌<◌, ◌+◌, [], ◌∷◌, ◌++◌, nat_le, true, false, length, IsSome, IfOk, OnOk, OnErr, Err};
 ghost use Rattle.lock_tree.specs.Locks.{used, plan_of, without, with_mark};
 ghost use Rattle.lock_tree.specs.Ready.{ready, IsNextReady};
 ghost use Rattle.lock_tree.specs.Enqueues.{AreBelow};
 
-use crate::enqueued::Enqueued;
-use crate::joining::join;
-use crate::lines::Lines;
-use crate::noting::leave_all;
-use crate::opening::least;
-use crate::transactions::Transactions;
+use crate::requested::Requested;
 use coarsen::Plan;
 use std::alloc::Global;
 use std::marker::Model;
@@ -28,26 +23,25 @@ pub enum EnqueueFault {
 /// list of them.
 #[derive(Drop)]
 pub struct LockTree {
+    alloc: Global,
     arena: usize,
-    transactions: Transactions,
-    pub(crate) lines: Lines,
+    // A tree takes no memory before a plan is enqueued.
+    requested: Option<Requested>,
 }
 
 impl Model for LockTree {
-    ghost use Rattle.std.specs.Prelude.{◌≡◌, ◌+◌};
-    ghost use Rattle.lock_tree.specs.Locks.{Locks, used, IsRising};
+    ghost use Rattle.lock_tree.specs.Locks.{Locks};
 
     ghost Value = { Locks };
 
-    ghost use Rattle.lock_tree.specs.Views.{all_waiting, enqueued, locks_code};
+    ghost use Rattle.lock_tree.specs.Views.{locks_code};
+    ghost use Rattle.lock_tree.specs.Requested.{locks_of, HasArena};
 
     ghost coded = { locks_code };
 
-    ghost view = { λ t. record { arena = t.arena; waiting = all_waiting (enqueued t.transactions) } };
+    ghost view = { λ t. locks_of t.arena t.requested };
 
-    ghost use Rattle.lock_tree.specs.Sound.{IsTree};
-
-    ghost invariant = { λ t. IsTree t.arena t.transactions t.lines };
+    ghost invariant = { λ t. HasArena t.arena t.requested };
 }
 
 impl LockTree {
@@ -56,10 +50,20 @@ impl LockTree {
         ensures { IfOk result (λ tree. tree ≡ record { arena = arena; waiting = [] }) }
     {
         Ok(LockTree {
+            alloc,
             arena,
-            transactions: Transactions::new(alloc),
-            lines: Lines::new(alloc, arena)?,
+            requested: None,
         })
+    }
+
+    /// Whether there is room for a plan's requests beside those of the transactions that are there.
+    pub fn has_room(&self, plan: &Plan) -> bool
+        ensures { result ≡ nat_le (used self.now.waiting + length plan.now) self.now.arena }
+    {
+        match &self.requested {
+            Some(requested) => requested.has_room(plan),
+            None => plan.requests().len() <= self.arena,
+        }
     }
 
     /// Puts a transaction behind all others, without a mark. Full exactly where there is less room than the plan has
@@ -74,18 +78,17 @@ impl LockTree {
         ensures full { (result ≡ Err EnqueueFault.Full) ↔ (self.old.arena < used self.old.waiting + length plan.now) }
         ensures err { OnErr result (self.new ≡ self.old) }
     {
-        if plan.requests().len() > self.lines.nodes.free() {
+        if !self.has_room(plan) {
             return Err(EnqueueFault::Full);
         }
-        self.transactions.make_place()?;
-        self.lines.make_room(plan.requests().len())?;
-        join(
-            &mut self.lines,
-            &mut self.transactions,
-            plan.requests(),
-            Enqueued::new(no, plan),
-            no,
-        )?;
+        match &mut self.requested {
+            Some(requested) => requested.enqueue(no, plan)?,
+            None => {
+                let mut requested = Requested::new(self.alloc, self.arena)?;
+                requested.enqueue(no, plan)?;
+                self.requested = Some(requested);
+            }
+        }
         Ok(())
     }
 
@@ -93,8 +96,8 @@ impl LockTree {
     pub fn is_ready(&self, no: u64) -> bool
         ensures { result ≡ ready self.now.waiting no }
     {
-        match self.transactions.get(no) {
-            Some(entry) => entry.is_ready(),
+        match &self.requested {
+            Some(requested) => requested.is_ready(no),
             None => false,
         }
     }
@@ -103,7 +106,10 @@ impl LockTree {
     pub fn next_ready(&self) -> Option<u64>
         ensures { IsNextReady self.now.waiting result }
     {
-        least(&self.transactions.open)
+        match &self.requested {
+            Some(requested) => requested.next_ready(),
+            None => None,
+        }
     }
 
     /// Marks a transaction.
@@ -125,7 +131,9 @@ impl LockTree {
     fn set_mark(&mut self, no: u64, mark: bool)
         ensures { self.new ≡ record self.old { waiting = with_mark no mark self.old.waiting } }
     {
-        self.transactions.set_mark(no, mark);
+        if let Some(requested) = &mut self.requested {
+            requested.set_mark(no, mark);
+        }
     }
 
     /// Takes a transaction out of the tree.
@@ -133,8 +141,8 @@ impl LockTree {
         requires { IsSome (plan_of self.old.waiting no) }
         ensures { self.new ≡ record self.old { waiting = without no self.old.waiting } }
     {
-        if let Some(entry) = self.transactions.remove(no) {
-            leave_all(&mut self.lines, &mut self.transactions, &entry, no);
+        if let Some(requested) = &mut self.requested {
+            requested.release(no);
         }
     }
 }

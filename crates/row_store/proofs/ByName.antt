@@ -8,7 +8,6 @@ use Rattle.values.specs.declared.name.RowName.{RowName}
 use Rattle.values.specs.Database.{RowOf, name_cmp}
 use Rattle.catalogue.specs.Shapes.{TableShape}
 use Rattle.proclang_types.specs.declared.right.Right.TheVariants.{Read, Write}
-use Rattle.footprint.specs.declared.resource.Resource.{Resource}
 use Rattle.coarsen.specs.Subtrees.{Requests}
 use Rattle.coarsen.specs.Plans.{IsPlanOver}
 use Rattle.coarsen.specs.Clashes.{locks_row}
@@ -23,7 +22,7 @@ use Rattle.row_store.specs.Views.{found}
 use Rattle.row_store.proofs.Lists.{listed_names, none_listed, some_test}
 use Rattle.row_store.proofs.Locks.{locks_either}
 use Rattle.row_store.proofs.Rows.{get-rows_at, get-applied, named_append, same_database}
-use Rattle.row_store.proofs.Kept.{cases, neither, shelf_reads}
+use Rattle.row_store.proofs.Kept.{cases, neither, none_written}
 use Rattle.row_store.proofs.Back.{IsBack, Gives}
 
 read_step : (r w x l m n : Bool) → (r && x) || l ≡ true → (w && x) || m ≡ false → (l ≡ true → m ≡ false → n ≡ true) → ((r && not w) && x) || n ≡ true
@@ -40,13 +39,6 @@ pub reads_alone : (plan : Requests) (q : RowName) → locks_itself plan Read q �
 reads_alone [] q h f = absurd (cc)
 reads_alone (e ∷ es) q h f =
     read_step (gives Read e.1) (gives Write e.1) (is_of (name_of e.0) q) (locks_itself es Read q) (locks_itself es Write q) (reads_itself es q) h f (reads_alone es q)
-
--- where no shelf is locked to read, none is locked to write
-pub none_written : (plan : Requests) (d : Resource) → locks_shelf plan Read d ≡ false → locks_shelf plan Write d ≡ false
-none_written plan d off = elim (cases (locks_shelf plan Write d)) [
-  | inl on ↦ let clash : true ≡ false = sym (shelf_reads plan d on) ∙ off in absurd (cc)
-  | inr no_more ↦ no_more
-]
 
 or_none : (a b : Bool) → b ≡ false → a || b ≡ a
 or_none true b h = refl

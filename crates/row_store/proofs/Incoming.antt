@@ -20,7 +20,8 @@ use Rattle.row_store.specs.Held.{row_by_name, rows_by_name, rows_held, IsLoanOf,
 use Rattle.row_store.specs.Named.{names_listed}
 use Rattle.row_store.specs.Views.{found, rows_of, lent_at, IsRowStore}
 use Rattle.row_store.proofs.Back.{IsBack, Gives, out_and_back, kept_back, shown_back}
-use Rattle.row_store.proofs.ByName.{gives_rows, rows_back, none_written, get-rows_by_name}
+use Rattle.row_store.proofs.ByName.{gives_rows, rows_back, get-rows_by_name}
+use Rattle.row_store.proofs.Kept.{none_written}
 use Rattle.row_store.proofs.Rows.{get-rows_of}
 
 pub can_go_back : (tables : List TableShape) (plan : Requests) (shelves : AllShelves) (held : Holdings) (lent : BTreeMap ℕ (Snapshot Requests)) (number : ℕ)

@@ -1,7 +1,8 @@
--- What a plan locks to write it locks to read; and what writes, and what is made ready to lend, keep.
-use Rattle.std.proofs.Common.{◌≡◌, ◌⊎◌, inl, inr, ℕ, Bool, true, false, ◌||◌, ◌&&◌, nat_le, List, [], ◌∷◌, refl, sym, ap, ◌∙◌, Option, Some, None, Result, Ok, Err, OnErr, arith}
+-- What a plan locks to write it locks to read; and what writes keep.
+use Rattle.std.proofs.Common.{◌≡◌, ◌⊎◌, inl, inr, ℕ, zero, suc, take, Bool, true, false, ◌||◌, ◌&&◌, nat_le, List, [], ◌∷◌, refl, sym, ap, ◌∙◌, Option, Some, None, Result, Ok, Err, OnErr, arith}
 use Rattle.std.proofs.lemmas.Bool.Decides.{nat_tests}
 use Rattle.std.specs.BTreeMap.{BTreeMap}
+use Rattle.std.specs.List.{list_any}
 use Rattle.std.specs.declared.snapshot.Snapshot.{Snapshot}
 use Rattle.values.specs.declared.name.RowName.{RowName}
 use Rattle.catalogue.specs.Shapes.{TableShape}
@@ -15,7 +16,7 @@ use Rattle.coarsen.specs.Clashes.{locks_row}
 use Rattle.row_store.specs.Places.{Shelves, PlaceOf, has_shelf, is_away, has_place, seen_at, written}
 use Rattle.row_store.specs.Shelving.{shelf_of}
 use Rattle.row_store.specs.Locked.{gives, name_of, is_of, locks_shelf, locks_itself}
-use Rattle.row_store.specs.Views.{found, lent_at, IsRowStore, IsLoan}
+use Rattle.row_store.specs.Views.{found, IsRowStore, IsLoan}
 
 -- ---- tests
 
@@ -29,6 +30,15 @@ or_right false b h = h
 pub neither : (a b : Bool) → a || b ≡ false → (a ≡ false) × (b ≡ false)
 neither true b h = absurd (cc)
 neither false b h = (refl, h)
+
+-- what is in no element is in none of the first
+pub none_first : {X : Type 0} (p : X → Bool) (xs : List X) (i : ℕ) → list_any p xs ≡ false → list_any p (take i xs) ≡ false
+none_first p [] zero h = refl
+none_first p [] (suc i) h = refl
+none_first p (x ∷ xs) zero h = refl
+none_first p (x ∷ xs) (suc i) h =
+    let both = neither (p x) (list_any p xs) h in
+    ap (λ b. b || list_any p (take i xs)) both.0 ∙ none_first p xs i both.1
 
 pub cases : (b : Bool) → (b ≡ true) ⊎ (b ≡ false)
 cases true = inl refl
@@ -60,6 +70,13 @@ name_reads [] q h = absurd (cc)
 name_reads (e ∷ es) q h =
     or_weaker (gives Write e.1 && is_of (name_of e.0) q) (gives Read e.1 && is_of (name_of e.0) q) (locks_itself es Write q) (locks_itself es Read q)
     (weaker (gives Write e.1) (gives Read e.1) (is_of (name_of e.0) q) (gives_both (own e.1))) (name_reads es q) h
+
+-- where no shelf is locked to read, none is locked to write
+pub none_written : (plan : Requests) (d : Resource) → locks_shelf plan Read d ≡ false → locks_shelf plan Write d ≡ false
+none_written plan d off = elim (cases (locks_shelf plan Write d)) [
+  | inl on ↦ let clash : true ≡ false = sym (shelf_reads plan d on) ∙ off in absurd (cc)
+  | inr no_more ↦ no_more
+]
 
 -- ---- writes
 
@@ -97,26 +114,6 @@ store_written tables old new lent w is places shelves away kept = record {
   sound = kept.sound;
   over = kept.over;
   apart = kept.apart;
-}
-
--- ---- what is made ready to lend changes nothing
-
-pub kept_held : (tables : List TableShape) (old new : Shelves) (lent then_lent : BTreeMap ℕ (Snapshot Requests))
-    → ((d : Resource) (q : RowName) → seen_at new d q ≡ seen_at old d q)
-    → ((d : Resource) (q : RowName) → has_place old d q ≡ true → has_place new d q ≡ true)
-    → ((d : Resource) → has_shelf old d ≡ true → has_shelf new d ≡ true)
-    → ((d : Resource) → is_away new d ≡ is_away old d)
-    → ((i : ℕ) → lent_at then_lent i ≡ lent_at lent i)
-    → IsRowStore tables old lent → IsRowStore tables new then_lent
-kept_held tables old new lent then_lent same places shelves away one kept = record {
-  here = λ q h.
-      ap (λ p. p.row) (same (shelf_of tables q) q) ∙ kept.here q (λ i p e. h i p (one i ∙ e)) ∙ sym (ap (λ p. p.counts_as) (same (shelf_of tables q) q));
-  with_shelf = λ i p e q h. shelves (shelf_of tables q) (kept.with_shelf i p (sym (one i) ∙ e) q h);
-  with_place = λ i p e q off h. places (shelf_of tables q) q (kept.with_place i p (sym (one i) ∙ e) q off h);
-  away = λ q h. let by = kept.away q (sym (away (shelf_of tables q)) ∙ h) in (by.0, by.1, one by.0 ∙ by.2, by.3);
-  sound = λ i p e. kept.sound i p (sym (one i) ∙ e);
-  over = λ i p e. kept.over i p (sym (one i) ∙ e);
-  apart = λ i j a b ea eb. kept.apart i j a b (sym (one i) ∙ ea) (sym (one j) ∙ eb);
 }
 
 pub on_err : {A E : Type 0} (r : Result A E) (P : Type 0) → P → OnErr r P

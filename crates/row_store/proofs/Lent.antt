@@ -20,7 +20,7 @@ use Rattle.row_store.specs.Views.{found, rows_of, lent_at, IsRowStore, IsLoan}
 use Rattle.row_store.proofs.Locks.{locks_either}
 use Rattle.row_store.proofs.Rows.{get-rows_of}
 use Rattle.row_store.proofs.Numbers.{lent_after, lent_new, lent_still}
-use Rattle.row_store.proofs.Kept.{or_left, or_right, neither, cases, write_reads, name_reads}
+use Rattle.row_store.proofs.Kept.{or_left, or_right, neither, cases, write_reads, name_reads, none_written}
 
 -- what becomes of a store, and of what is held for a loan, when the shelves and the rows that are lent to be written go out
 pub record IsOut (tables : List TableShape) (old mid new before held : Shelves) (at : List Resource) (ns : List RowName) : Type 0 where
@@ -36,10 +36,12 @@ ready_on : (a r : Bool) → (a ≡ true → r ≡ true) → (a && r) ≡ a
 ready_on true r h = h refl
 ready_on false r h = refl
 
-out_place : (a n : Bool) (p : PlaceOf) → (if n then emptied (if a then gone p else p) else (if a then gone p else p)) ≡ (if a then gone p else (if n then emptied p else p))
-out_place true true p = refl
-out_place true false p = refl
-out_place false n p = refl
+out_place : (a n h : Bool) (p : PlaceOf) → (n ≡ true → h ≡ true)
+    → (if n && (if a then false else h) then emptied (if a then gone p else p) else (if a then gone p else p)) ≡ (if a then gone p else (if n then emptied p else p))
+out_place true true h p there = refl
+out_place true false h p there = refl
+out_place false true h p there = ap (λ b. if b then emptied p else p) (there refl)
+out_place false false h p there = refl
 
 all_three : (s h a : Bool) → s ≡ true → h ≡ true → a ≡ false → (s && (h && not a)) ≡ true
 all_three true true false e f g = refl
@@ -63,16 +65,19 @@ pub is_lent_out : (tables : List TableShape) (old mid taken new before held : Sh
     → ((d : Resource) (q : RowName) → has_place new d q ≡ has_place taken d q)
     → ((d : Resource) → has_shelf new d ≡ has_shelf taken d)
     → ((d : Resource) → is_away new d ≡ is_away taken d)
+    → ((q : RowName) → is_named ns q ≡ true → has_place mid (shelf_of tables q) q ≡ true)
     → IsOut tables old mid new before held at ns
-is_lent_out tables old mid taken new before held at ns same away on lent seen1 places1 shelves1 away1 empties places2 shelves2 away2 =
+is_lent_out tables old mid taken new before held at ns same away on lent seen1 places1 shelves1 away1 empties places2 shelves2 away2 there =
     let d : RowName → Resource = shelf_of tables in
     let goes : (q : RowName) → (among at (d q) && is_ready mid before (d q)) ≡ among at (d q) = λ q. ready_on (among at (d q)) (is_ready mid before (d q)) (on q) in
     record {
       seen = λ q.
           empties q
-          ∙ ap (λ (p : PlaceOf). if is_named ns q then emptied p else p)
+          ∙ ap (λ b. if is_named ns q && b then emptied (found tables taken q) else found tables taken q)
+          (places1 (d q) q ∙ ap (λ b. if b then false else has_place mid (d q) q) (goes q))
+          ∙ ap (λ (p : PlaceOf). if is_named ns q && (if among at (d q) then false else has_place mid (d q) q) then emptied p else p)
           (seen1 (d q) q ∙ ap (λ b. if b then gone (found tables mid q) else found tables mid q) (goes q) ∙ ap (λ (p : PlaceOf). if among at (d q) then gone p else p) (same (d q) q))
-          ∙ out_place (among at (d q)) (is_named ns q) (found tables old q);
+          ∙ out_place (among at (d q)) (is_named ns q) (has_place mid (d q) q) (found tables old q) (there q);
       places = λ q off. places2 (d q) q ∙ places1 (d q) q ∙ ap (λ b. if b then false else has_place mid (d q) q) (goes q ∙ off);
       shelves = λ e. shelves2 e ∙ shelves1 e;
       away = λ q. away2 (d q) ∙ away1 (d q) ∙ ap (λ b. b || is_away mid (d q)) (goes q) ∙ ap (λ b. among at (d q) || b) (away (d q));
@@ -95,16 +100,35 @@ lent_here tables shelves lent plan law sound free kept q reads = kept.here q (λ
       | inr none ↦ none
     ])
 
--- and so is a shelf
-pub lent_whole : (tables : List TableShape) (shelves : Shelves) (lent : BTreeMap ℕ (Snapshot Requests)) (plan : Requests)
-    → LockedRowsConflict → IsWellFormed plan → IsPlanOver tables plan → ((i : ℕ) (p : Requests) → lent_at lent i ≡ Some p → ModesClash p plan → ⊥) → IsRowStore tables shelves lent
-    → (q : RowName) → locks_shelf plan Write (shelf_of tables q) ≡ true → is_away shelves (shelf_of tables q) ≡ false
-lent_whole tables shelves lent plan law sound over free kept q h = elim (cases (is_away shelves (shelf_of tables q))) [
+-- and so is its shelf
+pub lent_there : (tables : List TableShape) (shelves : Shelves) (lent : BTreeMap ℕ (Snapshot Requests)) (plan : Requests)
+    → LockedRowsConflict → IsWellFormed plan → ((i : ℕ) (p : Requests) → lent_at lent i ≡ Some p → ModesClash p plan → ⊥) → IsRowStore tables shelves lent
+    → (q : RowName) → locks_row tables plan q Read ≡ true → is_away shelves (shelf_of tables q) ≡ false
+lent_there tables shelves lent plan law sound free kept q reads = elim (cases (is_away shelves (shelf_of tables q))) [
   | inl out ↦
       let by = kept.away q out in
       let theirs : locks_row tables by.1 q Write ≡ true =
       locks_either tables by.1 (kept.over by.0 by.1 by.2) Write q ∙ or_right (locks_itself by.1 Write q) (locks_shelf by.1 Write (shelf_of tables q)) by.3 in
-      absurd (free by.0 by.1 by.2 (law tables by.1 plan (kept.sound by.0 by.1 by.2) sound q theirs (shelf_locked tables plan over q h)))
+      absurd (free by.0 by.1 by.2 (law tables by.1 plan (kept.sound by.0 by.1 by.2) sound q theirs reads))
+  | inr off ↦ off
+]
+
+pub lent_whole : (tables : List TableShape) (shelves : Shelves) (lent : BTreeMap ℕ (Snapshot Requests)) (plan : Requests)
+    → LockedRowsConflict → IsWellFormed plan → IsPlanOver tables plan → ((i : ℕ) (p : Requests) → lent_at lent i ≡ Some p → ModesClash p plan → ⊥) → IsRowStore tables shelves lent
+    → (q : RowName) → locks_shelf plan Write (shelf_of tables q) ≡ true → is_away shelves (shelf_of tables q) ≡ false
+lent_whole tables shelves lent plan law sound over free kept q h = lent_there tables shelves lent plan law sound free kept q (shelf_locked tables plan over q h)
+
+-- the place of a name that another plan writes is on no shelf that this one locks whole
+pub apart_place : (tables : List TableShape) (shelves : Shelves) (lent : BTreeMap ℕ (Snapshot Requests)) (plan : Requests)
+    → LockedRowsConflict → IsWellFormed plan → IsPlanOver tables plan → ((i : ℕ) (p : Requests) → lent_at lent i ≡ Some p → ModesClash p plan → ⊥) → IsRowStore tables shelves lent
+    → (i : ℕ) (p : Requests) → lent_at lent i ≡ Some p → (q : RowName) → locks_itself p Write q ≡ true → locks_shelf plan Read (shelf_of tables q) ≡ false
+apart_place tables shelves lent plan law sound over free kept i p e q h = elim (cases (locks_shelf plan Read (shelf_of tables q))) [
+  | inl on ↦
+      let theirs : locks_row tables p q Write ≡ true =
+      locks_either tables p (kept.over i p e) Write q ∙ or_left (locks_itself p Write q) (locks_shelf p Write (shelf_of tables q)) h in
+      let mine : locks_row tables plan q Read ≡ true =
+      locks_either tables plan over Read q ∙ or_right (locks_itself plan Read q) (locks_shelf plan Read (shelf_of tables q)) on in
+      absurd (free i p e (law tables p plan (kept.sound i p e) sound q theirs mine))
   | inr off ↦ off
 ]
 
@@ -194,7 +218,7 @@ shown_lent tables old mid new before held lent plan at ns law sound free kept ro
 -- ---- the store
 
 pub kept_lend : (tables : List TableShape) (old mid new before held : Shelves) (lent then_lent : BTreeMap ℕ (Snapshot Requests)) (number : ℕ) (plan : Requests) (at : List Resource) (ns : List RowName)
-    → ((d : Resource) (q : RowName) → has_place old d q ≡ true → has_place mid d q ≡ true)
+    → ((q : RowName) → locks_shelf plan Read (shelf_of tables q) ≡ false → has_place old (shelf_of tables q) q ≡ true → has_place mid (shelf_of tables q) q ≡ true)
     → ((d : Resource) → has_shelf old d ≡ true → has_shelf mid d ≡ true)
     → ((q : RowName) → among at (shelf_of tables q) ≡ true → has_shelf mid (shelf_of tables q) ≡ true)
     → ((q : RowName) → is_named ns q ≡ true → has_place mid (shelf_of tables q) q ≡ true)
@@ -222,14 +246,9 @@ kept_lend tables old mid new before held lent then_lent number plan at ns places
     | inl x ↦
         out.places q (at_is q ∙ ap (λ r. locks_shelf r Write (shelf_of tables q)) x.1 ∙ off) ∙ room_place q (ns_is q ∙ ap (λ r. locks_itself r Write q) x.1 ∙ h)
     | inr x ↦
-        let theirs : locks_row tables p q Write ≡ true =
-        locks_either tables p (kept.over i p x) Write q ∙ or_left (locks_itself p Write q) (locks_shelf p Write (shelf_of tables q)) h in
-        let stays : among at (shelf_of tables q) ≡ false =
-        elim (cases (among at (shelf_of tables q))) [
-          | inl on ↦ absurd (free i p x (law tables p plan (kept.sound i p x) sound q theirs (shelf_locked tables plan over q (sym (at_is q) ∙ on))))
-          | inr no_more ↦ no_more
-        ] in
-        out.places q stays ∙ places (shelf_of tables q) q (kept.with_place i p x q off h)
+        let apart = apart_place tables old lent plan law sound over free kept i p x q h in
+        let stays : among at (shelf_of tables q) ≡ false = at_is q ∙ none_written plan (shelf_of tables q) apart in
+        out.places q stays ∙ places q apart (kept.with_place i p x q off h)
   ];
   away = λ q h. elim (cases (among at (shelf_of tables q))) [
     | inl on ↦ (number, plan, lent_new lent then_lent number plan put, sym (at_is q) ∙ on)

@@ -12,6 +12,7 @@ pub mod Locks
 pub mod Lists
 pub mod Numbers
 pub mod Ordered
+pub mod Placed
 pub mod Rows
 pub mod Scans
 pub mod Sharing

@@ -19,17 +19,18 @@ use Rattle.row_store.specs.declared.held.Holdings.TheVariants.{Rows, Shelves}
 use Rattle.row_store.specs.Places.{Shelves as AllShelves, has_shelf, is_away, has_place, seen_at}
 use Rattle.row_store.specs.Shelving.{shelf_of}
 use Rattle.row_store.specs.Locked.{locks_shelf, locks_itself}
-use Rattle.row_store.specs.Held.{rows_held, IsLoanOf, IsReady, AreRowsReady, AreShelvesReady, IsTaken, AreShelvesTaken}
+use Rattle.row_store.specs.Held.{AreHere, rows_held, IsLoanOf, IsReady, AreRowsReady, AreShelvesReady, IsTaken, AreShelvesTaken}
 use Rattle.row_store.specs.Views.{found, rows_of, lent_at, IsRowStore, IsLoan}
-use Rattle.row_store.proofs.ByName.{loan_ready, row_ready, locked_alone, none_written, get-rows_by_name}
-use Rattle.row_store.proofs.Lent.{IsOut, is_lent_out, ready, lent_here, lent_whole, counts_after, loan_made, shown_lent, kept_lend}
+use Rattle.row_store.proofs.ByName.{loan_ready, row_ready, locked_alone, get-rows_by_name}
+use Rattle.row_store.proofs.Kept.{none_written}
+use Rattle.row_store.proofs.Lent.{IsOut, is_lent_out, ready, lent_here, lent_whole, lent_there, apart_place, counts_after, loan_made, shown_lent, kept_lend}
 use Rattle.row_store.proofs.Numbers.{lent_after, lent_still}
 use Rattle.row_store.proofs.Rows.{get-rows_of}
 
 -- a plan is to be lent, and all that it needs was made ready
 pub record IsLending (tables : List TableShape) (old mid : AllShelves) (lent : BTreeMap ℕ (Snapshot Requests)) (plan : Requests) : Type 0 where
   pub seen : (d : Resource) (q : RowName) → seen_at mid d q ≡ seen_at old d q
-  pub places : (d : Resource) (q : RowName) → has_place old d q ≡ true → has_place mid d q ≡ true
+  pub places : (q : RowName) → locks_shelf plan Read (shelf_of tables q) ≡ false → has_place old (shelf_of tables q) q ≡ true → has_place mid (shelf_of tables q) q ≡ true
   pub shelves : (d : Resource) → has_shelf old d ≡ true → has_shelf mid d ≡ true
   pub away : (d : Resource) → is_away mid d ≡ is_away old d
   pub law : LockedRowsConflict
@@ -38,6 +39,31 @@ pub record IsLending (tables : List TableShape) (old mid : AllShelves) (lent : B
   pub free : (i : ℕ) (p : Requests) → lent_at lent i ≡ Some p → ModesClash p plan → ⊥
   pub kept : IsRowStore tables old lent
 
+-- what a plan locks is here
+pub all_here : (tables : List TableShape) (shelves : AllShelves) (lent : BTreeMap ℕ (Snapshot Requests)) (plan : Requests)
+    → LockedRowsConflict → IsWellFormed plan → ((i : ℕ) (p : Requests) → lent_at lent i ≡ Some p → ModesClash p plan → ⊥) → IsRowStore tables shelves lent
+    → AreHere tables plan shelves
+all_here tables shelves lent plan law sound free kept q reads = (
+  lent_here tables shelves lent plan law sound free kept q reads,
+  lent_there tables shelves lent plan law sound free kept q reads,
+)
+
+-- what was made ready changes nothing for a store that then lends nothing more
+pub kept_held : (tables : List TableShape) (old mid : AllShelves) (lent then_lent : BTreeMap ℕ (Snapshot Requests)) (plan : Requests)
+    → IsLending tables old mid lent plan → ((i : ℕ) → lent_at then_lent i ≡ lent_at lent i) → IsRowStore tables mid then_lent
+kept_held tables old mid lent then_lent plan x one = record {
+  here = λ q h.
+      ap (λ p. p.row) (x.seen (shelf_of tables q) q) ∙ x.kept.here q (λ i p e. h i p (one i ∙ e)) ∙ sym (ap (λ p. p.counts_as) (x.seen (shelf_of tables q) q));
+  with_shelf = λ i p e q h. x.shelves (shelf_of tables q) (x.kept.with_shelf i p (sym (one i) ∙ e) q h);
+  with_place = λ i p e q off h.
+      let was = sym (one i) ∙ e in
+      x.places q (apart_place tables old lent plan x.law x.sound x.over x.free x.kept i p was q h) (x.kept.with_place i p was q off h);
+  away = λ q h. let by = x.kept.away q (sym (x.away (shelf_of tables q)) ∙ h) in (by.0, by.1, one by.0 ∙ by.2, by.3);
+  sound = λ i p e. x.kept.sound i p (sym (one i) ∙ e);
+  over = λ i p e. x.kept.over i p (sym (one i) ∙ e);
+  apart = λ i j a b ea eb. x.kept.apart i j a b (sym (one i) ∙ ea) (sym (one j) ∙ eb);
+}
+
 shelves_out : (tables : List TableShape) (old mid new : AllShelves) (lent : BTreeMap ℕ (Snapshot Requests)) (plan : Requests) (b a : HeldShelves)
     → IsLending tables old mid lent plan → AreShelvesReady tables plan old mid b → AreShelvesTaken tables mid new b a
     → IsOut tables old mid new b.shelves a.shelves b.written_shelves.items b.written_names.items
@@ -45,7 +71,7 @@ shelves_out tables old mid new lent plan b a x made taken =
     is_lent_out tables old mid taken.moved new b.shelves a.shelves b.written_shelves.items b.written_names.items x.seen x.away
     (λ q h. ready mid b.shelves (shelf_of tables q) (made.with_shelf q h) (made.held_shelf (shelf_of tables q) h)
     (x.away (shelf_of tables q) ∙ lent_whole tables old lent plan x.law x.sound x.over x.free x.kept q (sym (made.written_shelves q) ∙ h)))
-    taken.lent taken.seen taken.places taken.shelves taken.away taken.emptied taken.still_places taken.still_shelves taken.still_away
+    taken.lent taken.seen taken.places taken.shelves taken.away taken.emptied taken.still_places taken.still_shelves taken.still_away made.with_place
 
 -- ---- the loan
 
@@ -104,7 +130,7 @@ store_in_place tables old mid lent then_lent number plan b x made put none turn 
   ];
   with_place = λ i p e q off h. elim (lent_after lent then_lent number plan put i p e) [
     | inl y ↦ made.with_place q (ap (λ r. locks_itself r Write q) y.1 ∙ h)
-    | inr y ↦ x.places (shelf_of tables q) q (x.kept.with_place i p y q off h)
+    | inr y ↦ x.places q (made.no_shelf q) (x.kept.with_place i p y q off h)
   ];
   away = λ q h. let by = x.kept.away q (sym (x.away (shelf_of tables q)) ∙ h) in (by.0, by.1, lent_still lent then_lent number plan put none by.0 by.1 by.2, by.3);
   sound = λ i p e. elim (lent_after lent then_lent number plan put i p e) [

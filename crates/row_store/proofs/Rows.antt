@@ -15,7 +15,7 @@ use Rattle.workspace.specs.Overlay.{applied, with_write}
 use Rattle.std.specs.declared.snapshot.Snapshot.{Snapshot}
 use Rattle.row_store.specs.declared.place.Place.{Place}
 use Rattle.row_store.specs.declared.shelf.Shelf.{Shelf}
-use Rattle.row_store.specs.Places.{Places, Shelves, PlaceOf, standing, counted_away, seen_over, seen_in, seen_on, full, seen_at, written, is_name, is_shelf}
+use Rattle.row_store.specs.Places.{Places, places_of, Shelves, PlaceOf, standing, counted_away, seen_over, seen_in, seen_on, full, seen_at, written, is_name, is_shelf}
 use Rattle.row_store.specs.Shelving.{shelf_of}
 use Rattle.row_store.specs.Locked.{is_named}
 use Rattle.row_store.specs.Views.{found, names_away, names_of, rows_at, rows_of}
@@ -67,18 +67,18 @@ named_away : (away : Option (Snapshot Places)) (q : RowName) (r : RowOf) → cou
 named_away None q r h = absurd (cc)
 named_away (Some lent) q r h = let x = stands_there (tree.get name_cmp lent.value q) r h in named_place lent.value.entries q x.0 x.1
 
-named_shelf : (s : Shelf) (q : RowName) (r : RowOf) → (seen_in s q).counts_as ≡ Some r → is_named (keys s.places ++ names_away s.away) q ≡ true
+named_shelf : (s : Shelf) (q : RowName) (r : RowOf) → (seen_in s q).counts_as ≡ Some r → is_named (keys (places_of s.contents) ++ names_away s.away) q ≡ true
 named_shelf s q r h =
-    named_append (keys s.places) (names_away s.away) q
-    ∙ elim (tree.get name_cmp s.places q) as (λ (o : Option Place). tree.get name_cmp s.places q ≡ o → (seen_over o (counted_away s.away q)).counts_as ≡ Some r → (is_named (keys s.places) q || is_named (names_away s.away) q) ≡ true) [
-      | None ↦ λ is g. ap (λ b. is_named (keys s.places) q || b) (named_away s.away q r g) ∙ or_true (is_named (keys s.places) q)
-      | Some x ↦ λ is g. ap (λ b. b || is_named (names_away s.away) q) (named_place s.places.entries q x is)
+    named_append (keys (places_of s.contents)) (names_away s.away) q
+    ∙ elim (tree.get name_cmp (places_of s.contents) q) as (λ (o : Option Place). tree.get name_cmp (places_of s.contents) q ≡ o → (seen_over o (counted_away s.away q)).counts_as ≡ Some r → (is_named (keys (places_of s.contents)) q || is_named (names_away s.away) q) ≡ true) [
+      | None ↦ λ is g. ap (λ b. is_named (keys (places_of s.contents)) q || b) (named_away s.away q r g) ∙ or_true (is_named (keys (places_of s.contents)) q)
+      | Some x ↦ λ is g. ap (λ b. b || is_named (names_away s.away) q) (named_place (places_of s.contents).entries q x is)
     ] refl h
 
 named_in : (es : List (Resource × Shelf)) (d : Resource) (q : RowName) (r : RowOf) → (seen_on (lookup (is_at (resource_cmp d)) es) q).counts_as ≡ Some r → is_named (names_of es) q ≡ true
 named_in [] d q r h = absurd (cc)
 named_in (e ∷ es) d q r h =
-    let here : List RowName = keys e.1.places ++ names_away e.1.away in
+    let here : List RowName = keys (places_of e.1.contents) ++ names_away e.1.away in
     named_append here (names_of es) q ∙ elim (is_at (resource_cmp d) e.0) as (λ (b : Bool). (seen_on (cond b (Some e.1) (lookup (is_at (resource_cmp d)) es)) q).counts_as ≡ Some r → (is_named here q || is_named (names_of es) q) ≡ true) [
       | true ↦ λ g. ap (λ b. b || is_named (names_of es) q) (named_shelf e.1 q r g)
       | false ↦ λ g. ap (λ b. is_named here q || b) (named_in es d q r g) ∙ or_true (is_named here q)

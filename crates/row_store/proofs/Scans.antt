@@ -20,7 +20,7 @@ use Rattle.std.specs.BTreeMap as tree
 use Rattle.catalogue.specs.Places.{partition_of}
 use Rattle.footprint.specs.Tree.{resource_cmp}
 use Rattle.row_store.specs.declared.shelf.Shelf.{Shelf}
-use Rattle.row_store.specs.Places.{Shelves, shared_row, seen_in, seen_on, seen_at, standing}
+use Rattle.row_store.specs.Places.{Shelves, row_of, seen_in, seen_on, seen_at, standing}
 use Rattle.row_store.specs.Shelving.{shelf_of, shelf_at}
 use Rattle.row_store.specs.Views.{found}
 use Rattle.row_store.specs.Scans.{start_of}
@@ -81,12 +81,12 @@ if_true false x o h e = absurd (cc)
 
 -- the place that is passed has no row, or is not ahead
 pub left_on : (tables : List TableShape) (table part : ℕ) (after : Option ℕ) (all : List (RowName × Place)) (e : RowName × Place) (rest : List (RowName × Place))
-    → IsLeft tables table part after all (e ∷ rest) → (if is_ahead tables table part after e.0 then shared_row e.1.row else None) ≡ None → IsLeft tables table part after all rest
+    → IsLeft tables table part after all (e ∷ rest) → (if is_ahead tables table part after e.0 then row_of e.1 else None) ≡ None → IsLeft tables table part after all rest
 left_on tables table part after all e rest l miss = record {
   left = λ q a. l.left q a ∙ elim (is_at (name_cmp q) e.0) as (λ (b : Bool). is_at (name_cmp q) e.0 ≡ b → stands (cond b (Some e.1) (at q rest)) ≡ stands (at q rest)) [
     | true ↦ λ is.
         let same : q ≡ e.0 = exact_names q e.0 (is_equal (name_cmp q e.0) is) in
-        if_true (is_ahead tables table part after e.0) (shared_row e.1.row) None miss (ap (is_ahead tables table part after) (sym same) ∙ a)
+        if_true (is_ahead tables table part after e.0) (row_of e.1) None miss (ap (is_ahead tables table part after) (sym same) ∙ a)
         ∙ ap stands (sym (ap (λ x. at x rest) same ∙ below_all e.0 rest (head_sorted e rest l.sorted)))
     | false ↦ λ is. refl
   ] refl;
@@ -104,10 +104,10 @@ ahead_if false x row h = absurd (cc)
 
 pub left_found : (tables : List TableShape) (table part : ℕ) (after : Option ℕ) (all : List (RowName × Place)) (e : RowName × Place) (rest : List (RowName × Place)) (row : RowOf) (db : Database)
     → ((q : RowName) → is_in_part tables table part q ≡ true → get db q ≡ stands (lookup (is_at (name_cmp q)) all))
-    → IsLeft tables table part after all (e ∷ rest) → (if is_ahead tables table part after e.0 then shared_row e.1.row else None) ≡ Some row
+    → IsLeft tables table part after all (e ∷ rest) → (if is_ahead tables table part after e.0 then row_of e.1 else None) ≡ Some row
     → IsNextRow tables db table part after (e.0.key, row)
 left_found tables table part after all e rest row db shown l hit =
-    let is = ahead_if (is_ahead tables table part after e.0) (shared_row e.1.row) row hit in
+    let is = ahead_if (is_ahead tables table part after e.0) (row_of e.1) row hit in
     let here : e.0.table ≡ table = of_table tables table part after e.0 is.0 in
     let name : ◌≡◌ {A = RowName} (record { table = table; key = e.0.key }) e.0 = λ i. record { table = sym here i; key = e.0.key } in
     record {

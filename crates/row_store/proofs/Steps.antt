@@ -85,12 +85,12 @@ put_there true (Some x) None = refl
 put_there true (Some x) (Some y) = refl
 put_there false o p = refl
 
--- a shelf is copied once
-pub copy_once : {A : Type 0} (b x h : Bool) (p o : A) → (if x && not (b || h) then p else (if b && not h then p else o)) ≡ (if (b || x) && not h then p else o)
-copy_once true true h p o = refl
-copy_once true false h p o = refl
-copy_once false true h p o = refl
-copy_once false false h p o = refl
+-- a shelf is shared once
+pub share_once : {A : Type 0} (b x h : Bool) (p o : A) → (if x && not (b || h) then p else (if b && not h then p else o)) ≡ (if (b || x) && not h then p else o)
+share_once true true h p o = refl
+share_once true false h p o = refl
+share_once false true h p o = refl
+share_once false false h p o = refl
 
 pub or_more : (b x h : Bool) → (x || (b || h)) ≡ ((b || x) || h)
 or_more true true h = refl
@@ -183,3 +183,17 @@ map_cond f false o = refl
 pub some_left : {A : Type 0} (b : Bool) (o : Option A) → is_some (if b then None else o) ≡ true → is_some o ≡ true
 some_left true o h = absurd (cc)
 some_left false o h = h
+
+-- what has no place cannot be emptied
+pub emptied_twice : {A : Type 0} (h : Bool) (f : A → A) (x : A) → f (f x) ≡ f x → (if h then f (if h then f x else x) else (if h then f x else x)) ≡ (if h then f x else x)
+emptied_twice true f x again = again
+emptied_twice false f x again = refl
+
+pub and_then : {A : Type 0} (a b : Bool) (x o : A) → (if a then (if b then x else o) else o) ≡ (if a && b then x else o)
+and_then true b x o = refl
+and_then false b x o = refl
+
+pub and_all : {A : Type 0} (a b c : Bool) (x o : A) → (if a && (b && c) then x else o) ≡ (if a && b then (if c then x else o) else o)
+and_all true true c x o = refl
+and_all true false c x o = refl
+and_all false b c x o = refl

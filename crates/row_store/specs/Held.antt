@@ -1,6 +1,6 @@
 -- Of the code: invariants and steps; no promise rests on these words.
 -- What a loan holds: rows by their names, or shelves; and what becomes of it and of a store as it goes out and comes back.
-use Rattle.std.specs.Prelude.{◌≡◌, true, false, ◌&&◌, ◌||◌, if◌then◌else◌, List, ◌++◌, Option, ⊤}
+use Rattle.std.specs.Prelude.{◌≡◌, true, false, not, ◌&&◌, ◌||◌, if◌then◌else◌, List, ◌++◌, Option, None, ⊤}
 use Rattle.std.specs.Option.{option_or}
 use Rattle.values.specs.declared.name.RowName.{RowName}
 use Rattle.values.specs.Database.{Database, RowOf}
@@ -44,6 +44,20 @@ pub record IsLoanByName (tables : List TableShape) (plan : Requests) (held : Hel
 abbrev pub IsLoanOf : List TableShape → Requests → Holdings → Type 0
 IsLoanOf tables plan (Rows held) = IsLoanByName tables plan held
 IsLoanOf tables plan (Shelves held) = IsLoan tables plan held.shelves held.written_shelves.items held.written_names.items
+
+-- ---- shared
+
+-- the rows that the plan locks are here, on shelves that aren't away
+abbrev pub AreHere : List TableShape → Requests → AllShelves → Type 0
+AreHere tables plan shelves = (name : RowName) → locks_row tables plan name Read ≡ true
+    → ((found tables shelves name).row ≡ (found tables shelves name).counts_as) × (is_away shelves (shelf_of tables name) ≡ false)
+
+-- a loan has the shelves that the plan locks whole to read, but for those that will be moved there; they show what the store's
+-- show, if those aren't away
+abbrev pub AreReadShelves : List TableShape → Requests → List Resource → AllShelves → AllShelves → Type 0
+AreReadShelves tables plan moved shelves loan = (name : RowName)
+    → (locks_shelf plan Read (shelf_of tables name) ≡ true → is_away shelves (shelf_of tables name) ≡ false)
+    → found tables loan name ≡ (if locks_shelf plan Read (shelf_of tables name) && not (among moved (shelf_of tables name)) then found tables shelves name else full None)
 
 -- ---- made ready: what is to be moved still stands in the store, and has its place there
 

@@ -1,7 +1,7 @@
 -- Of the code: invariants and steps; no promise rests on these words.
 -- What becomes of shelves and places when rows move between a store and a loan. A relation of one shelf or one row name speaks of
 -- every place; those of many speak of the places where row names belong.
-use Rattle.std.specs.Prelude.{◌≡◌, Bool, false, not, ◌&&◌, List, None, if◌then◌else◌}
+use Rattle.std.specs.Prelude.{◌≡◌, Bool, true, false, not, ◌&&◌, List, None, if◌then◌else◌}
 use Rattle.values.specs.declared.name.RowName.{RowName}
 use Rattle.catalogue.specs.Shapes.{TableShape}
 use Rattle.footprint.specs.declared.resource.Resource.{Resource}
@@ -9,20 +9,20 @@ use Rattle.row_store.specs.Places.{Shelves, shelf_on, has_shelf, is_away, has_pl
 use Rattle.row_store.specs.Shelving.{shelf_of}
 use Rattle.row_store.specs.Locked.{among, is_named}
 
--- the places of these names are emptied, and each other is as it was
+-- those of these names that have a place are emptied, and each other is as it was
 abbrev pub AreEmptied : List TableShape → List RowName → Shelves → Shelves → Type 0
 AreEmptied tables names old new = (name : RowName) → seen_at new (shelf_of tables name) name
-    ≡ (if is_named names name then emptied (seen_at old (shelf_of tables name) name) else seen_at old (shelf_of tables name) name)
+    ≡ (if is_named names name && has_place old (shelf_of tables name) name then emptied (seen_at old (shelf_of tables name) name) else seen_at old (shelf_of tables name) name)
 
--- a copy of one shelf was added, unless there was one already
-abbrev pub IsCopied : Resource → Shelves → Shelves → Shelves → Type 0
-IsCopied at shelves old new = (shelf : Resource) (name : RowName) → seen_at new shelf name
-    ≡ (if is_shelf at shelf && not (has_shelf old shelf) then settled (seen_at shelves shelf name) else seen_at old shelf name)
+-- a shelf was added that shows what the store's shows, if that isn't away, unless there was one already
+abbrev pub IsShelfShared : Resource → Shelves → Shelves → Shelves → Type 0
+IsShelfShared at shelves old new = (shelf : Resource) (name : RowName) → (is_shelf at shelf ≡ true → is_away shelves shelf ≡ false)
+    → seen_at new shelf name ≡ (if is_shelf at shelf && not (has_shelf old shelf) then seen_at shelves shelf name else seen_at old shelf name)
 
--- copies of those of the shelves were added that weren't there
-abbrev pub AreCopied : List Resource → Shelves → Shelves → Shelves → Type 0
-AreCopied at shelves old new = (shelf : Resource) (name : RowName) → seen_at new shelf name
-    ≡ (if among at shelf && not (has_shelf old shelf) then settled (seen_at shelves shelf name) else seen_at old shelf name)
+-- those of the shelves were added that weren't there
+abbrev pub AreShelvesShared : List Resource → Shelves → Shelves → Shelves → Type 0
+AreShelvesShared at shelves old new = (shelf : Resource) (name : RowName) → (among at shelf ≡ true → is_away shelves shelf ≡ false)
+    → seen_at new shelf name ≡ (if among at shelf && not (has_shelf old shelf) then seen_at shelves shelf name else seen_at old shelf name)
 
 -- the row that stands at one name was added
 abbrev pub IsShared : Resource → RowName → Shelves → Shelves → Shelves → Type 0

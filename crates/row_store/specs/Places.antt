@@ -1,6 +1,6 @@
 -- Claimed: what contracts promise to a reader rests on these words.
 -- Places: what stands at row names, and what counts there.
-use Rattle.std.specs.Prelude.{Option, Some, None, option_map, Bool, false, is_some}
+use Rattle.std.specs.Prelude.{Option, Some, None, option_map, Bool, true, false, is_some}
 use Rattle.std.specs.BTreeMap.{BTreeMap, get, is_at}
 use Rattle.std.specs.Arc.{arc_value}
 use Rattle.std.specs.declared.sync.Arc.{Arc}
@@ -11,6 +11,9 @@ use Rattle.values.specs.Database.{RowOf, name_cmp}
 use Rattle.footprint.specs.declared.resource.Resource.{Resource}
 use Rattle.footprint.specs.Tree.{resource_cmp}
 use Rattle.row_store.specs.declared.place.Place.{Place}
+use Rattle.row_store.specs.declared.place.Place.TheVariants.{Here, Lent, Reserved}
+use Rattle.row_store.specs.declared.contents.Contents.{Contents}
+use Rattle.row_store.specs.declared.contents.Contents.TheVariants.{Own, Shared}
 use Rattle.row_store.specs.declared.shelf.Shelf.{Shelf}
 
 -- the row that stands at a name, and the row that counts there: while a row is lent to be written it is away, and counts as
@@ -38,41 +41,63 @@ emptied place = record { row = None; counts_as = place.counts_as }
 abbrev pub gone : PlaceOf → PlaceOf
 gone place = record { row = None; counts_as = place.row }
 
+-- the row that stands at a place: none while it is lent, or is to come
+abbrev pub row_of : Place → Option RowOf
+row_of (Here row) = shared_row row
+row_of (Lent row) = None
+row_of Reserved = None
+
 -- what a place says that counts, or what counts where it says nothing
-abbrev pub counted : Option (Snapshot (Option (Arc RowOf Global))) → Option RowOf → Option RowOf
-counted None otherwise = otherwise
-counted (Some row) otherwise = shared_row row.value
+abbrev pub counted : Place → Option RowOf → Option RowOf
+counted (Here row) otherwise = shared_row row
+counted (Lent row) otherwise = shared_row row
+counted Reserved otherwise = otherwise
 
 -- the row that stands at a place; none where there is no place
 abbrev pub standing : Option Place → Option RowOf
 standing None = None
-standing (Some place) = shared_row place.row
+standing (Some place) = row_of place
 
 abbrev pub counted_at : Option Place → Option RowOf → Option RowOf
 counted_at None otherwise = otherwise
-counted_at (Some place) otherwise = counted place.counts_as otherwise
+counted_at (Some place) otherwise = counted place otherwise
 
 -- what is seen at a place, or where there is none
 abbrev pub seen_over : Option Place → Option RowOf → PlaceOf
 seen_over place otherwise = record { row = standing place; counts_as = counted_at place otherwise }
 
-abbrev pub place_of : Place → PlaceOf
-place_of place = seen_over (Some place) None
-
 abbrev pub Places : Type 0
 Places = BTreeMap RowName Place
+
+-- what is seen at a name among places
+abbrev pub seen_among : Places → RowName → Option RowOf → PlaceOf
+seen_among places name otherwise = seen_over (get name_cmp places name) otherwise
+
+-- the places of a shelf, its own or shared
+abbrev pub places_of : Contents → Places
+places_of (Own places) = places
+places_of (Shared places) = arc_value places
+
+abbrev pub is_own : Contents → Bool
+is_own (Own places) = true
+is_own (Shared places) = false
+
+-- the name has a place that is the shelf's own: it can be filled and emptied without memory
+abbrev pub has_own : Contents → RowName → Bool
+has_own (Own places) name = is_some (get name_cmp places name)
+has_own (Shared places) name = false
 
 -- what counts at a name of a shelf that is away: the row that stood there as the shelf was lent
 abbrev pub counted_away : Option (Snapshot Places) → RowName → Option RowOf
 counted_away None name = None
 counted_away (Some lent) name = standing (get name_cmp lent.value name)
 
--- what is seen at a name, whether the name has a place, and whether the shelf is away
+-- what is seen at a name, whether the name has a place of the shelf's own, and whether the shelf is away
 abbrev pub seen_in : Shelf → RowName → PlaceOf
-seen_in shelf name = seen_over (get name_cmp shelf.places name) (counted_away shelf.away name)
+seen_in shelf name = seen_among (places_of shelf.contents) name (counted_away shelf.away name)
 
 abbrev pub has_in : Shelf → RowName → Bool
-has_in shelf name = is_some (get name_cmp shelf.places name)
+has_in shelf name = has_own shelf.contents name
 
 abbrev pub is_out : Shelf → Bool
 is_out shelf = is_some shelf.away

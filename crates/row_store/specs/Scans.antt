@@ -8,7 +8,7 @@ use Rattle.catalogue.specs.Shapes.{TableShape}
 use Rattle.values.specs.Database.{RowOf}
 use Rattle.workspace.specs.Scan.{is_ahead}
 use Rattle.row_store.specs.declared.place.Place.{Place}
-use Rattle.row_store.specs.Places.{shared_row}
+use Rattle.row_store.specs.Places.{row_of}
 
 -- behind the name with a key, or at the first name
 abbrev pub start_of : ℕ → Option ℕ → Bound RowName
@@ -17,7 +17,7 @@ start_of table (Some key) = Excluded (record { table = table; key = key })
 
 -- the row that stands at a place, if its name is of the partition
 abbrev pub row_on : List TableShape → ℕ → ℕ → RowName × Place → Option RowOf
-row_on tables table part e = if is_ahead tables table part None e.0 then shared_row e.1.row else None
+row_on tables table part e = if is_ahead tables table part None e.0 then row_of e.1 else None
 
 abbrev pub with_row : ℕ → Option RowOf → List (ℕ × RowOf) → List (ℕ × RowOf)
 with_row key None rows = rows

@@ -15,7 +15,7 @@ use Rattle.coarsen.specs.Plans.{IsWellFormed, IsPlanOver}
 use Rattle.coarsen.specs.Clashes.{locks_row, ModesClash}
 use Rattle.workspace.specs.Overlay.{with_write}
 use Rattle.row_store.specs.declared.shelf.Shelf.{Shelf}
-use Rattle.row_store.specs.Places.{Places, Shelves, PlaceOf, seen_at, has_shelf, is_away, has_place}
+use Rattle.row_store.specs.Places.{Places, places_of, Shelves, PlaceOf, seen_at, has_shelf, is_away, has_place}
 use Rattle.row_store.specs.Shelving.{shelf_of}
 use Rattle.row_store.specs.Locked.{among, is_named, locks_shelf, locks_itself}
 
@@ -29,7 +29,7 @@ names_away (Some lent) = keys lent.value
 
 abbrev pub names_of : List (Resource × Shelf) → List RowName
 names_of [] = []
-names_of (e ∷ es) = (keys e.1.places ++ names_away e.1.away) ++ names_of es
+names_of (e ∷ es) = (keys (places_of e.1.contents) ++ names_away e.1.away) ++ names_of es
 
 abbrev pub rows_at : (RowName → Option RowOf) → List RowName → Database
 rows_at row [] = empty

@@ -5,10 +5,10 @@ ghost use Rattle.values.specs.declared.name.RowName.{RowName as AnyName};
 ghost use Rattle.footprint.specs.declared.resource.Resource.{Resource as AnyResource};
 ghost use Rattle.row_store.specs.Places.{shelf_on, has_shelf, is_away, has_place, seen_at, gone, is_shelf};
 ghost use Rattle.row_store.specs.Locked.{among};
-ghost use Rattle.row_store.specs.Moving.{is_ready, IsCopied, AreCopied, IsShelfLent, AreShelvesLent, IsShelfPut, AreShelvesPut};
+ghost use Rattle.row_store.specs.Moving.{is_ready, IsShelfShared, AreShelvesShared, IsShelfLent, AreShelvesLent, IsShelfPut, AreShelvesPut};
 ghost use Rattle.row_store.specs.Moving.{IsShelfTaken, AreShelvesTaken};
 
-use crate::shelves::{Shelves, add_shelf, copy_shelf, make_shelf};
+use crate::shelves::{Shelves, add_shelf, make_shelf, share_shelf};
 use footprint::Resource;
 use std::alloc::Global;
 use values::NoMemory;
@@ -32,40 +32,51 @@ pub(crate) fn make_shelves(
     Ok(())
 }
 
-/// Adds a copy of a shelf, unless there is one already.
+/// Adds a shelf that shares the places of the store's, unless there is one already.
 #[tactic(auto, using(crate::proofs::Exact::get_same))]
-fn copy_one(
+fn share_one_shelf(
     alloc: Global,
-    shelves: &Shelves,
+    shelves: &mut Shelves,
     copies: &mut Shelves,
     at: &Resource,
 ) -> Result<(), NoMemory>
-    ensures seen { OnOk result (IsCopied at.now shelves.now copies.old copies.new) }
-    ensures shelves { OnOk result ((d : AnyResource) →
+    ensures shared { OnOk result (IsShelfShared at.now shelves.old copies.old copies.new) }
+    ensures copies { OnOk result ((d : AnyResource) →
         has_shelf copies.new d ≡ (is_shelf at.now d || has_shelf copies.old d)) }
-    ensures away { OnOk result ((d : AnyResource) → is_away copies.new d ≡ is_away copies.old d) }
+    ensures here { OnOk result ((d : AnyResource) → is_away copies.new d ≡ is_away copies.old d) }
+    ensures seen { (d : AnyResource) (q : AnyName) → seen_at shelves.new d q ≡ seen_at shelves.old d q }
+    ensures kept { (d : AnyResource) (q : AnyName) → is_shelf at.now d ≡ false →
+        has_place shelves.new d q ≡ has_place shelves.old d q }
+    ensures shelves { (d : AnyResource) → has_shelf shelves.new d ≡ has_shelf shelves.old d }
+    ensures away { (d : AnyResource) → is_away shelves.new d ≡ is_away shelves.old d }
 {
     if copies.contains_key(at) {
         return Ok(());
     }
-    let copy = copy_shelf(alloc, shelves, at)?;
-    add_shelf(copies, at, copy)
+    let shared = share_shelf(alloc, shelves, at)?;
+    add_shelf(copies, at, shared)?;
+    Ok(())
 }
 
-/// Adds copies of shelves, with the rows that stand there, but for those that are there already.
-pub(crate) fn copy_shelves(
+/// Adds shelves that share the places of the store's, but for those that are there already. It visits no row.
+pub(crate) fn share_shelves(
     alloc: Global,
-    shelves: &Shelves,
+    shelves: &mut Shelves,
     copies: &mut Shelves,
     at: &[Resource],
 ) -> Result<(), NoMemory>
-    ensures seen { OnOk result (AreCopied at.now shelves.now copies.old copies.new) }
-    ensures shelves { OnOk result ((d : AnyResource) →
+    ensures shared { OnOk result (AreShelvesShared at.now shelves.old copies.old copies.new) }
+    ensures copies { OnOk result ((d : AnyResource) →
         has_shelf copies.new d ≡ (among at.now d || has_shelf copies.old d)) }
-    ensures away { OnOk result ((d : AnyResource) → is_away copies.new d ≡ is_away copies.old d) }
+    ensures here { OnOk result ((d : AnyResource) → is_away copies.new d ≡ is_away copies.old d) }
+    ensures seen { (d : AnyResource) (q : AnyName) → seen_at shelves.new d q ≡ seen_at shelves.old d q }
+    ensures kept { (d : AnyResource) (q : AnyName) → among at.now d ≡ false →
+        has_place shelves.new d q ≡ has_place shelves.old d q }
+    ensures shelves { (d : AnyResource) → has_shelf shelves.new d ≡ has_shelf shelves.old d }
+    ensures away { (d : AnyResource) → is_away shelves.new d ≡ is_away shelves.old d }
 {
     for shelf in at {
-        copy_one(alloc, shelves, copies, shelf)?;
+        share_one_shelf(alloc, shelves, copies, shelf)?;
     }
     Ok(())
 }

@@ -7,17 +7,17 @@ ghost use Rattle.values.specs.declared.name.RowName.{RowName as AnyName};
 ghost use Rattle.proclang_types.specs.declared.right.Right.TheVariants.{Read, Write};
 ghost use Rattle.footprint.specs.declared.resource.Resource.{Resource as AnyResource};
 ghost use Rattle.footprint.specs.Tree.{resource_cmp};
-ghost use Rattle.coarsen.specs.Plans.{IsPlanOver, IsWellFormed};
+ghost use Rattle.coarsen.specs.Plans.{IsPlanOver};
 ghost use Rattle.coarsen.specs.Clashes.{locks_row};
 ghost use Rattle.row_store.specs.Places.{seen_at, full, settled, has_shelf, is_away, has_place};
 ghost use Rattle.row_store.specs.Shelving.{shelf_of};
 ghost use Rattle.row_store.specs.Locked.{among, is_named, locks_shelf, locks_itself};
 ghost use Rattle.row_store.specs.Named.{names_listed, reads_itself, AreDistinct, AreListed};
-ghost use Rattle.row_store.specs.Held.{IsReady, IsTaken, AreShelvesTaken, CanGoBack, IsBackFrom};
+ghost use Rattle.row_store.specs.Held.{AreHere, AreReadShelves, IsReady, IsTaken, AreShelvesTaken, CanGoBack, IsBackFrom};
 ghost use Rattle.row_store.specs.Views.{found};
 
 use crate::by_name::{put_listed, read_rows, written_rows};
-use crate::exchange::{copy_shelves, make_shelves, put_shelves, take_shelves};
+use crate::exchange::{make_shelves, put_shelves, share_shelves, take_shelves};
 use crate::held::{HeldRows, HeldShelves, Holdings};
 use crate::locked::{locked_names, locked_shelves};
 use crate::moving::{empty_places, make_places, put_rows, share_rows};
@@ -33,33 +33,30 @@ use values::NoMemory;
 /// How many requests a plan has at most whose rows are lent by their names: a name is looked for among all of them.
 const FEW_REQUESTS: usize = 64;
 
-/// The rows at the names that requests lock, shared with the store, and an empty shelf for each of those that will be moved
-/// here, whose rows aren't shared.
-#[tactic(auto, using(crate::proofs::Sharing::shared_here))]
+/// The shelves that requests lock whole to read, shared with the store, and an empty shelf for each of those that will be
+/// moved here, which isn't shared.
 fn share(
     alloc: Global,
     catalogue: &Catalogue,
-    shelves: &Shelves,
+    shelves: &mut Shelves,
     requests: &[(Resource, Mode)],
     moved: &[Resource],
 ) -> Result<Shelves, NoMemory>
     requires { IsPlanOver catalogue.now requests.now }
-    ensures rows { IfOk result (λ copies. (q : AnyName) → locks_row catalogue.now requests.now q Read ≡ true →
-        among moved.now (shelf_of catalogue.now q) ≡ false →
-        found catalogue.now copies q ≡ settled (found catalogue.now shelves.now q)) }
-    ensures here { IfOk result (λ copies. (q : AnyName) →
-        (found catalogue.now copies q).row ≡ (found catalogue.now copies q).counts_as) }
+    ensures shared { IfOk result (λ copies.
+        AreReadShelves catalogue.now requests.now moved.now shelves.old copies) }
     ensures moved { IfOk result (λ copies. (d : AnyResource) → among moved.now d ≡ true → has_shelf copies d ≡ true) }
-    ensures with_place { IfOk result (λ copies. (q : AnyName) → locks_itself requests.now Read q ≡ true →
-        has_place copies (shelf_of catalogue.now q) q ≡ true) }
     ensures whole { IfOk result (λ copies. (d : AnyResource) → is_away copies d ≡ false) }
+    ensures seen { (d : AnyResource) (q : AnyName) → seen_at shelves.new d q ≡ seen_at shelves.old d q }
+    ensures kept { (q : AnyName) → locks_shelf requests.now Read (shelf_of catalogue.now q) ≡ false →
+        has_place shelves.new (shelf_of catalogue.now q) q ≡ has_place shelves.old (shelf_of catalogue.now q) q }
+    ensures shelves { (d : AnyResource) → has_shelf shelves.new d ≡ has_shelf shelves.old d }
+    ensures away { (d : AnyResource) → is_away shelves.new d ≡ is_away shelves.old d }
 {
     let read_shelves = locked_shelves(alloc, catalogue, requests, Right::Read)?;
-    let read_names = locked_names(alloc, requests, Right::Read)?;
     let mut copies = BTreeMap::new(alloc);
     make_shelves(alloc, &mut copies, moved)?;
-    copy_shelves(alloc, shelves, &mut copies, &read_shelves)?;
-    share_rows(alloc, catalogue, shelves, &mut copies, &read_names)?;
+    share_shelves(alloc, shelves, &mut copies, &read_shelves)?;
     Ok(copies)
 }
 
@@ -71,10 +68,12 @@ fn hold_shelves(
     shelves: &mut Shelves,
     plan: &Plan,
 ) -> Result<HeldShelves, NoMemory>
-    requires { IsPlanOver catalogue.now plan.now }
+    requires over { IsPlanOver catalogue.now plan.now }
+    requires here { AreHere catalogue.now plan.now shelves.old }
     ensures seen { (d : AnyResource) (q : AnyName) → seen_at shelves.new d q ≡ seen_at shelves.old d q }
-    ensures kept { (d : AnyResource) (q : AnyName) → has_place shelves.old d q ≡ true →
-        has_place shelves.new d q ≡ true }
+    ensures kept { (q : AnyName) → locks_shelf plan.now Read (shelf_of catalogue.now q) ≡ false →
+        has_place shelves.old (shelf_of catalogue.now q) q ≡ true →
+        has_place shelves.new (shelf_of catalogue.now q) q ≡ true }
     ensures shelves { (d : AnyResource) → has_shelf shelves.old d ≡ true → has_shelf shelves.new d ≡ true }
     ensures away { (d : AnyResource) → is_away shelves.new d ≡ is_away shelves.old d }
     ensures with_shelf { IfOk result (λ held. (q : AnyName) →
@@ -101,11 +100,13 @@ fn hold_shelves(
     let requests = plan.requests();
     let written_shelves = locked_shelves(alloc, catalogue, requests, Right::Write)?;
     let written_names = locked_names(alloc, requests, Right::Write)?;
+    let read_names = locked_names(alloc, requests, Right::Read)?;
     make_shelves(alloc, shelves, &written_shelves)?;
+    let mut held = share(alloc, catalogue, shelves, requests, &written_shelves)?;
     make_places(alloc, catalogue, shelves, &written_names)?;
-    let shared = share(alloc, catalogue, shelves, requests, &written_shelves)?;
+    share_rows(alloc, catalogue, shelves, &mut held, &read_names)?;
     Ok(HeldShelves {
-        shelves: shared,
+        shelves: held,
         written_shelves,
         written_names,
     })
@@ -146,11 +147,12 @@ pub(crate) fn hold(
     shelves: &mut Shelves,
     plan: &Plan,
 ) -> Result<Holdings, NoMemory>
-    requires { IsPlanOver catalogue.now plan.now }
-    ensures sound { IsWellFormed plan.now }
+    requires over { IsPlanOver catalogue.now plan.now }
+    requires here { AreHere catalogue.now plan.now shelves.old }
     ensures seen { (d : AnyResource) (q : AnyName) → seen_at shelves.new d q ≡ seen_at shelves.old d q }
-    ensures kept { (d : AnyResource) (q : AnyName) → has_place shelves.old d q ≡ true →
-        has_place shelves.new d q ≡ true }
+    ensures kept { (q : AnyName) → locks_shelf plan.now Read (shelf_of catalogue.now q) ≡ false →
+        has_place shelves.old (shelf_of catalogue.now q) q ≡ true →
+        has_place shelves.new (shelf_of catalogue.now q) q ≡ true }
     ensures shelves { (d : AnyResource) → has_shelf shelves.old d ≡ true → has_shelf shelves.new d ≡ true }
     ensures away { (d : AnyResource) → is_away shelves.new d ≡ is_away shelves.old d }
     ensures ready { IfOk result (λ held. IsReady catalogue.now plan.now shelves.old shelves.new held) }

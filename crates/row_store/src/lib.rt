@@ -2,6 +2,7 @@
 #![tactic(auto)]
 
 mod by_name;
+mod contents;
 mod exchange;
 mod filling;
 mod held;

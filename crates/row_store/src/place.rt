@@ -1,59 +1,76 @@
 //! Places: what stands at row names.
 
-ghost use Rattle.std.specs.Prelude.{◌≡◌, Some, None, Option, IfOk};
+ghost use Rattle.std.specs.Prelude.{◌≡◌, Some, Option, option_map, IfOk};
 ghost use Rattle.values.specs.Database.{RowOf};
-ghost use Rattle.row_store.specs.Places.{place_of, seen_over, full, settled, shared_row};
+ghost use Rattle.row_store.specs.Places.{row_of, seen_over, emptied, shared_row};
 
 use std::alloc::AllocError;
-use std::snapshot::Snapshot;
 use std::sync::Arc;
 use values::{NoMemory, Row};
 
-/// A place: a row name with a row or with none. While its row is lent to be written, not by its name alone but on a shelf,
-/// the row is away, and counts as it was lent. A place that says nothing of what counts was made on a shelf, and there counts
-/// what the shelf says.
+/// A place: a row name with a row or with none.
 #[derive(Drop)]
-pub(crate) struct Place {
-    pub(crate) row: Option<Arc<Row>>,
-    pub(crate) counts_as: Option<Snapshot<Option<Arc<Row>>>>,
+pub(crate) enum Place {
+    /// What stands here counts.
+    Here(Option<Arc<Row>>),
+    /// What stood here is lent to be written, not by its name alone but on a shelf, and counts as it was lent.
+    Lent(Option<Arc<Row>>),
+    /// For a row to come. What counts is what the shelf says.
+    Reserved,
 }
 
 impl Place {
-    /// A place with this row, or with none, which counts.
-    pub(crate) fn new(row: Option<Arc<Row>>) -> Place
-        ensures { place_of result ≡ full (shared_row row) }
+    /// The row that stands at the place.
+    pub(crate) fn row(&self) -> Option<&Row>
+        ensures { option_map (λ r. r.now) result ≡ row_of self.now }
     {
-        let counts_as = Some(Snapshot::of(&row));
-        Place { row, counts_as }
+        match self {
+            Place::Here(Some(row)) => Some(row),
+            _ => None,
+        }
     }
 
     /// The row that stands at the place, once more.
     pub(crate) fn share(&self) -> Result<Option<Arc<Row>>, NoMemory>
-        ensures { IfOk result (λ row. shared_row row ≡ (place_of self.now).row) }
+        ensures { IfOk result (λ row. shared_row row ≡ row_of self.now) }
     {
-        match &self.row {
-            Some(row) => Ok(Some(row.clone()?)),
-            None => Ok(None),
+        match self {
+            Place::Here(Some(row)) => Ok(Some(row.clone()?)),
+            _ => Ok(None),
         }
     }
 
-    /// A place for a row to come.
-    pub(crate) fn reserved() -> Place
-        ensures { (otherwise : Option RowOf) → seen_over (Some result) otherwise ≡ seen_over None otherwise }
+    /// The row that stood at the place, which is no more.
+    pub(crate) fn into_row(self) -> Option<Arc<Row>>
+        ensures { shared_row result ≡ row_of self }
     {
-        Place {
-            row: None,
-            counts_as: None,
+        match self {
+            Place::Here(row) => row,
+            _ => None,
+        }
+    }
+
+    /// Lends the row that stands at the place. It counts as before.
+    pub(crate) fn empty(&mut self)
+        ensures { (otherwise : Option RowOf) →
+            seen_over (Some self.new) otherwise ≡ emptied (seen_over (Some self.old) otherwise) }
+    {
+        if let Place::Here(row) = self {
+            *self = Place::Lent(row.take());
         }
     }
 }
 
 impl Clone for Place {
-    // The copy's row is there, the one that stands at the place.
-    ghost is_clone = { λ place copy. place_of copy ≡ settled (place_of place) };
+    // The copy shows what the place shows.
+    ghost is_clone = { λ place copy. (otherwise : Option RowOf) →
+        seen_over (Some copy) otherwise ≡ seen_over (Some place) otherwise };
 
     fn clone(&self) -> Result<Place, AllocError> {
-        let row = self.row.clone()?;
-        Ok(Place::new(row))
+        match self {
+            Place::Here(row) => Ok(Place::Here(row.clone()?)),
+            Place::Lent(row) => Ok(Place::Lent(row.clone()?)),
+            Place::Reserved => Ok(Place::Reserved),
+        }
     }
 }

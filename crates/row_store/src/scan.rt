@@ -5,7 +5,7 @@ ghost use Rattle.std.specs.FinMap as map;
 ghost use Rattle.values.specs.declared.name.RowName.{RowName as AnyName};
 ghost use Rattle.values.specs.Database.{Database};
 ghost use Rattle.workspace.specs.Scan.{IsNext, is_after, is_ahead, is_in_part, referred, rows_in_part};
-ghost use Rattle.row_store.specs.Places.{shared_row, seen_in};
+ghost use Rattle.row_store.specs.Places.{row_of, seen_in};
 ghost use Rattle.row_store.specs.Scans.{start_of};
 ghost use Rattle.row_store.specs.Views.{found};
 
@@ -49,14 +49,13 @@ fn row_ahead<'a>(
     place: &'a Place,
 ) -> Option<&'a Row>
     ensures { option_map (λ row. row.now) result ≡ (if is_ahead catalogue.now table part after.now name.now
-        then shared_row place.now.row else None) }
+        then row_of place.now else None) }
 {
-    if !is_ahead(catalogue, table, part, after, name) {
-        return None;
-    }
-    match &place.row {
-        Some(row) => Some(row),
-        None => None,
+    let row = place.row()?;
+    if is_ahead(catalogue, table, part, after, name) {
+        Some(row)
+    } else {
+        None
     }
 }
 
@@ -84,7 +83,7 @@ fn next_on<'a>(
         IsNext catalogue.now db table part after.now (option_map (λ found. (found.0, found.1.now)) result) }
 {
     for (name, place) in shelf
-        .places
+        .places()
         .range((start_of(table, after), Bound::Unbounded))
     {
         if let Some(row) = row_ahead(catalogue, table, part, after, name, place) {
@@ -125,7 +124,9 @@ fn push_rows_on<'a>(
         OnOk result (referred gathered.new.items
         ≡ referred gathered.old.items ++ rows_in_part catalogue.now table part db) }
 {
-    for (name, place) in &shelf.places {
+    let places = shelf.places();
+    gathered.reserve(places.len())?;
+    for (name, place) in places {
         if let Some(row) = row_ahead(catalogue, table, part, &None, name, place) {
             if gathered.push((name.key, row)).is_err() {
                 return Err(AllocError);

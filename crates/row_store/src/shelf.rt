@@ -2,23 +2,21 @@
 
 ghost use Rattle.std.specs.Prelude.{◌≡◌, Some, None, true, false, ◌&&◌, if◌then◌else◌, is_some, option_map, IfOk, OnOk};
 ghost use Rattle.values.specs.declared.name.RowName.{RowName as AnyName};
-ghost use Rattle.row_store.specs.Places.{seen_in, has_in, is_out, full, emptied, gone, settled, shared_row, is_name};
+ghost use Rattle.row_store.specs.Places.{places_of, seen_in, has_in, is_out, full, emptied, gone, shared_row, is_name};
 
+use crate::contents::{Contents, Places};
 use crate::place::Place;
-use std::alloc::{AllocError, Global};
+use std::alloc::Global;
 use std::collections::BTreeMap;
 use std::mem;
 use std::snapshot::Snapshot;
 use std::sync::Arc;
 use values::{NoMemory, Row, RowName};
 
-/// Places, in the order of their names.
-type Places = BTreeMap<RowName, Place>;
-
 /// The places of a shelf. While the shelf is lent whole they are away, and their rows count as they were lent.
 #[derive(Drop)]
 pub(crate) struct Shelf {
-    pub(crate) places: Places,
+    contents: Contents,
     away: Option<Snapshot<Places>>,
 }
 
@@ -29,7 +27,7 @@ impl Shelf {
         ensures away { is_out result ≡ false }
     {
         Shelf {
-            places: BTreeMap::new(alloc),
+            contents: Contents::Own(BTreeMap::new(alloc)),
             away: None,
         }
     }
@@ -41,6 +39,13 @@ impl Shelf {
         self.away.is_some()
     }
 
+    /// The places.
+    pub(crate) fn places(&self) -> &Places
+        ensures { result.now ≡ places_of self.now.contents }
+    {
+        self.contents.places()
+    }
+
     /// Lends the places: they go out with the shelf that is given, and none are left.
     pub(crate) fn take(&mut self, alloc: Global) -> Shelf
         ensures taken { result ≡ self.old }
@@ -49,57 +54,76 @@ impl Shelf {
         ensures away { is_out self.new ≡ true }
     {
         let lent = Shelf {
-            places: BTreeMap::new(alloc),
-            away: Some(Snapshot::of(&self.places)),
+            contents: Contents::Own(BTreeMap::new(alloc)),
+            away: Some(Snapshot::of(self.places())),
         };
         mem::replace(self, lent)
     }
 
-    /// Sees to it that a name has a place.
+    /// A shelf for a loan that only reads it: one that isn't away shows what this one shows. Both have the same places from
+    /// then on.
+    pub(crate) fn share(&mut self, alloc: Global) -> Result<Shelf, NoMemory>
+        ensures shared { IfOk result (λ shared. is_out self.old ≡ false → (q : AnyName) → seen_in shared q ≡ seen_in self.old q) }
+        ensures here { IfOk result (λ shared. is_out shared ≡ false) }
+        ensures seen { (q : AnyName) → seen_in self.new q ≡ seen_in self.old q }
+        ensures away { is_out self.new ≡ is_out self.old }
+    {
+        let places = self.contents.share(alloc)?;
+        Ok(Shelf {
+            contents: Contents::Shared(places),
+            away: None,
+        })
+    }
+
+    /// Sees to it that a name has a place of the shelf's own.
     #[tactic(auto, using(crate::proofs::Exact::own_same))]
-    pub(crate) fn make_place(&mut self, name: &RowName) -> Result<(), NoMemory>
+    pub(crate) fn make_place(&mut self, alloc: Global, name: &RowName) -> Result<(), NoMemory>
         ensures seen { (q : AnyName) → seen_in self.new q ≡ seen_in self.old q }
         ensures kept { (q : AnyName) → has_in self.old q ≡ true → has_in self.new q ≡ true }
         ensures there { OnOk result (has_in self.new name.now ≡ true) }
         ensures away { is_out self.new ≡ is_out self.old }
     {
-        if self.places.contains_key(name) {
-            return Ok(());
-        }
-        self.places.insert(*name, Place::reserved())?;
-        Ok(())
+        self.contents.make_own(alloc)?;
+        self.contents.reserve(name)
     }
 
-    /// The row that stands at a name, once more. Sees to it that the name has a place.
+    /// The row that stands at a name, once more. Sees to it that the name has a place of the shelf's own.
     #[tactic(auto, using(crate::proofs::Exact::own_same))]
-    pub(crate) fn lend_row(&mut self, name: &RowName) -> Result<Option<Arc<Row>>, NoMemory>
+    pub(crate) fn lend_row(
+        &mut self,
+        alloc: Global,
+        name: &RowName,
+    ) -> Result<Option<Arc<Row>>, NoMemory>
         ensures row { IfOk result (λ row. shared_row row ≡ (seen_in self.old name.now).row) }
         ensures seen { (q : AnyName) → seen_in self.new q ≡ seen_in self.old q }
         ensures kept { (q : AnyName) → has_in self.old q ≡ true → has_in self.new q ≡ true }
         ensures there { OnOk result (has_in self.new name.now ≡ true) }
         ensures away { is_out self.new ≡ is_out self.old }
     {
-        if let Some(place) = self.places.get(name) {
+        if let Some(place) = self.contents.own_place(name) {
             return place.share();
         }
-        self.places.insert(*name, Place::reserved())?;
-        Ok(None)
+        self.make_place(alloc, name)?;
+        self.share_row(name)
     }
 
-    /// Empties the place of a name. Its row counts as before.
+    /// Empties the place of a name, if it is the shelf's own. Its row counts as before.
     #[tactic(auto, using(crate::proofs::Exact::own_same))]
     pub(crate) fn empty_place(&mut self, name: &RowName)
         ensures seen { (q : AnyName) →
-            seen_in self.new q ≡ (if is_name name.now q then emptied (seen_in self.old q) else seen_in self.old q) }
+            seen_in self.new q ≡ (if is_name name.now q && has_in self.old q then emptied (seen_in self.old q)
+            else seen_in self.old q) }
         ensures places { (q : AnyName) → has_in self.new q ≡ has_in self.old q }
         ensures away { is_out self.new ≡ is_out self.old }
     {
-        if let Some(place) = self.places.get_mut(name) {
-            place.row = None;
+        if let Contents::Own(places) = &mut self.contents {
+            if let Some(place) = places.get_mut(name) {
+                place.empty();
+            }
         }
     }
 
-    /// Fills the place of a name, if there is one, with a row or with none.
+    /// Fills the place of a name, if it is the shelf's own, with a row or with none.
     #[tactic(auto, using(crate::proofs::Exact::own_same))]
     pub(crate) fn fill_place(&mut self, name: &RowName, row: Option<Arc<Row>>)
         ensures seen { (q : AnyName) →
@@ -108,13 +132,32 @@ impl Shelf {
         ensures places { (q : AnyName) → has_in self.new q ≡ has_in self.old q }
         ensures away { is_out self.new ≡ is_out self.old }
     {
-        if let Some(place) = self.places.get_mut(name) {
-            place.counts_as = Some(Snapshot::of(&row));
-            place.row = row;
+        if let Contents::Own(places) = &mut self.contents {
+            if let Some(place) = places.get_mut(name) {
+                *place = Place::Here(row);
+            }
         }
     }
 
-    /// Puts a row in the place of a name that has one; without a row the place goes, unless the shelf is away.
+    /// Puts a row, or none, at a name. An `Err` leaves the shelf as it was.
+    #[tactic(auto, using(crate::proofs::Exact::own_same))]
+    pub(crate) fn set_row(
+        &mut self,
+        alloc: Global,
+        name: &RowName,
+        row: Option<Arc<Row>>,
+    ) -> Result<(), NoMemory>
+        ensures seen { OnOk result ((q : AnyName) →
+            seen_in self.new q ≡ (if is_name name.now q then full (shared_row row) else seen_in self.old q)) }
+        ensures kept { (q : AnyName) → has_in self.old q ≡ true → has_in self.new q ≡ true }
+        ensures there { OnOk result (has_in self.new name.now ≡ true) }
+        ensures away { is_out self.new ≡ is_out self.old }
+    {
+        self.contents.make_own(alloc)?;
+        self.contents.set(name, Place::Here(row))
+    }
+
+    /// Puts a row in the place of a name, if it is the shelf's own; without a row the place goes, unless the shelf is away.
     #[tactic(auto, using(crate::proofs::Exact::own_same, crate::proofs::Exact::here_counts))]
     pub(crate) fn put_row(&mut self, name: &RowName, row: Option<Arc<Row>>)
         ensures seen { (q : AnyName) →
@@ -125,12 +168,12 @@ impl Shelf {
     {
         if row.is_some() || self.is_away() {
             self.fill_place(name, row);
-        } else {
-            self.places.remove(name);
+        } else if let Contents::Own(places) = &mut self.contents {
+            places.remove(name);
         }
     }
 
-    /// Takes the place of a name away, and gives the row that stands there, if there is a place.
+    /// Takes the place of a name away, and gives the row that stands there, if there is a place of the shelf's own.
     #[tactic(auto, using(crate::proofs::Exact::own_same))]
     pub(crate) fn take_row(&mut self, name: &RowName) -> Option<Option<Arc<Row>>>
         ensures row { option_map shared_row result
@@ -140,40 +183,28 @@ impl Shelf {
             has_in self.new q ≡ (if is_name name.now q then false else has_in self.old q) }
         ensures away { is_out self.new ≡ is_out self.old }
     {
-        let place = self.places.remove(name)?;
-        Some(place.row)
+        let Contents::Own(places) = &mut self.contents else {
+            return None;
+        };
+        let place = places.remove(name)?;
+        Some(place.into_row())
     }
 
     /// The row that stands at a name, once more.
     pub(crate) fn share_row(&self, name: &RowName) -> Result<Option<Arc<Row>>, NoMemory>
         ensures { IfOk result (λ row. shared_row row ≡ (seen_in self.now name.now).row) }
     {
-        let Some(place) = self.places.get(name) else {
-            return Ok(None);
-        };
-        place.share()
+        match self.places().get(name) {
+            Some(place) => place.share(),
+            None => Ok(None),
+        }
     }
 
     /// The row that stands at a name.
     pub(crate) fn row_at(&self, name: &RowName) -> Option<&Row>
         ensures { option_map (λ r. r.now) result ≡ (seen_in self.now name.now).row }
     {
-        let place = self.places.get(name)?;
-        match &place.row {
-            Some(row) => Some(row),
-            None => None,
-        }
-    }
-}
-
-impl Clone for Shelf {
-    // The copy is here, with the rows that stand on the shelf.
-    ghost is_clone = { λ shelf copy. (is_out copy ≡ false) × ((q : AnyName) → seen_in copy q ≡ settled (seen_in shelf q)) };
-
-    fn clone(&self) -> Result<Shelf, AllocError> {
-        Ok(Shelf {
-            places: self.places.clone()?,
-            away: None,
-        })
+        let place = self.places().get(name)?;
+        place.row()
     }
 }

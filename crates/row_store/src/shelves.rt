@@ -3,7 +3,7 @@
 ghost use Rattle.std.specs.Prelude.{◌≡◌, Some, None, true, false, not, ◌&&◌, ◌||◌, if◌then◌else◌, option_map, IfOk, OnOk, OnErr};
 ghost use Rattle.values.specs.declared.name.RowName.{RowName as AnyName};
 ghost use Rattle.footprint.specs.declared.resource.Resource.{Resource as AnyResource};
-ghost use Rattle.row_store.specs.Places.{has_shelf, is_away, has_place, seen_at, seen_in, is_out, full, emptied, settled, shared_row, is_name, is_shelf};
+ghost use Rattle.row_store.specs.Places.{has_shelf, is_away, has_place, seen_at, seen_in, has_in, is_out, full, emptied, shared_row, is_name, is_shelf};
 
 use crate::shelf::Shelf;
 use footprint::Resource;
@@ -53,7 +53,7 @@ fn add_place(
     ensures away { (d : AnyResource) → is_away shelves.new d ≡ is_away shelves.old d }
 {
     let mut shelf = Shelf::new(alloc);
-    shelf.make_place(name)?;
+    shelf.make_place(alloc, name)?;
     shelves.insert(*at, shelf)?;
     Ok(())
 }
@@ -74,12 +74,13 @@ pub(crate) fn make_place(
     ensures away { (d : AnyResource) → is_away shelves.new d ≡ is_away shelves.old d }
 {
     if let Some(shelf) = shelves.get_mut(at) {
-        return shelf.make_place(name);
+        return shelf.make_place(alloc, name);
     }
     add_place(alloc, shelves, at, name)
 }
 
 /// Puts a row, or none, at a name.
+#[tactic(auto, using(crate::proofs::Exact::get_same))]
 pub(crate) fn add_row(
     alloc: Global,
     shelves: &mut Shelves,
@@ -97,17 +98,21 @@ pub(crate) fn add_row(
         has_shelf shelves.new d ≡ true) }
     ensures away { OnOk result ((d : AnyResource) → is_away shelves.new d ≡ is_away shelves.old d) }
 {
-    make_place(alloc, shelves, at, name)?;
-    fill_place(shelves, at, name, row);
+    if let Some(shelf) = shelves.get_mut(at) {
+        return shelf.set_row(alloc, name, row);
+    }
+    let mut shelf = Shelf::new(alloc);
+    shelf.set_row(alloc, name, row)?;
+    add_shelf(shelves, at, shelf)?;
     Ok(())
 }
 
-/// Empties a place.
+/// Empties a place, if it is its shelf's own.
 #[tactic(auto, using(crate::proofs::Exact::get_same))]
 pub(crate) fn empty_place(shelves: &mut Shelves, at: &Resource, name: &RowName)
     ensures seen { (d : AnyResource) (q : AnyName) →
-        seen_at shelves.new d q ≡ (if is_shelf at.now d && is_name name.now q then emptied (seen_at shelves.old d q)
-        else seen_at shelves.old d q) }
+        seen_at shelves.new d q ≡ (if is_shelf at.now d && (is_name name.now q && has_place shelves.old d q)
+        then emptied (seen_at shelves.old d q) else seen_at shelves.old d q) }
     ensures kept { (d : AnyResource) (q : AnyName) → has_place shelves.new d q ≡ has_place shelves.old d q }
     ensures shelves { (d : AnyResource) → has_shelf shelves.new d ≡ has_shelf shelves.old d }
     ensures away { (d : AnyResource) → is_away shelves.new d ≡ is_away shelves.old d }
@@ -170,7 +175,7 @@ pub(crate) fn lend_row(
     ensures away { (d : AnyResource) → is_away shelves.new d ≡ is_away shelves.old d }
 {
     if let Some(shelf) = shelves.get_mut(at) {
-        return shelf.lend_row(name);
+        return shelf.lend_row(alloc, name);
     }
     add_place(alloc, shelves, at, name)?;
     Ok(None)
@@ -217,13 +222,24 @@ pub(crate) fn take_row(
     shelf.take_row(name)
 }
 
-/// A copy of a shelf, with the rows that stand there.
-pub(crate) fn copy_shelf(alloc: Global, shelves: &Shelves, at: &Resource) -> Result<Shelf, NoMemory>
-    ensures seen { IfOk result (λ copy. (q : AnyName) → seen_in copy q ≡ settled (seen_at shelves.now at.now q)) }
-    ensures away { IfOk result (λ copy. is_out copy ≡ false) }
+/// A shelf for a loan that only reads it: it shows what the shelf there shows, if that isn't away.
+#[tactic(auto, using(crate::proofs::Exact::get_same))]
+pub(crate) fn share_shelf(
+    alloc: Global,
+    shelves: &mut Shelves,
+    at: &Resource,
+) -> Result<Shelf, NoMemory>
+    ensures shared { IfOk result (λ shared. is_away shelves.old at.now ≡ false →
+        (q : AnyName) → seen_in shared q ≡ seen_at shelves.old at.now q) }
+    ensures here { IfOk result (λ shared. is_out shared ≡ false) }
+    ensures seen { (d : AnyResource) (q : AnyName) → seen_at shelves.new d q ≡ seen_at shelves.old d q }
+    ensures kept { (d : AnyResource) (q : AnyName) → is_shelf at.now d ≡ false →
+        has_place shelves.new d q ≡ has_place shelves.old d q }
+    ensures shelves { (d : AnyResource) → has_shelf shelves.new d ≡ has_shelf shelves.old d }
+    ensures away { (d : AnyResource) → is_away shelves.new d ≡ is_away shelves.old d }
 {
-    match shelves.get(at) {
-        Some(shelf) => Ok(shelf.clone()?),
+    match shelves.get_mut(at) {
+        Some(shelf) => shelf.share(alloc),
         None => Ok(Shelf::new(alloc)),
     }
 }
@@ -235,6 +251,8 @@ pub(crate) fn add_shelf(shelves: &mut Shelves, at: &Resource, shelf: Shelf) -> R
         seen_at shelves.new d q ≡ (if is_shelf at.now d then seen_in shelf q else seen_at shelves.old d q)) }
     ensures shelves { OnOk result ((d : AnyResource) →
         has_shelf shelves.new d ≡ (if is_shelf at.now d then true else has_shelf shelves.old d)) }
+    ensures places { OnOk result ((d : AnyResource) (q : AnyName) →
+        has_place shelves.new d q ≡ (if is_shelf at.now d then has_in shelf q else has_place shelves.old d q)) }
     ensures away { OnOk result ((d : AnyResource) →
         is_away shelves.new d ≡ (if is_shelf at.now d then false else is_away shelves.old d)) }
 {

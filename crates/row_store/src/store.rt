@@ -87,6 +87,8 @@ impl RowStore {
     {
         locked_rows_conflict();
         clashes_are_either_way();
+        // What holds of plans says that none of the rows that the plan locks is away.
+        let _requests = plan.requests();
         let ready = hold(self.alloc, &self.catalogue, &mut self.shelves, plan)?;
         let catalogue = self.catalogue.clone()?;
         self.lent.insert(no, Snapshot::of(plan))?;

@@ -1,6 +1,6 @@
 -- Claimed: what contracts promise to a reader rests on these words.
 -- What a clause sees of a transcript.
-use Rattle.std.specs.Prelude.{ℕ}
+use Rattle.std.specs.Prelude.{ℕ, List, Option, option_map, string_bytes}
 use Rattle.sha2.specs.declared.Sha256.{Sha256}
 use Rattle.running.specs.declared.transcript.Transcript.{Transcript}
 
@@ -11,3 +11,7 @@ batch_of t = t.batch
 -- all reply lines, by their hasher
 abbrev pub said_of : Transcript → Sha256
 said_of t = t.said
+
+-- the digest of the rows behind the last batch that was reported
+abbrev pub rows_digest_of : Transcript → Option (List ℕ)
+rows_digest_of t = option_map string_bytes t.rows

@@ -16,7 +16,7 @@ ghost use Rattle.batch_log.specs.Reader.{calls_read, fault_of, position_of, sour
 ghost use Rattle.engine.specs.Engines.{tables_of, is_busy};
 ghost use Rattle.engine.specs.Executions.{IsRefusal, IsExecutionOf, KeepsSetting};
 ghost use Rattle.running.specs.Executors.{Executes, HasAnswered};
-ghost use Rattle.running.specs.Hashers.{batch_of, said_of};
+ghost use Rattle.running.specs.Hashers.{batch_of, rows_digest_of, said_of};
 ghost use Rattle.running.specs.Reports.{batches_in, fault_in, report_of};
 ghost use Rattle.running.specs.Runs.{IsRunOfLog, device_with};
 ghost use Rattle.running.specs.Stops.{ends_in_io, is_of_device, IfOfLine, IfOfMachine, IfOfThread, IsHeld, IsLineOf, IsMachineFault, IsNotOfThread, IsRefusedBy};
@@ -93,6 +93,8 @@ fn run_batch<X: Fn(&mut Engine, Batch) -> Result<BatchDone, ExecFault>, K: Sink>
     ensures stops { IfErr result (IsMachineFault line) }
     ensures threads { IfErr result (λ e. IfOfThread e (HasAnswered X.Fn executor.now ExecFault.Spawn)) }
     ensures fails { K.broken sink.new ≡ (K.broken sink.old || ends_in_io result) }
+    ensures digest { OnOk result (IfSome (rows_digest_of transcript.new) (λ text.
+        text ≡ digest (row_text (tables_of engine.new) engine.new.rows))) }
 {
     let batch = match Batch::of(alloc, requests) {
         Ok(batch) => batch,
@@ -109,7 +111,7 @@ fn run_batch<X: Fn(&mut Engine, Batch) -> Result<BatchDone, ExecFault>, K: Sink>
     }
 }
 
-/// Writes the end line. The line is the last one read.
+/// Writes the end line, behind the report of each batch. The line is the last one read.
 fn finish<K: Sink>(
     alloc: Global,
     engine: &Engine,
@@ -117,7 +119,9 @@ fn finish<K: Sink>(
     sink: &mut K,
     line: u64,
 ) -> Result<u64, RunFault>
-    requires { is_busy engine.now ≡ false }
+    requires idle { is_busy engine.now ≡ false }
+    requires digest { IfSome (rows_digest_of transcript) (λ text.
+        text ≡ digest (row_text (tables_of engine.now) engine.now.rows)) }
     ensures count { IfOk result (λ n. n ≡ engine.now.next) }
     ensures text { (m : List ℕ) → Holds256 (said_of transcript) m →
         OnOk result (Appends (K.taken sink.old) (K.taken sink.new)
@@ -129,7 +133,7 @@ fn finish<K: Sink>(
     ensures fails { K.broken sink.new ≡ (K.broken sink.old || ends_in_io result) }
 {
     let count = engine.transactions();
-    match transcript.write_end(alloc, sink, engine.rows(), count) {
+    match transcript.write_last(alloc, sink, engine.rows(), count) {
         Ok(()) => Ok(count),
         Err(kind) => Err(RunFault::at(kind, line)),
     }

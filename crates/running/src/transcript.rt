@@ -1,6 +1,6 @@
 //! The report of a run, as it is written.
 
-ghost use Rattle.std.specs.Prelude.{◌≡◌, ◌++◌, ◌||◌, List, ℕ, [], IfOk, IfErr, OnOk, string_bytes};
+ghost use Rattle.std.specs.Prelude.{◌≡◌, ◌++◌, ◌||◌, List, ℕ, [], Some, None, IfOk, IfErr, IfSome, OnOk, string_bytes};
 ghost use Rattle.std.specs.FinMap as map_of;
 ghost use Rattle.std.specs.Io.KnownBytes.{Appends};
 ghost use Rattle.sha2.specs.Hashers.{Holds256};
@@ -25,6 +25,8 @@ pub struct Transcript {
     batch: u64,
     /// All reply lines, by their hasher.
     said: Sha256,
+    /// The digest of the rows behind the last batch, `None` where no batch was reported.
+    rows: Option<String>,
 }
 
 /// The reply lines of a batch.
@@ -38,33 +40,56 @@ fn reply_lines(alloc: Global, replies: &[Reply]) -> Result<String, AllocError>
     Ok(lines)
 }
 
-/// Reply lines, and behind them the batch line.
-#[tactic(auto, unfolding(crate::specs::Transcripts::with_batch_line))]
-fn batch_text(alloc: Global, batch: u64, rows: &RowStore, lines: &str) -> Result<String, AllocError>
+/// The digest of all rows.
+fn digest_of_rows(alloc: Global, rows: &RowStore) -> Result<String, AllocError>
     requires { rows.now.lent ≡ map_of.empty }
-    ensures { IfOk result (λ text. string_bytes text ≡ with_batch_line batch rows.now.tables rows.now.rows lines.now) }
+    ensures { IfOk result (λ text. string_bytes text ≡ digest (row_text rows.now.tables rows.now.rows)) }
 {
     all_is_free_with_nothing_lent();
-    let rows = rows_digest(alloc, rows.catalogue(), rows)?;
+    rows_digest(alloc, rows.catalogue(), rows)
+}
+
+/// The digest of the rows, and reply lines with the batch line behind them.
+#[tactic(auto, unfolding(crate::specs::Transcripts::with_batch_line))]
+fn batch_text(
+    alloc: Global,
+    batch: u64,
+    rows: &RowStore,
+    lines: &str,
+) -> Result<(String, String), AllocError>
+    requires { rows.now.lent ≡ map_of.empty }
+    ensures digest { IfOk result (λ made. string_bytes made.0 ≡ digest (row_text rows.now.tables rows.now.rows)) }
+    ensures text { IfOk result (λ made.
+        string_bytes made.1 ≡ with_batch_line batch rows.now.tables rows.now.rows lines.now) }
+{
+    let rows = digest_of_rows(alloc, rows)?;
     let replies = digest_text(alloc, lines.as_bytes())?;
     let mut text = String::from_str(alloc, lines)?;
     push_batch_line(&mut text, batch, &rows, &replies)?;
+    Ok((rows, text))
+}
+
+/// The end line with the digest of the rows, from the reply lines by their hasher.
+fn end_text(alloc: Global, count: u64, rows: &str, said: Sha256) -> Result<String, AllocError>
+    ensures { (m : List ℕ) → Holds256 said m →
+        IfOk result (λ text. string_bytes text ≡ end_line count rows.now (digest m)) }
+{
+    let replies = digest_of(alloc, said)?;
+    let mut text = String::new(alloc);
+    push_end_line(&mut text, count, rows, &replies)?;
     Ok(text)
 }
 
-/// The end line, from the reply lines by their hasher.
-fn end_text(alloc: Global, count: u64, rows: &RowStore, said: Sha256) -> Result<String, AllocError>
-    requires { rows.now.lent ≡ map_of.empty }
-    ensures { (m : List ℕ) → Holds256 said m →
-        IfOk result (λ text. string_bytes text
-        ≡ end_line count (digest (row_text rows.now.tables rows.now.rows)) (digest m)) }
+/// The digest that was kept, or else that of the rows.
+fn kept_or_made(alloc: Global, kept: Option<String>, rows: &RowStore) -> Result<String, AllocError>
+    requires unlent { rows.now.lent ≡ map_of.empty }
+    requires kept { IfSome kept (λ text. string_bytes text ≡ digest (row_text rows.now.tables rows.now.rows)) }
+    ensures { IfOk result (λ text. string_bytes text ≡ digest (row_text rows.now.tables rows.now.rows)) }
 {
-    all_is_free_with_nothing_lent();
-    let rows = rows_digest(alloc, rows.catalogue(), rows)?;
-    let replies = digest_of(alloc, said)?;
-    let mut text = String::new(alloc);
-    push_end_line(&mut text, count, &rows, &replies)?;
-    Ok(text)
+    match kept {
+        Some(text) => Ok(text),
+        None => digest_of_rows(alloc, rows),
+    }
 }
 
 /// Writes a text that was made, and tells what failed.
@@ -81,16 +106,18 @@ fn write_text<K: Sink>(sink: &mut K, text: &str) -> Result<(), LogFaultKind>
 }
 
 impl Transcript {
-    ghost use Rattle.running.specs.Hashers.{batch_of, said_of};
+    ghost use Rattle.running.specs.Hashers.{batch_of, rows_digest_of, said_of};
 
     /// Nothing was reported.
     pub fn new() -> Transcript
         ensures batch { batch_of result ≡ 1 }
         ensures said { Holds256 (said_of result) [] }
+        ensures rows { rows_digest_of result ≡ None }
     {
         Transcript {
             batch: 1,
             said: Sha256::new(),
+            rows: None,
         }
     }
 
@@ -113,11 +140,12 @@ impl Transcript {
             (with_batch_line (batch_of self.old) rows.now.tables rows.now.rows (said_lines replies.now)) }
         ensures kind { IfErr result IsOfMachine }
         ensures fails { K.broken sink.new ≡ (K.broken sink.old || write_failed result) }
+        ensures rows { OnOk result (rows_digest_of self.new ≡ Some (digest (row_text rows.now.tables rows.now.rows))) }
     {
         let Ok(lines) = reply_lines(alloc, replies) else {
             return Err(LogFaultKind::Memory);
         };
-        let Ok(text) = batch_text(alloc, self.batch, rows, &lines) else {
+        let Ok((rows, text)) = batch_text(alloc, self.batch, rows, &lines) else {
             return Err(LogFaultKind::Memory);
         };
         match write_text(sink, &text) {
@@ -126,10 +154,45 @@ impl Transcript {
         }
         self.said.update(lines.as_bytes());
         self.batch = self.batch.saturating_add(1);
+        self.rows = Some(rows);
         Ok(())
     }
 
-    /// Writes the end line, for so many transactions.
+    /// Writes the end line, for so many transactions, over the rows that the last batch left, if there was one: their digest
+    /// is then the one in its batch line, and is not made anew.
+    pub(crate) fn write_last<K: Sink>(
+        self,
+        alloc: Global,
+        sink: &mut K,
+        rows: &RowStore,
+        count: u64,
+    ) -> Result<(), LogFaultKind>
+        requires unlent { rows.now.lent ≡ map_of.empty }
+        requires kept { IfSome (rows_digest_of self) (λ text. text ≡ digest (row_text rows.now.tables rows.now.rows)) }
+        ensures text { (m : List ℕ) → Holds256 (said_of self) m →
+            OnOk result (Appends (K.taken sink.old) (K.taken sink.new)
+            (end_line count (digest (row_text rows.now.tables rows.now.rows)) (digest m))) }
+        ensures front { (m : List ℕ) → Holds256 (said_of self) m →
+            AppendsFront (K.taken sink.old) (K.taken sink.new)
+            (end_line count (digest (row_text rows.now.tables rows.now.rows)) (digest m)) }
+        ensures kind { IfErr result IsOfMachine }
+        ensures fails { K.broken sink.new ≡ (K.broken sink.old || write_failed result) }
+    {
+        let Transcript {
+            batch: _,
+            said,
+            rows: kept,
+        } = self;
+        let Ok(rows) = kept_or_made(alloc, kept, rows) else {
+            return Err(LogFaultKind::Memory);
+        };
+        let Ok(text) = end_text(alloc, count, &rows, said) else {
+            return Err(LogFaultKind::Memory);
+        };
+        write_text(sink, &text)
+    }
+
+    /// Writes the end line, for so many transactions, over any rows.
     pub fn write_end<K: Sink>(
         self,
         alloc: Global,
@@ -147,9 +210,11 @@ impl Transcript {
         ensures kind { IfErr result IsOfMachine }
         ensures fails { K.broken sink.new ≡ (K.broken sink.old || write_failed result) }
     {
-        let Ok(text) = end_text(alloc, count, rows, self.said) else {
-            return Err(LogFaultKind::Memory);
+        let afresh = Transcript {
+            batch: self.batch,
+            said: self.said,
+            rows: None,
         };
-        write_text(sink, &text)
+        afresh.write_last(alloc, sink, rows, count)
     }
 }

@@ -15,7 +15,7 @@ use Rattle.scheduler.proofs.Numbers.{log_length}
 abbrev pub settled_one : Phase → Bool
 settled_one p = is_settled (Some p)
 
-all_where : (ps : List Phase) → ((i : ℕ) → i < length ps → is_settled (slice_get ps i) ≡ true) → list_all settled_one ps ≡ true
+pub all_where : (ps : List Phase) → ((i : ℕ) → i < length ps → is_settled (slice_get ps i) ≡ true) → list_all settled_one ps ≡ true
 all_where [] h = refl
 all_where (p ∷ ps) h = ap (λ b. b && list_all settled_one ps) (h 0 (omega arith)) ∙ all_where ps (λ i less. h (suc i) (omega (arith, less)))
 

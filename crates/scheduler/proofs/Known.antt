@@ -1,5 +1,6 @@
 -- What is known of a scheduler where a call of it begins.
 use Rattle.std.proofs.Common.{◌≡◌, ◌+◌, ℕ, List, slice_get, slice_set, Some, sym, ap, ◌∙◌, subst, inl, inr}
+use Rattle.coarsen.specs.Subtrees.{Requests}
 use Rattle.lock_tree.specs.Locks.{Locks}
 use Rattle.row_store.specs.Stock.{Stock}
 use Rattle.scheduler_core.specs.Laws.{StaysSound, FollowsPhases, RowsAreSerial, AdmittedAndUnsettledWait}
@@ -7,12 +8,17 @@ use Rattle.scheduler.specs.declared.scheduler.Scheduler.TheInside.{Inside}
 use Rattle.scheduler.specs.declared.slot.Slot.{Slot}
 use Rattle.scheduler.specs.declared.slot.Slot.TheVariants.{Lent}
 use Rattle.scheduler.specs.Schedules.{Work, Schedule, log_of, work_of, KeepsItsJobs}
-use Rattle.scheduler.specs.Scheduled.{IsFitting, IsScheduled, AreSettledBefore}
+use Rattle.scheduler.specs.Logs.{plans_for}
+use Rattle.scheduler.specs.Scheduled.{IsFitting, IsScheduled, AreSettledBefore, HasPlans}
 use Rattle.scheduler.proofs.Places.{set_or_was}
+
+-- the plans of its entries, made or not
+abbrev pub plans_in : Inside → List Requests
+plans_in s = plans_for s.threshold s.arena s.entries.items
 
 -- what it works on, and what contracts see of it
 abbrev pub work_in : Inside → Work
-work_in s = work_of s.catalogue s.arena s.first s.entries.items s.plans.items s.start.value.rows
+work_in s = work_of s.catalogue s.arena s.first s.entries.items (plans_in s) s.start.value.rows
 
 abbrev pub schedule_in : Inside → Schedule
 schedule_in s = record { work = work_in s; slots = s.slots.items }
@@ -29,7 +35,9 @@ pub record Known (s : Inside) : Type 0 where
   pub sound : StaysSound s.catalogue s.first (log_of (work_in s)) s.start.value.rows
   pub follows : FollowsPhases s.first (log_of (work_in s))
 
-pub known : (s : Inside) → Keeps (work_in s) s.slots.items s.settled s.store s.locks → RowsAreSerial → AdmittedAndUnsettledWait → Known s
+pub known : (s : Inside)
+    → IsFitting (work_in s) × IsScheduled (work_in s) s.slots.items s.store s.locks × AreSettledBefore s.slots.items s.settled × HasPlans (work_in s) s.plans s.locks
+    → RowsAreSerial → AdmittedAndUnsettledWait → Known s
 known s keeps serial waits = record {
   fits = keeps.0;
   scheduled = keeps.1;

@@ -19,3 +19,5 @@ pub mod Ends
 pub mod Finishes
 pub mod Settles
 pub mod Comings
+pub mod Between
+pub mod Making

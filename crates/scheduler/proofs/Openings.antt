@@ -32,7 +32,7 @@ use Rattle.scheduler.proofs.Slots.{phase_at}
 use Rattle.scheduler.proofs.Numbers.{numbered, log_at, log_length, who, unlent_here}
 use Rattle.scheduler.proofs.Steps.{lent}
 use Rattle.scheduler.proofs.Leading.{settled_set}
-use Rattle.scheduler.proofs.Known.{Known, Keeps, work_in, schedule_in, number_at}
+use Rattle.scheduler.proofs.Known.{plans_in, Known, Keeps, work_in, schedule_in, number_at}
 
 both : (a b : Bool) → (a && b) ≡ true → (a ≡ true) × (b ≡ true)
 both true true e = (refl, refl)
@@ -64,7 +64,7 @@ pub record Opening (s : Inside) (number place : ℕ) : Type 0 where
   pub is_ready : ready s.locks.waiting (s.first + place) ≡ true
   pub in_slots : place < length s.slots.items
   pub in_entries : place < length s.entries.items
-  pub in_plans : place < length s.plans.items
+  pub in_plans : place < length (plans_in s)
 
 -- its entry and its plan: what lending asks of them, and what holds of the job that is lent and of the scheduler with it
 pub record Offer (s : Inside) (number place : ℕ) (e : EntryParts) (p : Requests) : Type 0 where
@@ -92,8 +92,8 @@ module _ (s : Inside) (k : Known s) where
       let in_slots : place < length s.slots.items = slice_get_within s.slots.items place Idle is in
       let a : length (map phase_in s.slots.items) ≡ length s.slots.items = length_map phase_in s.slots.items in
       let b : length (map phase_in s.slots.items) ≤ length (log_of (work_in s)) = k.scheduled.sound.within in
-      let c : length (log_of (work_in s)) ≡ length s.entries.items = log_length s.entries.items s.plans.items k.fits.plans in
-      let d : length s.plans.items ≡ length s.entries.items = k.fits.plans in
+      let c : length (log_of (work_in s)) ≡ length s.entries.items = log_length s.entries.items (plans_in s) k.fits.plans in
+      let d : length (plans_in s) ≡ length s.entries.items = k.fits.plans in
       record {
         number_is = e;
         slot = is;
@@ -123,14 +123,14 @@ module _ (s : Inside) (k : Known s) where
     ready_there : ready (waiting s.first (log_of (work_in s)) (map phase_in s.slots.items)) (s.first + place) ≡ true
     ready_there = sym (ap (λ (l : Locks). ready l.waiting (s.first + place)) k.scheduled.tree_is) ∙ o.is_ready
 
-    pub offer : ClashEitherWay → (e : EntryParts) (p : Requests) → e ≡ get_or s.entries.items place e → p ≡ get_or s.plans.items place p → Offer s number place e p
+    pub offer : ClashEitherWay → (e : EntryParts) (p : Requests) → e ≡ get_or s.entries.items place e → slice_get (plans_in s) place ≡ Some p → Offer s number place e p
     offer turn e p at_entry at_plan =
         let ps = map phase_in s.slots.items in
         let waits = waiting s.first (log_of (work_in s)) ps in
         let t : Transaction = record { entry = entry_shape e; plan = p } in
         let at : slice_get (log_of (work_in s)) place ≡ Some t =
-        log_at s.entries.items s.plans.items place e p (slice_get_read s.entries.items (length s.entries.items) place e refl o.in_entries at_entry)
-        (slice_get_read s.plans.items (length s.plans.items) place p refl o.in_plans at_plan) in
+        log_at s.entries.items (plans_in s) place e p (slice_get_read s.entries.items (length s.entries.items) place e refl o.in_entries at_entry)
+        at_plan in
         let found : plan_of s.locks.waiting number ≡ Some p =
         ap (plan_of s.locks.waiting) o.number_is ∙ ap (λ (l : Locks). plan_of l.waiting (s.first + place)) k.scheduled.tree_is ∙ k.follows.there ps place t phase.Idle at idle_phase refl in
         record {

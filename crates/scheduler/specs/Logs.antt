@@ -1,6 +1,6 @@
 -- Claimed: what contracts promise to a reader rests on these words.
 -- The log that a scheduler is given: entries, and the plans that are made for them.
-use Rattle.std.specs.Prelude.{◌≡◌, ◌≤◌, ℕ, true, length, List, [], ◌∷◌, ⊤}
+use Rattle.std.specs.Prelude.{◌≡◌, ◌≤◌, ℕ, true, length, List, [], ◌∷◌, map, ⊤}
 use Rattle.catalogue.specs.Shapes.{TableShape}
 use Rattle.footprint.specs.Rights.{FootprintOf, covers}
 use Rattle.footprint.specs.OfCatalogue.{IsFootprintOf}
@@ -9,6 +9,7 @@ use Rattle.proclang_types.specs.declared.right.Right.{Right}
 use Rattle.footprint.specs.declared.resource.Resource.{Resource}
 use Rattle.coarsen.specs.Subtrees.{Requests, covers_by_requests}
 use Rattle.coarsen.specs.Plans.{IsPlanFor, IsWellFormed, IsPlanOver}
+use Rattle.coarsen.specs.ThePlan.{plan_for}
 use Rattle.meaning.specs.Entries.{footprint_of}
 use Rattle.interp.specs.Entries.{EntryParts, entry_shape}
 use Rattle.interp.specs.Over.{locked_for}
@@ -34,6 +35,10 @@ Paired holds (a ∷ rest) (b ∷ bs) = holds a b × Paired holds rest bs
 -- a plan for each entry
 abbrev pub ArePlansOf : ℕ → ℕ → List EntryParts → List Requests → Type 0
 ArePlansOf threshold arena = Paired (IsPlanOfEntry threshold arena)
+
+-- the plans that are made for entries
+abbrev pub plans_for : ℕ → ℕ → List EntryParts → List Requests
+plans_for threshold arena = map (λ entry. plan_for threshold arena (locked_for (footprint_of (entry_shape entry).footing)))
 
 -- a plan that serves a footprint: it is sound, it covers what the footprint covers, it is over each tables that the
 -- footprint is over, and it is not larger than the room

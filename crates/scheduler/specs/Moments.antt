@@ -1,9 +1,11 @@
 -- Claimed: what contracts promise to a reader rests on these words.
 -- What can be done at a moment of a scheduler, and what answers come to.
-use Rattle.std.specs.Prelude.{◌≡◌, ◌<◌, ℕ, Bool, false, List, length, Option}
+use Rattle.std.specs.Prelude.{◌≡◌, ◌<◌, ◌&&◌, ℕ, nat_lt, Bool, false, List, length, Option, Some}
+use Rattle.std.specs.List.{list_all}
 use Rattle.scheduler_core.specs.declared.event.Event.{Event}
 use Rattle.scheduler_core.specs.declared.event.Event.TheVariants.{Admit}
 use Rattle.scheduler_core.specs.declared.event.StepAnswer.{StepAnswer}
+use Rattle.scheduler_core.specs.Phases.{is_settled}
 use Rattle.scheduler_core.specs.Events.{enabled, Answers, Played}
 use Rattle.scheduler_core.specs.Choices.{enabled_events, IsNextEvent, IsLeastLend}
 use Rattle.scheduler.specs.Schedules.{Schedule, log_of, phases_of, IsChoice}
@@ -15,6 +17,10 @@ can_make s = enabled s.work.arena s.work.first (log_of s.work) (phases_of s)
 -- not all are admitted, and there is less room than the plan of the next one has requests
 abbrev pub LacksRoom : Schedule → Type 0
 LacksRoom s = (length s.slots < length s.work.entries) × (can_make s Admit ≡ false)
+
+-- all that are admitted are settled, and there is a next one
+abbrev pub is_between : Schedule → Bool
+is_between s = list_all (λ p. is_settled (Some p)) (phases_of s) && nat_lt (length s.slots) (length s.work.entries)
 
 -- the events that can be made, in their order
 abbrev pub events_at : Schedule → List Event

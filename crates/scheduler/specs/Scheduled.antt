@@ -1,7 +1,8 @@
 -- Of the code: invariants and steps; no promise rests on these words.
 -- What a scheduler keeps to: its rows, its lock tree and its slots follow the core's phases, and what is out is ready.
-use Rattle.std.specs.Prelude.{◌≡◌, ◌<◌, ◌≤◌, ◌+◌, ◌^◌, ⊤, ℕ, true, false, if◌then◌else◌, List, length, map, Option, Some, None, slice_get}
+use Rattle.std.specs.Prelude.{◌≡◌, ◌<◌, ◌≤◌, ◌+◌, ◌^◌, ⊤, ℕ, true, false, if◌then◌else◌, List, [], length, map, Option, Some, None, slice_get}
 use Rattle.std.specs.FinMap.{get}
+use Rattle.std.specs.declared.vec.Vec.{Vec}
 use Rattle.coarsen.specs.Subtrees.{Requests}
 use Rattle.coarsen.specs.Plans.{IsPlanOver}
 use Rattle.meaning.specs.Outcomes.{as_reply}
@@ -50,6 +51,25 @@ pub record IsScheduled (w : Work) (slots : List Slot) (stock : Stock) (tree : Lo
   pub kept : (place : ℕ) (slot : Slot) → slice_get slots place ≡ Some slot → Fits w place slot
   pub tree_is : tree ≡ record { arena = w.arena; waiting = waiting w.first (log_of w) (map phase_in slots) }
   pub lent_is : (number : ℕ) → get stock.lent number ≡ lent_to w (map phase_in slots) number
+
+-- the plans, where they were made
+abbrev pub made_in : {Z : Type 0} → Option (Vec Requests Z) → List Requests
+made_in None = []
+made_in (Some made) = made.items
+
+-- these plans were made
+abbrev pub IsMade : {Z : Type 0} → List Requests → Option (Vec Requests Z) → Type 0
+IsMade plans None = ⊥
+IsMade plans (Some made) = made.items ≡ plans
+
+-- plans are made before the first of them is enqueued
+abbrev pub AreMade : {Z : Type 0} → List Requests → Option (Vec Requests Z) → Locks → Type 0
+AreMade plans None tree = tree.waiting ≡ []
+AreMade plans (Some made) tree = made.items ≡ plans
+
+pub record HasPlans {Z : Type 0} (w : Work) (made : Option (Vec Requests Z)) (tree : Locks) : Type 0 where
+  pub some : 0 < w.arena
+  pub are_made : AreMade w.plans made tree
 
 -- the first so many are settled, and the next is not
 pub record AreSettledBefore (slots : List Slot) (settled : ℕ) : Type 0 where

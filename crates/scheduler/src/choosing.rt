@@ -11,9 +11,7 @@ ghost use Rattle.scheduler.specs.Moments.{can_make, events_at, IsChoiceAt, IsNex
 
 use crate::scheduler::Scheduler;
 use crate::slot::{Slot, is_idle};
-use scheduler_core::{
-    Event, enabled_events_are_listed, events_by_places, first_choice, next_event_is_enabled,
-};
+use scheduler_core::{Event, enabled_events_are_listed, events_by_places, next_event_is_enabled};
 use values::NoMemory;
 
 /// The step that an admitted transaction makes next, `None` exactly where it is settled.
@@ -75,10 +73,14 @@ impl Scheduler {
         ensures { result ≡ can_make self.now AnyEvent.Admit }
     {
         let admitted = self.slots.len();
-        if admitted >= self.plans.len() {
+        if admitted >= self.entries.len() {
             return false;
         }
-        self.locks.has_room(&self.plans[admitted])
+        match &self.plans {
+            Some(plans) => self.locks.has_room(&plans[admitted]),
+            // Nothing waits, and each plan fits then.
+            None => true,
+        }
     }
 
     /// Whether an admitted transaction is neither out nor settled, and not ready.
@@ -116,22 +118,6 @@ impl Scheduler {
             push(&mut events, self.enabled_step(place))?;
         }
         Ok(events)
-    }
-
-    /// The event that choice 0 gives, found without a list of the others: to admit where that is enabled, and else the next
-    /// event; `None` exactly where all is done. No job is with the caller, and no memory is taken.
-    pub fn first_event(&self) -> Option<Event>
-        requires { KeepsItsJobs self.now }
-        ensures event { result ≡ chosen 0 (events_at self.now) }
-        ensures enabled { IsChoiceAt self.now result }
-    {
-        first_choice();
-        enabled_events_are_listed();
-        let _slots = &self.slots;
-        if self.can_admit() {
-            return Some(Event::Admit);
-        }
-        self.next_event()
     }
 
     /// The event at place `n` modulo their count of the enabled events, to admit first and then by transaction number; `None`

@@ -12,6 +12,7 @@ mod playing;
 mod scheduler;
 mod settling;
 mod slot;
+mod straight;
 
 pub use finished::{Finished, Outcomes};
 pub use job::{Done, Job, run_job};

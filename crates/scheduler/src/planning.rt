@@ -1,10 +1,11 @@
 //! Plans of entries.
 
-ghost use Rattle.std.specs.Prelude.{◌<◌, IfOk};
+ghost use Rattle.std.specs.Prelude.{◌≡◌, ◌<◌, IfOk, IfSome, OnOk, OnErr, Some, length, slice_get};
 ghost use Rattle.coarsen.specs.Plans.{IsPlanFor};
-ghost use Rattle.scheduler.specs.Logs.{IsPlanOfEntry, ArePlansOf, Serves, IsPlannedFor, ArePlannedFor};
+ghost use Rattle.scheduler.specs.Logs.{IsPlanOfEntry, ArePlansOf, plans_for};
+ghost use Rattle.scheduler.specs.Scheduled.{made_in, IsMade};
 
-use coarsen::Plan;
+use coarsen::{Plan, plan_is_one};
 use footprint::Footprint;
 use interp::Entry;
 use std::alloc::Global;
@@ -18,19 +19,16 @@ fn plan_for(
     arena: usize,
 ) -> Result<Plan, NoMemory>
     requires { 0 < arena }
-    ensures exact { IfOk result (λ plan. IsPlanFor threshold arena footprint.now plan) }
-    ensures serves { IfOk result (λ plan. Serves arena footprint.now plan) }
+    ensures { IfOk result (λ plan. IsPlanFor threshold arena footprint.now plan) }
 {
     let plan = Plan::new(alloc, footprint, threshold, arena)?;
-    let _sound = plan.requests();
     Ok(plan)
 }
 
 /// The plan of an entry. An entry whose declaration faults asks for nothing.
 fn plan_of(alloc: Global, entry: &Entry, threshold: usize, arena: usize) -> Result<Plan, NoMemory>
     requires { 0 < arena }
-    ensures exact { IfOk result (λ plan. IsPlanOfEntry threshold arena entry.now plan) }
-    ensures planned { IfOk result (λ plan. IsPlannedFor arena entry.now plan) }
+    ensures { IfOk result (λ plan. IsPlanOfEntry threshold arena entry.now plan) }
 {
     match entry.footprint() {
         Some(footprint) => plan_for(alloc, footprint, threshold, arena),
@@ -39,19 +37,49 @@ fn plan_of(alloc: Global, entry: &Entry, threshold: usize, arena: usize) -> Resu
 }
 
 /// The plan of each entry.
-pub(crate) fn plans_of(
+fn plans_of(
     alloc: Global,
     entries: &[Entry],
     threshold: usize,
     arena: usize,
 ) -> Result<Vec<Plan>, NoMemory>
     requires { 0 < arena }
-    ensures exact { IfOk result (λ plans. ArePlansOf threshold arena entries.now plans.items) }
-    ensures planned { IfOk result (λ plans. ArePlannedFor arena entries.now plans.items) }
+    ensures { IfOk result (λ plans. ArePlansOf threshold arena entries.now plans.items) }
 {
     let mut plans = Vec::with_capacity(alloc, entries.len())?;
     for entry in entries {
         plans.push(plan_of(alloc, entry, threshold, arena)?)?;
     }
     Ok(plans)
+}
+
+/// Makes the plan of each entry, where that was not done before. Where memory is refused nothing has changed.
+pub(crate) fn make_plans(
+    alloc: Global,
+    plans: &mut Option<Vec<Plan>>,
+    entries: &[Entry],
+    threshold: usize,
+    arena: usize,
+) -> Result<(), NoMemory>
+    requires room { 0 < arena }
+    requires made { IfSome plans.old (λ made. made.items ≡ plans_for threshold arena entries.now) }
+    ensures made { OnOk result (IsMade (plans_for threshold arena entries.now) plans.new) }
+    ensures err { OnErr result (plans.new ≡ plans.old) }
+{
+    plan_is_one();
+    if plans.is_none() {
+        *plans = Some(plans_of(alloc, entries, threshold, arena)?);
+    }
+    Ok(())
+}
+
+/// The plan at a place of those that were made.
+pub(crate) fn plan_at(plans: &Option<Vec<Plan>>, place: usize) -> &Plan
+    requires { place < length (made_in plans.now) }
+    ensures { slice_get (made_in plans.now) place ≡ Some result.now }
+{
+    match plans {
+        Some(plans) => &plans[place],
+        None => unreachable!(),
+    }
 }

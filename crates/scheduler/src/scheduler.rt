@@ -11,10 +11,10 @@ ghost use Rattle.scheduler.specs.Jobs.{LendsTo, ComesBack, number_of_job};
 
 use crate::job::{Done, Job};
 use crate::lending::{give_back, lend_to, take_back};
-use crate::planning::plans_of;
+use crate::planning::{make_plans, plan_at};
 use crate::slot::{Slot, count_settled, put};
 use catalogue::Catalogue;
-use coarsen::{Plan, clashes_are_either_way};
+use coarsen::{Plan, clashes_are_either_way, plan_is_one, plans_serve};
 use interp::Entry;
 use lock_tree::LockTree;
 use row_store::RowStore;
@@ -42,11 +42,13 @@ pub struct Scheduler {
     pub(crate) catalogue: Catalogue,
     pub(crate) store: RowStore,
     pub(crate) locks: LockTree,
+    pub(crate) threshold: usize,
     // Room for so many requests.
     pub(crate) arena: usize,
     pub(crate) first: u64,
     pub(crate) entries: Vec<Entry>,
-    pub(crate) plans: Vec<Plan>,
+    // One for each entry, made before the first of them is enqueued.
+    pub(crate) plans: Option<Vec<Plan>>,
     pub(crate) slots: Vec<Slot>,
     // How many leading transactions are settled.
     pub(crate) settled: usize,
@@ -55,23 +57,26 @@ pub struct Scheduler {
 
 impl Model for Scheduler {
     ghost use Rattle.scheduler.specs.Schedules.{Schedule, schedule_code, work_of};
-    ghost use Rattle.scheduler.specs.Scheduled.{IsFitting, IsScheduled, AreSettledBefore};
+    ghost use Rattle.scheduler.specs.Logs.{plans_for};
+    ghost use Rattle.scheduler.specs.Scheduled.{IsFitting, IsScheduled, AreSettledBefore, HasPlans};
 
     ghost Value = { Schedule };
 
     ghost coded = { schedule_code };
 
     ghost view = { λ s. record {
-      work = work_of s.catalogue s.arena s.first s.entries.items s.plans.items
+      work = work_of s.catalogue s.arena s.first s.entries.items (plans_for s.threshold s.arena s.entries.items)
           s.start.value.rows;
       slots = s.slots.items;
     } };
 
     ghost invariant = { λ s.
-        IsFitting (work_of s.catalogue s.arena s.first s.entries.items s.plans.items s.start.value.rows)
-        × IsScheduled (work_of s.catalogue s.arena s.first s.entries.items s.plans.items s.start.value.rows)
+        IsFitting (work_of s.catalogue s.arena s.first s.entries.items (plans_for s.threshold s.arena s.entries.items) s.start.value.rows)
+        × IsScheduled (work_of s.catalogue s.arena s.first s.entries.items (plans_for s.threshold s.arena s.entries.items) s.start.value.rows)
         s.slots.items s.store s.locks
-        × AreSettledBefore s.slots.items s.settled };
+        × AreSettledBefore s.slots.items s.settled
+        × HasPlans (work_of s.catalogue s.arena s.first s.entries.items (plans_for s.threshold s.arena s.entries.items) s.start.value.rows)
+        s.plans s.locks };
 }
 
 /// What a scheduler was to be made of, where memory was refused.
@@ -107,10 +112,9 @@ impl Scheduler {
     {
         admitted_and_unsettled_wait();
         rows_are_serial();
+        plan_is_one();
+        plans_serve();
         let _tables = catalogue.len();
-        let Ok(plans) = plans_of(alloc, &entries, threshold, arena) else {
-            return Err((catalogue, store, entries, NoMemory));
-        };
         let Ok(locks) = LockTree::new(alloc, arena) else {
             return Err((catalogue, store, entries, NoMemory));
         };
@@ -120,17 +124,19 @@ impl Scheduler {
             catalogue,
             store,
             locks,
-            arena: arena,
+            threshold,
+            arena,
             first,
             entries,
-            plans,
+            plans: None,
             slots: Vec::new(alloc),
             settled: 0,
             start,
         })
     }
 
-    /// Admits the next transaction: makes its lock requests, and room for its reply. On an error nothing has changed.
+    /// Admits the next transaction: makes its lock requests, and room for its reply; and for the first one, the plans of all. On an
+    /// error nothing has changed.
     pub fn admit(&mut self) -> Result<u64, AdmitFault>
         ensures enabled { OnOk result (can_make self.old AnyEvent.Admit ≡ true) }
         ensures number { IfOk result (λ number. number ≡ self.old.work.first + length self.old.slots) }
@@ -145,17 +151,26 @@ impl Scheduler {
         admitted_and_unsettled_wait();
         rows_are_serial();
         let place = self.slots.len();
-        if place >= self.plans.len() {
+        if place >= self.entries.len() {
             return Err(AdmitFault::AllAdmitted);
         }
         if !self.can_admit() {
             return Err(AdmitFault::Full);
         }
+        let Ok(()) = make_plans(
+            self.alloc,
+            &mut self.plans,
+            &self.entries,
+            self.threshold,
+            self.arena,
+        ) else {
+            return Err(AdmitFault::NoMemory);
+        };
         let no = self.first + place as u64;
         if self.slots.push(Slot::Idle).is_err() {
             return Err(AdmitFault::NoMemory);
         }
-        match self.locks.enqueue(no, &self.plans[place]) {
+        match self.locks.enqueue(no, plan_at(&self.plans, place)) {
             Ok(()) => Ok(no),
             Err(_) => {
                 self.slots.truncate(place);
@@ -186,7 +201,7 @@ impl Scheduler {
             &mut self.locks,
             no,
             &self.entries[place],
-            &self.plans[place],
+            plan_at(&self.plans, place),
         )?;
         put(&mut self.slots, place, Slot::Lent);
         Ok(Some(job))

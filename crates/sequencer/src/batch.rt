@@ -30,7 +30,7 @@ fn numbered(alloc: Global, requests: Vec<Request>) -> Result<Vec<Item<Request>>,
     requires { length requests.items ≤ 4096 }
     ensures { IfOk result (λ items. items.items ≡ items_from 0 requests.items) }
 {
-    let mut items = Vec::new(alloc);
+    let mut items = Vec::with_capacity(alloc, requests.len())?;
     let mut number = 0;
     for request in requests {
         items.push(Item {

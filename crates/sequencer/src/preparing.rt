@@ -84,8 +84,9 @@ pub fn prepare<V: RowView>(
     ensures exact { IfOk result (λ entries.
         map entry_shape entries.items ≡ map (λ item. prepared (V.rows view.now) item.request) (items_of batch.now)) }
 {
-    let mut entries = Vec::new(alloc);
-    for item in batch.items() {
+    let items = batch.items();
+    let mut entries = Vec::with_capacity(alloc, items.len())?;
+    for item in items {
         entries.push(entry_of(alloc, catalogue, &item.request, view)?)?;
     }
     Ok(entries)

@@ -71,7 +71,7 @@ fn set_at(values: &mut Vec<Value>, column: usize, value: Value)
 fn copies(values: &Vec<Value>) -> Result<Vec<Value>, AllocError>
     ensures { IfOk result (λ copies. copies.items ≡ values.now.items) }
 {
-    let mut copies = Vec::new(values.allocator().clone()?);
+    let mut copies = Vec::with_capacity(values.allocator().clone()?, values.len())?;
     for value in values {
         copies.push(value.clone()?)?;
     }

@@ -14,8 +14,8 @@ returns-in-Ok-clause-line g c =
 
 pub returns-clause-fault : goal.returns-clause-fault
 returns-clause-fault g c = λ of.
-    let said : line_said c.args.procs.now.procs c.in-Ok-Some.line.items ≡ Err c.in-Err-read_log_line.kind =
-    rw c.deref.ensures.value at (c.in-Err-read_log_line.ensures.exact (of_line _ (rw c.fault_of_line.ensures at of))) in
+    let said : line_said c.args.procs.now.procs c.in-Ok-Some.line.items ≡ Err c.in-Err-read_line_with.kind =
+    rw c.deref.ensures.value at (c.in-Err-read_line_with.ensures.exact (of_line _ (rw c.fault_of_line.ensures at of))) in
     rw c.fault_of_line.ensures (Passes-weaken _ _ _ _ (rw c.in-Ok-Some.field-0-is at c.in-Ok-Some.ensures.numbered) (λ x y p. said_next _ (newlines_taken c.args.lines.now) (newlines_taken c.next_line.new.self) _ _ x y _ said p))
 
 pub returns-in-Ok-None-clause-moves : goal.returns-in-Ok-None-clause-moves
@@ -41,4 +41,4 @@ returns-in-Err-clause-lost g c = lost_line _ _ _ _ _ c.in-Err.ensures.lost
 
 pub returns-clause-lost : goal.returns-clause-lost
 returns-clause-lost g c =
-    lost_whole _ _ _ _ _ c.in-Ok-Some.line.items (rw c.fault_of_line.ensures c.in-Err-read_log_line.ensures.no_device) (rw c.in-Ok-Some.field-0-is at c.in-Ok-Some.ensures.line)
+    lost_whole _ _ _ _ _ c.in-Ok-Some.line.items (rw c.fault_of_line.ensures c.in-Err-read_line_with.ensures.no_device) (rw c.in-Ok-Some.field-0-is at c.in-Ok-Some.ensures.line)

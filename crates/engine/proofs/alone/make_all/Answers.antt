@@ -1,17 +1,6 @@
-use Rattle.std.proofs.Common.{◌∙◌}
 use Rattle.engine.proofs.Onward.{hears_on}
 use Rattle.engine.proofs.alone.make_all.Goals as goal
 
-pub steps-preserved : goal.steps-preserved
-steps-preserved g c =
-    let was = c.steps.invariant in (
-      c.go_on.ensures.work ∙ was.0,
-      c.go_on.ensures.keeps,
-      λ place is. c.go_on.ensures.settled place (was.2 place is),
-      c.go_on.ensures.told,
-      hears_on (g.L.Listener.account c.args.listener.now) (g.L.Listener.account c.steps.listener) (g.L.Listener.account c.go_on.new.listener) was.4 c.go_on.ensures.onward,
-    )
-
-pub returns-in_err-go_on-clause-onward : goal.returns-in_err-go_on-clause-onward
-returns-in_err-go_on-clause-onward g c =
-    hears_on (g.L.Listener.account c.args.listener.now) (g.L.Listener.account c.steps.listener) (g.L.Listener.account c.go_on.new.listener) c.steps.invariant.4 c.go_on.ensures.onward
+pub returns-clause-onward : goal.returns-clause-onward
+returns-clause-onward g c =
+    hears_on (g.L.Listener.account c.args.listener.now) (g.L.Listener.account c.make_chosen.new.listener) (g.L.Listener.account c.make_rest.new.listener) c.make_chosen.ensures.onward c.make_rest.ensures.onward

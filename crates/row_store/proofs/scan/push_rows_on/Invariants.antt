@@ -1,5 +1,6 @@
 use Rattle.std.proofs.Common.{◌≡◌, ◌++◌}
 use Rattle.workspace.specs.Scan.{referred}
+use Rattle.row_store.specs.Places.{places_of}
 use Rattle.row_store.specs.Scans.{rows_on}
 use Rattle.row_store.proofs.scan.push_rows_on.Given as goal
 
@@ -7,4 +8,4 @@ use Rattle.row_store.proofs.scan.push_rows_on.Given as goal
 abbrev pub invariant-loop-name : goal.invariant-loop-name
 invariant-loop-name l =
     referred l.gathered.items ++ rows_on l.catalogue l.table l.part l.name-iterator
-    ≡ referred l.fn.gathered.items ++ rows_on l.catalogue l.table l.part l.shelf.places.entries
+    ≡ referred l.fn.gathered.items ++ rows_on l.catalogue l.table l.part (places_of l.shelf.contents).entries

@@ -24,6 +24,7 @@ batches-init g c = record {
   source_works = refl;
   sink_works = refl;
   procs = refl;
+  digest = search rules;
   so_far = SoFar-start _ _ _ _ _ _ _ _ _ _ _ c.new-transcript.ensures.batch (ap (λ (p : Position). p.newlines) c.requires.unread.0) c.requires.unread.1 c.requires.unused refl refl c.new-transcript.ensures.said;
 }
 
@@ -85,6 +86,7 @@ batches-preserved g c =
       source_works = c.in-Ok-Some.ensures.fails c.batches.invariant.no_fault ∙ sym (or_nothing _) ∙ c.batches.invariant.source_works;
       sink_works = c.in-Ok.ensures.fails ∙ sym (or_nothing _) ∙ c.batches.invariant.sink_works;
       procs = c.in-Ok.ensures.same.procs ∙ c.batches.invariant.procs;
+      digest = c.in-Ok.ensures.digest;
       so_far = rw c.in-Ok.ensures.batch (SoFar-next _ _ _ _ _ _ _ _ _ _ _ _ _ _ _ _ _ _ _ _ _ s t (rw pe at (rw c.in-Ok-Some.field-0-is at c.in-Ok-Some.ensures.batch))
           c.in-Ok.ensures.text c.in-Ok.ensures.next c.in-Ok.ensures.rows c.in-Ok.ensures.said);
     }

@@ -1,8 +1,10 @@
 use Rattle.std.proofs.Common.{◌≡◌, None, false}
+use Rattle.std.specs.Prelude.{IfSome}
 use Rattle.batch_log.specs.Reader.{calls_read, fault_of, newlines_taken, position_of, source_name, source_of, unread}
 use Rattle.batch_log.specs.Moves.{Moves}
-use Rattle.engine.specs.Engines.{is_busy}
-use Rattle.running.specs.Hashers.{batch_of, said_of}
+use Rattle.report_text.specs.Texts.{digest, row_text}
+use Rattle.engine.specs.Engines.{is_busy, tables_of}
+use Rattle.running.specs.Hashers.{batch_of, rows_digest_of, said_of}
 use Rattle.running.proofs.SoFar.{SoFar}
 use Rattle.running.proofs.Stopping.{start}
 use Rattle.running.proofs.log.run_batches.Given as goal
@@ -18,6 +20,7 @@ invariant-batches g l = record {
   source_works : g.S.Source.failed (source_of l.reader) ≡ g.S.Source.failed (source_of l.fn.reader);
   sink_works : g.K.Sink.broken l.sink ≡ g.K.Sink.broken l.fn.sink;
   procs : l.engine.procs ≡ l.fn.engine.procs;
+  digest : IfSome (rows_digest_of l.transcript) (λ text. text ≡ digest (row_text (tables_of l.engine) l.engine.rows));
   so_far : SoFar l.fn.engine.procs l.fn.engine.rows (batch_of l.transcript) (newlines_taken l.reader) (calls_read l.reader)
       l.engine.next l.engine.rows (said_of l.transcript)
       (unread g.S.Source.left l.fn.reader) (unread g.S.Source.left l.reader)

@@ -10,7 +10,7 @@ use Rattle.sequencer.proofs.preparing.prepare.Goals as goal
 
 pub loop-item-preserved : goal.loop-item-preserved
 loop-item-preserved g c =
-    let items = c.items-item-items.ensures in
+    let items = c.items-items.ensures in
     let less : c.loop-item.item-index < length c.args.batch.now.items.items = omega (arith, ap length items) in
     let is = c.item-item.is ∙ ap (λ xs. get_or xs c.loop-item.item-index c.item-item.result) items in
     let shape = c.in_ok-entry_of.ensures.shape in

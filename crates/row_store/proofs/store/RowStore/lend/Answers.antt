@@ -1,4 +1,4 @@
-use Rattle.std.proofs.Common.{◌≡◌, ℕ, List, Some, None, option_map, cond, map, sym, ap, subst, ◌∙◌}
+use Rattle.std.proofs.Common.{◌≡◌, ℕ, List, Some, None, option_map, cond, map, refl, sym, ap, subst, ◌∙◌}
 use Rattle.std.specs.Ordering.{nat_cmp}
 use Rattle.std.specs.BTreeMap.{is_at}
 use Rattle.std.specs.Map.{lookup}
@@ -16,12 +16,18 @@ use Rattle.row_store.specs.Held.{rows_held, IsLoanOf}
 use Rattle.row_store.specs.Views.{rows_of, lent_of, lent_at}
 use Rattle.row_store.proofs.Rows.{same_rows}
 use Rattle.row_store.proofs.Numbers.{get-lent_of, lent_put, lent_inserted}
-use Rattle.row_store.proofs.Kept.{on_err, kept_held}
-use Rattle.row_store.proofs.Outgoing.{IsLending, loan_out, shown_out, counts_out, store_out}
+use Rattle.row_store.proofs.Kept.{on_err}
+use Rattle.row_store.proofs.Outgoing.{IsLending, all_here, kept_held, loan_out, shown_out, counts_out, store_out}
 use Rattle.row_store.proofs.store.RowStore.lend.Goals as goal
 
-pub hold-requires : goal.hold-requires
-hold-requires c = subst (λ (t : List TableShape). IsPlanOver t c.args.plan.now) (sym (ap (λ (s : Stock). s.tables) c.self.view_is)) c.requires.over
+pub hold-requires-clause-over : goal.hold-requires-clause-over
+hold-requires-clause-over c = subst (λ (t : List TableShape). IsPlanOver t c.args.plan.now) (sym (ap (λ (s : Stock). s.tables) c.self.view_is)) c.requires.over
+
+pub hold-requires-clause-here : goal.hold-requires-clause-here
+hold-requires-clause-here c =
+    all_here c.self.inside.catalogue c.self.inside.shelves c.self.inside.lent c.args.plan.now c.locked_rows_conflict.ensures c.requests-requests.ensures.sound
+    (λ i p e. c.requires.apart i p (sym (ap (λ (s : Stock). finite.get s.lent i) c.self.view_is) ∙ get-lent_of c.self.inside.lent i ∙ e))
+    c.self.invariant
 
 pub returns-in_err-ready-clause-rows : goal.returns-in_err-ready-clause-rows
 returns-in_err-ready-clause-rows c =
@@ -45,12 +51,53 @@ returns-in_err-catalogue-clause-err c =
     on_err c.from_residual-in_err-catalogue.result _
     (ap (λ (r : Database). record { tables = c.self.inside.catalogue; rows = r; lent = lent_of c.self.inside.lent }) rows ∙ c.self.view_is)
 
+pub invariant_of-self : goal.invariant_of-self
+invariant_of-self c =
+    let lending : IsLending c.self.inside.catalogue c.self.inside.shelves c.hold.new.shelves c.self.inside.lent c.args.plan.now = record {
+      seen = c.hold.ensures.seen;
+      places = c.hold.ensures.kept;
+      shelves = c.hold.ensures.shelves;
+      away = c.hold.ensures.away;
+      law = c.locked_rows_conflict.ensures;
+      sound = c.requests-requests.ensures.sound;
+      over = subst (λ (t : List TableShape). IsPlanOver t c.args.plan.now) (sym (ap (λ (s : Stock). s.tables) c.self.view_is)) c.requires.over;
+      free = λ i p e. c.requires.apart i p (sym (ap (λ (s : Stock). finite.get s.lent i) c.self.view_is) ∙ get-lent_of c.self.inside.lent i ∙ e);
+      kept = c.self.invariant;
+    } in
+    kept_held c.self.inside.catalogue c.self.inside.shelves c.hold.new.shelves c.self.inside.lent c.self.inside.lent c.args.plan.now lending
+    (λ i. refl)
+
+pub invariant_of-self-in_err-catalogue : goal.invariant_of-self-in_err-catalogue
+invariant_of-self-in_err-catalogue c =
+    let lending : IsLending c.self.inside.catalogue c.self.inside.shelves c.hold.new.shelves c.self.inside.lent c.args.plan.now = record {
+      seen = c.hold.ensures.seen;
+      places = c.hold.ensures.kept;
+      shelves = c.hold.ensures.shelves;
+      away = c.hold.ensures.away;
+      law = c.locked_rows_conflict.ensures;
+      sound = c.requests-requests.ensures.sound;
+      over = subst (λ (t : List TableShape). IsPlanOver t c.args.plan.now) (sym (ap (λ (s : Stock). s.tables) c.self.view_is)) c.requires.over;
+      free = λ i p e. c.requires.apart i p (sym (ap (λ (s : Stock). finite.get s.lent i) c.self.view_is) ∙ get-lent_of c.self.inside.lent i ∙ e);
+      kept = c.self.invariant;
+    } in
+    kept_held c.self.inside.catalogue c.self.inside.shelves c.hold.new.shelves c.self.inside.lent c.self.inside.lent c.args.plan.now lending
+    (λ i. refl)
+
 pub invariant_of-self-in_err-insert : goal.invariant_of-self-in_err-insert
 invariant_of-self-in_err-insert c =
-    kept_held c.self.inside.catalogue c.self.inside.shelves c.hold.new.shelves c.self.inside.lent c.insert.new.self
-    c.hold.ensures.seen c.hold.ensures.kept c.hold.ensures.shelves c.hold.ensures.away
+    let lending : IsLending c.self.inside.catalogue c.self.inside.shelves c.hold.new.shelves c.self.inside.lent c.args.plan.now = record {
+      seen = c.hold.ensures.seen;
+      places = c.hold.ensures.kept;
+      shelves = c.hold.ensures.shelves;
+      away = c.hold.ensures.away;
+      law = c.locked_rows_conflict.ensures;
+      sound = c.requests-requests.ensures.sound;
+      over = subst (λ (t : List TableShape). IsPlanOver t c.args.plan.now) (sym (ap (λ (s : Stock). s.tables) c.self.view_is)) c.requires.over;
+      free = λ i p e. c.requires.apart i p (sym (ap (λ (s : Stock). finite.get s.lent i) c.self.view_is) ∙ get-lent_of c.self.inside.lent i ∙ e);
+      kept = c.self.invariant;
+    } in
+    kept_held c.self.inside.catalogue c.self.inside.shelves c.hold.new.shelves c.self.inside.lent c.insert.new.self c.args.plan.now lending
     (λ i. ap (λ (es : List (ℕ × Snapshot Requests)). option_map (λ (p : Snapshot Requests). p.value) (lookup (is_at (nat_cmp i)) es)) c.in_err-insert.ensures.err)
-    c.self.invariant
 
 pub returns-in_err-insert-clause-rows : goal.returns-in_err-insert-clause-rows
 returns-in_err-insert-clause-rows c =
@@ -73,7 +120,7 @@ invariant_of-result c =
       shelves = c.hold.ensures.shelves;
       away = c.hold.ensures.away;
       law = c.locked_rows_conflict.ensures;
-      sound = c.hold.ensures.sound;
+      sound = c.requests-requests.ensures.sound;
       over = subst (λ (t : List TableShape). IsPlanOver t c.args.plan.now) (sym (ap (λ (s : Stock). s.tables) c.self.view_is)) c.requires.over;
       free = λ i p e. c.requires.apart i p (sym (ap (λ (s : Stock). finite.get s.lent i) c.self.view_is) ∙ get-lent_of c.self.inside.lent i ∙ e);
       kept = c.self.invariant;
@@ -90,7 +137,7 @@ invariant_of-self-2 c =
       shelves = c.hold.ensures.shelves;
       away = c.hold.ensures.away;
       law = c.locked_rows_conflict.ensures;
-      sound = c.hold.ensures.sound;
+      sound = c.requests-requests.ensures.sound;
       over = subst (λ (t : List TableShape). IsPlanOver t c.args.plan.now) (sym (ap (λ (s : Stock). s.tables) c.self.view_is)) c.requires.over;
       free = λ i p e. c.requires.apart i p (sym (ap (λ (s : Stock). finite.get s.lent i) c.self.view_is) ∙ get-lent_of c.self.inside.lent i ∙ e);
       kept = c.self.invariant;
@@ -111,7 +158,7 @@ returns-clause-rows c =
       shelves = c.hold.ensures.shelves;
       away = c.hold.ensures.away;
       law = c.locked_rows_conflict.ensures;
-      sound = c.hold.ensures.sound;
+      sound = c.requests-requests.ensures.sound;
       over = subst (λ (t : List TableShape). IsPlanOver t c.args.plan.now) (sym (ap (λ (s : Stock). s.tables) c.self.view_is)) c.requires.over;
       free = λ i p e. c.requires.apart i p (sym (ap (λ (s : Stock). finite.get s.lent i) c.self.view_is) ∙ get-lent_of c.self.inside.lent i ∙ e);
       kept = c.self.invariant;
@@ -136,7 +183,7 @@ returns-clause-loan_rows c = λ q reads.
       shelves = c.hold.ensures.shelves;
       away = c.hold.ensures.away;
       law = c.locked_rows_conflict.ensures;
-      sound = c.hold.ensures.sound;
+      sound = c.requests-requests.ensures.sound;
       over = subst (λ (t : List TableShape). IsPlanOver t c.args.plan.now) (sym (ap (λ (s : Stock). s.tables) c.self.view_is)) c.requires.over;
       free = λ i p e. c.requires.apart i p (sym (ap (λ (s : Stock). finite.get s.lent i) c.self.view_is) ∙ get-lent_of c.self.inside.lent i ∙ e);
       kept = c.self.invariant;

@@ -6,11 +6,12 @@ use Rattle.scheduler_core.specs.Choices.{next_steps}
 use Rattle.scheduler.specs.declared.slot.Slot.TheVariants.{Idle}
 use Rattle.scheduler.specs.Schedules.{Schedule, log_of, phases_of, phase_in, work_of, steps_of, next_step_at}
 use Rattle.scheduler.proofs.Listing.{one_more}
+use Rattle.scheduler.proofs.Known.{plans_in}
 use Rattle.scheduler.proofs.scheduler.Scheduler.enabled_events.Goals as goal
 
 pub loop-place-preserved : goal.loop-place-preserved
 loop-place-preserved c =
-    let w = work_of c.self.inside.catalogue c.self.inside.arena c.self.inside.first c.self.inside.entries.items c.self.inside.plans.items c.self.inside.start.value.rows in
+    let w = work_of c.self.inside.catalogue c.self.inside.arena c.self.inside.first c.self.inside.entries.items (plans_in c.self.inside) c.self.inside.start.value.rows in
     let slots = c.self.inside.slots.items in
     let view : ◌≡◌ {A = Schedule} (record { work = w; slots = slots }) c.args.self.now = c.self.view_is in
     let places = c.events_by_places.ensures w.arena w.first (log_of w) (map phase_in slots) in

@@ -7,11 +7,12 @@ use Rattle.scheduler.specs.declared.slot.Slot.{Slot}
 use Rattle.scheduler.specs.Replies.{replies_of, AreSettled}
 use Rattle.scheduler.specs.Schedules.{Schedule, log_of, phases_of, work_of}
 use Rattle.scheduler.proofs.Finishes.{settled_slots, end_rows, nothing_lent, end_replies}
+use Rattle.scheduler.proofs.Known.{plans_in}
 use Rattle.scheduler.proofs.scheduler.Scheduler.into_finished.Goals as goal
 
 pub invariant_of-outcomes : goal.invariant_of-outcomes
 invariant_of-outcomes c =
-    let w = work_of c.self.inside.catalogue c.self.inside.arena c.self.inside.first c.self.inside.entries.items c.self.inside.plans.items c.self.inside.start.value.rows in
+    let w = work_of c.self.inside.catalogue c.self.inside.arena c.self.inside.first c.self.inside.entries.items (plans_in c.self.inside) c.self.inside.start.value.rows in
     let slots = c.self.inside.slots.items in
     let view : ◌≡◌ {A = Schedule} (record { work = w; slots = slots }) c.args.self = c.self.view_is in
     let done = subst (λ (s : Schedule). is_done (log_of s.work) (phases_of s) ≡ true) (sym view) c.requires in
@@ -19,7 +20,7 @@ invariant_of-outcomes c =
 
 pub returns-clause-rows : goal.returns-clause-rows
 returns-clause-rows c =
-    let w = work_of c.self.inside.catalogue c.self.inside.arena c.self.inside.first c.self.inside.entries.items c.self.inside.plans.items c.self.inside.start.value.rows in
+    let w = work_of c.self.inside.catalogue c.self.inside.arena c.self.inside.first c.self.inside.entries.items (plans_in c.self.inside) c.self.inside.start.value.rows in
     let slots = c.self.inside.slots.items in
     let view : ◌≡◌ {A = Schedule} (record { work = w; slots = slots }) c.args.self = c.self.view_is in
     let done = subst (λ (s : Schedule). is_done (log_of s.work) (phases_of s) ≡ true) (sym view) c.requires in
@@ -28,7 +29,7 @@ returns-clause-rows c =
 
 pub returns-clause-unlent : goal.returns-clause-unlent
 returns-clause-unlent c =
-    let w = work_of c.self.inside.catalogue c.self.inside.arena c.self.inside.first c.self.inside.entries.items c.self.inside.plans.items c.self.inside.start.value.rows in
+    let w = work_of c.self.inside.catalogue c.self.inside.arena c.self.inside.first c.self.inside.entries.items (plans_in c.self.inside) c.self.inside.start.value.rows in
     let slots = c.self.inside.slots.items in
     let view : ◌≡◌ {A = Schedule} (record { work = w; slots = slots }) c.args.self = c.self.view_is in
     let done = subst (λ (s : Schedule). is_done (log_of s.work) (phases_of s) ≡ true) (sym view) c.requires in
@@ -36,7 +37,7 @@ returns-clause-unlent c =
 
 pub returns-clause-outcomes : goal.returns-clause-outcomes
 returns-clause-outcomes c =
-    let w = work_of c.self.inside.catalogue c.self.inside.arena c.self.inside.first c.self.inside.entries.items c.self.inside.plans.items c.self.inside.start.value.rows in
+    let w = work_of c.self.inside.catalogue c.self.inside.arena c.self.inside.first c.self.inside.entries.items (plans_in c.self.inside) c.self.inside.start.value.rows in
     let slots = c.self.inside.slots.items in
     let view : ◌≡◌ {A = Schedule} (record { work = w; slots = slots }) c.args.self = c.self.view_is in
     let done = subst (λ (s : Schedule). is_done (log_of s.work) (phases_of s) ≡ true) (sym view) c.requires in

@@ -4,11 +4,12 @@ use Rattle.scheduler_core.specs.declared.event.Event.TheVariants.{Admit}
 use Rattle.scheduler_core.specs.Choices.{next_event, IsNextEvent}
 use Rattle.scheduler.specs.Schedules.{Schedule, log_of, phases_of, phase_in, work_of}
 use Rattle.scheduler.proofs.Next.{open_next, done_next, admit_next}
+use Rattle.scheduler.proofs.Known.{plans_in}
 use Rattle.scheduler.proofs.scheduler.Scheduler.next_event.Goals as goal
 
 pub returns-then-self-admitted-clause-event : goal.returns-then-self-admitted-clause-event
 returns-then-self-admitted-clause-event c =
-    let w = work_of c.self.inside.catalogue c.self.inside.arena c.self.inside.first c.self.inside.entries.items c.self.inside.plans.items c.self.inside.start.value.rows in
+    let w = work_of c.self.inside.catalogue c.self.inside.arena c.self.inside.first c.self.inside.entries.items (plans_in c.self.inside) c.self.inside.start.value.rows in
     let slots = c.self.inside.slots.items in
     let view : ◌≡◌ {A = Schedule} (record { work = w; slots = slots }) c.args.self.now = c.self.view_is in
     let places = c.events_by_places.ensures w.arena w.first (log_of w) (map phase_in slots) in
@@ -20,7 +21,7 @@ returns-then-self-admitted-clause-event c =
 
 pub returns-then-self-admitted-clause-enabled : goal.returns-then-self-admitted-clause-enabled
 returns-then-self-admitted-clause-enabled c =
-    let w = work_of c.self.inside.catalogue c.self.inside.arena c.self.inside.first c.self.inside.entries.items c.self.inside.plans.items c.self.inside.start.value.rows in
+    let w = work_of c.self.inside.catalogue c.self.inside.arena c.self.inside.first c.self.inside.entries.items (plans_in c.self.inside) c.self.inside.start.value.rows in
     let slots = c.self.inside.slots.items in
     let view : ◌≡◌ {A = Schedule} (record { work = w; slots = slots }) c.args.self.now = c.self.view_is in
     let places = c.events_by_places.ensures w.arena w.first (log_of w) (map phase_in slots) in
@@ -33,7 +34,7 @@ returns-then-self-admitted-clause-enabled c =
 
 pub returns-then-admitted-len-clause-event : goal.returns-then-admitted-len-clause-event
 returns-then-admitted-len-clause-event c =
-    let w = work_of c.self.inside.catalogue c.self.inside.arena c.self.inside.first c.self.inside.entries.items c.self.inside.plans.items c.self.inside.start.value.rows in
+    let w = work_of c.self.inside.catalogue c.self.inside.arena c.self.inside.first c.self.inside.entries.items (plans_in c.self.inside) c.self.inside.start.value.rows in
     let slots = c.self.inside.slots.items in
     let view : ◌≡◌ {A = Schedule} (record { work = w; slots = slots }) c.args.self.now = c.self.view_is in
     let places = c.events_by_places.ensures w.arena w.first (log_of w) (map phase_in slots) in
@@ -45,7 +46,7 @@ returns-then-admitted-len-clause-event c =
 
 pub returns-then-admitted-len-clause-enabled : goal.returns-then-admitted-len-clause-enabled
 returns-then-admitted-len-clause-enabled c =
-    let w = work_of c.self.inside.catalogue c.self.inside.arena c.self.inside.first c.self.inside.entries.items c.self.inside.plans.items c.self.inside.start.value.rows in
+    let w = work_of c.self.inside.catalogue c.self.inside.arena c.self.inside.first c.self.inside.entries.items (plans_in c.self.inside) c.self.inside.start.value.rows in
     let slots = c.self.inside.slots.items in
     let view : ◌≡◌ {A = Schedule} (record { work = w; slots = slots }) c.args.self.now = c.self.view_is in
     let places = c.events_by_places.ensures w.arena w.first (log_of w) (map phase_in slots) in
@@ -58,7 +59,7 @@ returns-then-admitted-len-clause-enabled c =
 
 pub returns-clause-event : goal.returns-clause-event
 returns-clause-event c =
-    let w = work_of c.self.inside.catalogue c.self.inside.arena c.self.inside.first c.self.inside.entries.items c.self.inside.plans.items c.self.inside.start.value.rows in
+    let w = work_of c.self.inside.catalogue c.self.inside.arena c.self.inside.first c.self.inside.entries.items (plans_in c.self.inside) c.self.inside.start.value.rows in
     let slots = c.self.inside.slots.items in
     let view : ◌≡◌ {A = Schedule} (record { work = w; slots = slots }) c.args.self.now = c.self.view_is in
     let places = c.events_by_places.ensures w.arena w.first (log_of w) (map phase_in slots) in
@@ -70,7 +71,7 @@ returns-clause-event c =
 
 pub returns-clause-enabled : goal.returns-clause-enabled
 returns-clause-enabled c =
-    let w = work_of c.self.inside.catalogue c.self.inside.arena c.self.inside.first c.self.inside.entries.items c.self.inside.plans.items c.self.inside.start.value.rows in
+    let w = work_of c.self.inside.catalogue c.self.inside.arena c.self.inside.first c.self.inside.entries.items (plans_in c.self.inside) c.self.inside.start.value.rows in
     let slots = c.self.inside.slots.items in
     let view : ◌≡◌ {A = Schedule} (record { work = w; slots = slots }) c.args.self.now = c.self.view_is in
     let places = c.events_by_places.ensures w.arena w.first (log_of w) (map phase_in slots) in

@@ -8,6 +8,7 @@ use Rattle.scheduler.specs.declared.slot.Slot.TheVariants.{Held}
 use Rattle.scheduler.specs.Schedules.{Schedule, log_of, phases_of, phase_in, work_of}
 use Rattle.scheduler.specs.Jobs.{IsLentAt}
 use Rattle.scheduler.proofs.Ends.{admitted_within}
+use Rattle.scheduler.proofs.Known.{plans_in}
 use Rattle.scheduler.proofs.scheduler.Scheduler.observe.Goals as goal
 
 pub returns-clause-jobs : goal.returns-clause-jobs
@@ -17,7 +18,7 @@ returns-clause-jobs c =
 
 pub returns-clause-apart : goal.returns-clause-apart
 returns-clause-apart c =
-    let w = work_of c.self.inside.catalogue c.self.inside.arena c.self.inside.first c.self.inside.entries.items c.self.inside.plans.items c.self.inside.start.value.rows in
+    let w = work_of c.self.inside.catalogue c.self.inside.arena c.self.inside.first c.self.inside.entries.items (plans_in c.self.inside) c.self.inside.start.value.rows in
     let sound = c.rows_are_serial.ensures w.tables w.first (log_of w) w.start c.self.invariant.0.planned in
     subst (λ (s : Schedule). (i k : ℕ) (t u : Transaction) → i ≢ k → slice_get (log_of s.work) i ≡ Some t → slice_get (log_of s.work) k ≡ Some u
     → is_out (slice_get (phases_of s) i) ≡ true → is_out (slice_get (phases_of s) k) ≡ true → ModesClash t.plan u.plan → ⊥) c.self.view_is
@@ -25,7 +26,7 @@ returns-clause-apart c =
 
 pub returns-clause-within : goal.returns-clause-within
 returns-clause-within c =
-    let w = work_of c.self.inside.catalogue c.self.inside.arena c.self.inside.first c.self.inside.entries.items c.self.inside.plans.items c.self.inside.start.value.rows in
+    let w = work_of c.self.inside.catalogue c.self.inside.arena c.self.inside.first c.self.inside.entries.items (plans_in c.self.inside) c.self.inside.start.value.rows in
     subst (λ (s : Schedule). length s.slots ≤ length s.work.entries) c.self.view_is
     (admitted_within w c.self.inside.slots.items c.self.inside.store c.self.inside.locks c.self.invariant.0 c.self.invariant.1)
 
