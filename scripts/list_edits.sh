@@ -28,7 +28,7 @@ own function. Those in `must-fail/more/` the gate leaves out, and `scripts/edits
 `scripts/list_edits.sh` writes this list from those names.
 
 Without an edit in the gate are laws, which have no body; `Entry::request`, `RowStore::catalogue`, `Loan::catalogue`,
-`Procs::new`, `ProcFault::from` and `LineFault::from`, for which no other answer can be written down with what their
+`Proc::clone`, `Procs::new`, `ProcFault::from` and `LineFault::from`, for which no other answer can be written down with what their
 crates have; each other `from` of a fault, which says only which refusal is answered; the orders of `RowName` and of
 `Resource`, which are derived; `calvin_c_feed`, `calvin_c_end`, `calvin_c_fault` and `calvin_c_close`, which promise no more than
 to return; and `NoMemory::from`, `Gate::is_open`, `OpenGate::enter` and `Display`, which promise nothing.

@@ -115,17 +115,37 @@ def read_column(column, earlier):
     earlier[column[0]] = column[1]
 
 
+def has_form_of_split(split, version):
+    """Whether this is a number of partitions or, in version 2, an array of bounds."""
+    if is_number(split):
+        return True
+    return version == 2 and is_array(split) and split[:1] == ["bounds"] and all(map(is_number, split[1:]))
+
+
+def read_split(split):
+    if is_number(split):
+        require(1 <= split <= 1024, 5)
+        return
+    bounds = split[1:]
+    require(len(bounds) <= 1023, 5)
+    before = 0
+    for bound in bounds:
+        require(before < bound, 7)
+        before = bound
+
+
 def read_catalogue(document):
-    """The tables by name: their numbers of partitions, and the types of their columns by name, in order."""
-    require(is_array(document, 3) and document[0] == "catalogue" and is_number(document[1]) and document[1] == 1 and is_array(document[2]), 1)
+    """The tables by name, each with the types of its columns by name, in order."""
+    require(is_array(document, 3) and document[0] == "catalogue" and is_number(document[1]) and document[1] in (1, 2) and is_array(document[2]), 1)
+    version = document[1]
     require(1 <= len(document[2]) <= 64, 5)
     tables = {}
     for table in document[2]:
-        require(is_array(table, 3) and is_text(table[0]) and is_number(table[1]) and is_array(table[2]), 1)
-        name, partitions, columns = table
+        require(is_array(table, 3) and is_text(table[0]) and has_form_of_split(table[1], version) and is_array(table[2]), 1)
+        name, split, columns = table
         require(NAME.fullmatch(name), 3)
         require(name not in tables, 2)
-        require(1 <= partitions <= 1024, 5)
+        read_split(split)
         require(columns, 4)
         require(len(columns) <= 16, 5)
         kinds = {}

@@ -1,5 +1,8 @@
+pub mod Pushed
 pub mod Taken
+pub mod Splits
 pub mod Steps
+pub mod Bounds
 pub mod Forms
 pub mod Named
 pub mod Catalogues

@@ -1,17 +1,17 @@
 -- Tables and columns of a catalogue, by their places and by their names.
-use Rattle.std.proofs.Common.{◌≡◌, ◌∙◌, ap, sym, refl, ℕ, zero, suc, ◌≤◌, ◌+◌, Bool, cond, List, [], ◌∷◌, length, map, Some, option_map, slice_get, String, Global, string_bytes}
+use Rattle.std.proofs.Common.{◌≡◌, ◌∙◌, ap, sym, refl, subst, ℕ, zero, suc, ◌+◌, Bool, cond, List, [], ◌∷◌, length, map, Some, option_map, slice_get, String, Global, string_bytes}
 use Rattle.std.specs.Str.{bytes_eq}
 use Rattle.std.specs.List.{AllByRecursion, position, prefix_len}
 use Rattle.values.specs.declared.value.ColType.{ColType}
 use Rattle.catalogue.specs.declared.table.Table.{Table}
 use Rattle.catalogue.specs.Places.{table_named, column_named}
-use Rattle.catalogue.specs.Shapes.{TableShape, tables_shape, table_shape, columns_shape, column_shape}
-use Rattle.catalogue.specs.Rules.{IsTable}
+use Rattle.catalogue.specs.Shapes.{SplitShape, TableShape, tables_shape, table_shape, columns_shape, column_shape}
+use Rattle.catalogue.specs.Rules.{IsSplit, IsTable}
 
-pub partitions_fit : (ts : List TableShape) (i n : ℕ) → AllByRecursion IsTable ts → option_map (λ t. t.partitions) (slice_get ts i) ≡ Some n → (1 ≤ n) × (n ≤ 1024)
-partitions_fit [] i n h e = absurd cc
-partitions_fit (t ∷ ts) zero n h e = let is : t.partitions ≡ n = cc in (rw (← is) h.0.some, rw (← is) h.0.few)
-partitions_fit (t ∷ ts) (suc i) n h e = partitions_fit ts i n h.1 e
+pub split_fits : (ts : List TableShape) (i : ℕ) (s : SplitShape) → AllByRecursion IsTable ts → option_map (λ t. t.split) (slice_get ts i) ≡ Some s → IsSplit s
+split_fits [] i s h e = absurd cc
+split_fits (t ∷ ts) zero s h e = let is : t.split ≡ s = cc in subst IsSplit is h.0.split
+split_fits (t ∷ ts) (suc i) s h e = split_fits ts i s h.1 e
 
 -- the same place in a list of names and in the list of the things that have them
 prefix_named : {X Y : Type 0} (p : Y → Bool) (f : X → Y) (xs : List X) → prefix_len p (map f xs) ≡ prefix_len (λ x. p (f x)) xs

@@ -3,5 +3,7 @@ pub mod Places
 pub mod Reading
 pub mod Rules
 pub mod Broken
+pub mod Bounds
 pub mod Tables
 pub mod Said
+pub mod Schemas

@@ -1,16 +1,20 @@
 -- Claimed: what contracts promise to a reader rests on these words.
 -- Tables and columns by their names, and the partition of a table that a key falls in.
-use Rattle.std.specs.Prelude.{ℕ, ℤ, pos, negsuc, ◌%◌, nat_lt, List, Option, Some, None, option_map, option_and_then, if◌then◌else◌, slice_get, position}
+use Rattle.std.specs.Prelude.{ℕ, ℤ, pos, negsuc, Bool, nat_lt, List, Option, Some, None, option_map, option_and_then, if◌then◌else◌, slice_get, position}
 use Rattle.std.specs.Str.{bytes_eq}
-use Rattle.catalogue.specs.Shapes.{ColumnShape, TableShape}
+use Rattle.catalogue.specs.Shapes.{ColumnShape, TableShape, partitions, part_with, is_end_with}
 
--- key k of a table of P partitions falls in partition k mod P
+-- a key falls in the partition in which its table's split has it
 abbrev pub partition_of : List TableShape → ℕ → ℕ → Option ℕ
-partition_of tables table key = option_map (λ t. key % t.partitions) (slice_get tables table)
+partition_of tables table key = option_map (λ t. part_with t.split key) (slice_get tables table)
+
+-- whether a partition of a table ends with a key, at a bound
+abbrev pub is_end_of : List TableShape → ℕ → ℕ → Option Bool
+is_end_of tables table key = option_map (λ t. is_end_with t.split key) (slice_get tables table)
 
 -- the partitions of a table of P partitions have the numbers 0 to P - 1
 abbrev pub partition_numbered : List TableShape → ℕ → ℤ → Option ℕ
-partition_numbered tables table (pos n) = option_and_then (λ t. if nat_lt n t.partitions then Some n else None) (slice_get tables table)
+partition_numbered tables table (pos n) = option_and_then (λ t. if nat_lt n (partitions t.split) then Some n else None) (slice_get tables table)
 partition_numbered tables table (negsuc n) = None
 
 -- the place of the table with a name

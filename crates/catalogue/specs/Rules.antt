@@ -1,13 +1,13 @@
 -- Claimed: what contracts promise to a reader rests on these words.
 -- What a catalogue is, and which documents say it. Apart from the order in which a document is read.
-use Rattle.std.specs.Prelude.{◌≡◌, ℕ, ◌≤◌, pos, List, [], ◌∷◌, length, map, Some, true, codes, ⊤}
+use Rattle.std.specs.Prelude.{◌≡◌, ◌⊎◌, ℕ, ◌<◌, ◌≤◌, ◌^◌, pos, List, [], ◌∷◌, length, map, Some, true, codes, ⊤}
 use Rattle.std.specs.Str.{bytes_eq}
 use Rattle.std.specs.List.{AllByRecursion, IsDistinct}
 use Rattle.serde_json.specs.Data.{Data, string, array}
 use Rattle.serde_json.specs.View.{items_of}
 use Rattle.documents.specs.Json.{integer}
 use Rattle.values.specs.Names.{is_name}
-use Rattle.catalogue.specs.Shapes.{ColumnShape, TableShape}
+use Rattle.catalogue.specs.Shapes.{ColumnShape, SplitShape, by_remainder, at_bounds, TableShape}
 use Rattle.catalogue.specs.Reading.{type_of_word}
 
 -- ---- the rules
@@ -19,10 +19,25 @@ pub record AreNamed {X : Type 0} (name_of : X → List ℕ) (most : ℕ) (xs : L
   pub names : AllByRecursion (λ x. is_name (name_of x) ≡ true) xs
   pub distinct : IsDistinct bytes_eq (map name_of xs)
 
+-- each number is above the one before it, and the first above a least one
+abbrev pub AreRising : ℕ → List ℕ → Type 0
+AreRising least [] = ⊤
+AreRising least (n ∷ ns) = (least < n) × AreRising n ns
+
+-- at most 1,023 bounds, each above 0, above the one before it and less than 2^63
+pub record AreBounds (bounds : List ℕ) : Type 0 where
+  pub few : length bounds ≤ 1023
+  pub rising : AreRising 0 bounds
+  pub signed : AllByRecursion (λ bound. bound < 2 ^ 63) bounds
+
+-- 1 to 1,024 partitions by the remainder, or bounds
+abbrev pub IsSplit : SplitShape → Type 0
+IsSplit (by_remainder count) = (1 ≤ count) × (count ≤ 1024)
+IsSplit (at_bounds bounds) = AreBounds bounds
+
 -- 1 to 1,024 partitions and 1 to 16 columns
 pub record IsTable (t : TableShape) : Type 0 where
-  pub some : 1 ≤ t.partitions
-  pub few : t.partitions ≤ 1024
+  pub split : IsSplit t.split
   pub columns : AreNamed (λ (c : ColumnShape). c.name) 16 t.columns
 
 -- 1 to 64 tables
@@ -42,17 +57,33 @@ Says one ds xs = ⊥
 abbrev pub SaysColumn : Data → ColumnShape → Type 0
 SaysColumn d c = (word : List ℕ) × (d ≡ array (items_of (string c.name ∷ string word ∷ []))) × (type_of_word word ≡ Some c.kind)
 
+abbrev pub SaysNumber : Data → ℕ → Type 0
+SaysNumber d n = integer d ≡ Some (pos n)
+
+-- a number of partitions, or ["bounds", 10, 20]
+abbrev pub SaysSplit : Data → SplitShape → Type 0
+SaysSplit d (by_remainder count) = SaysNumber d count
+SaysSplit d (at_bounds bounds) = (numbers : List Data)
+    × (d ≡ array (items_of (string (codes "bounds") ∷ numbers))) × Says SaysNumber numbers bounds
+
 -- ["acct", 2, [COLUMN ..]]
 abbrev pub SaysTable : Data → TableShape → Type 0
-SaysTable d t = (number : Data) × (columns : List Data)
-    × (d ≡ array (items_of (string t.name ∷ number ∷ array (items_of columns) ∷ [])))
-    × (integer number ≡ Some (pos t.partitions)) × Says SaysColumn columns t.columns
+SaysTable d t = (split : Data) × (columns : List Data)
+    × (d ≡ array (items_of (string t.name ∷ split ∷ array (items_of columns) ∷ [])))
+    × SaysSplit split t.split × Says SaysColumn columns t.columns
 
--- ["catalogue", 1, [TABLE ..]]
+abbrev pub IsByRemainder : TableShape → Type 0
+IsByRemainder t = (count : ℕ) × (t.split ≡ by_remainder count)
+
+-- version 1 has no bounds
+abbrev pub IsOfVersion : ℕ → List TableShape → Type 0
+IsOfVersion version ts = ((version ≡ 1) × AllByRecursion IsByRemainder ts) ⊎ (version ≡ 2)
+
+-- ["catalogue", 1, [TABLE ..]] or ["catalogue", 2, [TABLE ..]]
 abbrev pub SaysCatalogue : Data → List TableShape → Type 0
-SaysCatalogue d ts = (version : Data) × (tables : List Data)
-    × (d ≡ array (items_of (string (codes "catalogue") ∷ version ∷ array (items_of tables) ∷ [])))
-    × (integer version ≡ Some (pos 1)) × Says SaysTable tables ts
+SaysCatalogue d ts = (number : Data) × (tables : List Data)
+    × (d ≡ array (items_of (string (codes "catalogue") ∷ number ∷ array (items_of tables) ∷ [])))
+    × ((version : ℕ) × SaysNumber number version × IsOfVersion version ts) × Says SaysTable tables ts
 
 -- a document says one catalogue, and no other
 abbrev pub OneCatalogueIsSaid : Type 0

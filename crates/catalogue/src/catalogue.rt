@@ -1,13 +1,17 @@
 //! The catalogue: tables in declared order, each with its partitions and columns.
 
-ghost use Rattle.std.specs.Prelude.{◌≡◌, ◌⊎◌, ◌<◌, ◌≤◌, [], false, IfErr, OnOk, IsOkUnless, ℕ, length, option_map, IfOk, Ok, List, slice_get, Some, IfSome, map};
-ghost use Rattle.catalogue.specs.Shapes.{tables_shape, columns_shape, table_shape, TableShape};
-ghost use Rattle.catalogue.specs.Places.{table_named, column_named, partition_of, partition_numbered};
+ghost use Rattle.std.specs.Prelude.{◌≡◌, ◌⊎◌, ◌<◌, ◌≤◌, ◌↔◌, [], false, IfErr, OnOk, IsOkUnless, ℕ, length, option_map, IfOk, Ok, List, slice_get, Some, IfSome, IsTrue, map};
+ghost use Rattle.catalogue.specs.Shapes.{tables_shape, columns_shape, table_shape, split_shape, partitions, TableShape};
+ghost use Rattle.catalogue.specs.Places.{table_named, column_named, partition_of, partition_numbered, is_end_of};
+ghost use Rattle.catalogue.specs.Rules.{IsCatalogue as IsSound, IsSplit};
+ghost use Rattle.catalogue.specs.Schemas.{HaveSameSchema};
 ghost use Rattle.catalogue.specs.Tables.{IsTableAt};
 ghost use Rattle.values.specs.Rows.{kinds_match};
 
 use crate::fault::CatalogueFault;
 use crate::reading::read_document;
+use crate::schema::are_same_tables;
+use crate::split::Split;
 use crate::table::Table;
 use indexmap::IndexMap;
 use serde_json::Value;
@@ -141,20 +145,29 @@ impl Catalogue {
     /// How many partitions a table has, 1 to 1,024.
     pub fn partitions(&self, table: TableNo) -> u32
         requires { table < length self.now }
-        ensures count { Some result ≡ option_map (λ t. t.partitions) (slice_get self.now table) }
+        ensures count { Some result ≡ option_map (λ t. partitions t.split) (slice_get self.now table) }
         ensures some { 1 ≤ result }
         ensures few { result ≤ 1024 }
     {
-        table_at(&self.tables, table).partitions
+        split_at(&self.tables, table).partitions()
     }
 
-    /// The partition of a table that has a key: key k of a table of P partitions is in partition k mod P.
+    /// The partition of a table that has a key: of a table of P partitions by the remainder, key k is in partition k mod P; of
+    /// a table that is split at bounds, the number of the partition is how many bounds are at most the key. It takes no memory.
     pub fn part_of(&self, table: TableNo, key: Key) -> u32
         requires { table < length self.now }
         ensures { Some result ≡ partition_of self.now table key }
     {
-        let partitions = partitions_of(&self.tables, table);
-        (key.number() % u64::from(partitions)) as u32
+        split_at(&self.tables, table).part_of(key)
+    }
+
+    /// Whether a partition of a table ends with a key because the next key is a bound. So it is false of every key by the
+    /// remainder, and of each one from the last bound on, the greatest key too. It takes no memory.
+    pub fn ends_partition(&self, table: TableNo, key: Key) -> bool
+        requires { table < length self.now }
+        ensures { Some result ≡ is_end_of self.now table key }
+    {
+        split_at(&self.tables, table).ends_partition(key)
     }
 
     /// The partition of a table with a number, `None` exactly where the number is not from 0 to P - 1, for a table of P
@@ -163,11 +176,19 @@ impl Catalogue {
         requires { table < length self.now }
         ensures { result ≡ partition_numbered self.now table number }
     {
-        let partitions = partitions_of(&self.tables, table);
+        let partitions = split_at(&self.tables, table).partitions();
         if number < 0 || number >= i64::from(partitions) {
             return None;
         }
         Some(number as u32)
+    }
+
+    /// Whether another catalogue has the same tables in the same order: names and columns are the same, and how keys are split
+    /// may differ. It takes no memory.
+    pub fn has_same_schema(&self, other: &Catalogue) -> bool
+        ensures { IsTrue result ↔ HaveSameSchema self.now other.now }
+    {
+        are_same_tables(&self.tables, &other.tables)
     }
 }
 
@@ -233,9 +254,11 @@ fn columns_take(columns: &IndexMap<String, ColType>, values: &[values::Value]) -
     rest.is_empty()
 }
 
-fn partitions_of(tables: &IndexMap<String, Table>, table: TableNo) -> u32
-    requires { table < length (tables_shape tables.now.entries) }
-    ensures { option_map (λ t. t.partitions) (slice_get (tables_shape tables.now.entries) table) ≡ Some result }
+fn split_at(tables: &IndexMap<String, Table>, table: TableNo) -> &Split
+    requires sound { IsSound (tables_shape tables.now.entries) }
+    requires there { table < length (tables_shape tables.now.entries) }
+    ensures split { option_map (λ t. t.split) (slice_get (tables_shape tables.now.entries) table) ≡ Some (split_shape result.now) }
+    ensures sound { IsSplit (split_shape result.now) }
 {
-    table_at(tables, table).partitions
+    &table_at(tables, table).split
 }

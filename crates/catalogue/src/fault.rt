@@ -21,12 +21,15 @@ pub enum CatalogueFault {
     /// A table has no column.
     #[error("fault 4")]
     NoColumn,
-    /// There are not 1 to 64 tables, 1 to 1,024 partitions, or at most 16 columns.
+    /// There are not 1 to 64 tables, 1 to 1,024 partitions, at most 1,023 bounds, or at most 16 columns.
     #[error("fault 5")]
     Limit,
     /// The system refused memory.
     #[error("fault 6")]
     Memory,
+    /// A bound is less than 1, or not above the one before it.
+    #[error("fault 7")]
+    BadBounds,
 }
 
 impl From<AllocError> for CatalogueFault {

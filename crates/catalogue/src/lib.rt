@@ -7,7 +7,11 @@ mod fault;
 pub mod laws;
 mod reading;
 mod said;
+mod schema;
+mod split;
+mod split_form;
 mod table;
+mod version;
 
 pub use catalogue::Catalogue;
 pub use document::column_form;

@@ -4,7 +4,7 @@ use Rattle.std.specs.List.{Contains, list_any}
 use Rattle.std.specs.FinMap.{get, get-empty, get-insert}
 use Rattle.std.specs.Ordering.{eq_by_cmp}
 use Rattle.std.proofs.lemmas.Option.{slice_get_cases}
-use Rattle.catalogue.specs.Shapes.{TableShape}
+use Rattle.catalogue.specs.Shapes.{TableShape, part_with}
 use Rattle.proclang_types.specs.declared.right.Right.{Right}
 use Rattle.footprint.specs.declared.resource.Resource.{Resource}
 use Rattle.footprint.specs.Tree.{resource_cmp, parent_of, ancestors_of}
@@ -62,7 +62,7 @@ added tables f r q x of is there =
       | false ↦ λ e g. of q (sym (ap is_some g) ∙ there)
     ] refl got
 
-key_there : (o : Option TableShape) (k : ℕ) → is_some o ≡ true → option_map (λ s. k % s.partitions) o ≡ Some (unwrap_or (option_map (λ s. k % s.partitions) o) 0)
+key_there : (o : Option TableShape) (k : ℕ) → is_some o ≡ true → option_map (λ s. part_with s.split k) o ≡ Some (unwrap_or (option_map (λ s. part_with s.split k) o) 0)
 key_there None k h = absurd (cc)
 key_there (Some s) k h = refl
 

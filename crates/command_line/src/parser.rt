@@ -29,7 +29,7 @@ Exit status:
   4  reading or writing failed, or a thread was refused
   5  the reports differ";
 
-/// The version of the program: the forms of setups, logs and reports are those of version 1.
+/// The version of the program. Setups, logs and reports have forms of version 1, catalogues of versions 1 and 2.
 const VERSION: &str = "1.0.0";
 
 const RUN_EXAMPLE: &str = "Examples:

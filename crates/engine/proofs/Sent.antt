@@ -59,9 +59,6 @@ statement_send = search (sendable, crosses, maps.crosses, table_no.the_send, int
 declared_entry_send : IsSend footprint_entry.the_row
 declared_entry_send = search (sendable, crosses, table_no.the_send, right.the_field_send, int_expr_field_send) depth 30
 
-procedure_send : IsSend procedure.the_row
-procedure_send = search (sendable, crosses, param.the_send, statement_send, declared_entry_send) depth 30
-
 int_expr_field_sync : IsSync (int_expression.the_field).row
 int_expr_field_sync = search (sendable, crosses, table_no.the_sync, operator.the_field_sync, int_expr.sync-IntExpr) depth 30
 
@@ -80,8 +77,11 @@ statement_sync = search (sendable, crosses, maps.crosses, table_no.the_sync, int
 declared_entry_sync : IsSync footprint_entry.the_row
 declared_entry_sync = search (sendable, crosses, table_no.the_sync, right.the_field_sync, int_expr_field_sync) depth 30
 
+procedure_send : IsSend procedure.the_row
+procedure_send = search (sendable, crosses, catalogue.the_send, param.the_send, param.the_sync, statement_send, statement_sync, declared_entry_send, declared_entry_sync) depth 30
+
 procedure_sync : IsSync procedure.the_row
-procedure_sync = search (sendable, crosses, param.the_sync, statement_sync, declared_entry_sync) depth 30
+procedure_sync = search (sendable, crosses, catalogue.the_sync, param.the_send, param.the_sync, statement_send, statement_sync, declared_entry_send, declared_entry_sync) depth 30
 
 request_send : IsSend request.the_row
 request_send = search (sendable, crosses, value.the_send, procedure_send, procedure_sync) depth 30

@@ -3,7 +3,7 @@
 use Rattle.std.specs.Prelude.{◌≡◌, ◌<◌, ◌^◌, nat_lt, ⊤, true, List, length, Some, option_map, IsSome, slice_get}
 use Rattle.std.specs.FinMap.{get}
 use Rattle.values.specs.declared.name.RowName.{RowName}
-use Rattle.catalogue.specs.Shapes.{TableShape}
+use Rattle.catalogue.specs.Shapes.{TableShape, partitions}
 use Rattle.catalogue.specs.Places.{partition_of}
 use Rattle.footprint.specs.declared.resource.Resource.{Resource}
 use Rattle.footprint.specs.declared.resource.Resource.TheVariants.{Db, Table}
@@ -19,7 +19,7 @@ IsRowName tables name = (name.table < length tables) × (name.key < 2 ^ 63)
 abbrev pub IsResourceOf : List TableShape → Resource → Type 0
 IsResourceOf tables Db = ⊤
 IsResourceOf tables (Table t WholeTable) = t < length tables
-IsResourceOf tables (Table t (Part p WholePart)) = option_map (λ s. nat_lt p s.partitions) (slice_get tables t) ≡ Some true
+IsResourceOf tables (Table t (Part p WholePart)) = option_map (λ s. nat_lt p (partitions s.split)) (slice_get tables t) ≡ Some true
 IsResourceOf tables (Table t (Part p (Row k))) = (k < 2 ^ 63) × (partition_of tables t k ≡ Some p)
 
 -- each resource that has a right is of these tables

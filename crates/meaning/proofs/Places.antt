@@ -9,7 +9,7 @@ use Rattle.values.specs.declared.name.RowName.{RowName}
 use Rattle.values.specs.declared.value.ColType.{ColType}
 use Rattle.values.specs.declared.value.Value.{Value}
 use Rattle.values.specs.declared.value.Value.TheVariants as values
-use Rattle.catalogue.specs.Shapes.{TableShape}
+use Rattle.catalogue.specs.Shapes.{TableShape, partitions, part_with}
 use Rattle.catalogue.specs.Places.{partition_of, partition_numbered}
 use Rattle.values.specs.Database.{Database, RowOf}
 use Rattle.proclang_types.specs.declared.right.Right.{Right}
@@ -47,7 +47,7 @@ module _ (tables : List TableShape) where
   abbrev IsPlace : Resource → Type 0
   IsPlace Db = ⊤
   IsPlace (Table t WholeTable) = t < length tables
-  IsPlace (Table t (Part p WholePart)) = option_map (λ s. nat_lt p s.partitions) (slice_get tables t) ≡ Some true
+  IsPlace (Table t (Part p WholePart)) = option_map (λ s. nat_lt p (partitions s.split)) (slice_get tables t) ≡ Some true
   IsPlace (Table t (Part p (Row k))) = partition_of tables t k ≡ Some p
 
   of_tables : (r : Resource) → HasKey r → IsPlace r → IsResourceOf tables r
@@ -105,7 +105,7 @@ module _ (tables : List TableShape) where
   abbrev IsThere : ℕ → Type 0
   IsThere table = IsSome (slice_get tables table)
 
-  in_partition : (o : Option TableShape) (key : ℕ) → IsSome o → option_map (λ t. key % t.partitions) o ≡ Some (unwrap_or (option_map (λ t. key % t.partitions) o) 0)
+  in_partition : (o : Option TableShape) (key : ℕ) → IsSome o → option_map (λ t. part_with t.split key) o ≡ Some (unwrap_or (option_map (λ t. part_with t.split key) o) 0)
   in_partition None key there = absurd (cc)
   in_partition (Some t) key there = refl
 
@@ -128,11 +128,11 @@ module _ (tables : List TableShape) where
   numbered true n p e = (refl, cc)
   numbered false n p e = absurd (cc)
 
-  part_numbered : (o : Option TableShape) (n p : ℕ) → option_and_then (λ t. if nat_lt n t.partitions then Some n else None) o ≡ Some p → option_map (λ s. nat_lt p s.partitions) o ≡ Some true
+  part_numbered : (o : Option TableShape) (n p : ℕ) → option_and_then (λ t. if nat_lt n (partitions t.split) then Some n else None) o ≡ Some p → option_map (λ s. nat_lt p (partitions s.split)) o ≡ Some true
   part_numbered None n p e = absurd (cc)
   part_numbered (Some t) n p e =
-      let both = numbered (nat_lt n t.partitions) n p e in
-      ap (λ b. Some b) (ap (λ (m : ℕ). nat_lt m t.partitions) (sym both.1) ∙ both.0)
+      let both = numbered (nat_lt n (partitions t.split)) n p e in
+      ap (λ b. Some b) (ap (λ (m : ℕ). nat_lt m (partitions t.split)) (sym both.1) ∙ both.0)
 
   is_part : (table : ℕ) (z : ℤ) (p : ℕ) → partition_numbered tables table z ≡ Some p → IsPlace (Table table (Part p WholePart))
   is_part table (pos n) p e = part_numbered (slice_get tables table) n p e

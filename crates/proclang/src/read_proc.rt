@@ -90,5 +90,6 @@ pub(crate) fn read_proc(
         footprint,
         body,
     } = parts;
-    Ok(Proc::new(catalogue, name, params, footprint, body))
+    let proc = Proc::new(alloc, catalogue, name, params, footprint, body)?;
+    Ok(proc)
 }

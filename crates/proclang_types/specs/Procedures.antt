@@ -1,8 +1,9 @@
 -- Claimed: what contracts promise to a reader rests on these words.
 -- A procedure as contracts see it: its parts, and the tables that it speaks of.
-use Rattle.std.specs.Prelude.{ℕ, List, string_bytes}
+use Rattle.std.specs.Prelude.{ℕ, List, map, string_bytes}
 use Rattle.catalogue.specs.Shapes.{TableShape}
 use Rattle.proclang_types.specs.declared.procedure.Param.{Param}
+use Rattle.proclang_types.specs.declared.procedure.Parts.{Parts}
 use Rattle.proclang_types.specs.declared.statement.Stmt.{Stmt}
 use Rattle.proclang_types.specs.declared.statement.ProcFootprint.{ProcFootprint}
 use Rattle.proclang_types.specs.Syntax.{ParamShape, ProcSyntax}
@@ -17,6 +18,16 @@ pub record ProcParts : Type 0 where
 
 abbrev pub param_shape : Param → ParamShape
 param_shape p = record { name = string_bytes p.name; kind = p.kind }
+
+-- a procedure's parts as they lie in memory, over tables
+abbrev pub proc_parts : List TableShape → Parts → ProcParts
+proc_parts tables parts = record {
+  tables = tables;
+  name = string_bytes parts.name;
+  params = map param_shape parts.params.items;
+  footprint = parts.footprint;
+  body = parts.body.items;
+}
 
 abbrev pub proc_syntax : ProcParts → ProcSyntax
 proc_syntax p = record { name = p.name; params = p.params; footprint = footprint_view p.footprint; body = stmts_view p.body }

@@ -1,5 +1,5 @@
 -- The rows of a table are those of its partitions.
-use Rattle.std.proofs.Common.{◌≡◌, ℕ, ◌+◌, ◌%◌, ◌<◌, ◌≤◌, ◌==◌, ◌&&◌, ◌||◌, Bool, true, false, cond, nat_lt, unwrap_or, List, [], ◌∷◌, ◌++◌, drop, length, map, take, Option, Some, None, option_map, slice_get, refl, sym, ap, ◌∙◌, subst, arith, Less, IsPermutation}
+use Rattle.std.proofs.Common.{◌≡◌, ℕ, ◌+◌, ◌<◌, ◌≤◌, ◌==◌, ◌&&◌, ◌||◌, Bool, true, false, cond, nat_lt, nat_le, unwrap_or, List, [], ◌∷◌, ◌++◌, drop, length, map, take, Option, Some, None, option_map, slice_get, refl, sym, ap, ◌∙◌, subst, arith, Less, IsPermutation}
 use Rattle.std.specs.Borrow.{Bor}
 use Rattle.std.specs.List.{AllByRecursion}
 use Rattle.std.specs.List.Sorted.{IsNonDecreasingBy, IsStrictlySortedBy}
@@ -9,9 +9,10 @@ use Rattle.std.specs.FinMap.Entries.{find-where_key, is_sorted-where_key, same_e
 use Rattle.std.proofs.lemmas.Bool.Decides.{nat_tests}
 use Rattle.std.proofs.lemmas.List.{map-append, take_at}
 use Rattle.std.proofs.lemmas.List.Elements.{filter_agree}
+use Rattle.std.proofs.lemmas.List.Sums.{count_by-le-length}
 use Rattle.std.proofs.lemmas.List.Sorted.{IsPermutation-append_left, IsPermutation-cons, IsPermutation-map, IsPermutation-middle, IsPermutation-refl, IsPermutation-sym, IsPermutation-trans}
 use Rattle.values.specs.declared.name.RowName.{RowName}
-use Rattle.catalogue.specs.Shapes.{TableShape}
+use Rattle.catalogue.specs.Shapes.{SplitShape, by_remainder, at_bounds, partitions, part_with, TableShape}
 use Rattle.catalogue.specs.Places.{partition_of}
 use Rattle.values.specs.Database.{Database, RowOf, name_cmp}
 use Rattle.meaning.proofs.Partitions.{get_part}
@@ -89,21 +90,22 @@ more_gathered tables table part db old new before is =
 
 -- ---- all partitions
 
-within : (key count : ℕ) → 1 ≤ count → key % count < count
-within key count h = grind arith
+within : (split : SplitShape) (key : ℕ) → 1 ≤ partitions split → part_with split key < partitions split
+within (by_remainder count) key some = grind (arith, some)
+within (at_bounds bounds) key some = let few = count_by-le-length (λ bound. nat_le bound key) bounds in omega (arith, few)
 
-in_all : (key count : ℕ) (shape : Option TableShape) → Some count ≡ option_map (λ t. t.partitions) shape → 1 ≤ count → nat_lt (unwrap_or (option_map (λ t. key % t.partitions) shape) 0) count ≡ true
+in_all : (key count : ℕ) (shape : Option TableShape) → Some count ≡ option_map (λ t. partitions t.split) shape → 1 ≤ count → nat_lt (unwrap_or (option_map (λ t. part_with t.split key) shape) 0) count ≡ true
 in_all key count None is some = absurd cc
 in_all key count (Some shape) is some =
-    let same : count ≡ shape.partitions = cc in
-    let low : key % shape.partitions < count = subst (λ n. key % n < count) same (within key count some) in
-    grind (arith, nat_tests)
+    let same : count ≡ partitions shape.split = cc in
+    let low : part_with shape.split key < count = subst (λ n. part_with shape.split key < n) (sym same) (within shape.split key (subst (λ n. 1 ≤ n) same some)) in
+    grind (arith, nat_tests, low)
 
 and_true : (b : Bool) → (b && true) ≡ b
 and_true true = refl
 and_true false = refl
 
-pub all_gathered : (tables : List TableShape) (table count : ℕ) (db : Database) (gathered : List (ℕ × Bor RowOf)) → Some count ≡ option_map (λ t. t.partitions) (slice_get tables table) → 1 ≤ count
+pub all_gathered : (tables : List TableShape) (table count : ℕ) (db : Database) (gathered : List (ℕ × Bor RowOf)) → Some count ≡ option_map (λ t. partitions t.split) (slice_get tables table) → 1 ≤ count
     → IsPermutation (by_key (kept (is_before tables table count) (entries db))) (referred gathered) → IsPermutation (by_key (rows_of table db)) (referred gathered)
 all_gathered tables table count db gathered is some h =
     subst (λ rows. IsPermutation (by_key rows) (referred gathered))

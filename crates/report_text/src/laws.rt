@@ -3,6 +3,7 @@
 ghost use Rattle.std.specs.Prelude.{◌≡◌, ◌<◌, List, Some, length};
 ghost use Rattle.std.specs.FinMap.{entries, get};
 ghost use Rattle.values.specs.declared.name.RowName.{RowName};
+ghost use Rattle.catalogue.specs.Schemas.{HaveSameSchema};
 ghost use Rattle.catalogue.specs.Shapes.{TableShape};
 ghost use Rattle.values.specs.Database.{Database, RowOf};
 ghost use Rattle.meaning.specs.Entries.{EntryShape};
@@ -19,6 +20,11 @@ pub fn every_row_has_its_line()
     ensures { (tables : List TableShape) (db : Database) → ((name : RowName) (row : RowOf) → get db name ≡ Some row →
         name.table < length tables)
         → row_text tables db ≡ row_lines tables (entries db) }
+{}
+
+/// How keys are split shows in no row text: it is the same under two catalogues that have the same tables and columns.
+pub fn row_text_hangs_on_no_split()
+    ensures { (ts us : List TableShape) (db : Database) → HaveSameSchema ts us → row_text ts db ≡ row_text us db }
 {}
 
 /// From rows of the columns' types, calls of procedures that fit the tables leave rows of the columns' types, each with its

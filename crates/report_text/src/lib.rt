@@ -14,7 +14,9 @@ mod values_text;
 mod words;
 
 pub use digest::{digest_of, digest_text, push_table_name, row_line};
-pub use laws::{every_row_has_its_line, every_row_left_by_calls_has_its_line};
+pub use laws::{
+    every_row_has_its_line, every_row_left_by_calls_has_its_line, row_text_hangs_on_no_split,
+};
 pub use lines::{push_batch_line, push_end_line, push_reply_line};
 pub use plan_lines::push_plan;
 pub use rows_in_order::rows_digest;

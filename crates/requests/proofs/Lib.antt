@@ -1,2 +1,3 @@
 pub mod ProcLists
 pub mod Requests
+pub mod Moving

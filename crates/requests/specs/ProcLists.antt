@@ -1,11 +1,9 @@
 -- Claimed: what contracts promise to a reader rests on these words.
 -- Procedures by name, in declared order.
 use Rattle.std.specs.Prelude.{◌≡◌, ℕ, List, map, String, string_bytes, Option, find, true}
-use Rattle.std.specs.Arc.{arc_value}
 use Rattle.std.specs.List.{AllByRecursion, IsDistinct}
 use Rattle.std.specs.Str.{bytes_eq}
 use Rattle.std.specs.declared.alloc.Global.{Global}
-use Rattle.std.specs.declared.sync.Arc.{Arc}
 use Rattle.values.specs.Names.{is_name}
 use Rattle.catalogue.specs.Shapes.{TableShape}
 use Rattle.proclang_types.specs.Procedures.{ProcParts}
@@ -29,13 +27,21 @@ pub record AreProcs (tables : List TableShape) (procs : List ProcParts) : Type 0
 abbrev pub proc_named : List ProcParts → List ℕ → Option ProcParts
 proc_named procs name = find (λ p. bytes_eq name p.name) procs
 
+-- a procedure over other tables, else as it is
+abbrev pub over_tables : List TableShape → ProcParts → ProcParts
+over_tables tables p = record p { tables = tables }
+
+-- all of them over other tables
+abbrev pub procs_over : List TableShape → ProcsParts → ProcsParts
+procs_over tables procs = record { tables = tables; procs = map (over_tables tables) procs.procs }
+
 -- ---- as they lie in memory
 
 abbrev pub NamedProc : Type 0
-NamedProc = String Global × Arc ProcParts Global
+NamedProc = String Global × ProcParts
 
 abbrev pub proc_of : NamedProc → ProcParts
-proc_of e = arc_value e.1
+proc_of e = e.1
 
 abbrev pub procs_of : List NamedProc → List ProcParts
 procs_of entries = map proc_of entries

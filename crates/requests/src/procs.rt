@@ -1,9 +1,9 @@
 //! Procedures by name.
 
-ghost use Rattle.std.specs.Prelude.{◌≡◌, ◌∷◌, ◌++◌, [], true, None, OnOk, OnErr, IfSome, is_some, length, option_map};
-ghost use Rattle.std.specs.Arc.{arc_value};
+ghost use Rattle.std.specs.Prelude.{◌≡◌, ◌∷◌, ◌++◌, [], true, None, OnOk, OnErr, IfOk, IfSome, is_some, length, option_map};
 ghost use Rattle.values.specs.Names.{is_name};
-ghost use Rattle.requests.specs.ProcLists.{AreKeyed, proc_named, procs_of};
+ghost use Rattle.catalogue.specs.Schemas.{HaveSameSchema};
+ghost use Rattle.requests.specs.ProcLists.{AreKeyed, procs_over, proc_named, procs_of};
 
 use catalogue::Catalogue;
 use indexmap::IndexMap;
@@ -11,7 +11,6 @@ use proclang_types::Proc;
 use std::alloc::Global;
 use std::marker::Model;
 use std::snapshot::Snapshot;
-use std::sync::Arc;
 use values::NoMemory;
 
 /// Procedures over the tables of a catalogue, by their names and in declared order. Each is well typed, its name obeys
@@ -19,7 +18,7 @@ use values::NoMemory;
 #[derive(Drop)]
 pub struct Procs {
     catalogue: Snapshot<Catalogue>,
-    procs: IndexMap<String, Arc<Proc>>,
+    procs: IndexMap<String, Proc>,
 }
 
 impl Model for Procs {
@@ -38,18 +37,14 @@ impl Model for Procs {
     ghost invariant = { λ p. IsProcMap p.catalogue.value p.procs.entries };
 }
 
-fn find_proc<'a>(procs: &'a IndexMap<String, Arc<Proc>>, name: &str) -> Option<&'a Arc<Proc>>
+fn find_proc<'a>(procs: &'a IndexMap<String, Proc>, name: &str) -> Option<&'a Proc>
     requires { AreKeyed procs.now.entries }
-    ensures { option_map (λ p. arc_value p.now) result ≡ proc_named (procs_of procs.now.entries) name.now }
+    ensures { option_map (λ p. p.now) result ≡ proc_named (procs_of procs.now.entries) name.now }
 {
     procs.get(name)
 }
 
-fn push_proc(
-    alloc: Global,
-    procs: &mut IndexMap<String, Arc<Proc>>,
-    proc: Proc,
-) -> Result<(), NoMemory>
+fn push_proc(alloc: Global, procs: &mut IndexMap<String, Proc>, proc: Proc) -> Result<(), NoMemory>
     requires keyed { AreKeyed procs.old.entries }
     requires fresh { proc_named (procs_of procs.old.entries) proc.name ≡ None }
     ensures pushed { OnOk result (procs_of procs.new.entries ≡ procs_of procs.old.entries ++ proc ∷ []) }
@@ -57,7 +52,6 @@ fn push_proc(
     ensures same { OnErr result (procs.new.entries ≡ procs.old.entries) }
 {
     let name = String::from_str(alloc, proc.name())?;
-    let proc = Arc::new(alloc, proc)?;
     procs.insert(name, proc)?;
     Ok(())
 }
@@ -89,6 +83,20 @@ impl Procs {
         push_proc(alloc, &mut self.procs, proc)
     }
 
+    /// The same procedures over another catalogue with the same tables and columns in the same order.
+    #[tactic(auto, using(crate::proofs::Moving::next_fresh))]
+    pub fn rebuild(&self, alloc: Global, catalogue: &Catalogue) -> Result<Procs, NoMemory>
+        requires { HaveSameSchema self.now.tables catalogue.now }
+        ensures { IfOk result (λ procs. procs ≡ procs_over catalogue.now self.now) }
+    {
+        let mut procs = Procs::new(alloc, catalogue);
+        for proc in self.procs.values() {
+            let moved = proc.clone()?.over(catalogue.clone()?);
+            procs.push(alloc, moved)?;
+        }
+        Ok(procs)
+    }
+
     /// How many procedures there are, 0 to 256 of a setup.
     pub fn len(&self) -> usize
         ensures { result ≡ length self.now.procs }
@@ -104,9 +112,9 @@ impl Procs {
     }
 
     /// The procedure of that name, `None` exactly where none has it.
-    pub(crate) fn find(&self, name: &str) -> Option<&Arc<Proc>>
-        ensures found { option_map (λ p. arc_value p.now) result ≡ proc_named self.now.procs name.now }
-        ensures tables { IfSome result (λ p. (arc_value p.now).tables ≡ self.now.tables) }
+    pub(crate) fn find(&self, name: &str) -> Option<&Proc>
+        ensures found { option_map (λ p. p.now) result ≡ proc_named self.now.procs name.now }
+        ensures tables { IfSome result (λ p. p.now.tables ≡ self.now.tables) }
     {
         find_proc(&self.procs, name)
     }

@@ -2,14 +2,15 @@
 
 ghost use Rattle.std.specs.Prelude.{◌≡◌, ◌↔◌, Some, None, Err, IfOk, IsSomeAnd, IsOkUnless, IsTrue, map};
 ghost use Rattle.std.specs.List.{list_all, zip};
+ghost use Rattle.catalogue.specs.Schemas.{HaveSameSchema};
 ghost use Rattle.proclang_types.specs.Procedures.{param_shape};
 ghost use Rattle.requests.specs.Requests.{fits, AreArgs};
 
 use crate::procs::Procs;
+use catalogue::Catalogue;
 use proclang_types::{Param, Proc};
 use std::alloc::AllocError;
 use std::marker::Model;
-use std::sync::Arc;
 use thiserror::Error;
 use values::{ColType, Value};
 
@@ -58,12 +59,11 @@ fn are_args(params: &[Param], args: &[Value]) -> bool
 /// the procedures that it was made from, and with its clones.
 #[derive(Drop)]
 pub struct Request {
-    proc: Arc<Proc>,
+    proc: Proc,
     args: Vec<Value>,
 }
 
 impl Model for Request {
-    ghost use Rattle.std.specs.Arc.{arc_value};
     ghost use Rattle.std.specs.Coded.{codes};
     ghost use Rattle.proclang_types.specs.contracts.expression.IntExpr as int_expr;
     ghost use Rattle.proclang_types.specs.contracts.statement.Stmt as stmt;
@@ -74,9 +74,9 @@ impl Model for Request {
 
     ghost coded = { Prim.hlevel (codes, int_expr.the_row.coded, stmt.the_row.coded, proc_footprint.the_row.coded) };
 
-    ghost view = { λ r. record { proc = arc_value r.proc; args = r.args.items } };
+    ghost view = { λ r. record { proc = r.proc; args = r.args.items } };
 
-    ghost invariant = { λ r. AreArgs (arc_value r.proc).params r.args.items };
+    ghost invariant = { λ r. AreArgs r.proc.params r.args.items };
 }
 
 impl Request {
@@ -111,6 +111,19 @@ impl Request {
         ensures { result.now ≡ self.now.proc }
     {
         &self.proc
+    }
+
+    /// The request over another catalogue with the same tables and columns in the same order: a request that was made before tables were split
+    /// anew goes on so. It takes no memory.
+    pub fn over(self, catalogue: Catalogue) -> Request
+        requires { HaveSameSchema self.proc.tables catalogue }
+        ensures { result ≡ record self { proc = record self.proc { tables = catalogue } } }
+    {
+        let Request { proc, args } = self;
+        Request {
+            proc: proc.over(catalogue),
+            args,
+        }
     }
 
     /// The values, in the order of the parameters.

@@ -91,6 +91,7 @@ pub loan_ready : (tables : List TableShape) (plan : Requests) (old mid : Shelves
 loan_ready tables plan old mid held over ready = record {
   over = over;
   no_shelf = ready.no_shelf;
+  no_end = ready.no_end;
   written = λ q. sym (listed_names held.written.items q) ∙ ap is_some (ready.written q) ∙ some_test (locks_itself plan Write q) (found tables old q).row;
   distinct = ready.distinct;
 }
@@ -129,6 +130,7 @@ pub loan_rows_written : (tables : List TableShape) (plan : Requests) (old new : 
 loan_rows_written tables plan old new names loan = record {
   over = loan.over;
   no_shelf = loan.no_shelf;
+  no_end = loan.no_end;
   written = λ q. ap (λ ns. is_named ns q) names ∙ loan.written q;
   distinct = subst AreDistinct (sym names) loan.distinct;
 }

@@ -1,7 +1,8 @@
 pub mod Back
 pub mod ByName
 pub mod Incoming
-pub mod LongNames
+pub mod PartEnds
+pub mod LockedEnds
 pub mod Outgoing
 pub mod Copies
 pub mod Exact
@@ -13,6 +14,7 @@ pub mod Lists
 pub mod Numbers
 pub mod Ordered
 pub mod Placed
+pub mod Rebuilt
 pub mod Rows
 pub mod Scans
 pub mod Sharing

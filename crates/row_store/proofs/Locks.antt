@@ -5,7 +5,7 @@ use Rattle.std.specs.List.{list_any}
 use Rattle.std.proofs.lemmas.Bool.Decides.{nat_tests}
 use Rattle.std.specs.Ordering.{is_eq, nat_cmp}
 use Rattle.values.specs.declared.name.RowName.{RowName}
-use Rattle.catalogue.specs.Shapes.{TableShape}
+use Rattle.catalogue.specs.Shapes.{TableShape, partitions}
 use Rattle.catalogue.specs.Places.{partition_of, partition_numbered}
 use Rattle.proclang_types.specs.declared.right.Right.{Right}
 use Rattle.proclang_types.specs.declared.right.Right.TheVariants.{Read, Write}
@@ -78,13 +78,13 @@ no_table tables t u l none e =
       | inr x ↦ omega (arith, x.0, l)
     ]
 
-no_part : (o : Option TableShape) (p : ℕ) → option_map (λ (s : TableShape). nat_lt p s.partitions) o ≡ Some true → o ≡ None → ⊥
+no_part : (o : Option TableShape) (p : ℕ) → option_map (λ (s : TableShape). nat_lt p (partitions s.split)) o ≡ Some true → o ≡ None → ⊥
 no_part None p e f = cc
 no_part (Some s) p e f = cc
 
-part_below : (o : Option TableShape) (s : TableShape) (p : ℕ) → option_map (λ (s : TableShape). nat_lt p s.partitions) o ≡ Some true → o ≡ Some s → nat_lt p s.partitions ≡ true
+part_below : (o : Option TableShape) (s : TableShape) (p : ℕ) → option_map (λ (s : TableShape). nat_lt p (partitions s.split)) o ≡ Some true → o ≡ Some s → nat_lt p (partitions s.split) ≡ true
 part_below o s p e f =
-    let g : option_map (λ (s : TableShape). nat_lt p s.partitions) (Some s) ≡ Some true = ap (option_map (λ (s : TableShape). nat_lt p s.partitions)) (sym f) ∙ e in
+    let g : option_map (λ (s : TableShape). nat_lt p (partitions s.split)) (Some s) ≡ Some true = ap (option_map (λ (s : TableShape). nat_lt p (partitions s.split))) (sym f) ∙ e in
     cc
 
 true_false : (b : Bool) → b ≡ true → b ≡ false → ⊥
@@ -105,14 +105,14 @@ over_row tables (Table t (Part p WholePart)) of q =
     elim (slice_get tables q.table) as (λ (s : Option TableShape). slice_get tables q.table ≡ s → ((t == q.table) && ((p == part) && true)) ≡ holds (Table t (Part p WholePart)) (shelf_in tables q.table part s)) [
       | None ↦ λ is. not_one (t == q.table) ((p == part) && true) (λ e. no_part (slice_get tables t) p of (ap (slice_get tables) (same_number t q.table e) ∙ is))
       | Some s ↦ λ is.
-          elim (nat_lt part s.partitions) as (λ (b : Bool). nat_lt part s.partitions ≡ b → ((t == q.table) && ((p == part) && true)) ≡ holds (Table t (Part p WholePart)) (numbered q.table (if b then Some part else None))) [
+          elim (nat_lt part (partitions s.split)) as (λ (b : Bool). nat_lt part (partitions s.split) ≡ b → ((t == q.table) && ((p == part) && true)) ≡ holds (Table t (Part p WholePart)) (numbered q.table (if b then Some part else None))) [
             | true ↦ λ on. refl
             | false ↦ λ on. not_both (t == q.table) (p == part) (λ e f.
-                true_false (nat_lt p s.partitions)
+                true_false (nat_lt p (partitions s.split))
                 (part_below (slice_get tables t) s p of (ap (slice_get tables) (same_number t q.table e) ∙ is))
-                (ap (λ n. nat_lt n s.partitions) (same_number p part f) ∙ on))
+                (ap (λ n. nat_lt n (partitions s.split)) (same_number p part f) ∙ on))
           ] refl
-          ∙ ap (λ o. holds (Table t (Part p WholePart)) (numbered q.table (option_and_then (λ (x : TableShape). if nat_lt part x.partitions then Some part else None) o))) (sym is)
+          ∙ ap (λ o. holds (Table t (Part p WholePart)) (numbered q.table (option_and_then (λ (x : TableShape). if nat_lt part (partitions x.split) then Some part else None) o))) (sym is)
     ] refl
 over_row tables (Table t (Part p (Row k))) of q =
     let part : ℕ = unwrap_or (partition_of tables q.table q.key) 0 in

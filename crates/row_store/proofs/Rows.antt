@@ -43,7 +43,7 @@ or_assoc : (a b c : Bool) → a || (b || c) ≡ (a || b) || c
 or_assoc true b c = refl
 or_assoc false b c = refl
 
-or_true : (b : Bool) → b || true ≡ true
+pub or_true : (b : Bool) → b || true ≡ true
 or_true true = refl
 or_true false = refl
 
@@ -52,14 +52,14 @@ pub named_append : (ms ns : List RowName) (q : RowName) → is_named (ms ++ ns) 
 named_append [] ns q = refl
 named_append (m ∷ ms) ns q = ap (λ b. is_name m q || b) (named_append ms ns q) ∙ or_assoc (is_name m q) (is_named ms q) (is_named ns q)
 
-named_place : (es : List (RowName × Place)) (q : RowName) (p : Place) → lookup (is_at (name_cmp q)) es ≡ Some p → is_named (map (λ e. e.0) es) q ≡ true
+pub named_place : (es : List (RowName × Place)) (q : RowName) (p : Place) → lookup (is_at (name_cmp q)) es ≡ Some p → is_named (map (λ e. e.0) es) q ≡ true
 named_place [] q p h = absurd (cc)
 named_place (e ∷ es) q p h = elim (is_at (name_cmp q) e.0) as (λ (b : Bool). is_at (name_cmp q) e.0 ≡ b → cond b (Some e.1) (lookup (is_at (name_cmp q)) es) ≡ Some p → is_named (map (λ e. e.0) (e ∷ es)) q ≡ true) [
   | true ↦ λ is g. ap (λ b. b || is_named (map (λ e. e.0) es) q) (sym (turned e.0 q) ∙ is)
   | false ↦ λ is g. ap (λ b. is_name e.0 q || b) (named_place es q p g) ∙ or_true (is_name e.0 q)
 ] refl h
 
-stands_there : (o : Option Place) (r : RowOf) → standing o ≡ Some r → (x : Place) × (o ≡ Some x)
+pub stands_there : (o : Option Place) (r : RowOf) → standing o ≡ Some r → (x : Place) × (o ≡ Some x)
 stands_there None r h = absurd (cc)
 stands_there (Some x) r h = (x, refl)
 

@@ -5,7 +5,7 @@ use Rattle.std.proofs.lemmas.Bool.Decides.{nat_tests}
 use Rattle.std.proofs.lemmas.Option.{slice_get_within}
 use Rattle.std.specs.Ordering.{is_eq, nat_cmp, ordering_then}
 use Rattle.values.specs.declared.name.RowName.{RowName}
-use Rattle.catalogue.specs.Shapes.{TableShape}
+use Rattle.catalogue.specs.Shapes.{TableShape, partitions}
 use Rattle.catalogue.specs.Places.{partition_of, partition_numbered}
 use Rattle.footprint.specs.declared.resource.Resource.{Resource}
 use Rattle.footprint.specs.declared.resource.Resource.TheVariants.{Db, Table}
@@ -17,9 +17,9 @@ use Rattle.row_store.specs.Shelving.{shelf_of, shelf_at, shelf_in, numbered}
 use Rattle.row_store.specs.Locked.{among, is_part_below, is_table_below}
 
 -- a partition's number is the one that was asked for
-number_in : (s : Option TableShape) (n p : ℕ) → option_and_then (λ (t : TableShape). if nat_lt n t.partitions then Some n else None) s ≡ Some p → p ≡ n
+number_in : (s : Option TableShape) (n p : ℕ) → option_and_then (λ (t : TableShape). if nat_lt n (partitions t.split) then Some n else None) s ≡ Some p → p ≡ n
 number_in None n p e = absurd (cc)
-number_in (Some s) n p e = elim (nat_lt n s.partitions) as (λ (b : Bool). (if b then Some n else None) ≡ Some p → p ≡ n) [
+number_in (Some s) n p e = elim (nat_lt n (partitions s.split)) as (λ (b : Bool). (if b then Some n else None) ≡ Some p → p ≡ n) [
   | true ↦ λ is. cc
   | false ↦ λ is. absurd (cc)
 ] e
@@ -71,12 +71,12 @@ both_or true c h = h refl
 both_or false c h = refl
 
 -- where a table has no partition with a number, its shelves are its own and those of lesser partitions
-table_part : (table n t p : ℕ) (s : Option TableShape) → (table ≡ t → option_and_then (λ (x : TableShape). if nat_lt n x.partitions then Some n else None) s ≡ None)
-    → (is_shelf (Table table WholeTable) (numbered t (option_and_then (λ (x : TableShape). if nat_lt p x.partitions then Some p else None) s)) || is_part_below table n (numbered t (option_and_then (λ (x : TableShape). if nat_lt p x.partitions then Some p else None) s)))
+table_part : (table n t p : ℕ) (s : Option TableShape) → (table ≡ t → option_and_then (λ (x : TableShape). if nat_lt n (partitions x.split) then Some n else None) s ≡ None)
+    → (is_shelf (Table table WholeTable) (numbered t (option_and_then (λ (x : TableShape). if nat_lt p (partitions x.split) then Some p else None) s)) || is_part_below table n (numbered t (option_and_then (λ (x : TableShape). if nat_lt p (partitions x.split) then Some p else None) s)))
     ≡ (table == t)
 table_part table n t p None none = own_shelf table t
-table_part table n t p (Some s) none = elim (nat_lt p s.partitions) as (λ (b : Bool). nat_lt p s.partitions ≡ b → (is_shelf (Table table WholeTable) (numbered t (if b then Some p else None)) || is_part_below table n (numbered t (if b then Some p else None))) ≡ (table == t)) [
-  | true ↦ λ is. ap (λ x. x || ((table == t) && nat_lt p n)) (not_own table t p) ∙ both_or (table == t) (nat_lt p n) (λ e. below n p s.partitions (none (same_number table t e)) is)
+table_part table n t p (Some s) none = elim (nat_lt p (partitions s.split)) as (λ (b : Bool). nat_lt p (partitions s.split) ≡ b → (is_shelf (Table table WholeTable) (numbered t (if b then Some p else None)) || is_part_below table n (numbered t (if b then Some p else None))) ≡ (table == t)) [
+  | true ↦ λ is. ap (λ x. x || ((table == t) && nat_lt p n)) (not_own table t p) ∙ both_or (table == t) (nat_lt p n) (λ e. below n p (partitions s.split) (none (same_number table t e)) is)
   | false ↦ λ is. own_shelf table t
 ] refl
 

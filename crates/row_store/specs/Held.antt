@@ -15,7 +15,7 @@ use Rattle.row_store.specs.declared.held.HeldShelves.{HeldShelves}
 use Rattle.row_store.specs.declared.held.Holdings.{Holdings}
 use Rattle.row_store.specs.declared.held.Holdings.TheVariants.{Rows, Shelves}
 use Rattle.row_store.specs.Places.{Shelves as AllShelves, has_shelf, is_away, has_place, settled, full, gone, seen_at, written}
-use Rattle.row_store.specs.Shelving.{shelf_of}
+use Rattle.row_store.specs.Shelving.{shelf_of, is_end}
 use Rattle.row_store.specs.Locked.{among, is_named, locks_shelf, locks_itself}
 use Rattle.row_store.specs.Moving.{AreEmptied, AreShelvesLent, is_ready}
 use Rattle.row_store.specs.Named.{listed, is_listed, names_listed, row_in, reads_itself, AreDistinct, AreListed}
@@ -33,11 +33,12 @@ abbrev pub rows_held : List TableShape → Holdings → Database
 rows_held tables (Rows held) = rows_by_name held
 rows_held tables (Shelves held) = rows_of tables held.shelves
 
--- What holds of a loan that has its rows by their names: its plan locks no shelf whole, and what it gives back are the row
--- names that the plan locks to write, each of which is listed once.
+-- What holds of a loan that has its rows by their names: its plan locks no shelf whole and no last name of a partition, and what
+-- it gives back are the row names that the plan locks to write, each of which is listed once.
 pub record IsLoanByName (tables : List TableShape) (plan : Requests) (held : HeldRows) : Type 0 where
   pub over : IsPlanOver tables plan
   pub no_shelf : (name : RowName) → locks_shelf plan Read (shelf_of tables name) ≡ false
+  pub no_end : (name : RowName) → locks_itself plan Read name ≡ true → is_end tables name ≡ false
   pub written : (name : RowName) → is_listed held.written.items name ≡ locks_itself plan Write name
   pub distinct : AreDistinct (names_listed held.written.items)
 
@@ -64,6 +65,7 @@ AreReadShelves tables plan moved shelves loan = (name : RowName)
 -- the row names that the plan locks have the rows that stand at them
 pub record AreRowsReady (tables : List TableShape) (plan : Requests) (old new : AllShelves) (held : HeldRows) : Type 0 where
   pub no_shelf : (name : RowName) → locks_shelf plan Read (shelf_of tables name) ≡ false
+  pub no_end : (name : RowName) → locks_itself plan Read name ≡ true → is_end tables name ≡ false
   pub written : AreListed tables held.written.items (locks_itself plan Write) old
   pub read : AreListed tables held.read.items (reads_itself plan) old
   pub with_place : (name : RowName) → locks_itself plan Write name ≡ true → has_place new (shelf_of tables name) name ≡ true

@@ -12,7 +12,9 @@ use Rattle.modes.specs.declared.mode.Mode.{Mode}
 use Rattle.modes.specs.Rights.{rank_of}
 use Rattle.modes.specs.Modes.{own}
 use Rattle.coarsen.specs.Subtrees.{Requests, holds}
+use Rattle.catalogue.specs.Shapes.{TableShape}
 use Rattle.row_store.specs.Places.{is_name, is_shelf}
+use Rattle.row_store.specs.Shelving.{is_end}
 
 -- the mode gives the right on the resource itself
 abbrev pub gives : Right → Mode → Bool
@@ -28,6 +30,14 @@ name_of (Table table (Part part (Row key))) = if nat_lt key (2 ^ 63) then Some (
 abbrev pub is_of : Option RowName → RowName → Bool
 is_of None name = false
 is_of (Some found) name = is_name found name
+
+abbrev pub is_end_among : List TableShape → Option RowName → Bool
+is_end_among tables None = false
+is_end_among tables (Some name) = is_end tables name
+
+-- whether a resource is the last row name of a partition
+abbrev pub is_an_end : List TableShape → Resource → Bool
+is_an_end tables resource = is_end_among tables (name_of resource)
 
 -- a request with the right, on the shelf's resource or one over it
 abbrev pub locks_shelf : Requests → Right → Resource → Bool

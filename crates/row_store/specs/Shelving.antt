@@ -1,9 +1,9 @@
 -- Of the code: invariants and steps; no promise rests on these words.
 -- Where the place of a row name stands.
-use Rattle.std.specs.Prelude.{◌≡◌, ℕ, ◌^◌, pos, true, false, nat_lt, List, Option, Some, None, unwrap_or, slice_get}
+use Rattle.std.specs.Prelude.{◌≡◌, ◌⊎◌, ℕ, ◌^◌, Bool, pos, true, false, nat_lt, List, Option, Some, None, unwrap_or, slice_get}
 use Rattle.values.specs.declared.name.RowName.{RowName}
 use Rattle.catalogue.specs.Shapes.{TableShape}
-use Rattle.catalogue.specs.Places.{partition_of, partition_numbered}
+use Rattle.catalogue.specs.Places.{partition_of, partition_numbered, is_end_of}
 use Rattle.workspace.specs.Scan.{is_in_part}
 use Rattle.footprint.specs.declared.resource.Resource.{Resource}
 use Rattle.footprint.specs.declared.resource.Resource.TheVariants.{Db, Table}
@@ -27,8 +27,12 @@ shelf_at tables table part = shelf_in tables table part (slice_get tables table)
 unfoldable pub shelf_of : List TableShape → RowName → Resource
 shelf_of tables name = shelf_at tables name.table (unwrap_or (partition_of tables name.table name.key) 0)
 
--- a partition with a name has one whose key is no row's of a resource
-abbrev pub HasLongNames : List TableShape → Type 0
-HasLongNames tables =
+-- whether a name is the last of its partition
+abbrev pub is_end : List TableShape → RowName → Bool
+is_end tables name = unwrap_or (is_end_of tables name.table name.key) false
+
+-- a partition with a name has one that is its last, or one whose key is no row's of a resource
+abbrev pub HasEnds : List TableShape → Type 0
+HasEnds tables =
     (table part : ℕ) (name : RowName) → is_in_part tables table part name ≡ true
-    → (long : RowName) × (is_in_part tables table part long ≡ true) × (nat_lt long.key (2 ^ 63) ≡ false)
+    → (end : RowName) × (is_in_part tables table part end ≡ true) × ((is_end tables end ≡ true) ⊎ (nat_lt end.key (2 ^ 63) ≡ false))

@@ -15,7 +15,8 @@ use std::alloc::Global;
 use std::collections::BTreeMap;
 use values::{NoMemory, Row, RowName};
 
-/// The rows of a plan that locks no shelf whole, each at a name that the plan locks by itself.
+/// The rows of a plan that locks no shelf whole and no row name at which a partition ends, each at a name that the plan locks by
+/// itself.
 #[derive(Drop)]
 pub(crate) struct HeldRows {
     /// The rows at names that the plan locks to write: they are given back.
@@ -73,8 +74,8 @@ pub(crate) struct HeldShelves {
 /// What a loan holds.
 #[derive(Drop)]
 pub(crate) enum Holdings {
-    /// Of a plan that locks no shelf whole, and few rows: the rows by their names. Those that are lent to be written stay in
-    /// the store, too, where nobody is shown them.
+    /// Of a plan that locks no shelf whole, and few rows, none of which ends a partition at a bound: the rows by their names.
+    /// Those that are lent to be written stay in the store, too, where nobody is shown them.
     Rows(HeldRows),
     /// Of any other plan: shelves.
     Shelves(HeldShelves),

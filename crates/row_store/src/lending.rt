@@ -19,7 +19,7 @@ ghost use Rattle.row_store.specs.Views.{found};
 use crate::by_name::{put_listed, read_rows, written_rows};
 use crate::exchange::{make_shelves, put_shelves, share_shelves, take_shelves};
 use crate::held::{HeldRows, HeldShelves, Holdings};
-use crate::locked::{locked_names, locked_shelves};
+use crate::locked::{locked_names, locked_shelves, locks_an_end};
 use crate::moving::{empty_places, make_places, put_rows, share_rows};
 use crate::shelves::Shelves;
 use catalogue::Catalogue;
@@ -159,7 +159,10 @@ pub(crate) fn hold(
 {
     let requests = plan.requests();
     let read_shelves = locked_shelves(alloc, catalogue, requests, Right::Read)?;
-    if read_shelves.is_empty() && requests.len() <= FEW_REQUESTS {
+    if read_shelves.is_empty()
+        && requests.len() <= FEW_REQUESTS
+        && !locks_an_end(catalogue, requests)
+    {
         let rows = hold_rows(alloc, catalogue, shelves, requests)?;
         return Ok(Holdings::Rows(rows));
     }

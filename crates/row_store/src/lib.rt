@@ -13,6 +13,7 @@ mod locked;
 mod moving;
 mod named;
 mod place;
+mod rebuilding;
 mod scan;
 mod shelf;
 mod shelves;

@@ -1,6 +1,7 @@
 //! What a plan locks: whole shelves, and row names by themselves.
 
 ghost use Rattle.std.specs.Prelude.{◌≡◌, ◌||◌, ◌<◌, true, length, IfOk, OnOk};
+ghost use Rattle.std.specs.List.{list_any};
 ghost use Rattle.values.specs.declared.name.RowName.{RowName as AnyName};
 ghost use Rattle.footprint.specs.declared.resource.Resource.TheVariants.{Table};
 ghost use Rattle.footprint.specs.declared.resource.InTable.TheVariants.{WholeTable};
@@ -8,8 +9,9 @@ ghost use Rattle.footprint.specs.OfCatalogue.{IsResourceOf};
 ghost use Rattle.coarsen.specs.Subtrees.{holds};
 ghost use Rattle.coarsen.specs.Plans.{IsPlanOver};
 ghost use Rattle.row_store.specs.Shelving.{shelf_of};
-ghost use Rattle.row_store.specs.Locked.{gives, name_of, among, is_named, locks_shelf, locks_itself};
+ghost use Rattle.row_store.specs.Locked.{gives, name_of, is_an_end, among, is_named, locks_shelf, locks_itself};
 
+use crate::shelving::ends_partition;
 use catalogue::Catalogue;
 use footprint::{InPart, InTable, Resource, Right};
 use modes::Mode;
@@ -116,6 +118,25 @@ pub(crate) fn locked_shelves(
         }
     }
     Ok(shelves)
+}
+
+/// Whether a resource is the last row name of a partition.
+fn is_an_end(catalogue: &Catalogue, resource: &Resource) -> bool
+    ensures { result ≡ is_an_end catalogue.now resource.now }
+{
+    match name_of(resource) {
+        Some(name) => ends_partition(catalogue, &name),
+        None => false,
+    }
+}
+
+/// Whether requests are of the last row name of a partition.
+pub(crate) fn locks_an_end(catalogue: &Catalogue, requests: &[(Resource, Mode)]) -> bool
+    ensures { result ≡ list_any (λ e. is_an_end catalogue.now e.0) requests.now }
+{
+    requests
+        .iter()
+        .any(|(resource, _)| is_an_end(catalogue, resource))
 }
 
 /// The row names that requests lock by themselves with at least a right.

@@ -1,8 +1,9 @@
 //! Places: what stands at row names.
 
-ghost use Rattle.std.specs.Prelude.{◌≡◌, Some, Option, option_map, IfOk};
+ghost use Rattle.std.specs.Prelude.{◌≡◌, true, false, Some, Option, option_map, IfOk};
+ghost use Rattle.std.specs.Arc.{arc_value};
 ghost use Rattle.values.specs.Database.{RowOf};
-ghost use Rattle.row_store.specs.Places.{row_of, seen_over, emptied, shared_row};
+ghost use Rattle.row_store.specs.Places.{row_of, seen_over, full, emptied, shared_row};
 
 use std::alloc::AllocError;
 use std::sync::Arc;
@@ -50,6 +51,20 @@ impl Place {
         }
     }
 
+    /// Fills the place with a row, or with none. A row in place of another takes over its memory, if nobody else has either.
+    pub(crate) fn fill(&mut self, row: Option<Arc<Row>>)
+        ensures { (otherwise : Option RowOf) → seen_over (Some self.new) otherwise ≡ full (shared_row row) }
+    {
+        let Some(new) = row else {
+            *self = Place::Here(None);
+            return;
+        };
+        match self {
+            Place::Here(Some(old)) => overwrite(old, new),
+            _ => *self = Place::Here(Some(new)),
+        }
+    }
+
     /// Lends the row that stands at the place. It counts as before.
     pub(crate) fn empty(&mut self)
         ensures { (otherwise : Option RowOf) →
@@ -58,6 +73,32 @@ impl Place {
         if let Place::Here(row) = self {
             *self = Place::Lent(row.take());
         }
+    }
+}
+
+/// Exchanges the values of two rows, if nobody else has either, and tells whether it did. Else the other stays as it is.
+fn exchange(one: &mut Arc<Row>, other: &mut Arc<Row>) -> bool
+    ensures done { result ≡ true → arc_value one.new ≡ arc_value other.old }
+    ensures same { result ≡ false → arc_value other.new ≡ arc_value other.old }
+{
+    let Some(one) = Arc::get_mut(one) else {
+        return false;
+    };
+    let Some(other) = Arc::get_mut(other) else {
+        return false;
+    };
+    one.swap(other);
+    true
+}
+
+/// Gives a row the values of another. If nobody else has either row, the old one keeps its memory: rows that are written stay where
+/// they lie.
+fn overwrite(old: &mut Arc<Row>, new: Arc<Row>)
+    ensures { arc_value old.new ≡ arc_value new }
+{
+    let mut new = new;
+    if !exchange(old, &mut new) {
+        *old = new;
     }
 }
 

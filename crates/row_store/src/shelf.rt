@@ -134,7 +134,7 @@ impl Shelf {
     {
         if let Contents::Own(places) = &mut self.contents {
             if let Some(place) = places.get_mut(name) {
-                *place = Place::Here(row);
+                place.fill(row);
             }
         }
     }

@@ -2,7 +2,7 @@
 
 ghost use Rattle.std.specs.Prelude.{◌≡◌, unwrap_or};
 ghost use Rattle.catalogue.specs.Places.{partition_of};
-ghost use Rattle.row_store.specs.Shelving.{shelf_of, shelf_at, HasLongNames};
+ghost use Rattle.row_store.specs.Shelving.{shelf_of, shelf_at, is_end, HasEnds};
 
 use catalogue::Catalogue;
 use footprint::{InPart, InTable, Resource};
@@ -19,11 +19,18 @@ pub(crate) fn part_of(catalogue: &Catalogue, name: &RowName) -> u32
     }
 }
 
-/// A law; nothing is done. A partition with a name has a name that is no resource's.
-pub(crate) fn has_long_names(catalogue: &Catalogue)
-    ensures { HasLongNames catalogue.now }
+/// Whether a partition ends with a row name, at a bound.
+pub(crate) fn ends_partition(catalogue: &Catalogue, name: &RowName) -> bool
+    ensures { result ≡ is_end catalogue.now name.now }
 {
-    // The rules of catalogues say it: a table has partitions.
+    name.table.place() < catalogue.len() && catalogue.ends_partition(name.table, name.key)
+}
+
+/// A law; nothing is done. A partition with a name has a last name, or names that are no resource's.
+pub(crate) fn has_ends(catalogue: &Catalogue)
+    ensures { HasEnds catalogue.now }
+{
+    // The rules of catalogues say it: a table has partitions, and bounds rise.
     let _tables = catalogue.len();
 }
 

@@ -3,6 +3,7 @@
 ghost use Rattle.std.specs.Prelude.{◌≡◌, ℕ, true, Some, None, if◌then◌else◌, IfOk, OnOk, OnErr};
 ghost use Rattle.std.specs.FinMap as map;
 ghost use Rattle.values.specs.declared.name.RowName.{RowName as AnyName};
+ghost use Rattle.catalogue.specs.Schemas.{HaveSameSchema};
 ghost use Rattle.proclang_types.specs.declared.right.Right.TheVariants.{Read, Write};
 ghost use Rattle.coarsen.specs.Subtrees.{Requests};
 ghost use Rattle.coarsen.specs.Plans.{IsPlanOver};
@@ -14,6 +15,7 @@ ghost use Rattle.row_store.specs.Stock.{with_rows};
 use crate::filling::filled;
 use crate::lending::{hold, put_back, take_out};
 use crate::loan::Loan;
+use crate::rebuilding::rebuilt;
 use crate::shelves::Shelves;
 use crate::writing::write;
 use catalogue::Catalogue;
@@ -63,6 +65,26 @@ impl RowStore {
         let lent = BTreeMap::new(alloc);
         Ok(RowStore {
             alloc,
+            catalogue,
+            shelves,
+            lent,
+        })
+    }
+
+    /// The same rows over another catalogue, whose tables have the same names and columns in the same order: how keys are split
+    /// may differ. Nothing is lent.
+    pub fn rebuild(&self, catalogue: &Catalogue) -> Result<RowStore, NoMemory>
+        requires same { HaveSameSchema self.now.tables catalogue.now }
+        requires unlent { self.now.lent ≡ map.empty }
+        ensures tables { IfOk result (λ store. store.tables ≡ catalogue.now) }
+        ensures rows { IfOk result (λ store. store.rows ≡ self.now.rows) }
+        ensures lent { IfOk result (λ store. store.lent ≡ map.empty) }
+    {
+        let shelves = rebuilt(self.alloc, &self.catalogue, &self.shelves, catalogue)?;
+        let catalogue = catalogue.clone()?;
+        let lent = BTreeMap::new(self.alloc);
+        Ok(RowStore {
+            alloc: self.alloc,
             catalogue,
             shelves,
             lent,

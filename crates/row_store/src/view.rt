@@ -4,7 +4,7 @@ use crate::held::Holdings;
 use crate::loan::Loan;
 use crate::scan::{next_row, push_rows};
 use crate::shelves::row_at;
-use crate::shelving::{has_long_names, shelf_of};
+use crate::shelving::{has_ends, shelf_of};
 use crate::store::RowStore;
 use std::alloc::AllocError;
 use values::{Key, Row, RowName, TableNo};
@@ -59,9 +59,9 @@ impl RowView for Loan {
     }
 
     fn next_row(&self, table: TableNo, part: u32, after: Option<Key>) -> Option<(Key, &Row)> {
-        has_long_names(&self.catalogue);
+        has_ends(&self.catalogue);
         match &self.held {
-            // The plan locks no shelf whole, so that the loan shows no partition.
+            // The plan locks no shelf whole and no last name of a partition, so that the loan shows no partition.
             Holdings::Rows(_) => None,
             Holdings::Shelves(held) => {
                 next_row(&self.catalogue, &held.shelves, table, part, &after)
@@ -75,9 +75,9 @@ impl RowView for Loan {
         part: u32,
         gathered: &mut Vec<(Key, &'a Row)>,
     ) -> Result<(), AllocError> {
-        has_long_names(&self.catalogue);
+        has_ends(&self.catalogue);
         match &self.held {
-            // The plan locks no shelf whole, so that the loan shows no partition.
+            // The plan locks no shelf whole and no last name of a partition, so that the loan shows no partition.
             Holdings::Rows(_) => Ok(()),
             Holdings::Shelves(held) => {
                 push_rows(&self.catalogue, &held.shelves, table, part, gathered)

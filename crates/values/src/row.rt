@@ -5,6 +5,7 @@ ghost use Rattle.std.specs.Prelude.{◌≡◌, IfOk, slice_get, slice_set, optio
 use crate::value::Value;
 use std::alloc::AllocError;
 use std::marker::Model;
+use std::mem;
 
 /// A row: one value a column, in order.
 #[derive(Debug, Drop)]
@@ -56,6 +57,18 @@ impl Row {
         ensures { self.new ≡ slice_set self.old column value }
     {
         set_at(&mut self.values, column, value);
+    }
+
+    /// Exchanges the values of two rows. Rows of the same number of values keep their memory: each value moves alone.
+    pub fn swap(&mut self, other: &mut Row)
+        ensures this { self.new ≡ other.old }
+        ensures other { other.new ≡ self.old }
+    {
+        if self.values.len() == other.values.len() {
+            self.values.swap_with_slice(&mut other.values);
+        } else {
+            mem::swap(self, other);
+        }
     }
 }
 

@@ -9,7 +9,7 @@ use Rattle.row_store.specs.declared.held.Holdings.{Holdings}
 use Rattle.row_store.specs.declared.held.Holdings.TheVariants.{Rows, Shelves}
 use Rattle.row_store.specs.Stock.{Lent}
 use Rattle.row_store.specs.Held.{rows_held, IsLoanOf}
-use Rattle.row_store.proofs.LongNames.{no_part}
+use Rattle.row_store.proofs.PartEnds.{no_part}
 use Rattle.row_store.proofs.Rows.{get-rows_of}
 use Rattle.row_store.proofs.Gathered.{no_rows}
 use Rattle.row_store.proofs.view.LoanRowView.push_rows.Goals as goal
@@ -23,7 +23,7 @@ returns-in-Rows c =
     subst (λ (l : Lent). ShowsPart l.tables (λ q. locks_row l.tables l.plan q Read) c.args.table c.args.part) (sym c.self.view_is) asked in
     let none : (q : RowName) → is_in_part c.args.self.now.tables c.args.table c.args.part q ≡ true → ⊥ =
     λ q h.
-    no_part c.self.inside.catalogue c.self.inside.plan.value c.in-Rows.field-0 loan c.has_long_names.ensures c.args.table c.args.part shows q
+    no_part c.self.inside.catalogue c.self.inside.plan.value c.in-Rows.field-0 loan c.has_ends.ensures c.args.table c.args.part shows q
     (ap (λ (l : Lent). is_in_part l.tables c.args.table c.args.part q) c.self.view_is ∙ h) in
     sym (append-nil (referred c.args.gathered.now.items))
     ∙ ap (λ rows. referred c.args.gathered.now.items ++ rows) (no_rows c.args.self.now.tables c.args.table c.args.part c.args.self.now.rows none)
