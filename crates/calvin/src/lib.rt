@@ -21,8 +21,8 @@ pub use batch_log::{
 pub use command_line::{Command, Line, LineFault, read_line};
 pub use commands::command;
 pub use engine::{
-    BadSetting, Batch, BatchDone, BatchFault, Engine, ExecFault, Gate, Item, OpenGate, RepartFault, Reply,
-    Settings, Tally, Watcher,
+    BadSetting, Batch, BatchDone, BatchFault, Engine, ExecFault, Gate, Item, OpenGate, RepartFault,
+    Reply, Settings, Tally, Watcher,
 };
 pub use executing::run_text;
 pub use files::{FileFault, Files};
