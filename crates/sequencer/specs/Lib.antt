@@ -1,2 +1,4 @@
+pub mod Again
+pub mod Attempts
 pub mod Batches
 pub mod Entries

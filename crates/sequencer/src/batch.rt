@@ -76,6 +76,12 @@ impl Batch {
     {
         self.items.as_slice()
     }
+
+    pub(crate) fn into_items(self) -> Vec<Item<Request>>
+        ensures { result.items ≡ items_of self }
+    {
+        self.items
+    }
 }
 
 impl Batched<Request> for Batch {

@@ -2,12 +2,16 @@
 //! requests.
 #![tactic(auto)]
 
+mod attempts;
 mod batch;
+mod carrying;
 mod laws;
 mod preparing;
 
+pub use attempts::{Attempts, Carried};
 pub use batch::{Batch, BatchFault};
+pub use carrying::left;
 pub use intake::{Batched, ClientPass, DrawPass, Full, Intake, Item, MOST_DRAWN};
 pub use interp::{Entry, Footing, RowView};
-pub use laws::found_request_holds_in_its_batch;
-pub use preparing::prepare;
+pub use laws::{found_request_holds_in_its_batch, left_requests_were_stale};
+pub use preparing::{prepare, prepare_attempts};

@@ -6,10 +6,12 @@ ghost use Rattle.footprint.specs.OfCatalogue.{IsFootprintOf};
 ghost use Rattle.meaning.specs.Entries.{footprint_of};
 ghost use Rattle.interp.specs.Entries.{entry_shape, footing_shape};
 ghost use Rattle.interp.specs.Over.{locked_for, IsEntryOver, AreEntriesOver};
+ghost use Rattle.sequencer.specs.Attempts.{attempts_in, requests_in, AreRequestsOver};
 ghost use Rattle.sequencer.specs.Batches.{items_of, AreOver};
 ghost use Rattle.interp.specs.Touched.{ShowsEachName};
 ghost use Rattle.sequencer.specs.Entries.{prepared};
 
+use crate::attempts::Attempts;
 use crate::batch::Batch;
 use catalogue::Catalogue;
 use footprint::declared;
@@ -88,6 +90,33 @@ pub fn prepare<V: RowView>(
     let mut entries = Vec::with_capacity(alloc, items.len())?;
     for item in items {
         entries.push(entry_of(alloc, catalogue, &item.request, view)?)?;
+    }
+    Ok(entries)
+}
+
+/// The entries of all attempts of a batch, in order: the carried requests, and behind them the batch's own, each prepared on
+/// the view, which shows every name.
+pub fn prepare_attempts<V: RowView>(
+    alloc: Global,
+    attempts: &Attempts,
+    catalogue: &Catalogue,
+    _procs: &Procs,
+    view: &V,
+) -> Result<Vec<Entry>, NoMemory>
+    requires over { AreRequestsOver catalogue.now (requests_in attempts.now) }
+    requires view { V.tables view.now ≡ catalogue.now }
+    requires shows { ShowsEachName (V.shows view.now) }
+    // Each entry is over the tables of the catalogue.
+    ensures tables { IfOk result (λ entries.
+        AllByRecursion (λ entry. entry.request.proc.tables ≡ catalogue.now) entries.items) }
+    // And so is its footprint.
+    ensures of_catalogue { IfOk result (λ entries. AreEntriesOver catalogue.now entries.items) }
+    ensures exact { IfOk result (λ entries.
+        map entry_shape entries.items ≡ map (prepared (V.rows view.now)) (requests_in attempts.now)) }
+{
+    let mut entries = Vec::with_capacity(alloc, attempts.len())?;
+    for place in 0..attempts.len() {
+        entries.push(entry_of(alloc, catalogue, attempts.request(place), view)?)?;
     }
     Ok(entries)
 }
