@@ -13,5 +13,3 @@ mod plain_comparison;
 mod pools;
 #[cfg(test)]
 mod resuming;
-#[cfg(test)]
-mod splits;
