@@ -13,3 +13,5 @@ mod plain_comparison;
 mod pools;
 #[cfg(test)]
 mod resuming;
+#[cfg(test)]
+mod splits;
