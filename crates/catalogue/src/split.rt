@@ -1,6 +1,6 @@
 //! How a table's keys are split over its partitions.
 
-ghost use Rattle.std.specs.Prelude.{◌≡◌, nat_le, count_by};
+ghost use Rattle.std.specs.Prelude.{◌≡◌, ◌<◌, nat_le, count_by, length, slice_index};
 ghost use Rattle.catalogue.specs.Shapes.{split_shape, partitions, part_with, is_end_with};
 ghost use Rattle.catalogue.specs.Rules.{IsSplit, AreRising};
 
@@ -56,13 +56,41 @@ impl Split {
 }
 
 /// How many bounds are at most a number, where they ascend.
+///
+/// Three bounds quarter what is left, and how many of them are at most the number says in which quarter to go on. That is a sum and
+/// no branch: keys come in any order, so a processor would guess half of the branches wrong, which takes longer than the search.
 fn bounds_passed(bounds: &[Key], number: u64) -> usize
     requires { AreRising 0 bounds.now }
     ensures { result ≡ count_by (λ bound. nat_le bound number) bounds.now }
 {
-    bounds.partition_point(
-        |bound: &Key| -> bool
-            ensures { result ≡ nat_le bound.now number }
-        { bound.number() <= number },
-    )
+    let mut passed = 0;
+    let mut left = bounds.len();
+    while left > 2 {
+        let step = (left + 1) / 4;
+        let first = is_passed(bounds, passed + step - 1, number);
+        let second = is_passed(bounds, passed + 2 * step - 1, number);
+        let third = is_passed(bounds, passed + 3 * step - 1, number);
+        passed += step * (usize::from(first) + usize::from(second) + usize::from(third));
+        left -= 3 * step;
+    }
+    passed + passed_of(&bounds[passed..passed + left], number)
+}
+
+/// Whether the bound at a place is at most a number.
+fn is_passed(bounds: &[Key], place: usize, number: u64) -> bool
+    requires { place < length bounds.now }
+    ensures { result ≡ nat_le (slice_index bounds.now place) number }
+{
+    bounds[place].number() <= number
+}
+
+/// How many bounds are at most a number, each looked at.
+fn passed_of(bounds: &[Key], number: u64) -> usize
+    ensures { result ≡ count_by (λ bound. nat_le bound number) bounds.now }
+{
+    let mut passed = 0;
+    for bound in bounds {
+        passed += usize::from(bound.number() <= number);
+    }
+    passed
 }

@@ -1,4 +1,4 @@
-use Rattle.std.proofs.Common.{◌≡◌, ◌↔◌}
+use Rattle.std.proofs.Common.{◌↔◌}
 use Rattle.catalogue.specs.Shapes.{tables_shape}
 use Rattle.catalogue.specs.Schemas.{HaveSameSchema}
 use Rattle.catalogue.proofs.schema.are_same_tables.Given as goal
