@@ -14,7 +14,7 @@
 # With --built the proved program is built, and a library that the script has `cc` make and that is loaded in front of the
 # system's refuses the allocation. A run takes some milliseconds, and as many are made side by side as there are processors. The
 # steps `resume` and `resume_alone`, in which a thread is refused first, and then an allocation while the batch is gone on with, are
-# tried so alone; and of the steps on five batches each thread is refused in turn, too. With --left it is the program that an
+# tried so alone; and of the steps on several batches each thread is refused in turn, too. With --left it is the program that an
 # earlier run of the toolchain left built.
 #
 # Without either, the refusals are those of the toolchain's `try`, which also looks for bad accesses. A run takes a second or so,
@@ -48,9 +48,10 @@ if ! $built; then
     mapfile -t steps < <(printf '%s\n' "${steps[@]}" | grep -v '^resume')
 fi
 
-# The log of five batches is that of the stored case.
+# The logs of several batches are those of stored cases.
 for pair in setup.json:setup.json log:log report:stdout; do
     cmp -- "data/${pair%:*}" "../stored_cases/data/settings/calls-that-clash/${pair#*:}"
+    cmp -- "data/retries-${pair%:*}" "../stored_cases/data/retries/013/${pair#*:}"
 done
 
 # Builds the program where that is asked for, and writes the library that refuses one allocation or one thread.
@@ -176,7 +177,7 @@ for step in "${steps[@]}"; do
         }' "$folder/answers" || failed=1
 done
 
-# Each thread of the steps on five batches, and a few behind the last. Where batches are executed one by one, each starts a thread a
+# Each thread of the steps on several batches, and a few behind the last. Where batches are executed one by one, each starts a thread a
 # worker; where the report is written, the first does so for all.
 threads_refused() {
     for step in "${steps[@]}"; do
@@ -189,7 +190,7 @@ threads_refused() {
     done
 }
 
-mapfile -t steps < <(printf '%s\n' "${steps[@]}" | grep -E '^(batches|report)_' || true)
+mapfile -t steps < <(printf '%s\n' "${steps[@]}" | grep -E '^(batches|report|retries)_' || true)
 if $built && [ ${#steps[@]} -ne 0 ]; then
     threads_refused > "$folder/refusals"
     answers "$folder/refusals" > "$folder/answers"

@@ -400,12 +400,22 @@ def read_rows(rows, tables):
     return len(named)
 
 
+def is_setup(document):
+    """Whether the outer form is that of a setup of version 1, or of version 2, which says how often a stale call is tried again."""
+    if is_array(document, 5):
+        return document[0] == "setup" and is_number(document[1]) and document[1] == 1
+    if is_array(document, 6):
+        versioned = document[0] == "setup" and is_number(document[1]) and document[1] == 2
+        return versioned and is_number(document[5]) and 0 <= document[5] <= 2
+    return False
+
+
 def read_setup(data):
     try:
         document = json_of(data)
     except NotJson as error:
         raise Fault(41) from error
-    require(is_array(document, 5) and document[0] == "setup" and is_number(document[1]) and document[1] == 1, 42)
+    require(is_setup(document), 42)
     tables = read_catalogue(document[2])
     procedures = Procedures(tables).read(document[3])
     rows = document[4]

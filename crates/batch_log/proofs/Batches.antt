@@ -70,12 +70,12 @@ Reads-step es mid rest calls n c said e r q = record {
   fault = r.fault ∙ ap first_fault q ∙ ap (λ x. or_fault n x (first_fault rest)) e;
 }
 
-pub Reads-call : (es mid rest : Lines) (calls more : List requests.Call) (n k total : ℕ) (c : requests.Call) → is_room (length calls) total ≡ true →
+pub Reads-call : (retries : ℕ) (es mid rest : Lines) (calls more : List requests.Call) (n k total : ℕ) (c : requests.Call) → is_room retries (length calls) total ≡ true →
     more ≡ calls ++ c ∷ [] → k ≡ length calls + 1 →
-    Reads es calls (limited (length calls) total mid) → mid ≡ (n, Ok (Call c)) ∷ rest → Reads es more (limited k (total + 1) rest)
-Reads-call es mid rest calls more n k total c room pushed one r q =
-    rw (pushed, one) (Reads-step es (limited (length calls) total mid) (limited (length calls + 1) (total + 1) rest) calls n c
-    (within (length calls) total (Ok (Call c))) (rw room refl) r (ap (λ x. limited (length calls) total x) q))
+    Reads es calls (limited retries (length calls) total mid) → mid ≡ (n, Ok (Call c)) ∷ rest → Reads es more (limited retries k (total + 1) rest)
+Reads-call retries es mid rest calls more n k total c room pushed one r q =
+    rw (pushed, one) (Reads-step es (limited retries (length calls) total mid) (limited retries (length calls + 1) (total + 1) rest) calls n c
+    (within retries (length calls) total (Ok (Call c))) (rw room refl) r (ap (λ x. limited retries (length calls) total x) q))
 
 pub NextBatch-step : (es mid rest : Lines) (calls : List requests.Call) (n : ℕ) →
     Reads es calls mid → mid ≡ (n, Ok Cut) ∷ rest → IsNextBatch es calls rest
@@ -87,9 +87,9 @@ NextBatch-step es mid rest calls n r q =
       fault = fault;
     }
 
-pub NextBatch-cut : (es mid rest : Lines) (calls : List requests.Call) (n k total : ℕ) →
-    Reads es calls (limited k total mid) → mid ≡ (n, Ok Cut) ∷ rest → IsNextBatch es calls (limited 0 total rest)
-NextBatch-cut es mid rest calls n k total r q = NextBatch-step es (limited k total mid) (limited 0 total rest) calls n r (ap (λ x. limited k total x) q)
+pub NextBatch-cut : (retries : ℕ) (es mid rest : Lines) (calls : List requests.Call) (n k total : ℕ) →
+    Reads es calls (limited retries k total mid) → mid ≡ (n, Ok Cut) ∷ rest → IsNextBatch es calls (limited retries 0 total rest)
+NextBatch-cut retries es mid rest calls n k total r q = NextBatch-step es (limited retries k total mid) (limited retries 0 total rest) calls n r (ap (λ x. limited retries k total x) q)
 
 pub Fault-step : (es mid rest : Lines) (calls : List requests.Call) (n : ℕ) (kind : LogFaultKind) (said : Result LogLine LogFaultKind) →
     said ≡ Err kind → Reads es calls mid → mid ≡ (n, said) ∷ rest → IsFault es (record { kind = kind; line = n })
@@ -98,15 +98,15 @@ Fault-step es mid rest calls n kind said e r q =
     let apart : cut_apart es ≡ calls ∷ [] = r.calls_read ∙ ap (λ x. into calls (cut_apart x)) q ∙ ap (λ x. into calls (before_batches x (cut_apart rest))) e ∙ into-cut calls [] in
     record { batches = ap (λ f. whole_batches f (cut_apart es)) first ∙ ap (whole_batches (Some (record { kind = kind; line = n }))) apart; first = first }
 
-pub Fault-of_line : (es mid rest : Lines) (calls : List requests.Call) (n k total : ℕ) (kind : LogFaultKind) →
-    Reads es calls (limited k total mid) → mid ≡ (n, Err kind) ∷ rest → IsFault es (record { kind = kind; line = n })
-Fault-of_line es mid rest calls n k total kind r q =
-    Fault-step es (limited k total mid) (limited k total rest) calls n kind (Err kind) refl r (ap (λ x. limited k total x) q)
+pub Fault-of_line : (retries : ℕ) (es mid rest : Lines) (calls : List requests.Call) (n k total : ℕ) (kind : LogFaultKind) →
+    Reads es calls (limited retries k total mid) → mid ≡ (n, Err kind) ∷ rest → IsFault es (record { kind = kind; line = n })
+Fault-of_line retries es mid rest calls n k total kind r q =
+    Fault-step es (limited retries k total mid) (limited retries k total rest) calls n kind (Err kind) refl r (ap (λ x. limited retries k total x) q)
 
-pub Fault-too_long : (es mid rest : Lines) (calls : List requests.Call) (n k total : ℕ) (c : requests.Call) → is_room k total ≡ false →
-    Reads es calls (limited k total mid) → mid ≡ (n, Ok (Call c)) ∷ rest → IsFault es (record { kind = BatchTooLong; line = n })
-Fault-too_long es mid rest calls n k total c room r q =
-    Fault-step es (limited k total mid) (limited (k + 1) (total + 1) rest) calls n BatchTooLong (within k total (Ok (Call c))) (rw room refl) r (ap (λ x. limited k total x) q)
+pub Fault-too_long : (retries : ℕ) (es mid rest : Lines) (calls : List requests.Call) (n k total : ℕ) (c : requests.Call) → is_room retries k total ≡ false →
+    Reads es calls (limited retries k total mid) → mid ≡ (n, Ok (Call c)) ∷ rest → IsFault es (record { kind = BatchTooLong; line = n })
+Fault-too_long retries es mid rest calls n k total c room r q =
+    Fault-step es (limited retries k total mid) (limited retries (k + 1) (total + 1) rest) calls n BatchTooLong (within retries k total (Ok (Call c))) (rw room refl) r (ap (λ x. limited retries k total x) q)
 
 -- ---- the end
 
@@ -125,14 +125,14 @@ NextBatch-last es mid calls some r q =
     let end = at_end es mid calls r q in
     record { batches = end.1 ∙ last_some calls some; fault = end.0 }
 
-pub NextBatch-end : (es mid : Lines) (calls : List requests.Call) (k total : ℕ) → 0 < length calls →
-    Reads es calls (limited k total mid) → mid ≡ [] → IsNextBatch es calls []
-NextBatch-end es mid calls k total some r q = NextBatch-last es (limited k total mid) calls some r (ap (λ x. limited k total x) q)
+pub NextBatch-end : (retries : ℕ) (es mid : Lines) (calls : List requests.Call) (k total : ℕ) → 0 < length calls →
+    Reads es calls (limited retries k total mid) → mid ≡ [] → IsNextBatch es calls []
+NextBatch-end retries es mid calls k total some r q = NextBatch-last es (limited retries k total mid) calls some r (ap (λ x. limited retries k total x) q)
 
-pub IsEnd-here : (es mid : Lines) (calls : List requests.Call) (k total : ℕ) → length calls ≡ 0 →
-    Reads es calls (limited k total mid) → mid ≡ [] → IsEnd es
-IsEnd-here es mid calls k total none r q =
-    let end = at_end es (limited k total mid) calls r (ap (λ x. limited k total x) q) in
+pub IsEnd-here : (retries : ℕ) (es mid : Lines) (calls : List requests.Call) (k total : ℕ) → length calls ≡ 0 →
+    Reads es calls (limited retries k total mid) → mid ≡ [] → IsEnd es
+IsEnd-here retries es mid calls k total none r q =
+    let end = at_end es (limited retries k total mid) calls r (ap (λ x. limited retries k total x) q) in
     record { batches = end.1 ∙ ap (last_batch None) (nil_from_length calls none); fault = end.0 }
 
 -- what holds of each call so far and of one more

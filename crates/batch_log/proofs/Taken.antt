@@ -1,5 +1,5 @@
 -- The bytes that the calls of a batch take.
-use Rattle.std.proofs.Common.{◌≡◌, ℕ, ◌+◌, ◌<◌, ◌≤◌, ◌^◌, ◌⊎◌, List, [], ◌∷◌, ◌++◌, append_assoc, append-nil, length, length-append, Bool, true, false, Option, Ok, inl, inr, refl, sym, ◌∙◌, ap, arith}
+use Rattle.std.proofs.Common.{◌≡◌, ℕ, ◌+◌, ◌<◌, ◌≤◌, ◌⊎◌, List, [], ◌∷◌, ◌++◌, append_assoc, append-nil, length, length-append, Bool, true, false, Option, Ok, inl, inr, refl, sym, ◌∙◌, ap, arith}
 use Rattle.std.specs.List.{AllByRecursion}
 use Rattle.devices.specs.Devices.{Passes}
 use Rattle.devices.specs.Lines.{has_newline, joined, lines_of, newline}
@@ -10,6 +10,7 @@ use Rattle.proclang_types.specs.Procedures.{ProcParts}
 use Rattle.requests.specs.Requests as requests
 use Rattle.batch_log.specs.declared.line.LogLine.TheVariants.{Call}
 use Rattle.batch_log.specs.Lines.{line_said}
+use Rattle.batch_log.specs.Log.{most_calls}
 use Rattle.batch_log.specs.Taken.{IsFirstLine, LosesFirst, SaysCall, TakesCalls}
 use Rattle.batch_log.proofs.Batches.{each_push}
 
@@ -112,9 +113,9 @@ CallsSoFar-push procs calls more line text mid rest c e s h said = rw e (elim s.
 
 -- ---- how a call ends
 
-ends_with : (procs : List ProcParts) (total calls : ℕ) (failed : Bool) (text mid rest last : List ℕ) (s : CallsSoFar procs calls text mid) →
-    s.last ++ mid ≡ last ++ rest → length (lines_of last) ≤ 1 → (failed ≡ true → has_newline last ≡ false) → calls ≤ 4096 → total + calls ≤ 2 ^ 48 → TakesCalls procs total failed text rest
-ends_with procs total calls failed text mid rest last s e one broken few room = record {
+ends_with : {retries : ℕ} (procs : List ProcParts) (total calls : ℕ) (failed : Bool) (text mid rest last : List ℕ) (s : CallsSoFar procs calls text mid) →
+    s.last ++ mid ≡ last ++ rest → length (lines_of last) ≤ 1 → (failed ≡ true → has_newline last ≡ false) → calls ≤ 4096 → total + calls ≤ most_calls retries → TakesCalls retries procs total failed text rest
+ends_with {retries = retries} procs total calls failed text mid rest last s e one broken few room = record {
   lines = s.lines;
   last = last;
   taken = s.taken ∙ ap (λ x. joined s.lines ++ x) e;
@@ -128,13 +129,13 @@ ends_with procs total calls failed text mid rest last s e one broken few room = 
     below : (a b : ℕ) → a ≤ b → b ≤ 4096 → a ≤ 4096
     below a b h k = omega arith
 
-    below_sum : (t a b : ℕ) → a ≤ b → t + b ≤ 2 ^ 48 → t + a ≤ 2 ^ 48
+    below_sum : (t a b : ℕ) → a ≤ b → t + b ≤ most_calls retries → t + a ≤ most_calls retries
     below_sum t a b h k = omega arith
 
 -- with all or a beginning of one more line
-pub TakesCalls-lost : (procs : List ProcParts) (total calls : ℕ) (failed : Bool) (text mid rest : List ℕ) → calls ≤ 4096 → total + calls ≤ 2 ^ 48 →
-    CallsSoFar procs calls text mid → LosesFirst failed mid rest → TakesCalls procs total failed text rest
-TakesCalls-lost procs total calls failed text mid rest few room s l = elim s.open_end [
+pub TakesCalls-lost : {retries : ℕ} (procs : List ProcParts) (total calls : ℕ) (failed : Bool) (text mid rest : List ℕ) → calls ≤ 4096 → total + calls ≤ most_calls retries →
+    CallsSoFar procs calls text mid → LosesFirst failed mid rest → TakesCalls retries procs total failed text rest
+TakesCalls-lost {retries = retries} procs total calls failed text mid rest few room s l = elim s.open_end [
   | inl none ↦ ends_with procs total calls failed text mid rest l.0 s (ap (λ x. x ++ mid) none ∙ l.1) l.2 l.3 few room
   | inr none ↦
       let gone : rest ≡ [] = nothing_behind l.0 rest (sym l.1 ∙ none) in
@@ -146,19 +147,19 @@ TakesCalls-lost procs total calls failed text mid rest few room s l = elim s.ope
     nothing_behind (x ∷ xs) ys e = absurd cc
 
 -- with one more line
-pub TakesCalls-line : (procs : List ProcParts) (total calls : ℕ) (line text mid rest : List ℕ) → calls ≤ 4096 → total + calls ≤ 2 ^ 48 →
-    CallsSoFar procs calls text mid → IsFirstLine line mid rest → TakesCalls procs total false text rest
-TakesCalls-line procs total calls line text mid rest few room s h = TakesCalls-lost procs total calls false text mid rest few room s (lost_first line mid rest h)
+pub TakesCalls-line : {retries : ℕ} (procs : List ProcParts) (total calls : ℕ) (line text mid rest : List ℕ) → calls ≤ 4096 → total + calls ≤ most_calls retries →
+    CallsSoFar procs calls text mid → IsFirstLine line mid rest → TakesCalls retries procs total false text rest
+TakesCalls-line {retries = retries} procs total calls line text mid rest few room s h = TakesCalls-lost procs total calls false text mid rest few room s (lost_first line mid rest h)
 
 -- with nothing
-pub TakesCalls-end : (procs : List ProcParts) (total calls : ℕ) (text mid rest : List ℕ) → calls ≤ 4096 → total + calls ≤ 2 ^ 48 →
-    CallsSoFar procs calls text mid → mid ≡ [] → rest ≡ [] → TakesCalls procs total false text rest
-TakesCalls-end procs total calls text mid rest few room s e f =
+pub TakesCalls-end : {retries : ℕ} (procs : List ProcParts) (total calls : ℕ) (text mid rest : List ℕ) → calls ≤ 4096 → total + calls ≤ most_calls retries →
+    CallsSoFar procs calls text mid → mid ≡ [] → rest ≡ [] → TakesCalls retries procs total false text rest
+TakesCalls-end {retries = retries} procs total calls text mid rest few room s e f =
     ends_with procs total calls false text mid rest s.last s (ap (λ x. s.last ++ x) (e ∙ sym f)) (no_newline_one s.last s.whole) (λ _. s.whole) few room
 
 -- a call that answers its fault again takes nothing
-pub TakesCalls-none : (procs : List ProcParts) (total : ℕ) (failed : Bool) (text : List ℕ) → total ≤ 2 ^ 48 → TakesCalls procs total failed text text
-TakesCalls-none procs total failed text room = record { lines = []; last = []; taken = refl; calls = tt; few = omega arith; room = omega arith; one = omega arith; broken = λ _. refl }
+pub TakesCalls-none : {retries : ℕ} (procs : List ProcParts) (total : ℕ) (failed : Bool) (text : List ℕ) → total ≤ most_calls retries → TakesCalls retries procs total failed text text
+TakesCalls-none {retries = retries} procs total failed text room = record { lines = []; last = []; taken = refl; calls = tt; few = omega arith; room = omega arith; one = omega arith; broken = λ _. refl }
 
-pub room_for : (a b t : ℕ) → t ≡ a + b → t ≤ 2 ^ 48 → a + b ≤ 2 ^ 48
-room_for a b t e h = omega arith
+pub room_for : (retries : ℕ) (a b t : ℕ) → t ≡ a + b → t ≤ most_calls retries → a + b ≤ most_calls retries
+room_for retries a b t e h = omega arith

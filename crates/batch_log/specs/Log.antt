@@ -1,6 +1,6 @@
 -- Claimed: what contracts promise to a reader rests on these words.
 -- What a log says: the batches that are whole before its first fault, and that fault.
-use Rattle.std.specs.Prelude.{◌≡◌, ℕ, ◌+◌, ◌^◌, ◌&&◌, nat_lt, length, Vec, Bool, List, [], ◌∷◌, Option, Some, None, Result, Ok, Err, if◌then◌else◌}
+use Rattle.std.specs.Prelude.{◌≡◌, ℕ, zero, suc, ◌+◌, ◌^◌, ◌&&◌, nat_lt, length, Vec, Bool, List, [], ◌∷◌, Option, Some, None, Result, Ok, Err, if◌then◌else◌}
 use Rattle.std.specs.declared.alloc.Global.{Global}
 use Rattle.proclang_types.specs.Procedures.{ProcParts}
 use Rattle.requests.specs.Requests as requests
@@ -13,15 +13,20 @@ use Rattle.batch_log.specs.declared.line.LogLine.TheVariants.{Call, Cut}
 
 -- ---- how many calls there may be
 
--- a batch has at most 4,096 calls, and a log at most 2^48
-abbrev pub is_room : ℕ → ℕ → Bool
-is_room calls total = nat_lt calls 4096 && nat_lt total (2 ^ 48)
+-- how many calls a log has at most: fewer where a stale request is tried again, so that all attempts have numbers below 2^48
+abbrev pub most_calls : ℕ → ℕ
+most_calls zero = 2 ^ 48
+most_calls (suc retries) = 2 ^ 46
+
+-- a batch has at most 4,096 calls, and a log at most as many as it may where a stale request is tried again so often
+abbrev pub is_room : ℕ → ℕ → ℕ → Bool
+is_room retries calls total = nat_lt calls 4096 && nat_lt total (most_calls retries)
 
 -- a line behind so many calls of its batch and of the log: a call for which there is no room is a fault
-abbrev pub within : ℕ → ℕ → Result LogLine LogFaultKind → Result LogLine LogFaultKind
-within calls total (Ok (Call call)) = if is_room calls total then Ok (Call call) else Err BatchTooLong
-within calls total (Ok Cut) = Ok Cut
-within calls total (Err kind) = Err kind
+abbrev pub within : ℕ → ℕ → ℕ → Result LogLine LogFaultKind → Result LogLine LogFaultKind
+within retries calls total (Ok (Call call)) = if is_room retries calls total then Ok (Call call) else Err BatchTooLong
+within retries calls total (Ok Cut) = Ok Cut
+within retries calls total (Err kind) = Err kind
 
 -- how many calls its batch has after a line; a cut begins a new one
 abbrev pub calls_after : ℕ → Result LogLine LogFaultKind → ℕ
@@ -36,13 +41,14 @@ total_after total (Ok Cut) = total
 total_after total (Err kind) = total
 
 -- the lines by the rule of how many calls there may be, behind so many of the batch and of the log
-abbrev pub limited : ℕ → ℕ → Lines → Lines
-limited calls total [] = []
-limited calls total (line ∷ rest) = (line.0, within calls total line.1) ∷ limited (calls_after calls line.1) (total_after total line.1) rest
+abbrev pub limited : ℕ → ℕ → ℕ → Lines → Lines
+limited retries calls total [] = []
+limited retries calls total (line ∷ rest) = (line.0, within retries calls total line.1) ∷ limited retries (calls_after calls line.1) (total_after total line.1) rest
 
--- what a log says from a place on where a batch begins, behind so many newlines and calls
-abbrev pub log_said : List ProcParts → ℕ → ℕ → List ℕ → Lines
-log_said procs newlines total text = limited 0 total (lines_said procs newlines text)
+-- what a log says from a place on where a batch begins, behind so many newlines and calls, where a stale request is tried again so
+-- often
+abbrev pub log_said : ℕ → List ProcParts → ℕ → ℕ → List ℕ → Lines
+log_said retries procs newlines total text = limited retries 0 total (lines_said procs newlines text)
 
 -- ---- the first fault, and the batches before it
 

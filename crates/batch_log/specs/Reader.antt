@@ -42,3 +42,7 @@ calls_read r = r.total
 -- the fault that the reader ended with
 abbrev pub fault_of : {S : Type 0} → LogReader S → Option LogFault
 fault_of r = r.fault
+
+-- how often a stale request is tried again, for the sake of which a log has fewer calls
+abbrev pub retries_of : {S : Type 0} → LogReader S → ℕ
+retries_of r = r.retries

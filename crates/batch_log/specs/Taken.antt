@@ -1,12 +1,13 @@
 -- Claimed: what contracts promise to a reader rests on these words.
 -- Which bytes a call takes from a source that tells its bytes.
-use Rattle.std.specs.Prelude.{◌≡◌, ℕ, ◌+◌, ◌<◌, ◌≤◌, ◌^◌, ◌⊎◌, List, [], ◌∷◌, ◌++◌, length, Bool, true, false, Ok}
+use Rattle.std.specs.Prelude.{◌≡◌, ℕ, ◌+◌, ◌<◌, ◌≤◌, ◌⊎◌, List, [], ◌∷◌, ◌++◌, length, Bool, true, false, Ok}
 use Rattle.std.specs.List.{AllByRecursion}
 use Rattle.devices.specs.Lines.{has_newline, joined, lines_of, newline}
 use Rattle.proclang_types.specs.Procedures.{ProcParts}
 use Rattle.requests.specs.Requests as requests
 use Rattle.batch_log.specs.declared.line.LogLine.TheVariants.{Call}
 use Rattle.batch_log.specs.Lines.{line_said}
+use Rattle.batch_log.specs.Log.{most_calls}
 
 -- the text begins with the line and its newline, or is the line, and the rest stands behind it
 abbrev pub IsFirstLine : List ℕ → List ℕ → List ℕ → Type 0
@@ -22,12 +23,12 @@ SaysCall procs line = (has_newline line ≡ false) × (call : requests.Call) × 
 
 -- Of a log that has so many calls before this place, whole lines are taken, each a call for which there is room. Then of one
 -- more line all is taken, or a beginning, or nothing; not all of it, and so no fault of it, where a read failed.
-pub record TakesCalls (procs : List ProcParts) (total : ℕ) (failed : Bool) (text rest : List ℕ) : Type 0 where
+pub record TakesCalls (retries : ℕ) (procs : List ProcParts) (total : ℕ) (failed : Bool) (text rest : List ℕ) : Type 0 where
   pub lines : List (List ℕ)
   pub last : List ℕ
   pub taken : text ≡ joined lines ++ (last ++ rest)
   pub calls : AllByRecursion (SaysCall procs) lines
   pub few : length lines ≤ 4096
-  pub room : total + length lines ≤ 2 ^ 48
+  pub room : total + length lines ≤ most_calls retries
   pub one : length (lines_of last) ≤ 1
   pub broken : failed ≡ true → has_newline last ≡ false

@@ -6,7 +6,7 @@ ghost use Rattle.devices.specs.Devices.{Passes};
 ghost use Rattle.devices.specs.LineReader.{came, fault_of, line_begun, newlines_taken, position_of, source_name, source_of, unread};
 ghost use Rattle.batch_log.specs.Faults.{ends_in_io, is_io, IsOfLine, place_of};
 ghost use Rattle.batch_log.specs.Lines.{line_said, lines_said, IsOver};
-ghost use Rattle.batch_log.specs.Log.{calls_in, is_room, log_said, IsEnd, IsFault, IsNextBatch};
+ghost use Rattle.batch_log.specs.Log.{calls_in, is_room, log_said, most_calls, IsEnd, IsFault, IsNextBatch};
 ghost use Rattle.batch_log.specs.Moves.{Moves};
 ghost use Rattle.batch_log.specs.Taken.{IsFirstLine, LosesFirst, TakesCalls};
 
@@ -70,38 +70,47 @@ fn next_said<S: Source>(
     }
 }
 
-/// Whether a call may follow so many of its batch and of the log.
-fn is_room(calls: usize, total: u64) -> bool
-    ensures { result ≡ is_room calls total }
+/// How many calls a log has at most. All attempts have numbers below 2^48: where stale requests are tried again, at most twice, a
+/// log has fewer calls.
+fn most_calls(retries: u8) -> u64
+    ensures { result ≡ most_calls retries }
 {
-    calls < 4096 && total < 1 << 48
+    if retries == 0 { 1 << 48 } else { 1 << 46 }
+}
+
+/// Whether a call may follow so many of its batch and of the log.
+pub fn is_room(retries: u8, calls: usize, total: u64) -> bool
+    ensures { result ≡ is_room retries calls total }
+{
+    calls < 4096 && total < most_calls(retries)
 }
 
 /// The calls of the next batch, or `None` at the end. `total` counts the calls of the log.
 pub(crate) fn read_batch<S: Source>(
     alloc: Global,
     procs: &Procs,
+    retries: u8,
     lines: &mut LineReader<'_, S>,
     total: &mut u64,
 ) -> Result<Option<Vec<Request>>, LogFault>
-    requires { total.old ≤ 2 ^ 48 }
+    requires { total.old ≤ most_calls retries }
     ensures same { source_name lines.new ≡ source_name lines.old }
     ensures batch { IfOk result (λ o. IfSome o (λ calls. Passes
-        (λ xs ys. IsNextBatch (log_said procs.now.procs (newlines_taken lines.old) total.old xs) calls.items
-        (log_said procs.now.procs (newlines_taken lines.new) total.new ys))
+        (λ xs ys. IsNextBatch (log_said retries procs.now.procs (newlines_taken lines.old) total.old xs) calls.items
+        (log_said retries procs.now.procs (newlines_taken lines.new) total.new ys))
         (unread S.left lines.old) (unread S.left lines.new))) }
     ensures end { IfOk result (λ o. IsNone o → Passes
-        (λ xs ys. IsEnd (log_said procs.now.procs (newlines_taken lines.old) total.old xs) × (ys ≡ []))
+        (λ xs ys. IsEnd (log_said retries procs.now.procs (newlines_taken lines.old) total.old xs) × (ys ≡ []))
         (unread S.left lines.old) (unread S.left lines.new)) }
     ensures fault { IfErr result (λ e. IsOfLine e.kind → Passes
-        (λ xs ys. IsFault (log_said procs.now.procs (newlines_taken lines.old) total.old xs) e)
+        (λ xs ys. IsFault (log_said retries procs.now.procs (newlines_taken lines.old) total.old xs) e)
         (unread S.left lines.old) (unread S.left lines.new)) }
     ensures tables { IfOk result (λ o.
         IfSome o (λ calls. AllByRecursion (λ c. c.proc.tables ≡ procs.now.tables) calls.items)) }
     ensures few { IfOk result (λ o. IfSome o (λ calls. length calls.items ≤ 4096)) }
     ensures counted { IfOk result (λ o. total.new ≡ total.old + calls_in o) }
-    ensures room { total.new ≤ 2 ^ 48 }
-    ensures taken { Passes (TakesCalls procs.now.procs total.old (ends_in_io result)) (unread S.left lines.old)
+    ensures room { total.new ≤ most_calls retries }
+    ensures taken { Passes (TakesCalls retries procs.now.procs total.old (ends_in_io result)) (unread S.left lines.old)
         (unread S.left lines.new) }
     ensures moves { Moves (unread S.left lines.old) (unread S.left lines.new) (position_of lines.old)
         (position_of lines.new) }
@@ -121,7 +130,7 @@ pub(crate) fn read_batch<S: Source>(
             Ok(None) => return Ok(Some(calls)),
             Err(fault) => return Err(fault),
         };
-        if !is_room(calls.len(), *total) {
+        if !is_room(retries, calls.len(), *total) {
             return Err(fault_of_line(lines, LogFaultKind::BatchTooLong));
         }
         if calls.push(call).is_err() {

@@ -17,7 +17,8 @@ pub enum LogFaultKind {
     UnknownProc = 33,
     /// The values are not one a parameter, of the parameter's type; a text has at most 64 bytes.
     Args = 34,
-    /// The call is the batch's 4,097th, or the log's number 2^48, where the first has number 0.
+    /// The call is the batch's 4,097th, or there are as many before it as a log may have: 2^48, and 2^46 where stale requests are
+    /// tried again.
     BatchTooLong = 35,
     /// A device failed.
     Io = 36,

@@ -9,6 +9,7 @@ mod line;
 mod plain_line;
 mod reader;
 
+pub use batch::is_room;
 pub use devices::{DeviceFailed, ReadSource, Sink, Source, WriteSink, write_all};
 pub use fault::{LogFault, LogFaultKind};
 pub use laws::{batches_end_at_cuts, lines_are_exact};

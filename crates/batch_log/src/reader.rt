@@ -5,7 +5,7 @@ ghost use Rattle.std.specs.List.{AllByRecursion};
 ghost use Rattle.devices.specs.Devices.{Passes};
 ghost use Rattle.devices.specs.LineReader as line_reader;
 ghost use Rattle.batch_log.specs.Faults.{ends_in_io, fault_in, IsOfLine, place_of};
-ghost use Rattle.batch_log.specs.Log.{calls_in, IsEnd, IsFault, IsNextBatch, log_said};
+ghost use Rattle.batch_log.specs.Log.{calls_in, IsEnd, IsFault, IsNextBatch, log_said, most_calls};
 ghost use Rattle.batch_log.specs.Moves.{Moves};
 ghost use Rattle.batch_log.specs.Taken.{TakesCalls};
 
@@ -19,28 +19,33 @@ use std::alloc::Global;
 #[derive(Drop)]
 pub struct LogReader<'a, S> {
     lines: LineReader<'a, S>,
+    // How often a stale request is tried again.
+    retries: u8,
     // How many calls were read.
     total: u64,
     fault: Option<LogFault>,
-    ghost few: { total ≤ 2 ^ 48 },
+    ghost few: { total ≤ most_calls retries },
     ghost lines_read: { fault ≡ None → line_reader.fault_of lines ≡ None },
 }
 
 impl<'a, S: Source> LogReader<'a, S> {
     ghost use Rattle.std.specs.Prelude.{[]};
-    ghost use Rattle.batch_log.specs.Reader.{calls_read, came, fault_of, line_begun, newlines_taken, position_of, source_name, source_of, unread};
+    ghost use Rattle.batch_log.specs.Reader.{calls_read, came, fault_of, line_begun, newlines_taken, position_of, retries_of, source_name, source_of, unread};
 
-    /// A reader that has read nothing.
-    pub fn new(source: &'a mut S) -> LogReader<'a, S>
+    /// A reader that has read nothing, of a log whose stale requests are tried again so often: if at all, then the log may have 2^46
+    /// calls, and else 2^48.
+    pub fn new(source: &'a mut S, retries: u8) -> LogReader<'a, S>
         ensures same { source_name result ≡ source.entry.ghost_name }
         ensures source { source_of result ≡ source.old }
         ensures unread { unread S.left result ≡ S.left source.old }
         ensures position { position_of result ≡ record { newlines = 0; begun = 0 } }
+        ensures retries { retries_of result ≡ retries }
         ensures calls { calls_read result ≡ 0 }
         ensures fault { fault_of result ≡ None }
     {
         LogReader {
             lines: LineReader::new(source),
+            retries,
             total: 0,
             fault: None,
         }
@@ -74,26 +79,27 @@ impl<'a, S: Source> LogReader<'a, S> {
     ) -> Result<Option<Vec<Request>>, LogFault>
         ensures same { source_name self.new ≡ source_name self.old }
         ensures batch { IfOk result (λ o. IfSome o (λ calls. Passes
-            (λ xs ys. IsNextBatch (log_said procs.now.procs (newlines_taken self.old)
+            (λ xs ys. IsNextBatch (log_said (retries_of self.old) procs.now.procs (newlines_taken self.old)
             (calls_read self.old) xs) calls.items
-            (log_said procs.now.procs (newlines_taken self.new) (calls_read self.new) ys))
+            (log_said (retries_of self.old) procs.now.procs (newlines_taken self.new) (calls_read self.new) ys))
             (unread S.left self.old) (unread S.left self.new))) }
         ensures end { IfOk result (λ o. IsNone o → Passes
-            (λ xs ys. IsEnd (log_said procs.now.procs (newlines_taken self.old) (calls_read self.old) xs) × (ys ≡ []))
+            (λ xs ys. IsEnd (log_said (retries_of self.old) procs.now.procs (newlines_taken self.old) (calls_read self.old) xs) × (ys ≡ []))
             (unread S.left self.old) (unread S.left self.new)) }
         // Each call is of these procedures, so it is over their tables.
         ensures tables { IfOk result (λ o.
             IfSome o (λ calls. AllByRecursion (λ c. c.proc.tables ≡ procs.now.tables) calls.items)) }
         ensures few { IfOk result (λ o. IfSome o (λ calls. length calls.items ≤ 4096)) }
         ensures counted { IfOk result (λ o. calls_read self.new ≡ calls_read self.old + calls_in o) }
-        ensures room { calls_read self.new ≤ 2 ^ 48 }
+        ensures room { calls_read self.new ≤ most_calls (retries_of self.new) }
+        ensures retries { retries_of self.new ≡ retries_of self.old }
 
         // A fault of a line is the log's first, and no batch is whole before it.
         ensures fault { fault_of self.old ≡ None → IfErr result (λ e. IsOfLine e.kind → Passes
-            (λ xs ys. IsFault (log_said procs.now.procs (newlines_taken self.old) (calls_read self.old) xs) e)
+            (λ xs ys. IsFault (log_said (retries_of self.old) procs.now.procs (newlines_taken self.old) (calls_read self.old) xs) e)
             (unread S.left self.old) (unread S.left self.new)) }
         // Whole lines of calls are taken, and then one more line, or a beginning of it.
-        ensures taken { Passes (TakesCalls procs.now.procs (calls_read self.old) (ends_in_io result))
+        ensures taken { Passes (TakesCalls (retries_of self.old) procs.now.procs (calls_read self.old) (ends_in_io result))
             (unread S.left self.old) (unread S.left self.new) }
         ensures moves { Moves (unread S.left self.old) (unread S.left self.new) (position_of self.old)
             (position_of self.new) }
@@ -108,7 +114,7 @@ impl<'a, S: Source> LogReader<'a, S> {
         if let Some(fault) = self.fault {
             return Err(fault);
         }
-        let result = read_batch(alloc, procs, &mut self.lines, &mut self.total);
+        let result = read_batch(alloc, procs, self.retries, &mut self.lines, &mut self.total);
         if let Err(fault) = &result {
             self.fault = Some(*fault);
         }

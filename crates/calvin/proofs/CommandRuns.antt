@@ -23,12 +23,12 @@ without_setup holds text fault status held first is = elim (is_memory fault) as 
 ] refl
 
 pub run_at : (alone : Bool) (holds : Option (List ℕ) → Type 0) (source spent sink filled : Device) (status : ℕ) (setup : Setup) (result : Result ℕ RunFault) → IsSetupAt holds setup →
-    IsRunOfLog setup.procs (with_rows map_of.empty setup.rows.items) source spent sink filled result → (alone ≡ true → IsNotOfThread result) → status ≡ run_status result →
+    IsRunOfLog setup.procs setup.retries (with_rows map_of.empty setup.rows.items) source spent sink filled result → (alone ≡ true → IsNotOfThread result) → status ≡ run_status result →
     IsRunAt alone holds source spent sink filled status
 run_at alone holds source spent sink filled status setup result is run threadless ends = record { setup = setup; is_setup = is; result = result; run = run; threadless = threadless; ends = ends }
 
 pub locks_at : (holds : Option (List ℕ) → Type 0) (settings : Settings) (source spent sink filled : Device) (status : ℕ) (setup : Setup) (result told : Result (String Global) RunFault) → IsSetupAt holds setup →
-    IsFirstBatchPlanned setup.procs (with_rows map_of.empty setup.rows.items) settings source spent result → result ≡ told → IsTold told sink filled status → AreLocksAt holds settings source spent sink filled status
+    IsFirstBatchPlanned setup.procs setup.retries (with_rows map_of.empty setup.rows.items) settings source spent result → result ≡ told → IsTold told sink filled status → AreLocksAt holds settings source spent sink filled status
 locks_at holds settings source spent sink filled status setup result told is planned same ends = record {
   setup = setup;
   is_setup = is;
@@ -50,11 +50,11 @@ kept report full = record { bytes = Some report; failed = full }
 
 pub replicas_at : (holds holds_other : Option (List ℕ) → Type 0) (source spent sink filled : Device) (status : ℕ) (other : List ℕ) (setup : Setup) (result : Result ℕ RunFault) (before report : List ℕ) (was full : Bool) →
     holds_other (Some other) → IsSetupAt holds setup → before ≡ [] → was ≡ false →
-    IsRunOfLog setup.procs (with_rows map_of.empty setup.rows.items) source spent (kept before was) (kept report full) result →
+    IsRunOfLog setup.procs setup.retries (with_rows map_of.empty setup.rows.items) source spent (kept before was) (kept report full) result →
     IsCompared result full report other sink filled status → AreReplicas holds holds_other source spent sink filled status
 replicas_at holds holds_other source spent sink filled status other setup result before report was full held is nothing room run ends =
-    let from : IsRunOfLog setup.procs (with_rows map_of.empty setup.rows.items) source spent (kept [] false) (kept report full) result =
-    subst (λ (d : Device). IsRunOfLog setup.procs (with_rows map_of.empty setup.rows.items) source spent d (kept report full) result) (λ i. kept (nothing i) (room i)) run in
+    let from : IsRunOfLog setup.procs setup.retries (with_rows map_of.empty setup.rows.items) source spent (kept [] false) (kept report full) result =
+    subst (λ (d : Device). IsRunOfLog setup.procs setup.retries (with_rows map_of.empty setup.rows.items) source spent d (kept report full) result) (λ i. kept (nothing i) (room i)) run in
     record {
       other = other;
       held = held;

@@ -1,5 +1,5 @@
 -- How the plans of a first batch end.
-use Rattle.std.proofs.Common.{◌≡◌, ℕ, ◌||◌, List, [], ◌++◌, map, Bool, true, false, Option, Some, None, Result, Ok, Err, IsOkAnd, String, string_bytes, refl, sym, ap, ◌∙◌, subst}
+use Rattle.std.proofs.Common.{◌≡◌, ℕ, zero, suc, ◌+◌, ◌||◌, List, [], ◌∷◌, ◌++◌, map, Bool, true, false, Option, Some, None, is_some, Result, Ok, Err, IsOkAnd, String, string_bytes, refl, sym, ap, ◌∙◌, subst}
 use Rattle.std.specs.Option.{IfSome}
 use Rattle.std.specs.declared.alloc.Global.{Global}
 use Rattle.std.specs.Io.KnownBytes.{Consumes, prepend_known}
@@ -11,6 +11,8 @@ use Rattle.values.specs.Database.{Database}
 use Rattle.requests.specs.ProcLists.{ProcsParts}
 use Rattle.requests.specs.Requests.{Call}
 use Rattle.meaning.specs.Entries.{EntryShape}
+use Rattle.sequencer.specs.Attempts.{own}
+use Rattle.sequencer.specs.Batches.{items_from}
 use Rattle.sequencer.specs.Entries.{prepared}
 use Rattle.batch_log.specs.declared.fault.LogFaultKind.TheVariants.{Memory}
 use Rattle.batch_log.specs.declared.fault.LogFault.{LogFault}
@@ -20,7 +22,9 @@ use Rattle.batch_log.specs.Moves.{Moves}
 use Rattle.engine.specs.declared.settings.Settings.{Settings}
 use Rattle.running.specs.declared.run_fault.RunFault.{RunFault}
 use Rattle.running.specs.declared.run_fault.RunFault.TheVariants as runs
-use Rattle.running.specs.Reports.{prepared_in_turn, whole_log}
+use Rattle.report_text.specs.Report.{entries_in}
+use Rattle.retries.specs.Standings.{closed, closing, in_turn, start_of, transaction_of}
+use Rattle.running.specs.Reports.{whole_log}
 use Rattle.running.specs.Runs.{device_with}
 use Rattle.running.proofs.RunEnds.{or_nothing}
 use Rattle.running.proofs.Stopping.{line_begun_is, line_of_fault, not_of_line, start, taken_and_came}
@@ -28,11 +32,38 @@ use Rattle.calvin.specs.FirstBatches.{first_batch, first_of, IsFirstBatchPlanned
 
 -- ---- the first batch of a log, by its batches and its fault
 
-first_is : (procs : ProcsParts) (db : Database) (log : List ℕ) (batches : List (List Call)) (fault : Option LogFault) → batches_of (whole_log procs log) ≡ batches → first_fault (whole_log procs log) ≡ fault →
-    first_batch procs db log ≡ first_of (prepared_in_turn db batches) fault
-first_is procs db log batches fault b f =
-    ap (λ (bs : List (List Call)). first_of (prepared_in_turn db bs) (first_fault (whole_log procs log))) b
-    ∙ ap (first_of (prepared_in_turn db batches)) f
+-- nothing is carried before the first batch
+none_carried : (retries most : ℕ) (db : Database) → closing retries most (start_of db) ≡ []
+none_carried retries zero db = refl
+none_carried retries (suc most) db = refl
+
+own_entries : (db : Database) (number : ℕ) (calls : List Call) → entries_in (map (transaction_of db) (map own (items_from number calls))) ≡ map (prepared db) calls
+own_entries db number [] = refl
+own_entries db number (call ∷ calls) = ap (λ (rest : List EntryShape). prepared db call ∷ rest) (own_entries db (number + 1) calls)
+
+pub batch_entries : (db : Database) (number : ℕ) (calls : List Call) → map (λ item. prepared db item.request) (items_from number calls) ≡ map (prepared db) calls
+batch_entries db number [] = refl
+batch_entries db number (call ∷ calls) = ap (λ (rest : List EntryShape). prepared db call ∷ rest) (batch_entries db (number + 1) calls)
+
+-- the entries of batches, and of those that close a log behind them
+abbrev all_of : ℕ → Database → List (List Call) → Option LogFault → List (List EntryShape)
+all_of retries db batches fault = map entries_in (in_turn retries (start_of db) (closed retries (is_some fault) (start_of db) batches))
+
+first_is : (procs : ProcsParts) (retries : ℕ) (db : Database) (log : List ℕ) (batches : List (List Call)) (fault : Option LogFault) → batches_of (whole_log procs retries log) ≡ batches → first_fault (whole_log procs retries log) ≡ fault →
+    first_batch procs retries db log ≡ first_of (all_of retries db batches fault) fault
+first_is procs retries db log batches fault b f =
+    ap (λ (bs : List (List Call)). first_of (all_of retries db bs (first_fault (whole_log procs retries log))) (first_fault (whole_log procs retries log))) b
+    ∙ ap (λ (e : Option LogFault). first_of (all_of retries db batches e) e) f
+
+-- without a batch, with one, and with a fault alone
+first_of_none : (retries : ℕ) (db : Database) → first_of (all_of retries db [] None) None ≡ Ok []
+first_of_none retries db = ap (λ (bs : List (List Call)). first_of (map entries_in (in_turn retries (start_of db) bs)) None) (none_carried retries retries db)
+
+first_of_some : (retries : ℕ) (db : Database) (calls : List Call) (rest : List (List Call)) (fault : Option LogFault) → first_of (all_of retries db (calls ∷ rest) fault) fault ≡ Ok (map (prepared db) calls)
+first_of_some retries db calls rest fault = ap first (own_entries db 0 calls)
+  where
+    first : List EntryShape → Result (List EntryShape) LogFault
+    first es = Ok es
 
 -- what is written where these are the entries of the first batch
 text_as : (tables : List TableShape) (settings : Settings) (first : Result (List EntryShape) LogFault) (entries : List EntryShape) (text : List ℕ) → first ≡ Ok entries → IsPlansText tables settings entries text →
@@ -45,39 +76,39 @@ no_entries tables settings = record { plans = []; of_entries = tt; lines = refl 
 -- ---- by what the reader answered
 
 -- the log has ended without a batch
-pub none_first : (procs : ProcsParts) (db : Database) (settings : Settings) (left now : Option (List ℕ)) (newlines calls : ℕ) (text : List ℕ) → newlines ≡ 0 → calls ≡ 0 →
-    Passes (λ xs ys. IsEnd (log_said procs.procs newlines calls xs) × (ys ≡ [])) left now → text ≡ [] →
-    IfSome left (λ log. IsOkAnd (first_batch procs db log) (λ entries. IsPlansText procs.tables settings entries text))
-none_first procs db settings left now newlines calls text n k p empty =
-    Passes-first _ _ left now (rw (n, k) at p) (λ xs ys e. rw empty (text_as procs.tables settings _ [] [] (first_is procs db xs [] None e.0.batches e.0.fault) (no_entries procs.tables settings)))
+pub none_first : (procs : ProcsParts) (retries : ℕ) (db : Database) (settings : Settings) (left now : Option (List ℕ)) (newlines calls : ℕ) (text : List ℕ) → newlines ≡ 0 → calls ≡ 0 →
+    Passes (λ xs ys. IsEnd (log_said retries procs.procs newlines calls xs) × (ys ≡ [])) left now → text ≡ [] →
+    IfSome left (λ log. IsOkAnd (first_batch procs retries db log) (λ entries. IsPlansText procs.tables settings entries text))
+none_first procs retries db settings left now newlines calls text n k p empty =
+    Passes-first _ _ left now (rw (n, k) at p) (λ xs ys e. rw empty (text_as procs.tables settings _ [] [] (first_is procs retries db xs [] None e.0.batches e.0.fault ∙ first_of_none retries db) (no_entries procs.tables settings)))
 
 -- it has a first batch
-pub batch_first : (procs : ProcsParts) (db : Database) (settings : Settings) (left now : Option (List ℕ)) (newlines calls newlines2 calls2 : ℕ) (requests : List Call) (tables : List TableShape) (text : List ℕ) → newlines ≡ 0 → calls ≡ 0 →
-    Passes (λ xs ys. IsNextBatch (log_said procs.procs newlines calls xs) requests (log_said procs.procs newlines2 calls2 ys)) left now → procs.tables ≡ tables → IsPlansText tables settings (map (prepared db) requests) text →
-    IfSome left (λ log. IsOkAnd (first_batch procs db log) (λ entries. IsPlansText procs.tables settings entries text))
-batch_first procs db settings left now newlines calls newlines2 calls2 requests tables text n k p t h =
+pub batch_first : (procs : ProcsParts) (retries : ℕ) (db : Database) (settings : Settings) (left now : Option (List ℕ)) (newlines calls newlines2 calls2 : ℕ) (requests : List Call) (tables : List TableShape) (text : List ℕ) → newlines ≡ 0 → calls ≡ 0 →
+    Passes (λ xs ys. IsNextBatch (log_said retries procs.procs newlines calls xs) requests (log_said retries procs.procs newlines2 calls2 ys)) left now → procs.tables ≡ tables → IsPlansText tables settings (map (prepared db) requests) text →
+    IfSome left (λ log. IsOkAnd (first_batch procs retries db log) (λ entries. IsPlansText procs.tables settings entries text))
+batch_first procs retries db settings left now newlines calls newlines2 calls2 requests tables text n k p t h =
     Passes-first _ _ left now (rw (n, k) at p)
-    (λ xs ys e. text_as procs.tables settings _ (map (prepared db) requests) text (first_is procs db xs _ _ e.batches refl) (subst (λ ts. IsPlansText ts settings (map (prepared db) requests) text) (sym t) h))
+    (λ xs ys e. text_as procs.tables settings _ (map (prepared db) requests) text (first_is procs retries db xs _ _ e.batches refl ∙ first_of_some retries db requests (batches_of (log_said retries procs.procs newlines2 calls2 ys)) (first_fault (whole_log procs retries xs))) (subst (λ ts. IsPlansText ts settings (map (prepared db) requests) text) (sym t) h))
 
 -- it has a fault first
-pub fault_first : (procs : ProcsParts) (db : Database) (left now : Option (List ℕ)) (newlines calls : ℕ) (fault : LogFault) → newlines ≡ 0 → calls ≡ 0 →
-    Passes (λ xs ys. IsFault (log_said procs.procs newlines calls xs) fault) left now → IfSome left (λ log. first_batch procs db log ≡ Err fault)
-fault_first procs db left now newlines calls fault n k p = Passes-first _ _ left now (rw (n, k) at p) (λ xs ys e. first_is procs db xs [] (Some fault) e.batches e.first)
+pub fault_first : (procs : ProcsParts) (retries : ℕ) (db : Database) (left now : Option (List ℕ)) (newlines calls : ℕ) (fault : LogFault) → newlines ≡ 0 → calls ≡ 0 →
+    Passes (λ xs ys. IsFault (log_said retries procs.procs newlines calls xs) fault) left now → IfSome left (λ log. first_batch procs retries db log ≡ Err fault)
+fault_first procs retries db left now newlines calls fault n k p = Passes-first _ _ left now (rw (n, k) at p) (λ xs ys e. first_is procs retries db xs [] (Some fault) e.batches e.first)
 
 -- ---- how it ends
 
-module _ (procs : ProcsParts) (db : Database) (settings : Settings) (left last : Option (List ℕ)) (came : List ℕ) (at : Position) (f f2 : Bool) (moves : Moves left (prepend_known came last) start at) where
+module _ (procs : ProcsParts) (retries : ℕ) (db : Database) (settings : Settings) (left last : Option (List ℕ)) (came : List ℕ) (at : Position) (f f2 : Bool) (moves : Moves left (prepend_known came last) start at) where
   was_read : (taken : List ℕ) × Consumes left last taken
   was_read = (moves.bytes ++ came, taken_and_came left last moves.bytes came moves.takes.0)
 
   -- with the text of the plans
-  pub ends_planned : (text : String Global) → f2 ≡ (f || false) → IfSome left (λ log. IsOkAnd (first_batch procs db log) (λ entries. IsPlansText procs.tables settings entries (string_bytes text))) →
-      IsFirstBatchPlanned procs db settings (device_with left f) (device_with last f2) (Ok text)
+  pub ends_planned : (text : String Global) → f2 ≡ (f || false) → IfSome left (λ log. IsOkAnd (first_batch procs retries db log) (λ entries. IsPlansText procs.tables settings entries (string_bytes text))) →
+      IsFirstBatchPlanned procs retries db settings (device_with left f) (device_with last f2) (Ok text)
   ends_planned text works planned = record { text = planned; fault = tt; device = works; threadless = tt; line = λ _. tt; read = was_read }
 
   -- with a fault of the reader
-  pub ends_at_fault : (fault : LogFault) → f2 ≡ (f || is_io fault.kind) → (IsOfLine fault.kind → IfSome left (λ log. first_batch procs db log ≡ Err fault)) →
-      fault.line ≡ place_of fault.kind at → (is_io fault.kind ≡ true → came ≡ []) → IsFirstBatchPlanned procs db settings (device_with left f) (device_with last f2) (Err (runs.Log fault))
+  pub ends_at_fault : (fault : LogFault) → f2 ≡ (f || is_io fault.kind) → (IsOfLine fault.kind → IfSome left (λ log. first_batch procs retries db log ≡ Err fault)) →
+      fault.line ≡ place_of fault.kind at → (is_io fault.kind ≡ true → came ≡ []) → IsFirstBatchPlanned procs retries db settings (device_with left f) (device_with last f2) (Err (runs.Log fault))
   ends_at_fault fault fails first place spent = record {
     text = tt;
     fault = first;
@@ -89,11 +120,11 @@ module _ (procs : ProcsParts) (db : Database) (settings : Settings) (left last :
 
   -- with memory that was refused for the plans
   pub ends_without_memory : (told : RunFault) (line : ℕ) → told ≡ runs.Log (record { kind = Memory; line = line }) → f2 ≡ (f || false) → line ≡ at.begun →
-      IsFirstBatchPlanned procs db settings (device_with left f) (device_with last f2) (Err told)
+      IsFirstBatchPlanned procs retries db settings (device_with left f) (device_with last f2) (Err told)
   ends_without_memory told line is fails begun =
-      let ended : IsFirstBatchPlanned procs db settings (device_with left f) (device_with last f2) (Err (runs.Log (record { kind = Memory; line = line }))) = record {
+      let ended : IsFirstBatchPlanned procs retries db settings (device_with left f) (device_with last f2) (Err (runs.Log (record { kind = Memory; line = line }))) = record {
         text = tt;
-        fault = not_of_line (runs.Log (record { kind = Memory; line = line })) line (λ e. IfSome left (λ log. first_batch procs db log ≡ Err e)) (tt, refl);
+        fault = not_of_line (runs.Log (record { kind = Memory; line = line })) line (λ e. IfSome left (λ log. first_batch procs retries db log ≡ Err e)) (tt, refl);
         device = fails;
         threadless = tt;
         line = λ works. λ _. line_begun_is f2 left last came at line (fails ∙ sym (or_nothing f) ∙ works) begun moves;
@@ -102,7 +133,7 @@ module _ (procs : ProcsParts) (db : Database) (settings : Settings) (left last :
       rw is ended
 
 -- what a reader does is done to the source that it reads
-pub planned_through : {T : Type 0} (procs : ProcsParts) (db : Database) (settings : Settings) (bytes : T → Option (List ℕ)) (failed : T → Bool) (old given first last : T) (unread : Option (List ℕ)) (r : Result (String Global) RunFault) →
-    IsFirstBatchPlanned procs db settings (device_with unread (failed first)) (device_with (bytes last) (failed last)) r → unread ≡ bytes old → first ≡ old → given ≡ last →
-    IsFirstBatchPlanned procs db settings (device_with (bytes old) (failed old)) (device_with (bytes given) (failed given)) r
-planned_through procs db settings bytes failed old given first last unread r h u f e = rw e (rw (u, f) at h)
+pub planned_through : {T : Type 0} (procs : ProcsParts) (retries : ℕ) (db : Database) (settings : Settings) (bytes : T → Option (List ℕ)) (failed : T → Bool) (old given first last : T) (unread : Option (List ℕ)) (r : Result (String Global) RunFault) →
+    IsFirstBatchPlanned procs retries db settings (device_with unread (failed first)) (device_with (bytes last) (failed last)) r → unread ≡ bytes old → first ≡ old → given ≡ last →
+    IsFirstBatchPlanned procs retries db settings (device_with (bytes old) (failed old)) (device_with (bytes given) (failed given)) r
+planned_through procs retries db settings bytes failed old given first last unread r h u f e = rw e (rw (u, f) at h)

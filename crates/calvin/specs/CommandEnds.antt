@@ -76,7 +76,7 @@ pub record IsRunAt (alone : Bool) (holds : Holding) (source spent sink filled : 
   pub setup : Setup
   pub is_setup : IsSetupAt holds setup
   pub result : Result ℕ RunFault
-  pub run : IsRunOfLog setup.procs (with_rows map_of.empty setup.rows.items) source spent sink filled result
+  pub run : IsRunOfLog setup.procs setup.retries (with_rows map_of.empty setup.rows.items) source spent sink filled result
   -- Alone on one thread, no thread is refused.
   pub threadless : alone ≡ true → IsNotOfThread result
   pub ends : status ≡ run_status result
@@ -128,8 +128,8 @@ pub record AreReplicas (holds holds_other : Holding) (source spent sink filled :
   -- what was kept of the report, and whether memory was refused for it
   pub report : List ℕ
   pub is_full : Bool
-  pub run : IsRunOfLog setup.procs (with_rows map_of.empty setup.rows.items) source spent (record { bytes = Some []; failed = false }) (record { bytes = Some report; failed = is_full }) result
-  pub whole : OnOk result (IfSome source.bytes (λ log. report ≡ report_of setup.procs (with_rows map_of.empty setup.rows.items) log))
+  pub run : IsRunOfLog setup.procs setup.retries (with_rows map_of.empty setup.rows.items) source spent (record { bytes = Some []; failed = false }) (record { bytes = Some report; failed = is_full }) result
+  pub whole : OnOk result (IfSome source.bytes (λ log. report ≡ report_of setup.procs setup.retries (with_rows map_of.empty setup.rows.items) log))
   pub ends : IsCompared result is_full report other sink filled status
 
 -- The other report is read first, and then the setup. Without either nothing is read of the log, and nothing is written.
@@ -165,7 +165,7 @@ pub record AreLocksAt (holds : Holding) (settings : Settings) (source spent sink
   pub setup : Setup
   pub is_setup : IsSetupAt holds setup
   pub result : Result (String Global) RunFault
-  pub planned : IsFirstBatchPlanned setup.procs (with_rows map_of.empty setup.rows.items) settings source spent result
+  pub planned : IsFirstBatchPlanned setup.procs setup.retries (with_rows map_of.empty setup.rows.items) settings source spent result
   pub ends : IsTold result sink filled status
 
 -- Without a setup nothing is read of the log, and nothing is written.

@@ -1,6 +1,6 @@
 -- Claimed: what contracts promise to a reader rests on these words.
 -- The plans of a log's first batch, and their text.
-use Rattle.std.specs.Prelude.{◌≡◌, ℕ, ◌+◌, ◌||◌, List, [], ◌∷◌, ◌++◌, false, Option, Some, None, Result, Ok, Err, String, string_bytes, IfOk, IfErr, IfSome, IsOkAnd, ⊤}
+use Rattle.std.specs.Prelude.{◌≡◌, ℕ, ◌+◌, ◌||◌, List, [], ◌∷◌, ◌++◌, false, Option, Some, None, Result, Ok, Err, String, string_bytes, map, IfOk, IfErr, IfSome, IsOkAnd, ⊤}
 use Rattle.std.specs.declared.alloc.Global.{Global}
 use Rattle.std.specs.Io.KnownBytes.{Consumes}
 use Rattle.catalogue.specs.Shapes.{TableShape}
@@ -12,6 +12,7 @@ use Rattle.meaning.specs.Entries.{EntryShape, footprint_of}
 use Rattle.interp.specs.Over.{locked_for}
 use Rattle.batch_log.specs.declared.fault.LogFault.{LogFault}
 use Rattle.report_text.specs.PlanTexts.{plan_lines}
+use Rattle.report_text.specs.Report.{entries_in}
 use Rattle.engine.specs.declared.settings.Settings.{Settings}
 use Rattle.running.specs.declared.run_fault.RunFault.{RunFault}
 use Rattle.running.specs.Reports.{batches_in, fault_in}
@@ -57,16 +58,16 @@ first_of [] (Some fault) = Err fault
 first_of [] None = Ok []
 
 -- the entries of a log's first batch, on procedures and starting rows
-abbrev pub first_batch : ProcsParts → Database → List ℕ → Result (List EntryShape) LogFault
-first_batch procs db log = first_of (batches_in procs db log) (fault_in procs log)
+abbrev pub first_batch : ProcsParts → ℕ → Database → List ℕ → Result (List EntryShape) LogFault
+first_batch procs retries db log = first_of (map entries_in (batches_in procs retries db log)) (fault_in procs retries log)
 
 -- The plans of the first batch of the log that a source has left, on procedures and starting rows: the source before and after, and the plans'
 -- text or a fault.
-pub record IsFirstBatchPlanned (procs : ProcsParts) (db : Database) (settings : Settings) (source spent : Device) (result : Result (String Global) RunFault) : Type 0 where
+pub record IsFirstBatchPlanned (procs : ProcsParts) (retries : ℕ) (db : Database) (settings : Settings) (source spent : Device) (result : Result (String Global) RunFault) : Type 0 where
   -- The text is that of the first batch.
-  pub text : IfOk result (λ text. IfSome source.bytes (λ log. IsOkAnd (first_batch procs db log) (λ entries. IsPlansText procs.tables settings entries (string_bytes text))))
+  pub text : IfOk result (λ text. IfSome source.bytes (λ log. IsOkAnd (first_batch procs retries db log) (λ entries. IsPlansText procs.tables settings entries (string_bytes text))))
   -- A fault of a line is the log's first, and comes before the first batch ends.
-  pub fault : IfErr result (λ e. IfOfLine e (λ fault. IfSome source.bytes (λ log. first_batch procs db log ≡ Err fault)))
+  pub fault : IfErr result (λ e. IfOfLine e (λ fault. IfSome source.bytes (λ log. first_batch procs retries db log ≡ Err fault)))
   -- The fault of a device comes exactly where the source has failed meanwhile. No thread is refused. Each fault names its line.
   pub device : spent.failed ≡ (source.failed || ends_in_io result)
   pub threadless : IsNotOfThread result

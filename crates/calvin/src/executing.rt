@@ -6,7 +6,7 @@ ghost use Rattle.std.specs.Io.KnownBytes.{Appends};
 ghost use Rattle.devices.specs.Devices.{AppendsFront};
 ghost use Rattle.row_store.specs.Stock.{with_rows};
 ghost use Rattle.sequencer.specs.Batches.{items_of, AreOver};
-ghost use Rattle.report_text.specs.Report.{all_entries};
+ghost use Rattle.report_text.specs.Report.{all_transactions};
 ghost use Rattle.engine.specs.Engines.{is_busy, tables_of};
 ghost use Rattle.engine.specs.Executions.{IsSpawn};
 ghost use Rattle.running.specs.Executors.{IsExecution};
@@ -34,7 +34,7 @@ pub(crate) fn run_log_alone<R: Wait, S: Source, K: Sink>(
     source: &mut S,
     sink: &mut K,
 ) -> Result<u64, RunFault>
-    ensures run { IsRunOfLog setup.procs (with_rows map_of.empty setup.rows.items)
+    ensures run { IsRunOfLog setup.procs setup.retries (with_rows map_of.empty setup.rows.items)
         (device_with (S.left source.old) (S.failed source.old))
         (device_with (S.left source.new) (S.failed source.new))
         (device_with (K.taken sink.old) (K.broken sink.old))
@@ -68,7 +68,7 @@ fn run_log_at<'a, R: Threads + Wait + Sync, G: Gate, S: Source, K: Sink>(
     requires place { head ≡ place.now }
     requires idle { is_busy engine.old ≡ false }
     requires unused { engine.old.next ≡ 0 }
-    ensures { IsRunOfLog engine.old.procs engine.old.rows
+    ensures { IsRunOfLog engine.old.procs engine.old.retries engine.old.rows
         (device_with (S.left source.old) (S.failed source.old))
         (device_with (S.left source.new) (S.failed source.new))
         (device_with (K.taken sink.old) (K.broken sink.old))
@@ -82,7 +82,7 @@ fn run_log_at<'a, R: Threads + Wait + Sync, G: Gate, S: Source, K: Sink>(
             ensures engine { result.1.ghost_name ≡ engine.entry.ghost_name }
             ensures source { result.2.ghost_name ≡ source.entry.ghost_name }
             ensures sink { result.3.ghost_name ≡ sink.entry.ghost_name }
-            ensures run { IsRunOfLog engine.entry.now.procs engine.entry.now.rows
+            ensures run { IsRunOfLog engine.entry.now.procs engine.entry.now.retries engine.entry.now.rows
                 (device_with (S.left source.entry.now) (S.failed source.entry.now))
                 (device_with (S.left result.2.now) (S.failed result.2.now))
                 (device_with (K.taken sink.entry.now) (K.broken sink.entry.now))
@@ -114,7 +114,7 @@ pub(crate) fn run_log_in_pool<R: Threads + Wait + Sync, G: Gate, S: Source, K: S
 ) -> Result<u64, RunFault>
     requires idle { is_busy engine.old ≡ false }
     requires unused { engine.old.next ≡ 0 }
-    ensures { IsRunOfLog engine.old.procs engine.old.rows
+    ensures { IsRunOfLog engine.old.procs engine.old.retries engine.old.rows
         (device_with (S.left source.old) (S.failed source.old))
         (device_with (S.left source.new) (S.failed source.new))
         (device_with (K.taken sink.old) (K.broken sink.old))
@@ -136,7 +136,7 @@ pub(crate) fn run_log_on_workers<R: Threads + Wait + Sync, G: Gate, S: Source, K
     source: &mut S,
     sink: &mut K,
 ) -> Result<u64, RunFault>
-    ensures { IsRunOfLog setup.procs (with_rows map_of.empty setup.rows.items)
+    ensures { IsRunOfLog setup.procs setup.retries (with_rows map_of.empty setup.rows.items)
         (device_with (S.left source.old) (S.failed source.old))
         (device_with (S.left source.new) (S.failed source.new))
         (device_with (K.taken sink.old) (K.broken sink.old))
@@ -165,24 +165,24 @@ pub fn run_text<R: Threads + Wait + Sync, G: Gate, S: Source, K: Sink>(
 ) -> Result<u64, RunFault>
     // `Ok`: the log has no fault, all of it was read, and its report was written.
     ensures count { IfOk result (λ n.
-        IfSome (S.left source.old) (λ log. n ≡ length (all_entries (batches_in setup.procs
+        IfSome (S.left source.old) (λ log. n ≡ length (all_transactions (batches_in setup.procs setup.retries
         (with_rows map_of.empty setup.rows.items) log)))) }
-    ensures sound { OnOk result (IfSome (S.left source.old) (λ log. fault_in setup.procs log ≡ None)) }
+    ensures sound { OnOk result (IfSome (S.left source.old) (λ log. fault_in setup.procs setup.retries log ≡ None)) }
     ensures read { OnOk result (IfSome (S.left source.old) (λ _. S.left source.new ≡ Some [])) }
     ensures ok { OnOk result (IfSome (S.left source.old) (λ log.
         Appends (K.taken sink.old) (K.taken sink.new)
-        (report_of setup.procs (with_rows map_of.empty setup.rows.items) log))) }
+        (report_of setup.procs setup.retries (with_rows map_of.empty setup.rows.items) log))) }
     // A fault of a line is the log's first, and the report of the batches before it was written.
     ensures fault { IfErr result (λ e.
-        IfOfLine e (λ fault. IfSome (S.left source.old) (λ log. fault_in setup.procs log ≡ Some fault))) }
+        IfOfLine e (λ fault. IfSome (S.left source.old) (λ log. fault_in setup.procs setup.retries log ≡ Some fault))) }
     ensures until { IfErr result (λ e.
         IfOfLine e (λ fault. IfSome (S.left source.old) (λ log.
         Appends (K.taken sink.old) (K.taken sink.new)
-        (report_of setup.procs (with_rows map_of.empty setup.rows.items) log)))) }
+        (report_of setup.procs setup.retries (with_rows map_of.empty setup.rows.items) log)))) }
     // However it ends, what was written is a beginning of the report.
     ensures front { IfSome (S.left source.old) (λ log.
         AppendsFront (K.taken sink.old) (K.taken sink.new)
-        (report_of setup.procs (with_rows map_of.empty setup.rows.items) log)) }
+        (report_of setup.procs setup.retries (with_rows map_of.empty setup.rows.items) log)) }
     // The fault of a device comes only where one has failed meanwhile. Each fault names its line.
     ensures devices { (S.failed source.new || K.broken sink.new)
         ≡ ((S.failed source.old || K.broken sink.old) || ends_in_io result) }

@@ -7,7 +7,7 @@ ghost use Rattle.std.specs.FinMap as map_of;
 ghost use Rattle.row_store.specs.Stock.{with_rows};
 ghost use Rattle.sequencer.specs.Entries.{prepared};
 ghost use Rattle.interp.specs.Entries.{entry_shape};
-ghost use Rattle.batch_log.specs.Reader.{calls_read, fault_of, position_of, source_name, source_of, unread};
+ghost use Rattle.batch_log.specs.Reader.{calls_read, fault_of, position_of, retries_of, source_name, source_of, unread};
 ghost use Rattle.report_text.specs.PlanTexts.{plan_lines};
 ghost use Rattle.running.specs.Runs.{device_with};
 ghost use Rattle.calvin.specs.FirstBatches.{IsFirstBatchPlanned, IsPlanOfEntry, IsPlansText};
@@ -92,6 +92,7 @@ fn lines_of(
         catalogue,
         procs,
         rows,
+        retries: _,
     } = setup;
     let batch = match Batch::of(alloc, requests) {
         Ok(batch) => batch,
@@ -111,10 +112,11 @@ fn first_plans<S: Source>(
     settings: Settings,
     reader: &mut LogReader<'_, S>,
 ) -> Result<String, RunFault>
-    requires { (position_of reader.old ≡ record { newlines = 0; begun = 0 }) × (calls_read reader.old ≡ 0) ×
+    requires unread { (position_of reader.old ≡ record { newlines = 0; begun = 0 }) × (calls_read reader.old ≡ 0) ×
         (fault_of reader.old ≡ None) }
+    requires retries { retries_of reader.old ≡ setup.retries }
     ensures same { source_name reader.new ≡ source_name reader.old }
-    ensures planned { IsFirstBatchPlanned setup.procs (with_rows map_of.empty setup.rows.items) settings
+    ensures planned { IsFirstBatchPlanned setup.procs setup.retries (with_rows map_of.empty setup.rows.items) settings
         (device_with (unread S.left reader.old) (S.failed (source_of reader.old)))
         (device_with (S.left (source_of reader.new)) (S.failed (source_of reader.new))) result }
 {
@@ -137,11 +139,11 @@ pub(crate) fn plans_of<S: Source>(
     settings: Settings,
     source: &mut S,
 ) -> Result<String, RunFault>
-    ensures { IsFirstBatchPlanned setup.procs (with_rows map_of.empty setup.rows.items) settings
+    ensures { IsFirstBatchPlanned setup.procs setup.retries (with_rows map_of.empty setup.rows.items) settings
         (device_with (S.left source.old) (S.failed source.old))
         (device_with (S.left source.new) (S.failed source.new)) result }
 {
-    let mut reader = LogReader::new(source);
+    let mut reader = LogReader::new(source, setup.retries);
     let planned = first_plans(alloc, setup, settings, &mut reader);
     let _source = reader.into_source();
     planned

@@ -33,7 +33,7 @@ fn run_telling<R: Wait, S: Source, K: Sink, E: Sink>(
 ) -> Result<u64, RunFault>
     requires idle { is_busy engine.old ≡ false }
     requires unused { engine.old.next ≡ 0 }
-    ensures run { IsRunOfLog engine.old.procs engine.old.rows
+    ensures run { IsRunOfLog engine.old.procs engine.old.retries engine.old.rows
         (device_with (S.left source.old) (S.failed source.old))
         (device_with (S.left source.new) (S.failed source.new))
         (device_with (K.taken sink.old) (K.broken sink.old))
@@ -66,7 +66,7 @@ pub(crate) fn run_log_alone_telling<R: Wait, S: Source, K: Sink, E: Sink>(
     sink: &mut K,
     err: &mut E,
 ) -> Result<u64, RunFault>
-    ensures run { IsRunOfLog setup.procs (with_rows map_of.empty setup.rows.items)
+    ensures run { IsRunOfLog setup.procs setup.retries (with_rows map_of.empty setup.rows.items)
         (device_with (S.left source.old) (S.failed source.old))
         (device_with (S.left source.new) (S.failed source.new))
         (device_with (K.taken sink.old) (K.broken sink.old))
@@ -96,7 +96,7 @@ fn run_to_end<R: Threads + Wait + Sync, S: Source, K: Sink>(
 ) -> Result<u64, RunFault>
     requires idle { is_busy engine.old ≡ false }
     requires unused { engine.old.next ≡ 0 }
-    ensures { IsRunOfLog engine.old.procs engine.old.rows
+    ensures { IsRunOfLog engine.old.procs engine.old.retries engine.old.rows
         (device_with (S.left source.old) (S.failed source.old))
         (device_with (S.left source.new) (S.failed source.new))
         (device_with (K.taken sink.old) (K.broken sink.old))
@@ -121,7 +121,7 @@ fn run_beside_teller<R: Threads + Wait + Sync, S: Source, K: Sink, E: Sink + Sen
 ) -> Result<u64, RunFault>
     requires idle { is_busy engine.old ≡ false }
     requires unused { engine.old.next ≡ 0 }
-    ensures { IsRunOfLog engine.old.procs engine.old.rows
+    ensures { IsRunOfLog engine.old.procs engine.old.retries engine.old.rows
         (device_with (S.left source.old) (S.failed source.old))
         (device_with (S.left source.new) (S.failed source.new))
         (device_with (K.taken sink.old) (K.broken sink.old))
@@ -134,7 +134,7 @@ fn run_beside_teller<R: Threads + Wait + Sync, S: Source, K: Sink, E: Sink + Sen
         &mut || tell_until(rt, alloc, lines, watcher, end, err),
         &mut || -> Result<u64, RunFault>
             requires { (is_busy engine.now ≡ false) × (engine.now.next ≡ 0) }
-            ensures { IsRunOfLog engine.entry.now.procs engine.entry.now.rows
+            ensures { IsRunOfLog engine.entry.now.procs engine.entry.now.retries engine.entry.now.rows
                 (device_with (S.left source.entry.now) (S.failed source.entry.now))
                 (device_with (S.left source.exit.now) (S.failed source.exit.now))
                 (device_with (K.taken sink.entry.now) (K.broken sink.entry.now))
@@ -161,7 +161,7 @@ pub(crate) fn run_log_on_workers_telling<
     sink: &mut K,
     err: &mut E,
 ) -> Result<u64, RunFault>
-    ensures { IsRunOfLog setup.procs (with_rows map_of.empty setup.rows.items)
+    ensures { IsRunOfLog setup.procs setup.retries (with_rows map_of.empty setup.rows.items)
         (device_with (S.left source.old) (S.failed source.old))
         (device_with (S.left source.new) (S.failed source.new))
         (device_with (K.taken sink.old) (K.broken sink.old))
@@ -197,7 +197,7 @@ pub(crate) fn run_setup<R: Threads + Wait + Sync, S: Source, K: Sink, E: Sink + 
     out: &mut K,
     err: &mut E,
 ) -> Result<u64, RunFault>
-    ensures run { IsRunOfLog setup.procs (with_rows map_of.empty setup.rows.items)
+    ensures run { IsRunOfLog setup.procs setup.retries (with_rows map_of.empty setup.rows.items)
         (device_with (S.left source.old) (S.failed source.old))
         (device_with (S.left source.new) (S.failed source.new))
         (device_with (K.taken out.old) (K.broken out.old))

@@ -49,7 +49,7 @@ fn reads_fail_in_the_line_that_they_are_of(rt: HostRuntime) -> Result<(), Fail> 
         ("\n[\"call\",\"peek\",[1]]\n", 0, ["fault 31 line 1, 1"; 3]),
     ] {
         let mut source = Slow::new(log.as_bytes(), failing);
-        let mut reader = LogReader::new(&mut source);
+        let mut reader = LogReader::new(&mut source, 0);
         for want in outcomes {
             let found = outcome(alloc, &setup, &mut reader)?;
             assert_eq!(rt; found.as_str(), want, "{log} failing at {failing}");

@@ -34,6 +34,10 @@ abbrev pub five : List Data → Option (Data × Data × Data × Data × Data)
 five (a ∷ b ∷ c ∷ d ∷ e ∷ []) = Some (a, b, c, d, e)
 five ds = None
 
+abbrev pub six : List Data → Option (Data × Data × Data × Data × Data × Data)
+six (a ∷ b ∷ c ∷ d ∷ e ∷ f ∷ []) = Some (a, b, c, d, e, f)
+six ds = None
+
 -- a text, a whole number, and a list
 unfoldable pub text_number_list : Data → Option (List ℕ × ℤ × List Data)
 text_number_list d =

@@ -3,4 +3,4 @@
 
 mod shape;
 
-pub use shape::{elements, five, four, pair, text_number_list, triple, versioned_list};
+pub use shape::{elements, five, four, pair, six, text_number_list, triple, versioned_list};

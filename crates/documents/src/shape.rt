@@ -2,7 +2,7 @@
 
 ghost use Rattle.std.specs.Prelude.{◌≡◌, option_map, option_and_then, map};
 ghost use Rattle.serde_json.specs.View.{view};
-ghost use Rattle.documents.specs.Json.{elements, two, three, four, five, text_number_list, versioned_list};
+ghost use Rattle.documents.specs.Json.{elements, two, three, four, five, six, text_number_list, versioned_list};
 
 use serde_json::Value;
 
@@ -57,6 +57,19 @@ pub fn five(value: &Value) -> Option<(&Value, &Value, &Value, &Value, &Value)>
 {
     match elements(value)? {
         [first, second, third, fourth, fifth] => Some((first, second, third, fourth, fifth)),
+        _ => None,
+    }
+}
+
+/// The elements of an array of six.
+pub fn six(value: &Value) -> Option<(&Value, &Value, &Value, &Value, &Value, &Value)>
+    ensures { option_map (λ p. (view p.0.now, view p.1.now, view p.2.now, view p.3.now, view p.4.now, view p.5.now)) result
+        ≡ option_and_then six (elements (view value.now)) }
+{
+    match elements(value)? {
+        [first, second, third, fourth, fifth, sixth] => Some((
+            first, second, third, fourth, fifth, sixth,
+        )),
         _ => None,
     }
 }

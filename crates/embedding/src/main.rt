@@ -26,7 +26,7 @@ const DAYS: [&[Call<'static>]; 2] = [
 fn lines_of(alloc: Global, replies: &[Reply]) -> Result<String, AllocError> {
     let mut lines = String::new(alloc);
     for reply in replies {
-        push_reply_line(alloc, &mut lines, reply.no, &reply.outcome)?;
+        push_reply_line(alloc, &mut lines, reply.no, reply.of, &reply.outcome)?;
     }
     Ok(lines)
 }

@@ -9,6 +9,7 @@ pub mod Steps
 pub mod InLanes
 pub mod EmptyLanes
 pub mod Stops
+pub mod Carried
 pub mod Sent
 pub mod Worked
 pub mod Straight

@@ -23,7 +23,7 @@ module _ (next : ℕ) (ended : Ended) (old now : Account) (told : old.ended.sett
   pub counted_end : latest now.published ≡ together old.ended (tally_of replies)
   counted_end = knows ∙ ap (λ (t : Tally). together t (tally_of replies)) onward.0
 
-  pub shown_end : IsShown (next + length ended.done.replies.items) (Some (Idle ended.store)) (record now { ended = latest now.published })
+  pub shown_end : IsShown (next + length ended.done.replies.items) (Some (Idle ended.store ended.left)) (record now { ended = latest now.published })
   shown_end =
       let all : (latest now.published).settled ≡ old.ended.settled + length replies = ap (λ (t : Tally). t.settled) counted_end in
       let many : length replies ≡ length ended.done.replies.items = length-map ended.done.replies.items reply_of in

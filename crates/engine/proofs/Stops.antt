@@ -3,6 +3,7 @@ use Rattle.std.proofs.Common.{◌≡◌, ℕ, List, length, map, Option, Some, r
 use Rattle.catalogue.specs.Shapes.{TableShape}
 use Rattle.interp.specs.Entries.{entry_shape}
 use Rattle.scheduler.specs.Schedules.{Schedule, Work, phases_of}
+use Rattle.sequencer.specs.Attempts.{attempts_in}
 use Rattle.engine.specs.declared.pool.Refusal.{Refusal}
 use Rattle.engine.specs.declared.pool.Refusal.TheVariants.{Thread, Memory}
 use Rattle.engine.specs.declared.stage.Begun.{Begun as BegunOf}
@@ -18,7 +19,7 @@ use Rattle.engine.proofs.EmptyLanes.{none_kept}
 module _ (tables : List TableShape) (first : ℕ) (old : Stage) (b : BegunOf) (s : Schedule) (h : IsBegun tables first b) (start : b.scheduler.work.start ≡ rows_in (Some old))
     (same : Some (unfinished_of b) ≡ unfinished_in (Some old)) (work : s.work ≡ b.scheduler.work) (none : NoneIsOut (phases_of s)) (settled : StaysSettled (phases_of b.scheduler) (phases_of s)) where
   abbrev now : BegunOf
-  now = record { batch = b.batch; scheduler = s }
+  now = record { attempts = b.attempts; scheduler = s }
 
   pub over : s.work.tables ≡ tables
   over = ap (λ (w : Work). w.tables) work ∙ h.schedule.over
@@ -29,14 +30,14 @@ module _ (tables : List TableShape) (first : ℕ) (old : Stage) (b : BegunOf) (s
     schedule = record {
       over = over;
       numbered = ap (λ (w : Work). w.first) work ∙ h.schedule.numbered;
-      entries = subst (λ (w : Work). map entry_shape w.entries ≡ entries_of w.start b.batch) (sym work) h.schedule.entries;
+      entries = subst (λ (w : Work). map entry_shape w.entries ≡ entries_of w.start (attempts_in b.attempts)) (sym work) h.schedule.entries;
       plans = subst (λ (w : Work). length w.plans ≡ length w.entries) (sym work) h.schedule.plans;
     };
     rest = record { keeps = none_kept s none; none_out = none };
   }
 
   waits_on : WaitsIn (unfinished_in (Some old)) (Some (unfinished_of now))
-  waits_on = subst (λ (u : Option Unfinished). WaitsIn u (Some (unfinished_of now))) same (record { batch = refl; none_out = none; settled = settled })
+  waits_on = subst (λ (u : Option Unfinished). WaitsIn u (Some (unfinished_of now))) same (record { attempts = refl; none_out = none; settled = settled })
 
   rows : s.work.start ≡ rows_in (Some old)
   rows = ap (λ (w : Work). w.start) work ∙ start
@@ -46,7 +47,7 @@ module _ (tables : List TableShape) (first : ℕ) (old : Stage) (b : BegunOf) (s
   stop_by Thread nothing = record {
     fits = begun_on;
     rows = rows;
-    batch = ap (λ (t : Schedule). Some (unfinished_of (record { batch = b.batch; scheduler = t }))) (nothing refl) ∙ same;
+    batch = ap (λ (t : Schedule). Some (unfinished_of (record { attempts = b.attempts; scheduler = t }))) (nothing refl) ∙ same;
   }
 
   pub stop_of : (stop : Interruption) → stop.stage ≡ Begun now → stop.refusal ≡ Memory → IsInterruptedStage tables first old stop

@@ -7,7 +7,7 @@ use Rattle.values.specs.Database.{Database}
 use Rattle.coarsen.specs.Subtrees.{Requests}
 use Rattle.meaning.specs.Entries.{Reply, EntryShape, meaning}
 use Rattle.meaning.specs.Serial.{serial_replies}
-use Rattle.sequencer.specs.Batches.{items_of}
+use Rattle.sequencer.specs.Attempts.{attempts_in, requests_in}
 use Rattle.sequencer.specs.Entries.{prepared}
 use Rattle.interp.specs.Entries.{EntryParts, entry_shape}
 use Rattle.scheduler_core.specs.declared.phase.Phase.{Phase}
@@ -146,9 +146,10 @@ tell_none s number (Some a) was h = record {
 
 -- ---- stages
 
-pub few_entries : (tables : List TableShape) (first : ℕ) (b : BegunOf) → IsBegun tables first b → length b.scheduler.work.entries ≡ length (items_of b.batch)
+pub few_entries : (tables : List TableShape) (first : ℕ) (b : BegunOf) → IsBegun tables first b → length b.scheduler.work.entries ≡ length (attempts_in b.attempts)
 few_entries tables first b h =
-    sym (length-map b.scheduler.work.entries entry_shape) ∙ ap length h.schedule.entries ∙ length-map (items_of b.batch) (λ item. prepared b.scheduler.work.start item.request)
+    sym (length-map b.scheduler.work.entries entry_shape) ∙ ap length h.schedule.entries ∙ length-map (requests_in b.attempts) (prepared b.scheduler.work.start)
+    ∙ length-map (attempts_in b.attempts) (λ attempt. attempt.request)
 
 -- what is settled of a batch that has begun
 settled_begun : (tables : List TableShape) (first : ℕ) (b : BegunOf) → IsBegun tables first b
@@ -181,10 +182,10 @@ stop_told tables first b (Some a) h counts = record {
 same_length : (phases : List Phase) (log : List Transaction) → is_done log phases ≡ true → length phases ≡ length log
 same_length phases log done = grind (arith, nat_tests, done)
 
-pub end_told : (tables of_end : List TableShape) (first : ℕ) (b : BegunOf) (ended : Ended) (a : Option Account) → IsBegun tables first b
-    → is_done (log_of b.scheduler.work) (phases_of b.scheduler) ≡ true → IsEndOf of_end first b.batch b.scheduler.work.start ended → AreCounted b.scheduler a → KnowsEnd ended a
-end_told tables of_end first b ended None h done end counts = tt
-end_told tables of_end first b ended (Some a) h done end counts =
+pub end_told : (tables of_end : List TableShape) (first retries : ℕ) (b : BegunOf) (ended : Ended) (a : Option Account) → IsBegun tables first b
+    → is_done (log_of b.scheduler.work) (phases_of b.scheduler) ≡ true → IsEndOf of_end first retries (attempts_in b.attempts) b.scheduler.work.start ended → AreCounted b.scheduler a → KnowsEnd ended a
+end_told tables of_end first retries b ended None h done end counts = tt
+end_told tables of_end first retries b ended (Some a) h done end counts =
     let w : Work = b.scheduler.work in
     let log = log_many w.entries w.plans h.schedule.plans in
     let same = same_length (phases_of b.scheduler) (log_of w) done in

@@ -13,7 +13,7 @@ use Rattle.engine.specs.Tallies.{settled_among, tally_of, together, GoesOn}
 -- reply at their places
 abbrev pub settled_of : Option Unfinished → Database → List Reply
 settled_of None rows = []
-settled_of (Some unfinished) rows = settled_among unfinished.phases (serial_replies (entries_of rows unfinished.batch) rows)
+settled_of (Some unfinished) rows = settled_among unfinished.phases (serial_replies (entries_of rows unfinished.attempts) rows)
 
 -- the last published tally counts the replies of the batches that ended, and these
 abbrev pub Shows : Account → List Reply → Type 0

@@ -1,11 +1,24 @@
 -- Claimed: what contracts promise to a reader rests on these words.
--- The entries of a batch.
+-- The attempts of a batch, and their entries.
 use Rattle.std.specs.Prelude.{List, map}
+use Rattle.catalogue.specs.Shapes.{TableShape}
 use Rattle.meaning.specs.Entries.{EntryShape}
-use Rattle.sequencer.specs.declared.batch.Batch.{Batch}
+use Rattle.sequencer.specs.Attempts.{Attempt, attempts_of}
 use Rattle.sequencer.specs.Batches.{items_of}
-use Rattle.values.specs.Database.{Database}
 use Rattle.sequencer.specs.Entries.{prepared}
+use Rattle.sequencer.specs.declared.attempts.Carried.{Carried}
+use Rattle.sequencer.specs.declared.batch.Batch.{Batch}
+use Rattle.values.specs.Database.{Database}
+use Rattle.engine.specs.Engines.{EngineParts}
 
-abbrev pub entries_of : Database → Batch → List EntryShape
-entries_of db batch = map (λ item. prepared db item.request) (items_of batch)
+-- the entries of attempts, on the database at the start of their batch
+abbrev pub entries_of : Database → List Attempt → List EntryShape
+entries_of db attempts = map (prepared db) (map (λ attempt. attempt.request) attempts)
+
+-- the attempts of a batch that an engine takes: what is carried stands at its head
+abbrev pub next_attempts : EngineParts → Batch → List Attempt
+next_attempts engine batch = attempts_of engine.carried (items_of batch)
+
+-- a carried request over other tables
+abbrev pub over_tables : List TableShape → Carried → Carried
+over_tables tables one = record one { request = record one.request { proc = record one.request.proc { tables = tables } } }

@@ -8,8 +8,11 @@ use Rattle.requests.specs.ProcLists.{ProcsParts}
 use Rattle.requests.specs.contracts.procs.Procs as procs
 use Rattle.engine.specs.declared.settings.Settings.{Settings}
 use Rattle.engine.specs.contracts.settings.Settings as settings
-use Rattle.sequencer.specs.declared.batch.Batch.{Batch}
-use Rattle.sequencer.specs.contracts.batch.Batch as batches
+use Rattle.requests.specs.Requests.{Call}
+use Rattle.requests.specs.contracts.request.Request as requests
+use Rattle.sequencer.specs.Attempts.{Attempt, Earlier}
+use Rattle.sequencer.specs.declared.attempts.Carried.{Carried}
+use Rattle.sequencer.specs.contracts.attempts.Carried as carried
 use Rattle.row_store.specs.Stock.{rows_code}
 use Rattle.scheduler_core.specs.declared.phase.Phase.{Phase}
 use Rattle.scheduler_core.specs.contracts.phase.Phase as phase
@@ -18,9 +21,9 @@ use Rattle.atomic_table.specs.Seated.{TableId, table_id_coded}
 use Rattle.progress.specs.declared.tally.Tally.{Tally}
 use Rattle.progress.specs.contracts.tally.Tally as tally
 
--- a batch that is unfinished, and how far those of its transactions are that were admitted
+-- the attempts of a batch that is unfinished, and how far those of its transactions are that were admitted
 pub record Unfinished : Type 0 where
-  pub batch : Batch
+  pub attempts : List Attempt
   pub phases : List Phase
 
 -- where tallies are published
@@ -33,13 +36,16 @@ pub record Account : Type 0 where
   pub published : List Tally
   pub place : Place
 
--- the procedures, the settings, the number of the next transaction, the database that the batches which ended have left, the
--- batch that is unfinished, and what the watchers are told
+-- The procedures, the settings, how often a stale request is tried again, the number of the next transaction, the database that
+-- the batches which ended have left, the requests that are carried to the next batch, the batch that is unfinished, and what the
+-- watchers are told. While a batch is unfinished the carried requests are among its attempts, and none is carried beside them.
 pub record EngineParts : Type 0 where
   pub procs : ProcsParts
   pub settings : Settings
+  pub retries : ℕ
   pub next : ℕ
   pub rows : Database
+  pub carried : List Carried
   pub unfinished : Option Unfinished
   pub account : Account
 
@@ -58,8 +64,17 @@ NoneIsOut phases = (place : ℕ) → is_out (slice_get phases place) ≡ false
 abbrev pub StaysSettled : List Phase → List Phase → Type 0
 StaysSettled old new = (place : ℕ) → is_settled (slice_get old place) ≡ true → is_settled (slice_get new place) ≡ true
 
+abbrev pub earlier_code : Coded Earlier
+earlier_code = code_by (ℕ × ℕ) (coded× coded_ℕ coded_ℕ) (λ e. (e.first, e.tries)) (λ p. record { first = p.0; tries = p.1 }) (λ _. refl)
+
+abbrev pub attempt_code : Coded Attempt
+attempt_code = code_by (ℕ × (ℕ × (Call × Option Earlier))) (coded× coded_ℕ (coded× coded_ℕ (coded× requests.the_row.coded (coded_option earlier_code))))
+    (λ a. (a.client, (a.number, (a.request, a.before))))
+    (λ p. record { client = p.0; number = p.1.0; request = p.1.1.0; before = p.1.1.1 })
+    (λ _. refl)
+
 abbrev pub unfinished_code : Coded Unfinished
-unfinished_code = code_by (Batch × List Phase) (coded× batches.the_row.coded (coded_list phase.the_row.coded)) (λ u. (u.batch, u.phases)) (λ p. record { batch = p.0; phases = p.1 }) (λ _. refl)
+unfinished_code = code_by (List Attempt × List Phase) (coded× (coded_list attempt_code) (coded_list phase.the_row.coded)) (λ u. (u.attempts, u.phases)) (λ p. record { attempts = p.0; phases = p.1 }) (λ _. refl)
 
 abbrev pub account_code : Coded Account
 account_code = code_by (Tally × (List Tally × Place)) (coded× tally.the_row.coded (coded× (coded_list tally.the_row.coded) (coded_option table_id_coded))) (λ a. (a.ended, (a.published, a.place))) (λ p. record { ended = p.0; published = p.1.0; place = p.1.1 }) (λ _. refl)
@@ -73,8 +88,18 @@ abbrev pub watched_code : Coded Watched
 watched_code = code_by (List Tally × Place) (coded× (coded_list tally.the_row.coded) (coded_option table_id_coded)) (λ w. (w.seen, w.place)) (λ p. record { seen = p.0; place = p.1 }) (λ _. refl)
 
 abbrev pub engine_code : Coded EngineParts
-engine_code = code_by (ProcsParts × (Settings × (ℕ × (Database × (Option Unfinished × Account)))))
-    (coded× procs.the_row.coded (coded× settings.the_row.coded (coded× coded_ℕ (coded× rows_code (coded× (coded_option unfinished_code) account_code)))))
-    (λ e. (e.procs, (e.settings, (e.next, (e.rows, (e.unfinished, e.account))))))
-    (λ p. record { procs = p.0; settings = p.1.0; next = p.1.1.0; rows = p.1.1.1.0; unfinished = p.1.1.1.1.0; account = p.1.1.1.1.1 })
+engine_code = code_by (ProcsParts × (Settings × (ℕ × (ℕ × (Database × (List Carried × (Option Unfinished × Account)))))))
+    (coded× procs.the_row.coded
+    (coded× settings.the_row.coded (coded× coded_ℕ (coded× coded_ℕ (coded× rows_code (coded× (coded_list carried.the_row.coded) (coded× (coded_option unfinished_code) account_code)))))))
+    (λ e. (e.procs, (e.settings, (e.retries, (e.next, (e.rows, (e.carried, (e.unfinished, e.account))))))))
+    (λ p. record {
+      procs = p.0;
+      settings = p.1.0;
+      retries = p.1.1.0;
+      next = p.1.1.1.0;
+      rows = p.1.1.1.1.0;
+      carried = p.1.1.1.1.1.0;
+      unfinished = p.1.1.1.1.1.1.0;
+      account = p.1.1.1.1.1.1.1;
+    })
     (λ _. refl)

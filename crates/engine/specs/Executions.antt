@@ -1,41 +1,44 @@
 -- Claimed: what contracts promise to a reader rests on these words.
 -- What executing a batch comes to.
-use Rattle.std.specs.Prelude.{◌≡◌, ◌+◌, ◌<◌, ◌^◌, [], length, map, true, Option, Some, None, ⊤}
+use Rattle.std.specs.Prelude.{◌≡◌, ◌+◌, ◌<◌, ◌^◌, List, [], length, map, true, Option, Some, None, ⊤}
 use Rattle.meaning.specs.Serial.{serial_end, serial_replies}
 use Rattle.sequencer.specs.declared.batch.Batch.{Batch}
-use Rattle.sequencer.specs.Batches.{items_of}
+use Rattle.sequencer.specs.Attempts.{Attempt, left_of}
 use Rattle.engine.specs.declared.engine.ExecFault.{ExecFault}
 use Rattle.engine.specs.declared.engine.ExecFault.TheVariants.{Busy, LogFull, Spawn, NoMemory}
 use Rattle.engine.specs.declared.pool.Refusal.{Refusal}
 use Rattle.engine.specs.declared.pool.Refusal.TheVariants.{Thread, Memory}
 use Rattle.engine.specs.declared.replies.BatchDone.{BatchDone}
-use Rattle.engine.specs.Batches.{entries_of}
+use Rattle.engine.specs.Batches.{entries_of, next_attempts}
 use Rattle.engine.specs.Engines.{EngineParts, Unfinished, is_busy, NoneIsOut, StaysSettled}
 use Rattle.engine.specs.Replies.{reply_of, sent_of, sent_from}
 use Rattle.engine.specs.Tallies.{tally_of, together}
 
--- procedures, with their tables, and settings are as they were
+-- procedures, with their tables, settings, and how often a stale request is tried again are as they were
 pub record KeepsSetting (old new : EngineParts) : Type 0 where
   pub procs : new.procs ≡ old.procs
   pub settings : new.settings ≡ old.settings
+  pub retries : new.retries ≡ old.retries
 
--- the batch was run: its entries one by one on the rows before it give the replies, and leave the rows
-pub record IsExecutionOf (old new : EngineParts) (batch : Batch) (run : BatchDone) : Type 0 where
+-- a batch of these attempts was run: their entries one by one on the rows before it give the replies, and leave the rows; and of
+-- those that were stale the requests are carried on that had few enough attempts before
+pub record IsExecutionOf (old new : EngineParts) (attempts : List Attempt) (run : BatchDone) : Type 0 where
   pub first : run.first ≡ old.next
-  pub sent : map sent_of run.replies.items ≡ sent_from old.next (items_of batch)
-  pub replies : map reply_of run.replies.items ≡ serial_replies (entries_of old.rows batch) old.rows
-  pub rows : new.rows ≡ serial_end (entries_of old.rows batch) old.rows
-  pub next : new.next ≡ old.next + length (items_of batch)
+  pub sent : map sent_of run.replies.items ≡ sent_from old.next attempts
+  pub replies : map reply_of run.replies.items ≡ serial_replies (entries_of old.rows attempts) old.rows
+  pub rows : new.rows ≡ serial_end (entries_of old.rows attempts) old.rows
+  pub next : new.next ≡ old.next + length attempts
+  pub carried : new.carried ≡ left_of old.retries old.next attempts (serial_replies (entries_of old.rows attempts) old.rows)
   pub idle : new.unfinished ≡ None
   pub counted : new.account.ended ≡ together old.account.ended (tally_of (map reply_of run.replies.items))
 
--- a batch as it is taken: nothing of it is admitted
-abbrev pub taken : Batch → Unfinished
-taken batch = record { batch = batch; phases = [] }
+-- the attempts of a batch as it is taken: nothing of it is admitted
+abbrev pub taken : List Attempt → Unfinished
+taken attempts = record { attempts = attempts; phases = [] }
 
 -- the same batch: no job of it is out, and what was settled of it is settled still
 pub record Waits (old new : Unfinished) : Type 0 where
-  pub batch : new.batch ≡ old.batch
+  pub attempts : new.attempts ≡ old.attempts
   pub none_out : NoneIsOut new.phases
   pub settled : StaysSettled old.phases new.phases
 
@@ -45,22 +48,22 @@ WaitsIn (Some old) None = ⊥
 WaitsIn (Some old) (Some new) = Waits old new
 
 -- A batch was not run to its end. Where a thread was refused, nothing of it has run in this call, and where memory was
--- refused, not all of it. The engine holds it, its transactions have no numbers yet, the rows before it are kept, and so is
--- the tally of the batches that ended.
+-- refused, not all of it. The engine holds it with all that was carried to it, its transactions have no numbers yet, the rows before
+-- it are kept, and so is the tally of the batches that ended.
 abbrev pub IsInterruption : EngineParts → Option Unfinished → EngineParts → ExecFault → Type 0
 IsInterruption old unfinished new (Busy back) = ⊥
 IsInterruption old unfinished new (LogFull back) = ⊥
-IsInterruption old unfinished new Spawn = (new.unfinished ≡ unfinished) × (new.next ≡ old.next) × (new.rows ≡ old.rows) × (new.account.ended ≡ old.account.ended)
+IsInterruption old unfinished new Spawn = (new.unfinished ≡ unfinished) × (new.next ≡ old.next) × (new.rows ≡ old.rows) × (new.carried ≡ []) × (new.account.ended ≡ old.account.ended)
 IsInterruption old unfinished new NoMemory =
-    WaitsIn unfinished new.unfinished × (new.next ≡ old.next) × (new.rows ≡ old.rows) × (new.account.ended ≡ old.account.ended)
+    WaitsIn unfinished new.unfinished × (new.next ≡ old.next) × (new.rows ≡ old.rows) × (new.carried ≡ []) × (new.account.ended ≡ old.account.ended)
 
 -- The batch was not run: it comes back from a busy engine, and where the log would have more than 2^48 transactions, and
 -- nothing is changed; or it was taken and interrupted.
 abbrev pub IsRefusal : EngineParts → EngineParts → Batch → ExecFault → Type 0
 IsRefusal old new batch (Busy back) = (back ≡ batch) × (is_busy old ≡ true) × (new ≡ old)
-IsRefusal old new batch (LogFull back) = (back ≡ batch) × (2 ^ 48 < old.next + length (items_of batch)) × (new ≡ old)
-IsRefusal old new batch Spawn = IsInterruption old (Some (taken batch)) new Spawn
-IsRefusal old new batch NoMemory = IsInterruption old (Some (taken batch)) new NoMemory
+IsRefusal old new batch (LogFull back) = (back ≡ batch) × (2 ^ 48 < old.next + length (next_attempts old batch)) × (new ≡ old)
+IsRefusal old new batch Spawn = IsInterruption old (Some (taken (next_attempts old batch))) new Spawn
+IsRefusal old new batch NoMemory = IsInterruption old (Some (taken (next_attempts old batch))) new NoMemory
 
 -- a thread was refused
 abbrev pub IsSpawn : ExecFault → Type 0
@@ -70,7 +73,7 @@ IsSpawn fault = ⊥
 -- what resuming an unfinished batch comes to
 abbrev pub ResumesTo : EngineParts → EngineParts → Option Unfinished → BatchDone → Type 0
 ResumesTo old new None done = ⊥
-ResumesTo old new (Some unfinished) done = IsExecutionOf old new unfinished.batch done
+ResumesTo old new (Some unfinished) done = IsExecutionOf old new unfinished.attempts done
 
 -- what is answered where the system refused something
 abbrev pub fault_of : Refusal → ExecFault

@@ -6,8 +6,9 @@ use Rattle.progress.specs.Tallies.{opening}
 use Rattle.catalogue.specs.Shapes.{TableShape}
 use Rattle.values.specs.Database.{Database}
 use Rattle.row_store.specs.Stock.{Stock}
-use Rattle.sequencer.specs.declared.batch.Batch.{Batch}
-use Rattle.sequencer.specs.Batches.{items_of, AreOver}
+use Rattle.sequencer.specs.declared.attempts.Attempts.{Attempts}
+use Rattle.sequencer.specs.declared.attempts.Carried.{Carried}
+use Rattle.sequencer.specs.Attempts.{Attempt, attempts_in, requests_in, left_of, AreCarriedOver, AreRequestsOver}
 use Rattle.interp.specs.Entries.{entry_shape}
 use Rattle.scheduler.specs.Schedules.{Schedule, phases_of, KeepsItsJobs}
 use Rattle.meaning.specs.Serial.{serial_end, serial_replies}
@@ -25,36 +26,43 @@ use Rattle.engine.specs.declared.working.Interruption.{Interruption}
 use Rattle.engine.specs.Executions.{taken, WaitsIn}
 
 abbrev pub unfinished_of : BegunOf → Unfinished
-unfinished_of begun = record { batch = begun.batch; phases = phases_of begun.scheduler }
+unfinished_of begun = record { attempts = attempts_in begun.attempts; phases = phases_of begun.scheduler }
 
 -- the batch that is unfinished, and the database before it
 abbrev pub unfinished_in : Option Stage → Option Unfinished
 unfinished_in None = None
-unfinished_in (Some (Idle store)) = None
-unfinished_in (Some (Held batch store)) = Some (taken batch)
+unfinished_in (Some (Idle store carried)) = None
+unfinished_in (Some (Held attempts store)) = Some (taken (attempts_in attempts))
 unfinished_in (Some (Begun begun)) = Some (unfinished_of begun)
 
 abbrev pub rows_in : Option Stage → Database
 rows_in None = empty
-rows_in (Some (Idle store)) = store.rows
-rows_in (Some (Held batch store)) = store.rows
+rows_in (Some (Idle store carried)) = store.rows
+rows_in (Some (Held attempts store)) = store.rows
 rows_in (Some (Begun begun)) = begun.scheduler.work.start
+
+-- the requests that are carried to the next batch
+abbrev pub carried_in : Option Stage → List Carried
+carried_in None = []
+carried_in (Some (Idle store carried)) = carried.items
+carried_in (Some (Held attempts store)) = []
+carried_in (Some (Begun begun)) = []
 
 -- rows over the tables, of which nothing is lent
 pub record IsFree (tables : List TableShape) (store : Stock) : Type 0 where
   pub over : store.tables ≡ tables
   pub unlent : store.lent ≡ empty
 
--- a batch of procedures over the tables, whose transactions are numbered from a first one
-pub record IsBatchFrom (tables : List TableShape) (first : ℕ) (batch : Batch) : Type 0 where
-  pub over : AreOver tables (items_of batch)
-  pub few : first + length (items_of batch) ≤ 2 ^ 48
+-- a batch's attempts at procedures over the tables, whose transactions are numbered from a first one
+pub record IsBatchFrom (tables : List TableShape) (first : ℕ) (attempts : Attempts) : Type 0 where
+  pub over : AreRequestsOver tables (requests_in attempts)
+  pub few : first + length (attempts_in attempts) ≤ 2 ^ 48
 
--- a scheduler of the batch's entries
-pub record IsScheduleOf (tables : List TableShape) (first : ℕ) (batch : Batch) (scheduler : Schedule) : Type 0 where
+-- a scheduler of the attempts' entries
+pub record IsScheduleOf (tables : List TableShape) (first : ℕ) (attempts : Attempts) (scheduler : Schedule) : Type 0 where
   pub over : scheduler.work.tables ≡ tables
   pub numbered : scheduler.work.first ≡ first
-  pub entries : map entry_shape scheduler.work.entries ≡ entries_of scheduler.work.start batch
+  pub entries : map entry_shape scheduler.work.entries ≡ entries_of scheduler.work.start (attempts_in attempts)
   pub plans : length scheduler.work.plans ≡ length scheduler.work.entries
 
 -- no job is with the caller, and none is out
@@ -62,19 +70,19 @@ pub record IsAtRest (scheduler : Schedule) : Type 0 where
   pub keeps : KeepsItsJobs scheduler
   pub none_out : NoneIsOut (phases_of scheduler)
 
-pub record IsHeld (tables : List TableShape) (first : ℕ) (batch : Batch) (store : Stock) : Type 0 where
-  pub from : IsBatchFrom tables first batch
+pub record IsHeld (tables : List TableShape) (first : ℕ) (attempts : Attempts) (store : Stock) : Type 0 where
+  pub from : IsBatchFrom tables first attempts
   pub free : IsFree tables store
 
 pub record IsBegun (tables : List TableShape) (first : ℕ) (begun : BegunOf) : Type 0 where
-  pub from : IsBatchFrom tables first begun.batch
-  pub schedule : IsScheduleOf tables first begun.batch begun.scheduler
+  pub from : IsBatchFrom tables first begun.attempts
+  pub schedule : IsScheduleOf tables first begun.attempts begun.scheduler
   pub rest : IsAtRest begun.scheduler
 
 -- how a stage fits the tables and the number of the next transaction
 abbrev pub Fits : List TableShape → ℕ → Stage → Type 0
-Fits tables next (Idle store) = IsFree tables store × (next ≤ 2 ^ 48)
-Fits tables next (Held batch store) = IsHeld tables next batch store
+Fits tables next (Idle store carried) = IsFree tables store × (next ≤ 2 ^ 48) × AreCarriedOver tables carried.items × (length carried.items ≤ next)
+Fits tables next (Held attempts store) = IsHeld tables next attempts store
 Fits tables next (Begun begun) = IsBegun tables next begun
 
 abbrev pub IsInOrder : List TableShape → ℕ → Option Stage → Type 0
@@ -100,19 +108,23 @@ abbrev pub Knows : ℕ → Stage → Option Account → Type 0
 Knows first stage None = ⊤
 Knows first stage (Some account) = IsShown first (Some stage) account
 
--- the end of a batch: the rows are those that its entries one by one on the rows before it leave, and the replies are theirs
-pub record IsEndOf (tables : List TableShape) (first : ℕ) (batch : Batch) (start : Database) (ended : Ended) : Type 0 where
+-- the end of a batch of these attempts: the rows are those that their entries one by one on the rows before it leave, the replies are
+-- theirs, and of those that were stale the requests are left that had few enough attempts before
+pub record IsEndOf (tables : List TableShape) (first retries : ℕ) (attempts : List Attempt) (start : Database) (ended : Ended) : Type 0 where
   pub free : IsFree tables ended.store
-  pub rows : ended.store.rows ≡ serial_end (entries_of start batch) start
+  pub rows : ended.store.rows ≡ serial_end (entries_of start attempts) start
   pub numbered : ended.done.first ≡ first
-  pub sent : map sent_of ended.done.replies.items ≡ sent_from first (items_of batch)
-  pub replies : map reply_of ended.done.replies.items ≡ serial_replies (entries_of start batch) start
-  pub count : length ended.done.replies.items ≡ length (items_of batch)
-  pub few : first + length (items_of batch) ≤ 2 ^ 48
+  pub sent : map sent_of ended.done.replies.items ≡ sent_from first attempts
+  pub replies : map reply_of ended.done.replies.items ≡ serial_replies (entries_of start attempts) start
+  pub count : length ended.done.replies.items ≡ length attempts
+  pub few : first + length attempts ≤ 2 ^ 48
+  pub left : ended.left.items ≡ left_of retries first attempts (serial_replies (entries_of start attempts) start)
+  pub left_over : AreCarriedOver tables ended.left.items
+  pub left_few : length ended.left.items ≤ length ended.done.replies.items
 
-abbrev pub EndsBatch : List TableShape → ℕ → Option Unfinished → Database → Ended → Type 0
-EndsBatch tables first None start ended = ⊥
-EndsBatch tables first (Some unfinished) start ended = IsEndOf tables first unfinished.batch start ended
+abbrev pub EndsBatch : List TableShape → ℕ → ℕ → Option Unfinished → Database → Ended → Type 0
+EndsBatch tables first retries None start ended = ⊥
+EndsBatch tables first retries (Some unfinished) start ended = IsEndOf tables first retries unfinished.attempts start ended
 
 -- where a stop leaves an unfinished batch: where memory was refused no job of it is out and what was settled of it is settled
 -- still, and where a thread was refused, nothing has changed

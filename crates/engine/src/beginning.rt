@@ -9,21 +9,21 @@ use crate::settings::Settings;
 use requests::Procs;
 use row_store::{RowStore, all_is_free_with_nothing_lent};
 use scheduler::Scheduler;
-use sequencer::{Batch, prepare};
+use sequencer::{Attempts, prepare_attempts};
 use std::alloc::Global;
 
-/// A scheduler of a batch's entries on these rows, with nothing admitted. Where memory is refused, the rows come back.
+/// A scheduler of the entries of a batch's attempts on these rows, with nothing admitted. Where memory is refused, the rows come back.
 pub(crate) fn begin(
     alloc: Global,
     procs: &Procs,
     settings: Settings,
     first: u64,
-    batch: &Batch,
+    attempts: &Attempts,
     store: RowStore,
 ) -> Result<Scheduler, RowStore>
     requires free { IsFree procs.now.tables store }
-    requires from { IsBatchFrom procs.now.tables first batch.now }
-    ensures schedule { IfOk result (IsScheduleOf procs.now.tables first batch.now) }
+    requires from { IsBatchFrom procs.now.tables first attempts.now }
+    ensures schedule { IfOk result (IsScheduleOf procs.now.tables first attempts.now) }
     ensures start { IfOk result (λ scheduler. scheduler.work.start ≡ store.rows) }
     ensures unadmitted { IfOk result (λ scheduler. scheduler.slots ≡ []) }
     // The locks are coarsened, and find room, as the settings say.
@@ -36,7 +36,7 @@ pub(crate) fn begin(
     let Ok(catalogue) = store.catalogue().clone() else {
         return Err(store);
     };
-    let Ok(entries) = prepare(alloc, batch, &catalogue, procs, &store) else {
+    let Ok(entries) = prepare_attempts(alloc, attempts, &catalogue, procs, &store) else {
         return Err(store);
     };
     let Settings {

@@ -19,6 +19,7 @@ mod repartition;
 mod replies;
 mod settings;
 mod stage;
+mod threadless;
 mod watcher;
 mod worker;
 mod working;

@@ -16,6 +16,7 @@ use std::sync::Wait;
 
 impl Engine {
     ghost use Rattle.engine.specs.Engines.{tables_of, is_busy};
+    ghost use Rattle.engine.specs.Batches.{next_attempts};
     ghost use Rattle.engine.specs.Executions.{IsExecutionOf, IsRefusal, IsInterruption, KeepsSetting, ResumesTo};
 
     /// Runs a batch as `execute` does, on the workers of a pool, which stay there for the next one. How many workers and lanes there
@@ -28,9 +29,9 @@ impl Engine {
     ) -> Result<BatchDone, ExecFault>
         requires { AreOver (tables_of self.old) (items_of batch) }
         ensures same { KeepsSetting self.old self.new }
-        ensures done { IfOk result (IsExecutionOf self.old self.new batch) }
+        ensures done { IfOk result (IsExecutionOf self.old self.new (next_attempts self.old batch)) }
         ensures busy { is_busy self.old ≡ true → result ≡ Err (ExecFault.Busy batch) }
-        ensures full { is_busy self.old ≡ false → 2 ^ 48 < self.old.next + length (items_of batch) →
+        ensures full { is_busy self.old ≡ false → 2 ^ 48 < self.old.next + length (next_attempts self.old batch) →
             result ≡ Err (ExecFault.LogFull batch) }
         // Where a thread is refused nothing has run. Where a thread or memory is refused the engine holds the batch, and no job of
         // it is out.
@@ -64,6 +65,7 @@ impl Engine {
             alloc,
             &self.procs,
             self.settings,
+            self.retries,
             self.next,
             stage,
             Publishing { rt, publisher },

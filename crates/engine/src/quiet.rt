@@ -1,12 +1,12 @@
 //! An engine that publishes nothing.
 
-ghost use Rattle.std.specs.Prelude.{◌≡◌, ◌+◌, ◌<◌, ◌≤◌, ◌^◌, IfOk, IfErr, OnOk, Err, Some, None, length, false, true};
+ghost use Rattle.std.specs.Prelude.{◌≡◌, ◌+◌, ◌<◌, ◌≤◌, ◌^◌, [], IfOk, IfErr, OnOk, Err, Some, None, length, false, true};
 ghost use Rattle.std.specs.FinMap as map_of;
 ghost use Rattle.row_store.specs.Stock.{with_rows};
 ghost use Rattle.sequencer.specs.Batches.{items_of, AreOver};
 
 use crate::ending::Ended;
-use crate::engine::{ExecFault, MOST_TRANSACTIONS};
+use crate::engine::{ExecFault, has_room};
 use crate::listener::Silence;
 use crate::replies::BatchDone;
 use crate::settings::Settings;
@@ -14,7 +14,7 @@ use crate::stage::Stage;
 use crate::working::{Interruption, work_alone};
 use requests::{Procs, Setup};
 use row_store::RowStore;
-use sequencer::Batch;
+use sequencer::{Attempts, Batch};
 use std::alloc::Global;
 use std::marker::Model;
 use values::NoMemory;
@@ -25,6 +25,8 @@ use values::NoMemory;
 pub struct QuietEngine {
     procs: Procs,
     settings: Settings,
+    // How often a stale request is tried again: 0 to 2.
+    retries: u8,
     // How many transactions were run in the batches that ended: the number of the next one.
     next: u64,
     // It is always there but inside a call that moves it.
@@ -32,8 +34,9 @@ pub struct QuietEngine {
 }
 
 impl Model for QuietEngine {
+    ghost use Rattle.std.specs.Prelude.{◌≤◌};
     ghost use Rattle.engine.specs.Quiet.{QuietParts, quiet_code};
-    ghost use Rattle.engine.specs.Stages.{unfinished_in, rows_in, IsInOrder};
+    ghost use Rattle.engine.specs.Stages.{carried_in, unfinished_in, rows_in, IsInOrder};
 
     ghost Value = { QuietParts };
 
@@ -42,30 +45,32 @@ impl Model for QuietEngine {
     ghost view = { λ e. record {
       procs = e.procs;
       settings = e.settings;
+      retries = e.retries;
       next = e.next;
       rows = rows_in e.stage;
+      carried = carried_in e.stage;
       unfinished = unfinished_in e.stage;
     } };
 
-    ghost invariant = { λ e. IsInOrder e.procs.tables e.next e.stage };
+    ghost invariant = { λ e. IsInOrder e.procs.tables e.next e.stage × (e.retries ≤ 2) };
 }
 
-/// Takes over the rows that a batch left, and counts its transactions.
+/// Takes over the rows and the requests that a batch left, and counts its transactions.
 fn leave(next: &mut u64, stage: &mut Option<Stage>, ended: Ended) -> BatchDone
     requires { next.old + length ended.done.replies.items ≤ 2 ^ 48 }
     ensures next { next.new ≡ next.old + length ended.done.replies.items }
-    ensures stage { stage.new ≡ Some (Stage.Idle ended.store) }
+    ensures stage { stage.new ≡ Some (Stage.Idle ended.store ended.left) }
     ensures done { result ≡ ended.done }
 {
-    let Ended { store, done } = ended;
+    let Ended { store, left, done } = ended;
     *next += done.replies.len() as u64;
-    *stage = Some(Stage::Idle(store));
+    *stage = Some(Stage::Idle(store, left));
     done
 }
 
 impl QuietEngine {
     ghost use Rattle.engine.specs.Executions.{IsSpawn, taken};
-    ghost use Rattle.engine.specs.Quiet.{tables_of, is_busy, IsExecutionOf, IsRefusal, IsInterruption, KeepsSetting, ResumesTo};
+    ghost use Rattle.engine.specs.Quiet.{tables_of, is_busy, next_attempts, IsExecutionOf, IsRefusal, IsInterruption, KeepsSetting, ResumesTo};
 
     /// An engine on the starting rows of a setup.
     pub fn new(alloc: Global, setup: Setup, settings: Settings) -> Result<QuietEngine, NoMemory>
@@ -73,9 +78,11 @@ impl QuietEngine {
             engine ≡ record {
               procs = setup.procs;
               settings = settings;
+              retries = setup.retries;
               next = 0;
               rows = with_rows map_of.empty
                   setup.rows.items;
+              carried = [];
               unfinished = None;
             }) }
     {
@@ -83,13 +90,15 @@ impl QuietEngine {
             catalogue,
             procs,
             rows,
+            retries,
         } = setup;
         let store = RowStore::new(alloc, &catalogue, rows)?;
         Ok(QuietEngine {
             procs,
             settings,
+            retries,
             next: 0,
-            stage: Some(Stage::Idle(store)),
+            stage: Some(Stage::Idle(store, Vec::new(alloc))),
         })
     }
 
@@ -97,7 +106,7 @@ impl QuietEngine {
     pub fn is_busy(&self) -> bool
         ensures { result ≡ is_busy self.now }
     {
-        !matches!(self.stage, Some(Stage::Idle(_)))
+        !matches!(self.stage, Some(Stage::Idle(_, _)))
     }
 
     /// How many transactions were run in the batches that ended: the number of the next one.
@@ -122,33 +131,59 @@ impl QuietEngine {
         ensures unlent { result.now.lent ≡ map_of.empty }
     {
         match &self.stage {
-            Some(Stage::Idle(store)) => store,
+            Some(Stage::Idle(store, _)) => store,
             _ => unreachable!(),
         }
+    }
+
+    /// How many requests are carried to the next batch; 0 while a batch is unfinished, which has them among its attempts. It takes no
+    /// memory.
+    pub fn carried(&self) -> usize
+        ensures same { result ≡ length self.now.carried }
+        // Each of them was a transaction.
+        ensures few { result ≤ self.now.next }
+        ensures held { is_busy self.now ≡ true → self.now.carried ≡ [] }
+    {
+        match &self.stage {
+            Some(Stage::Idle(_, carried)) => carried.len(),
+            _ => 0,
+        }
+    }
+
+    /// How often a stale request is tried again: 0 to 2.
+    pub fn retries(&self) -> u8
+        ensures same { result ≡ self.now.retries }
+        ensures few { self.now.retries ≤ 2 }
+    {
+        self.retries
     }
 
     /// Takes a batch, of which nothing has begun.
     fn hold(&mut self, batch: Batch)
         requires idle { is_busy self.old ≡ false }
         requires over { AreOver (tables_of self.old) (items_of batch) }
-        requires room { self.old.next + length (items_of batch) ≤ 2 ^ 48 }
-        ensures { self.new ≡ record self.old { unfinished = Some (taken batch) } }
+        requires room { self.old.next + length (next_attempts self.old batch) ≤ 2 ^ 48 }
+        ensures { self.new ≡ record self.old {
+          carried = [];
+          unfinished = Some (taken (next_attempts self.old batch));
+        } }
     {
-        let Some(Stage::Idle(store)) = self.stage.take() else {
+        let Some(Stage::Idle(store, carried)) = self.stage.take() else {
             unreachable!()
         };
-        self.stage = Some(Stage::Held(batch, store));
+        self.stage = Some(Stage::Held(Attempts::of(carried, batch), store));
     }
 
-    /// Runs a batch. The replies are those of the batch's entries one by one on the rows before it, and the rows afterwards are
-    /// theirs.
+    /// Runs a batch. The carried requests stand before its calls, and an empty batch runs them alone. The replies are those of their
+    /// entries one by one on the rows before the batch, and the rows afterwards are theirs. A stale request that was tried few
+    /// enough times is carried to the next batch.
     pub fn execute(&mut self, alloc: Global, batch: Batch) -> Result<BatchDone, ExecFault>
         requires { AreOver (tables_of self.old) (items_of batch) }
         ensures same { KeepsSetting self.old self.new }
-        ensures done { IfOk result (IsExecutionOf self.old self.new batch) }
+        ensures done { IfOk result (IsExecutionOf self.old self.new (next_attempts self.old batch)) }
         // While an earlier batch is unfinished the batch comes back, and so it does where the log would be too long.
         ensures busy { is_busy self.old ≡ true → result ≡ Err (ExecFault.Busy batch) }
-        ensures full { is_busy self.old ≡ false → 2 ^ 48 < self.old.next + length (items_of batch) →
+        ensures full { is_busy self.old ≡ false → 2 ^ 48 < self.old.next + length (next_attempts self.old batch) →
             result ≡ Err (ExecFault.LogFull batch) }
         // No other batch comes back. Where memory is refused the engine holds the batch, and no job of it is out.
         ensures refused { IfErr result (IsRefusal self.old self.new batch) }
@@ -158,7 +193,7 @@ impl QuietEngine {
         if self.is_busy() {
             return Err(ExecFault::Busy(batch));
         }
-        if batch.items().len() as u64 > MOST_TRANSACTIONS - self.next {
+        if !has_room(self.next, self.carried(), batch.items().len()) {
             return Err(ExecFault::LogFull(batch));
         }
         self.hold(batch);
@@ -182,6 +217,7 @@ impl QuietEngine {
             alloc,
             &self.procs,
             self.settings,
+            self.retries,
             self.next,
             stage,
             &mut Silence,

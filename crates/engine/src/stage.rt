@@ -2,22 +2,22 @@
 
 use row_store::RowStore;
 use scheduler::Scheduler;
-use sequencer::Batch;
+use sequencer::{Attempts, Carried};
 
-/// A batch, and the scheduler of its entries.
+/// The attempts of a batch, and the scheduler of their entries.
 #[derive(Drop)]
 pub(crate) struct Begun {
-    pub batch: Batch,
+    pub attempts: Attempts,
     pub scheduler: Scheduler,
 }
 
 /// What an engine is at, and where its rows are.
 #[derive(Drop)]
 pub(crate) enum Stage {
-    /// No batch is unfinished.
-    Idle(RowStore),
-    /// A batch is held, of which nothing has begun.
-    Held(Batch, RowStore),
+    /// No batch is unfinished. The requests are carried to the next one.
+    Idle(RowStore, Vec<Carried>),
+    /// The attempts of a batch are held, of which nothing has begun.
+    Held(Attempts, RowStore),
     /// The transactions of a batch are on their way.
     Begun(Begun),
 }

@@ -55,12 +55,17 @@ fn begun(
     ensures back { IfErr result (λ back. back ≡ stage) }
 {
     match stage {
-        Stage::Idle(_) => unreachable!(),
+        Stage::Idle(_, _) => unreachable!(),
         Stage::Begun(begun) => Ok(begun),
-        Stage::Held(batch, store) => match begin(alloc, procs, settings, first, &batch, store) {
-            Ok(scheduler) => Ok(Begun { batch, scheduler }),
-            Err(store) => Err(Stage::Held(batch, store)),
-        },
+        Stage::Held(attempts, store) => {
+            match begin(alloc, procs, settings, first, &attempts, store) {
+                Ok(scheduler) => Ok(Begun {
+                    attempts,
+                    scheduler,
+                }),
+                Err(store) => Err(Stage::Held(attempts, store)),
+            }
+        }
     }
 }
 
@@ -70,6 +75,7 @@ pub(crate) fn work_alone<L: Listener>(
     alloc: Global,
     procs: &Procs,
     settings: Settings,
+    retries: u8,
     first: u64,
     stage: Stage,
     listener: &mut L,
@@ -78,7 +84,7 @@ pub(crate) fn work_alone<L: Listener>(
     requires fits { Fits procs.now.tables first stage }
     requires busy { is_some (unfinished_in (Some stage)) ≡ true }
     requires told { Knows first stage (L.account listener.old) }
-    ensures ended { IfOk result (EndsBatch procs.now.tables first (unfinished_in (Some stage)) (rows_in (Some stage))) }
+    ensures ended { IfOk result (EndsBatch procs.now.tables first retries (unfinished_in (Some stage)) (rows_in (Some stage))) }
     ensures stop { IfErr result (IsInterruptedStage procs.now.tables first stage) }
     ensures threadless { IfErr result (λ stop. stop.refusal ≡ Refusal.Memory) }
     ensures told_end { IfOk result (λ ended. KnowsEnd ended (L.account listener.new)) }
@@ -89,11 +95,11 @@ pub(crate) fn work_alone<L: Listener>(
         Ok(begun) => begun,
         Err(stage) => return Err(no_memory(stage)),
     };
-    let count = begun.batch.items().len();
+    let count = begun.attempts.len();
     if run_left(&mut begun.scheduler, listener, choices, first, count).is_err() {
         return Err(no_memory(Stage::Begun(begun)));
     }
-    match end(alloc, first, begun) {
+    match end(alloc, first, retries, begun) {
         Ok(ended) => Ok(ended),
         Err(begun) => Err(no_memory(Stage::Begun(begun))),
     }
@@ -106,6 +112,7 @@ pub(crate) fn work_in_pool<'s, E, R: Wait + Sync, G: Gate, L: Listener + Drop>(
     alloc: Global,
     procs: &Procs,
     settings: Settings,
+    retries: u8,
     first: u64,
     stage: Stage,
     listener: L,
@@ -113,29 +120,35 @@ pub(crate) fn work_in_pool<'s, E, R: Wait + Sync, G: Gate, L: Listener + Drop>(
     requires fits { Fits procs.now.tables first stage }
     requires busy { is_some (unfinished_in (Some stage)) ≡ true }
     requires told { Knows first stage (L.account listener) }
-    ensures ended { IfOk result.0 (EndsBatch procs.now.tables first (unfinished_in (Some stage)) (rows_in (Some stage))) }
+    ensures ended { IfOk result.0 (EndsBatch procs.now.tables first retries (unfinished_in (Some stage)) (rows_in (Some stage))) }
     ensures stop { IfErr result.0 (IsInterruptedStage procs.now.tables first stage) }
     ensures told_end { IfOk result.0 (λ ended. KnowsEnd ended (L.account result.1)) }
     ensures told_stop { IfErr result.0 (λ stop. Knows first stop.stage (L.account result.1)) }
     ensures onward { HearsOn (L.account listener) (L.account result.1) }
 {
-    let Begun { batch, scheduler } = match begun(alloc, procs, settings, first, stage) {
+    let Begun {
+        attempts,
+        scheduler,
+    } = match begun(alloc, procs, settings, first, stage) {
         Ok(begun) => begun,
         Err(stage) => return (Err(no_memory(stage)), listener),
     };
-    let count = batch.items().len();
+    let count = attempts.len();
     let run = pool.run(count, scheduler, listener);
     let Run {
         scheduler,
         listener,
         ended,
     } = run;
-    let begun = Begun { batch, scheduler };
+    let begun = Begun {
+        attempts,
+        scheduler,
+    };
     if let Err(refusal) = ended {
         let stage = Stage::Begun(begun);
         return (Err(Interruption { stage, refusal }), listener);
     }
-    match end(alloc, first, begun) {
+    match end(alloc, first, retries, begun) {
         Ok(ended) => (Ok(ended), listener),
         Err(begun) => (Err(no_memory(Stage::Begun(begun))), listener),
     }
@@ -147,6 +160,7 @@ pub(crate) fn work_on_workers<R: Threads + Wait + Sync, G: Gate, L: Listener + D
     alloc: Global,
     procs: &Procs,
     settings: Settings,
+    retries: u8,
     first: u64,
     stage: Stage,
     listener: L,
@@ -155,7 +169,7 @@ pub(crate) fn work_on_workers<R: Threads + Wait + Sync, G: Gate, L: Listener + D
     requires fits { Fits procs.now.tables first stage }
     requires busy { is_some (unfinished_in (Some stage)) ≡ true }
     requires told { Knows first stage (L.account listener) }
-    ensures ended { IfOk result.0 (EndsBatch procs.now.tables first (unfinished_in (Some stage)) (rows_in (Some stage))) }
+    ensures ended { IfOk result.0 (EndsBatch procs.now.tables first retries (unfinished_in (Some stage)) (rows_in (Some stage))) }
     ensures stop { IfErr result.0 (IsInterruptedStage procs.now.tables first stage) }
     ensures told_end { IfOk result.0 (λ ended. KnowsEnd ended (L.account result.1)) }
     ensures told_stop { IfErr result.0 (λ stop. Knows first stop.stage (L.account result.1)) }
@@ -173,7 +187,7 @@ pub(crate) fn work_on_workers<R: Threads + Wait + Sync, G: Gate, L: Listener + D
             requires fits { Fits procs.now.tables first stage }
             requires busy { is_some (unfinished_in (Some stage)) ≡ true }
             requires told { Knows first stage (L.account listener) }
-            ensures ended { IfOk result.0 (EndsBatch procs.entry.now.tables first (unfinished_in (Some stage))
+            ensures ended { IfOk result.0 (EndsBatch procs.entry.now.tables first retries (unfinished_in (Some stage))
                 (rows_in (Some stage))) }
             ensures stop { IfErr result.0 (IsInterruptedStage procs.entry.now.tables first stage) }
             ensures told_end { IfOk result.0 (λ ended. KnowsEnd ended (L.account result.1)) }
@@ -181,7 +195,9 @@ pub(crate) fn work_on_workers<R: Threads + Wait + Sync, G: Gate, L: Listener + D
             ensures onward { HearsOn (L.account listener) (L.account result.1) }
         {
             let mut pool = WorkerPool::new(rt, scope, gate, place, head);
-            work_in_pool(&mut pool, alloc, procs, settings, first, stage, listener)
+            work_in_pool(
+                &mut pool, alloc, procs, settings, retries, first, stage, listener,
+            )
         },
     )
 }

@@ -121,6 +121,7 @@ fn plain_run_of_bank(alloc: Global) -> Result<(Vec<Outcome>, RowStore), Fail>
         catalogue,
         procs,
         rows,
+        retries: _,
     } = bank(alloc)?;
     plain_run(alloc, &catalogue, &procs, rows)
 }

@@ -23,7 +23,7 @@ pub(crate) fn told_in(text: &[u8]) -> Option<Told> {
     let fault = line.strip_prefix("fault ")?;
     let (number, place) = fault.split_once(' ').unwrap_or((fault, ""));
     match number.parse::<u64>() {
-        Ok(1..=5 | 41..=46) if place.is_empty() => Some(Told::OfSetup),
+        Ok(1..=5 | 7 | 41..=46) if place.is_empty() => Some(Told::OfSetup),
         Ok(11..=18) if is_path(place.strip_prefix("at ")?) => Some(Told::OfSetup),
         Ok(31..=35) => {
             let line = place.strip_prefix("line ")?.parse::<u64>().ok()?;

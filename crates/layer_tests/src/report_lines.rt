@@ -30,7 +30,7 @@ fn replies_are_lines(rt: HostRuntime) -> Result<(), Fail> {
     ];
     for (number, outcome, want) in &table {
         let mut text = String::new(alloc);
-        push_reply_line(alloc, &mut text, *number, outcome)?;
+        push_reply_line(alloc, &mut text, *number, None, outcome)?;
         assert_eq!(rt; text.as_str(), *want);
     }
     Ok(())

@@ -52,8 +52,8 @@ last_line procs n line h some =
 
 -- ---- one byte more
 
-pub IsAt-start : (procs : ProcsParts) → IsAt procs (record { calls = []; total = 0; lines = 0; line = [] }) [] []
-IsAt-start procs = record { batches = λ more. refl; fault = λ more. refl; one_line = refl }
+pub IsAt-start : (procs : ProcsParts) (retries : ℕ) → IsAt procs (record { retries = retries; calls = []; total = 0; lines = 0; line = [] }) [] []
+IsAt-start procs retries = record { batches = λ more. refl; fault = λ more. refl; one_line = refl }
 
 pub IsAt-byte : (procs : ProcsParts) (place : Place) (ended : List Calls) (fed : List ℕ) (b : ℕ) → IsAt procs place ended fed → is_newline b ≡ false →
     IsAt procs (record place { line = place.line ++ b ∷ [] }) ended (fed ++ b ∷ [])
@@ -65,22 +65,22 @@ IsAt-byte procs place ended fed b at h = record {
 
 -- ---- a call
 
-calls_and_one : (procs : List ProcParts) (calls : Calls) (total n : ℕ) (c : requests.Call) (mid rest : Lines) → is_room (length calls) total ≡ true → mid ≡ (n, Ok (Call c)) ∷ rest →
-    Reads (behind_calls calls (limited (length calls) total mid)) (calls ++ c ∷ []) (limited (length (calls ++ c ∷ [])) (total + 1) rest)
-calls_and_one procs calls total n c mid rest room q =
-    Reads-call (behind_calls calls (limited (length calls) total mid)) mid rest calls (calls ++ c ∷ []) n (length (calls ++ c ∷ [])) total c room refl (length-append calls (c ∷ []))
-    (reads_calls calls (limited (length calls) total mid)) q
+calls_and_one : (retries : ℕ) (procs : List ProcParts) (calls : Calls) (total n : ℕ) (c : requests.Call) (mid rest : Lines) → is_room retries (length calls) total ≡ true → mid ≡ (n, Ok (Call c)) ∷ rest →
+    Reads (behind_calls calls (limited retries (length calls) total mid)) (calls ++ c ∷ []) (limited retries (length (calls ++ c ∷ [])) (total + 1) rest)
+calls_and_one retries procs calls total n c mid rest room q =
+    Reads-call retries (behind_calls calls (limited retries (length calls) total mid)) mid rest calls (calls ++ c ∷ []) n (length (calls ++ c ∷ [])) total c room refl (length-append calls (c ∷ []))
+    (reads_calls calls (limited retries (length calls) total mid)) q
 
 pub IsAt-call : (procs : ProcsParts) (place : Place) (ended : List Calls) (fed : List ℕ) (c : requests.Call) → IsAt procs place ended fed →
-    line_said procs.procs place.line ≡ Ok (Call c) → is_room (length place.calls) place.total ≡ true →
-    IsAt procs (record { calls = place.calls ++ c ∷ []; total = place.total + 1; lines = next_number place.lines; line = [] }) ended (fed ++ newline ∷ [])
+    line_said procs.procs place.line ≡ Ok (Call c) → is_room place.retries (length place.calls) place.total ≡ true →
+    IsAt procs (record { retries = place.retries; calls = place.calls ++ c ∷ []; total = place.total + 1; lines = next_number place.lines; line = [] }) ended (fed ++ newline ∷ [])
 IsAt-call procs place ended fed c at said room =
-    let next : Place = record { calls = place.calls ++ c ∷ []; total = place.total + 1; lines = next_number place.lines; line = [] } in
+    let next : Place = record { retries = place.retries; calls = place.calls ++ c ∷ []; total = place.total + 1; lines = next_number place.lines; line = [] } in
     let same = λ (more : List ℕ).
     let q : lines_said procs.procs place.lines (place.line ++ newline ∷ more) ≡ (next_number place.lines, Ok (Call c)) ∷ lines_said procs.procs (next_number place.lines) more =
     next_line procs.procs place.lines place.line more at.one_line ∙ ap (λ (s : Result LogLine LogFaultKind). (next_number place.lines, s) ∷ lines_said procs.procs (next_number place.lines) more) said in
-    same_reads (said_from procs place (newline ∷ more)) (said_from procs next more) (limited (length next.calls) next.total (lines_said procs.procs next.lines more)) next.calls
-    (calls_and_one procs.procs place.calls place.total (next_number place.lines) c _ _ room q) (reads_calls next.calls (limited (length next.calls) next.total (lines_said procs.procs next.lines more))) in
+    same_reads (said_from procs place (newline ∷ more)) (said_from procs next more) (limited next.retries (length next.calls) next.total (lines_said procs.procs next.lines more)) next.calls
+    (calls_and_one place.retries procs.procs place.calls place.total (next_number place.lines) c _ _ room q) (reads_calls next.calls (limited next.retries (length next.calls) next.total (lines_said procs.procs next.lines more))) in
     record {
       batches = λ more. rw (append_assoc fed (newline ∷ []) more) (at.batches (newline ∷ more) ∙ ap (λ (bs : List Calls). ended ++ bs) (same more).0);
       fault = λ more. rw (append_assoc fed (newline ∷ []) more) (at.fault (newline ∷ more) ∙ (same more).1);
@@ -93,14 +93,14 @@ ended_one_more : (ended : List Calls) (calls : Calls) (left : List Calls) → en
 ended_one_more ended calls left = sym (append_assoc ended (calls ∷ []) left)
 
 pub IsAt-cut : (procs : ProcsParts) (place : Place) (ended : List Calls) (fed : List ℕ) → IsAt procs place ended fed → line_said procs.procs place.line ≡ Ok Cut →
-    IsAt procs (record { calls = []; total = place.total; lines = next_number place.lines; line = [] }) (ended ++ place.calls ∷ []) (fed ++ newline ∷ [])
+    IsAt procs (record { retries = place.retries; calls = []; total = place.total; lines = next_number place.lines; line = [] }) (ended ++ place.calls ∷ []) (fed ++ newline ∷ [])
 IsAt-cut procs place ended fed at said =
-    let rest = λ (more : List ℕ). limited 0 place.total (lines_said procs.procs (next_number place.lines) more) in
+    let rest = λ (more : List ℕ). limited place.retries 0 place.total (lines_said procs.procs (next_number place.lines) more) in
     let next = λ (more : List ℕ).
     let q : lines_said procs.procs place.lines (place.line ++ newline ∷ more) ≡ (next_number place.lines, Ok Cut) ∷ lines_said procs.procs (next_number place.lines) more =
     next_line procs.procs place.lines place.line more at.one_line ∙ ap (λ (s : Result LogLine LogFaultKind). (next_number place.lines, s) ∷ lines_said procs.procs (next_number place.lines) more) said in
-    NextBatch-cut (said_from procs place (newline ∷ more)) _ (lines_said procs.procs (next_number place.lines) more) place.calls (next_number place.lines) (length place.calls) place.total
-    (reads_calls place.calls (limited (length place.calls) place.total (lines_said procs.procs place.lines (place.line ++ newline ∷ more)))) q in
+    NextBatch-cut place.retries (said_from procs place (newline ∷ more)) _ (lines_said procs.procs (next_number place.lines) more) place.calls (next_number place.lines) (length place.calls) place.total
+    (reads_calls place.calls (limited place.retries (length place.calls) place.total (lines_said procs.procs place.lines (place.line ++ newline ∷ more)))) q in
     record {
       batches = λ more. rw (append_assoc fed (newline ∷ []) more) (at.batches (newline ∷ more) ∙ ap (λ (bs : List Calls). ended ++ bs) (next more).batches
           ∙ ended_one_more ended place.calls (batches_of (rest more)));
@@ -111,81 +111,81 @@ IsAt-cut procs place ended fed at said =
 -- ---- a fault of a line
 
 line_fault : (procs : ProcsParts) (place : Place) (kind : LogFaultKind) (text : List ℕ) (rest : Lines) →
-    within (length place.calls) place.total (line_said procs.procs place.line) ≡ Err kind →
+    within place.retries (length place.calls) place.total (line_said procs.procs place.line) ≡ Err kind →
     lines_said procs.procs place.lines (place.line ++ text) ≡ (next_number place.lines, line_said procs.procs place.line) ∷ rest →
     IsFault (said_from procs place text) (record { kind = kind; line = next_number place.lines })
 line_fault procs place kind text rest e q =
     Fault-step (said_from procs place text) _ _ place.calls (next_number place.lines) kind _ e
-    (reads_calls place.calls (limited (length place.calls) place.total (lines_said procs.procs place.lines (place.line ++ text))))
-    (ap (λ (lines : Lines). limited (length place.calls) place.total lines) q)
+    (reads_calls place.calls (limited place.retries (length place.calls) place.total (lines_said procs.procs place.lines (place.line ++ text))))
+    (ap (λ (lines : Lines). limited place.retries (length place.calls) place.total lines) q)
 
 faulty : (procs : ProcsParts) (place : Place) (ended : List Calls) (fed text : List ℕ) (found : LogFault) → IsAt procs place ended fed →
-    IsFault (said_from procs place text) found → IsFaulty procs found ended (fed ++ text)
+    IsFault (said_from procs place text) found → IsFaulty procs place.retries found ended (fed ++ text)
 faulty procs place ended fed text found at f = record {
   batches = at.batches text ∙ ap (λ (bs : List Calls). ended ++ bs) f.batches ∙ append-nil ended;
   first = at.fault text ∙ f.first;
 }
 
 pub IsAt-fault : (procs : ProcsParts) (place : Place) (ended : List Calls) (fed : List ℕ) (kind : LogFaultKind) → IsAt procs place ended fed →
-    within (length place.calls) place.total (line_said procs.procs place.line) ≡ Err kind →
-    (more : List ℕ) → IsFaulty procs (record { kind = kind; line = next_number place.lines }) ended ((fed ++ newline ∷ []) ++ more)
+    within place.retries (length place.calls) place.total (line_said procs.procs place.line) ≡ Err kind →
+    (more : List ℕ) → IsFaulty procs place.retries (record { kind = kind; line = next_number place.lines }) ended ((fed ++ newline ∷ []) ++ more)
 IsAt-fault procs place ended fed kind at e more = rw (append_assoc fed (newline ∷ []) more)
     (faulty procs place ended fed (newline ∷ more) _ at (line_fault procs place kind (newline ∷ more) _ e (next_line procs.procs place.lines place.line more at.one_line)))
 
 -- ---- the end of the log
 
 whole_reads : (es : Lines) (calls : Calls) → Reads es calls [] → (batches_of es ≡ last_batch None calls) × (first_fault es ≡ None)
-whole_reads es [] r = let end : IsEnd es = IsEnd-here es [] [] 0 0 refl r refl in (end.batches, end.fault)
+whole_reads es [] r = let end : IsEnd es = IsEnd-here 0 es [] [] 0 0 refl r refl in (end.batches, end.fault)
 whole_reads es (c ∷ calls) r = let last = NextBatch-last es [] (c ∷ calls) (omega arith) r refl in (last.batches, last.fault)
 
 whole : (procs : ProcsParts) (place : Place) (calls : Calls) (ended : List Calls) (fed : List ℕ) → IsAt procs place ended fed →
-    Reads (said_from procs place []) calls [] → IsWhole procs calls ended fed
+    Reads (said_from procs place []) calls [] → IsWhole procs place.retries calls ended fed
 whole procs place calls ended fed at r =
     let all : fed ++ [] ≡ fed = append-nil fed in
     let is = whole_reads (said_from procs place []) calls r in
     record {
-      batches = ap (λ (log : List ℕ). batches_said procs log) (sym all) ∙ at.batches [] ∙ ap (λ (bs : List Calls). ended ++ bs) is.0;
-      fault = ap (λ (log : List ℕ). fault_said procs log) (sym all) ∙ at.fault [] ∙ is.1;
+      batches = ap (λ (log : List ℕ). batches_said procs place.retries log) (sym all) ∙ at.batches [] ∙ ap (λ (bs : List Calls). ended ++ bs) is.0;
+      fault = ap (λ (log : List ℕ). fault_said procs place.retries log) (sym all) ∙ at.fault [] ∙ is.1;
     }
 
 -- the last line has its newline
-pub IsAt-end : (procs : ProcsParts) (place : Place) (ended : List Calls) (fed : List ℕ) → IsAt procs place ended fed → place.line ≡ [] → IsWhole procs place.calls ended fed
+pub IsAt-end : (procs : ProcsParts) (place : Place) (ended : List Calls) (fed : List ℕ) → IsAt procs place ended fed → place.line ≡ [] → IsWhole procs place.retries place.calls ended fed
 IsAt-end procs place ended fed at none =
     whole procs place place.calls ended fed at
     (rw none (reads_calls place.calls []))
 
 -- it has none, and is a call, a cut or a fault
 pub IsAt-last_call : (procs : ProcsParts) (place : Place) (ended : List Calls) (fed : List ℕ) (c : requests.Call) → IsAt procs place ended fed → 0 < length place.line →
-    line_said procs.procs place.line ≡ Ok (Call c) → is_room (length place.calls) place.total ≡ true → IsWhole procs (place.calls ++ c ∷ []) ended fed
+    line_said procs.procs place.line ≡ Ok (Call c) → is_room place.retries (length place.calls) place.total ≡ true → IsWhole procs place.retries (place.calls ++ c ∷ []) ended fed
 IsAt-last_call procs place ended fed c at some said room =
     whole procs place (place.calls ++ c ∷ []) ended fed at
-    (calls_and_one procs.procs place.calls place.total (next_number place.lines) c _ [] room
+    (calls_and_one place.retries procs.procs place.calls place.total (next_number place.lines) c _ [] room
     (last_line procs.procs place.lines place.line at.one_line some ∙ ap (λ (s : Result LogLine LogFaultKind). (next_number place.lines, s) ∷ []) said))
 
 pub IsAt-last_cut : (procs : ProcsParts) (place : Place) (ended : List Calls) (fed : List ℕ) → IsAt procs place ended fed → 0 < length place.line →
-    line_said procs.procs place.line ≡ Ok Cut → IsWhole procs [] (ended ++ place.calls ∷ []) fed
+    line_said procs.procs place.line ≡ Ok Cut → IsWhole procs place.retries [] (ended ++ place.calls ∷ []) fed
 IsAt-last_cut procs place ended fed at some said =
     let all : fed ++ [] ≡ fed = append-nil fed in
     let q : lines_said procs.procs place.lines (place.line ++ []) ≡ (next_number place.lines, Ok Cut) ∷ [] =
     last_line procs.procs place.lines place.line at.one_line some ∙ ap (λ (s : Result LogLine LogFaultKind). (next_number place.lines, s) ∷ []) said in
-    let next = NextBatch-cut (said_from procs place []) _ [] place.calls (next_number place.lines) (length place.calls) place.total
-    (reads_calls place.calls (limited (length place.calls) place.total (lines_said procs.procs place.lines (place.line ++ [])))) q in
+    let next = NextBatch-cut place.retries (said_from procs place []) _ [] place.calls (next_number place.lines) (length place.calls) place.total
+    (reads_calls place.calls (limited place.retries (length place.calls) place.total (lines_said procs.procs place.lines (place.line ++ [])))) q in
     record {
-      batches = ap (λ (log : List ℕ). batches_said procs log) (sym all) ∙ at.batches [] ∙ ap (λ (bs : List Calls). ended ++ bs) next.batches
+      batches = ap (λ (log : List ℕ). batches_said procs place.retries log) (sym all) ∙ at.batches [] ∙ ap (λ (bs : List Calls). ended ++ bs) next.batches
           ∙ ended_one_more ended place.calls [];
-      fault = ap (λ (log : List ℕ). fault_said procs log) (sym all) ∙ at.fault [] ∙ next.fault;
+      fault = ap (λ (log : List ℕ). fault_said procs place.retries log) (sym all) ∙ at.fault [] ∙ next.fault;
     }
 
 pub IsAt-last_fault : (procs : ProcsParts) (place : Place) (ended : List Calls) (fed : List ℕ) (kind : LogFaultKind) → IsAt procs place ended fed → 0 < length place.line →
-    within (length place.calls) place.total (line_said procs.procs place.line) ≡ Err kind → IsFaulty procs (record { kind = kind; line = next_number place.lines }) ended fed
+    within place.retries (length place.calls) place.total (line_said procs.procs place.line) ≡ Err kind → IsFaulty procs place.retries (record { kind = kind; line = next_number place.lines }) ended fed
 IsAt-last_fault procs place ended fed kind at some e =
     rw (append-nil fed) at (faulty procs place ended fed [] _ at (line_fault procs place kind [] [] e (last_line procs.procs place.lines place.line at.one_line some)))
 
 -- the calls behind the last cut are run
-pub IsWhole-run : (procs : ProcsParts) (calls : Calls) (ended : List Calls) (log : List ℕ) → IsWhole procs calls ended log → 0 < length calls →
-    IsWhole procs [] (ended ++ calls ∷ []) log
-IsWhole-run procs [] ended log w some = absurd (omega arith)
-IsWhole-run procs (c ∷ calls) ended log w some = record { batches = w.batches ∙ ended_one_more ended (c ∷ calls) []; fault = w.fault }
+pub IsWhole-run : (procs : ProcsParts) (retries : ℕ) (calls : Calls) (ended : List Calls) (log : List ℕ) → IsWhole procs retries calls ended log → 0 < length calls →
+    IsWhole procs retries [] (ended ++ calls ∷ []) log
+IsWhole-run procs retries [] ended log w some = absurd (omega arith)
+IsWhole-run procs retries (c ∷ calls) ended log w some = record { batches = w.batches ∙ ended_one_more ended (c ∷ calls) []; fault = w.fault }
 
 -- ---- what a line does
 
@@ -207,7 +207,7 @@ is_fault : (e : LogFault) (kind : LogFaultKind) (n : ℕ) → e.kind ≡ kind �
 is_fault e kind n h k = rw (← h, ← k) refl
 
 pub step_fault : (r : Answer) (b : ℕ) (procs : ProcsParts) (old : Place) (ended : List Calls) (fed more : List ℕ) → b ≡ newline → IsAt procs old ended fed →
-    IfErr r (λ e. IsOfLine e.kind → BreaksRule procs.procs old e) → IfErr r (λ e. IsOfLine e.kind → IsFaulty procs e ended ((fed ++ b ∷ []) ++ more))
+    IfErr r (λ e. IsOfLine e.kind → BreaksRule procs.procs old e) → IfErr r (λ e. IsOfLine e.kind → IsFaulty procs old.retries e ended ((fed ++ b ∷ []) ++ more))
 step_fault (Ok o) b procs old ended fed more q at h = tt
 step_fault (Err e) b procs old ended fed more q at h = λ of.
     let broken = h of in rw q (rw (is_fault e e.kind (next_number old.lines) refl broken.line) at (IsAt-fault procs old ended fed e.kind at broken.kind more))
@@ -218,19 +218,19 @@ not_none : (n : ℕ) → n ≢ 0 → 0 < n
 not_none n h = omega (arith, h)
 
 pub last_call : (r : Answer) (procs : ProcsParts) (old new : Place) (ended : List Calls) (fed : List ℕ) → length old.line ≢ 0 → IsAt procs old ended fed →
-    IfOk r (λ o. IsNone o → (call : requests.Call) × AddsCall procs.procs old new call) → IfOk r (λ o. IsNone o → IsWhole procs new.calls ended fed)
+    IfOk r (λ o. IsNone o → (call : requests.Call) × AddsCall procs.procs old new call) → IfOk r (λ o. IsNone o → IsWhole procs old.retries new.calls ended fed)
 last_call (Err e) procs old new ended fed some at h = tt
 last_call (Ok o) procs old new ended fed some at h = λ none. let s = (h none).1 in
     rw s.place (IsAt-last_call procs old ended fed (h none).0 at (not_none (length old.line) some) s.said s.room)
 
 pub last_cut : (r : Answer) (procs : ProcsParts) (old new : Place) (ended : List Calls) (fed : List ℕ) → length old.line ≢ 0 → IsAt procs old ended fed →
-    IfOk r (λ o. IfSome o (λ calls. EndsBatch procs.procs old new calls.items)) → IfOk r (λ o. IfSome o (λ calls. IsWhole procs [] (ended ++ calls.items ∷ []) fed))
+    IfOk r (λ o. IfSome o (λ calls. EndsBatch procs.procs old new calls.items)) → IfOk r (λ o. IfSome o (λ calls. IsWhole procs old.retries [] (ended ++ calls.items ∷ []) fed))
 last_cut (Err e) procs old new ended fed some at h = tt
 last_cut (Ok None) procs old new ended fed some at h = tt
 last_cut (Ok (Some calls)) procs old new ended fed some at h = rw h.batch (IsAt-last_cut procs old ended fed at (not_none (length old.line) some) h.said)
 
 pub last_fault : (r : Answer) (procs : ProcsParts) (old : Place) (ended : List Calls) (fed : List ℕ) → length old.line ≢ 0 → IsAt procs old ended fed →
-    IfErr r (λ e. IsOfLine e.kind → BreaksRule procs.procs old e) → IfErr r (λ e. IsOfLine e.kind → IsFaulty procs e ended fed)
+    IfErr r (λ e. IsOfLine e.kind → BreaksRule procs.procs old e) → IfErr r (λ e. IsOfLine e.kind → IsFaulty procs old.retries e ended fed)
 last_fault (Ok o) procs old ended fed some at h = tt
 last_fault (Err e) procs old ended fed some at h = λ of.
     let broken = h of in rw (is_fault e e.kind (next_number old.lines) refl broken.line) at (IsAt-last_fault procs old ended fed e.kind at (not_none (length old.line) some) broken.kind)
@@ -239,9 +239,9 @@ pub no_line : (line : List ℕ) → length line ≡ 0 → line ≡ []
 no_line line h = nil_from_length line h
 
 -- the calls behind the last cut, where there are none, and where there are some
-pub whole_without : (procs : ProcsParts) (calls : Calls) (ended : List Calls) (log : List ℕ) → length calls ≡ 0 → IsWhole procs calls ended log → IsWhole procs [] ended log
-whole_without procs [] ended log none w = w
-whole_without procs (c ∷ calls) ended log none w = absurd (omega arith)
+pub whole_without : (procs : ProcsParts) (retries : ℕ) (calls : Calls) (ended : List Calls) (log : List ℕ) → length calls ≡ 0 → IsWhole procs retries calls ended log → IsWhole procs retries [] ended log
+whole_without procs retries [] ended log none w = w
+whole_without procs retries (c ∷ calls) ended log none w = absurd (omega arith)
 
-pub whole_with : (procs : ProcsParts) (calls : Calls) (ended : List Calls) (log : List ℕ) → length calls ≢ 0 → IsWhole procs calls ended log → IsWhole procs [] (ended ++ calls ∷ []) log
-whole_with procs calls ended log some w = IsWhole-run procs calls ended log w (not_none (length calls) some)
+pub whole_with : (procs : ProcsParts) (retries : ℕ) (calls : Calls) (ended : List Calls) (log : List ℕ) → length calls ≢ 0 → IsWhole procs retries calls ended log → IsWhole procs retries [] (ended ++ calls ∷ []) log
+whole_with procs retries calls ended log some w = IsWhole-run procs retries calls ended log w (not_none (length calls) some)

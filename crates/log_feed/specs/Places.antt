@@ -9,16 +9,17 @@ use Rattle.batch_log.specs.declared.line.LogLine.TheVariants.{Call}
 use Rattle.batch_log.specs.Lines.{lines_said, Lines}
 use Rattle.batch_log.specs.Log.{batches_of, first_fault, last_batch, limited, log_said}
 
--- the batches of a log that are whole before its first fault, and that fault
-abbrev pub batches_said : ProcsParts → List ℕ → List (List requests.Call)
-batches_said procs log = batches_of (log_said procs.procs 0 0 log)
+-- the batches of a log, whose stale requests are tried again so often, that are whole before its first fault, and that fault
+abbrev pub batches_said : ProcsParts → ℕ → List ℕ → List (List requests.Call)
+batches_said procs retries log = batches_of (log_said retries procs.procs 0 0 log)
 
-abbrev pub fault_said : ProcsParts → List ℕ → Option LogFault
-fault_said procs log = first_fault (log_said procs.procs 0 0 log)
+abbrev pub fault_said : ProcsParts → ℕ → List ℕ → Option LogFault
+fault_said procs retries log = first_fault (log_said retries procs.procs 0 0 log)
 
--- where in a log a batch is that has not ended: its calls, how many calls and lines of the log were read, and the beginning of a
+-- where in a log a batch is that has not ended: how often a stale request is tried again, the batch's calls, how many calls and lines of the log were read, and the beginning of a
 -- line whose end has not come
 pub record Place : Type 0 where
+  pub retries : ℕ
   pub calls : List requests.Call
   pub total : ℕ
   pub lines : ℕ
@@ -31,21 +32,21 @@ behind_calls (call ∷ calls) lines = (0, Ok (Call call)) ∷ behind_calls calls
 
 -- what a log says from a place on that goes on with these bytes: the calls of the batch, and what comes behind them
 abbrev pub said_from : ProcsParts → Place → List ℕ → Lines
-said_from procs place more = behind_calls place.calls (limited (length place.calls) place.total (lines_said procs.procs place.lines (place.line ++ more)))
+said_from procs place more = behind_calls place.calls (limited place.retries (length place.calls) place.total (lines_said procs.procs place.lines (place.line ++ more)))
 
 -- Behind these bytes of a log these batches have ended, and this place is reached: however the log goes on, they are its first
 -- batches, and its next ones and its first fault are those that it says from there on.
 pub record IsAt (procs : ProcsParts) (place : Place) (ended : List (List requests.Call)) (fed : List ℕ) : Type 0 where
-  pub batches : (more : List ℕ) → batches_said procs (fed ++ more) ≡ ended ++ batches_of (said_from procs place more)
-  pub fault : (more : List ℕ) → fault_said procs (fed ++ more) ≡ first_fault (said_from procs place more)
+  pub batches : (more : List ℕ) → batches_said procs place.retries (fed ++ more) ≡ ended ++ batches_of (said_from procs place more)
+  pub fault : (more : List ℕ) → fault_said procs place.retries (fed ++ more) ≡ first_fault (said_from procs place more)
   pub one_line : has_newline place.line ≡ false
 
 -- these bytes are a whole log without a fault, whose batches are these and a last one of these calls, if there are any
-pub record IsWhole (procs : ProcsParts) (calls : List requests.Call) (ended : List (List requests.Call)) (log : List ℕ) : Type 0 where
-  pub batches : batches_said procs log ≡ ended ++ last_batch None calls
-  pub fault : fault_said procs log ≡ None
+pub record IsWhole (procs : ProcsParts) (retries : ℕ) (calls : List requests.Call) (ended : List (List requests.Call)) (log : List ℕ) : Type 0 where
+  pub batches : batches_said procs retries log ≡ ended ++ last_batch None calls
+  pub fault : fault_said procs retries log ≡ None
 
 -- a log has this first fault, and these batches are whole before it
-pub record IsFaulty (procs : ProcsParts) (found : LogFault) (ended : List (List requests.Call)) (log : List ℕ) : Type 0 where
-  pub batches : batches_said procs log ≡ ended
-  pub first : fault_said procs log ≡ Some found
+pub record IsFaulty (procs : ProcsParts) (retries : ℕ) (found : LogFault) (ended : List (List requests.Call)) (log : List ℕ) : Type 0 where
+  pub batches : batches_said procs retries log ≡ ended
+  pub first : fault_said procs retries log ≡ Some found

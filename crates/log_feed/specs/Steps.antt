@@ -13,16 +13,16 @@ use Rattle.log_feed.specs.Places.{Place}
 -- the line is a call, and there is room for it
 pub record AddsCall (procs : List ProcParts) (old new : Place) (call : requests.Call) : Type 0 where
   pub said : line_said procs old.line ≡ Ok (Call call)
-  pub room : is_room (length old.calls) old.total ≡ true
-  pub place : new ≡ record { calls = old.calls ++ call ∷ []; total = old.total + 1; lines = next_number old.lines; line = [] }
+  pub room : is_room old.retries (length old.calls) old.total ≡ true
+  pub place : new ≡ record old { calls = old.calls ++ call ∷ []; total = old.total + 1; lines = next_number old.lines; line = [] }
 
 -- the line is a cut, and these calls are the batch
 pub record EndsBatch (procs : List ProcParts) (old new : Place) (calls : List requests.Call) : Type 0 where
   pub said : line_said procs old.line ≡ Ok Cut
   pub batch : calls ≡ old.calls
-  pub place : new ≡ record { calls = []; total = old.total; lines = next_number old.lines; line = [] }
+  pub place : new ≡ record old { calls = []; total = old.total; lines = next_number old.lines; line = [] }
 
 -- the line has a fault
 pub record BreaksRule (procs : List ProcParts) (old : Place) (fault : LogFault) : Type 0 where
-  pub kind : within (length old.calls) old.total (line_said procs old.line) ≡ Err fault.kind
+  pub kind : within old.retries (length old.calls) old.total (line_said procs old.line) ≡ Err fault.kind
   pub line : fault.line ≡ next_number old.lines

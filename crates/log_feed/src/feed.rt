@@ -4,11 +4,11 @@ ghost use Rattle.std.specs.Prelude.{◌≡◌, ◌+◌, ◌≤◌, ◌^◌, List
 ghost use Rattle.std.specs.List.{AllByRecursion};
 ghost use Rattle.requests.specs.Requests.{Call};
 ghost use Rattle.batch_log.specs.Faults.{is_io, IsOfLine};
-ghost use Rattle.batch_log.specs.Log.{is_room};
+ghost use Rattle.batch_log.specs.Log.{is_room, most_calls};
 ghost use Rattle.log_feed.specs.Places.{IsAt, IsFaulty, IsWhole};
 ghost use Rattle.log_feed.specs.Steps.{AddsCall, BreaksRule, EndsBatch};
 
-use batch_log::{LogFault, LogFaultKind, LogLine, read_log_line};
+use batch_log::{LogFault, LogFaultKind, LogLine, is_room, read_log_line};
 use requests::{Procs, Request};
 use std::alloc::Global;
 use std::mem;
@@ -17,6 +17,8 @@ use std::mem;
 #[derive(Drop)]
 pub struct LogFeed {
     calls: Vec<Request>,
+    // How often a stale request is tried again.
+    retries: u8,
     // How many calls of the log were read.
     total: u64,
     // How many lines of the log were read, up to 2^64 - 1.
@@ -24,25 +26,19 @@ pub struct LogFeed {
     // The beginning of a line whose end has not come.
     line: Vec<u8>,
     ghost few: { length calls.items ≤ 4096 },
-    ghost room: { total ≤ 2 ^ 48 },
-}
-
-/// Whether a call may follow so many of its batch and of the log.
-fn is_room(calls: usize, total: u64) -> bool
-    ensures { result ≡ is_room calls total }
-{
-    calls < 4096 && total < 1 << 48
+    ghost room: { total ≤ most_calls retries },
 }
 
 impl LogFeed {
     ghost use Rattle.log_feed.specs.Feeds.{place_of};
 
-    /// Nothing was read.
-    pub fn new(alloc: Global) -> LogFeed
-        ensures { place_of result ≡ record { calls = []; total = 0; lines = 0; line = [] } }
+    /// Nothing was read, of a log whose stale requests are tried again so often: if at all, then it may have 2^46 calls, and else 2^48.
+    pub fn new(alloc: Global, retries: u8) -> LogFeed
+        ensures { place_of result ≡ record { retries = retries; calls = []; total = 0; lines = 0; line = [] } }
     {
         LogFeed {
             calls: Vec::new(alloc),
+            retries,
             total: 0,
             lines: 0,
             line: Vec::new(alloc),
@@ -68,16 +64,17 @@ impl LogFeed {
 
     /// Takes the call that the last line says.
     fn push(&mut self, call: Request) -> Result<(), LogFault>
-        ensures room { IfOk result (λ _. is_room (length self.old.calls.items) self.old.total ≡ true) }
+        ensures room { IfOk result (λ _. is_room self.old.retries (length self.old.calls.items) self.old.total ≡ true) }
         ensures pushed { IfOk result (λ _. place_of self.new ≡
             record (place_of self.old) { calls = self.old.calls.items ++ call ∷ []; total = self.old.total + 1 }) }
         ensures full { IfErr result (λ e. IsOfLine e.kind →
-            (is_room (length self.old.calls.items) self.old.total ≡ false)
+            (is_room self.old.retries (length self.old.calls.items) self.old.total ≡ false)
             × (e ≡ record { kind = LogFaultKind.BatchTooLong; line = self.old.lines })) }
         ensures kept { IfErr result (λ _. self.new.calls.items ≡ self.old.calls.items) }
+        ensures retries { self.new.retries ≡ self.old.retries }
         ensures no_device { IfErr result (λ e. is_io e.kind ≡ false) }
     {
-        if !is_room(self.calls.len(), self.total) {
+        if !is_room(self.retries, self.calls.len(), self.total) {
             return Err(self.fault(LogFaultKind::BatchTooLong));
         }
         if self.calls.push(call).is_err() {
@@ -95,6 +92,7 @@ impl LogFeed {
         ensures fault { IfErr result (λ e. IsOfLine e.kind → BreaksRule procs.now.procs (place_of self.old) e) }
         ensures no_device { IfErr result (λ e. is_io e.kind ≡ false) }
         ensures tables { AllByRecursion (λ c. c.proc.tables ≡ procs.now.tables) self.new.calls.items }
+        ensures retries { self.new.retries ≡ self.old.retries }
     {
         self.lines = self.lines.saturating_add(1);
         let said = read_log_line(alloc, procs, &self.line);
@@ -126,14 +124,15 @@ impl LogFeed {
         ensures batch { (ended : List (List Call)) → (fed : List ℕ) → IsAt procs.now (place_of self.old) ended fed →
             IfOk result (λ o. IfSome o (λ calls. IsAt procs.now (place_of self.new) (ended ++ calls.items ∷ []) (fed ++ byte ∷ []))) }
         ensures fault { (ended : List (List Call)) → (fed more : List ℕ) → IsAt procs.now (place_of self.old) ended fed →
-            IfErr result (λ e. IsOfLine e.kind → IsFaulty procs.now e ended ((fed ++ byte ∷ []) ++ more)) }
+            IfErr result (λ e. IsOfLine e.kind → IsFaulty procs.now (place_of self.old).retries e ended ((fed ++ byte ∷ []) ++ more)) }
         ensures no_device { IfErr result (λ e. is_io e.kind ≡ false) }
         ensures batch_is { IfOk result (λ o. IfSome o (λ calls. (calls.items ≡ (place_of self.old).calls)
             × ((place_of self.new).calls ≡ []) × ((place_of self.new).total ≡ (place_of self.old).total))) }
         ensures counted { IfOk result (λ o. IsNone o →
             (place_of self.new).total + length (place_of self.old).calls ≡ (place_of self.old).total + length (place_of self.new).calls) }
         ensures few { length (place_of self.old).calls ≤ 4096 }
-        ensures room { (place_of self.new).total ≤ 2 ^ 48 }
+        ensures room { (place_of self.new).total ≤ most_calls (place_of self.new).retries }
+        ensures retries { (place_of self.new).retries ≡ (place_of self.old).retries }
     {
         if byte == b'\n' {
             return self.take_line(alloc, procs);
@@ -158,12 +157,13 @@ impl LogFeed {
         ensures tables { AllByRecursion (λ c. c.proc.tables ≡ procs.now.tables) self.new.calls.items }
         ensures over { IfOk result (λ o. IfSome o (λ calls. calls.items ≡ self.old.calls.items)) }
         ensures whole { (ended : List (List Call)) → (fed : List ℕ) → IsAt procs.now (place_of self.old) ended fed →
-            IfOk result (λ o. IsNone o → IsWhole procs.now self.new.calls.items ended fed) }
+            IfOk result (λ o. IsNone o → IsWhole procs.now (place_of self.old).retries self.new.calls.items ended fed) }
         ensures batch { (ended : List (List Call)) → (fed : List ℕ) → IsAt procs.now (place_of self.old) ended fed →
-            IfOk result (λ o. IfSome o (λ calls. IsWhole procs.now [] (ended ++ calls.items ∷ []) fed)) }
+            IfOk result (λ o. IfSome o (λ calls. IsWhole procs.now (place_of self.old).retries [] (ended ++ calls.items ∷ []) fed)) }
         ensures fault { (ended : List (List Call)) → (fed : List ℕ) → IsAt procs.now (place_of self.old) ended fed →
-            IfErr result (λ e. IsOfLine e.kind → IsFaulty procs.now e ended fed) }
+            IfErr result (λ e. IsOfLine e.kind → IsFaulty procs.now (place_of self.old).retries e ended fed) }
         ensures no_device { IfErr result (λ e. is_io e.kind ≡ false) }
+        ensures retries { self.new.retries ≡ self.old.retries }
         ensures counted { IfOk result (λ o. IsNone o → self.new.total + length self.old.calls.items ≡ self.old.total + length self.new.calls.items) }
     {
         if self.line.is_empty() {
@@ -179,15 +179,16 @@ impl LogFeed {
         ensures tables { AllByRecursion (λ c. c.proc.tables ≡ procs.now.tables) (place_of self.new).calls }
         ensures over { IfOk result (λ o. IfSome o (λ calls. AllByRecursion (λ c. c.proc.tables ≡ procs.now.tables) calls.items)) }
         ensures whole { (ended : List (List Call)) → (fed : List ℕ) → IsAt procs.now (place_of self.old) ended fed →
-            IfOk result (λ o. IsNone o → IsWhole procs.now [] ended fed) }
+            IfOk result (λ o. IsNone o → IsWhole procs.now (place_of self.old).retries [] ended fed) }
         ensures batch { (ended : List (List Call)) → (fed : List ℕ) → IsAt procs.now (place_of self.old) ended fed →
-            IfOk result (λ o. IfSome o (λ calls. IsWhole procs.now [] (ended ++ calls.items ∷ []) fed)) }
+            IfOk result (λ o. IfSome o (λ calls. IsWhole procs.now (place_of self.old).retries [] (ended ++ calls.items ∷ []) fed)) }
         ensures fault { (ended : List (List Call)) → (fed : List ℕ) → IsAt procs.now (place_of self.old) ended fed →
-            IfErr result (λ e. IsOfLine e.kind → IsFaulty procs.now e ended fed) }
+            IfErr result (λ e. IsOfLine e.kind → IsFaulty procs.now (place_of self.old).retries e ended fed) }
         ensures no_device { IfErr result (λ e. is_io e.kind ≡ false) }
         ensures few { IfOk result (λ o. IfSome o (λ calls. length calls.items ≤ 4096)) }
         ensures room { IfOk result (λ o. IfSome o (λ calls.
-            length calls.items + (place_of self.old).total ≤ 2 ^ 48 + length (place_of self.old).calls)) }
+            length calls.items + (place_of self.old).total ≤ most_calls (place_of self.old).retries + length (place_of self.old).calls)) }
+        ensures retries { (place_of self.new).retries ≡ (place_of self.old).retries }
     {
         match self.take_last_line(alloc, procs) {
             Ok(Some(calls)) => Ok(Some(calls)),

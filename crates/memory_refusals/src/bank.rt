@@ -54,7 +54,7 @@ fn requests_in(alloc: Global, procs: &Procs, log: &str) -> Option<Vec<Request>>
     ensures few { IfSome result (λ requests. length requests.items ≤ 4096) }
 {
     let mut source = ReadSource::new(log.as_bytes());
-    let mut reader = LogReader::new(&mut source);
+    let mut reader = LogReader::new(&mut source, 0);
     reader.next_batch(alloc, procs).ok()?
 }
 

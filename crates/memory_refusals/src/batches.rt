@@ -1,11 +1,12 @@
-//! A log of 200 calls in five batches, whose setup, text and report stand in `data/`: its batches are executed one after another,
-//! and gone on with, and its report is written.
+//! Logs of several batches, whose setups, texts and reports stand in `data/`: their batches are executed one after another, and
+//! gone on with, and their reports are written.
 
 ghost use Rattle.std.specs.Prelude.{IfSome};
 ghost use Rattle.sequencer.specs.Batches.{items_of, AreOver};
+ghost use Rattle.engine.specs.Engines.{tables_of};
 
 use crate::answer::Answer;
-use crate::bank::batch_in;
+use crate::bank::{batch_in, batch_of};
 use crate::executing::{Then, push_replies};
 use crate::refusal::Refusal;
 use crate::reporting::try_report;
@@ -18,15 +19,42 @@ use std::sync::Wait;
 use std::thread::Threads;
 use std::{fs, rt};
 
-/// How many calls there are.
-const CALLS: u64 = 200;
+/// A log whose files stand in `data/`.
+#[derive(Clone, Copy)]
+pub(crate) enum StoredLog {
+    /// 200 calls in five batches.
+    FiveBatches,
+    /// 39 calls in two batches, under a setup that has stale calls tried again twice: 62 attempts, in four batches.
+    TriedAgain,
+}
+
+impl StoredLog {
+    /// What the names of its files begin with.
+    fn prefix(self) -> &'static str {
+        match self {
+            StoredLog::FiveBatches => "",
+            StoredLog::TriedAgain => "retries-",
+        }
+    }
+
+    /// How many attempts there are.
+    fn attempts(self) -> u64 {
+        match self {
+            StoredLog::FiveBatches => 200,
+            StoredLog::TriedAgain => 62,
+        }
+    }
+}
 
 /// What stands behind each batch but the last.
 const CUT: &str = "[\"cut\"]\n";
 
-/// A file of `data/`.
-fn text<R: rt::Files + AllocGlobal>(rt: &R, name: &str) -> Option<String> {
-    fs::read_to_string(rt, name).ok()
+/// A file of a log.
+fn text<R: rt::Files + AllocGlobal>(rt: &R, stored: StoredLog, name: &str) -> Option<String> {
+    let alloc = rt.alloc();
+    let prefix = stored.prefix();
+    let path = format!(in alloc; "{prefix}{name}").ok()?;
+    fs::read_to_string(rt, path).ok()
 }
 
 /// The settings with so many workers and this threshold.
@@ -44,16 +72,27 @@ fn batch_read(alloc: Global, procs: &Procs, log: &str) -> Option<Batch>
     }
 }
 
-/// Executes the first batch of a log. Where memory or a thread is refused, the answer says so, and it is gone on with.
-fn execute_first<R: Threads + Wait + Sync + AllocGlobal>(
+/// A batch without calls. Where memory is refused, it is made again.
+fn no_calls(alloc: Global, procs: &Procs) -> Option<Batch>
+    ensures { IfSome result (λ batch. AreOver procs.now.tables (items_of batch)) }
+{
+    match batch_of(alloc, procs, Vec::new(alloc)) {
+        Some(batch) => Some(batch),
+        None => batch_of(alloc, procs, Vec::new(alloc)),
+    }
+}
+
+/// Executes a batch. Where memory or a thread is refused, the answer says so, and it is gone on with.
+fn execute_batch<R: Threads + Wait + Sync + AllocGlobal>(
     rt: &R,
     engine: &mut Engine,
-    log: &str,
+    batch: Batch,
     then: Then,
     answer: &mut Answer,
-) -> Option<BatchDone> {
+) -> Option<BatchDone>
+    requires { AreOver (tables_of engine.old) (items_of batch) }
+{
     let alloc = rt.alloc();
-    let batch = batch_read(alloc, engine.procs(), log)?;
     match engine.execute(rt, alloc, batch, &OpenGate) {
         Ok(done) => Some(done),
         Err(_) if engine.is_busy() => {
@@ -82,8 +121,39 @@ fn is_end(alloc: Global, report: &str, engine: &Engine, done: &[BatchDone]) -> O
     Some(report.ends_with(end.as_str()))
 }
 
-/// Executes the batches of a log, one after another, and keeps what comes of them; `None` where something else than memory or a
-/// thread is refused, or where a batch isn't gone on with to its end.
+/// Executes the first batch of a log.
+fn execute_first<R: Threads + Wait + Sync + AllocGlobal>(
+    rt: &R,
+    engine: &mut Engine,
+    log: &str,
+    then: Then,
+    answer: &mut Answer,
+) -> Option<BatchDone> {
+    let batch = batch_read(rt.alloc(), engine.procs(), log)?;
+    execute_batch(rt, engine, batch, then, answer)
+}
+
+/// Executes batches without calls while calls are carried, and keeps what comes of them.
+fn execute_carried<R: Threads + Wait + Sync + AllocGlobal>(
+    rt: &R,
+    engine: &mut Engine,
+    then: Then,
+    done: &mut Vec<BatchDone>,
+    answer: &mut Answer,
+) -> Option<()> {
+    for _ in 0..engine.retries() {
+        if engine.carried() == 0 {
+            return Some(());
+        }
+        let batch = no_calls(rt.alloc(), engine.procs())?;
+        let batch = execute_batch(rt, engine, batch, then, answer)?;
+        done.push(batch).ok()?;
+    }
+    Some(())
+}
+
+/// Executes the batches of a log, one after another, and those that close it, and keeps what comes of them; `None` where something
+/// else than memory or a thread is refused, or where a batch isn't gone on with to its end.
 fn execute_each<R: Threads + Wait + Sync + AllocGlobal>(
     rt: &R,
     engine: &mut Engine,
@@ -96,13 +166,19 @@ fn execute_each<R: Threads + Wait + Sync + AllocGlobal>(
         let batch = execute_first(rt, engine, batch, then, &mut answer)?;
         done.push(batch).ok()?;
     }
+    execute_carried(rt, engine, then, done, &mut answer)?;
     Some(answer)
 }
 
-/// An engine on the setup, with so many workers and this threshold.
-fn engine<R: rt::Files + AllocGlobal>(rt: &R, workers: usize, threshold: usize) -> Option<Engine> {
+/// An engine on the setup of a log, with so many workers and this threshold.
+fn engine<R: rt::Files + AllocGlobal>(
+    rt: &R,
+    stored: StoredLog,
+    workers: usize,
+    threshold: usize,
+) -> Option<Engine> {
     let settings = settings(workers, threshold)?;
-    let setup = text(rt, "setup.json")?;
+    let setup = text(rt, stored, "setup.json")?;
     let setup = read_setup(rt.alloc(), setup.as_bytes()).ok()?;
     Engine::new(rt.alloc(), setup, settings).ok()
 }
@@ -127,16 +203,17 @@ fn execute_log<R: Threads + Wait + Sync + AllocGlobal>(
     }
 }
 
-/// The batches are executed on so many workers, with this threshold.
+/// The batches of a log are executed on so many workers, with this threshold.
 pub(crate) fn try_batches<R: Threads + Wait + Sync + rt::Files + AllocGlobal>(
     rt: &R,
     refusal: &mut Refusal,
+    stored: StoredLog,
     workers: usize,
     threshold: usize,
     then: Then,
 ) -> Option<Answer> {
-    let (log, report) = (text(rt, "log")?, text(rt, "report")?);
-    let mut engine = engine(rt, workers, threshold)?;
+    let (log, report) = (text(rt, stored, "log")?, text(rt, stored, "report")?);
+    let mut engine = engine(rt, stored, workers, threshold)?;
     execute_log(
         rt,
         refusal,
@@ -146,15 +223,16 @@ pub(crate) fn try_batches<R: Threads + Wait + Sync + rt::Files + AllocGlobal>(
     )
 }
 
-/// The report is written, on so many workers, with this threshold.
+/// The report of a log is written, on so many workers, with this threshold.
 pub(crate) fn try_report_of_batches<R: Threads + Wait + Sync + rt::Files + AllocGlobal>(
     rt: &R,
     refusal: &mut Refusal,
+    stored: StoredLog,
     workers: usize,
     threshold: usize,
 ) -> Option<Answer> {
-    let setup = text(rt, "setup.json")?;
-    let (log, report) = (text(rt, "log")?, text(rt, "report")?);
+    let setup = text(rt, stored, "setup.json")?;
+    let (log, report) = (text(rt, stored, "log")?, text(rt, stored, "report")?);
     let setup = read_setup(rt.alloc(), setup.as_bytes()).ok()?;
     let settings = settings(workers, threshold)?;
     try_report(
@@ -163,6 +241,6 @@ pub(crate) fn try_report_of_batches<R: Threads + Wait + Sync + rt::Files + Alloc
         setup,
         settings,
         [log.as_str(), report.as_str()],
-        CALLS,
+        stored.attempts(),
     )
 }

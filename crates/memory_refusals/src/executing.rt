@@ -30,7 +30,7 @@ pub(crate) fn push_replies(
         if reply.client != 0 {
             lines.push_str("of another client\n")?;
         }
-        push_reply_line(alloc, lines, reply.no, &reply.outcome)?;
+        push_reply_line(alloc, lines, reply.no, reply.of, &reply.outcome)?;
     }
     Ok(())
 }

@@ -1,5 +1,5 @@
-//! Tries the calls that may want memory, on a setup with every kind of statement and on a log of 100 calls, and on one of 200 in five
-//! batches, where the system refuses one allocation.
+//! Tries the calls that may want memory, on a setup with every kind of statement and on a log of 100 calls, on one of 200 in five
+//! batches, and on one whose stale calls are tried again, where the system refuses one allocation.
 //!
 //! Each argument is the name of a step, and may have, behind a colon, how many allocations are made and let go before it: the
 //! more they are, the earlier in the step is the one that is refused. For each it prints what came of the step, how many
@@ -20,50 +20,121 @@ mod sweeping;
 mod texts;
 
 use answer::Answer;
+use batches::StoredLog;
 use executing::Then;
 use refusal::Refusal;
 use std::sync::Wait;
 use std::thread::Threads;
 use std::{env, io, rt};
 
-/// A step on five batches: its workers, its threshold, and how a batch is gone on with; without that, the report is written.
-type OnBatches = (&'static str, usize, usize, Option<Then>);
+/// A step on several batches: its log, its workers, its threshold, and how a batch is gone on with; without that, the report is
+/// written.
+type OnBatches = (&'static str, StoredLog, usize, usize, Option<Then>);
 
-const BATCHES: [OnBatches; 12] = [
-    ("batches_2_0", 2, 0, Some(Then::Resume)),
-    ("batches_2_65535", 2, 65_535, Some(Then::Resume)),
-    ("batches_16_0", 16, 0, Some(Then::Resume)),
-    ("batches_16_65535", 16, 65_535, Some(Then::Resume)),
-    ("batches_2_0_then_alone", 2, 0, Some(Then::ResumeAlone)),
+const BATCHES: [OnBatches; 17] = [
+    (
+        "batches_2_0",
+        StoredLog::FiveBatches,
+        2,
+        0,
+        Some(Then::Resume),
+    ),
+    (
+        "batches_2_65535",
+        StoredLog::FiveBatches,
+        2,
+        65_535,
+        Some(Then::Resume),
+    ),
+    (
+        "batches_16_0",
+        StoredLog::FiveBatches,
+        16,
+        0,
+        Some(Then::Resume),
+    ),
+    (
+        "batches_16_65535",
+        StoredLog::FiveBatches,
+        16,
+        65_535,
+        Some(Then::Resume),
+    ),
+    (
+        "batches_2_0_then_alone",
+        StoredLog::FiveBatches,
+        2,
+        0,
+        Some(Then::ResumeAlone),
+    ),
     (
         "batches_2_65535_then_alone",
+        StoredLog::FiveBatches,
         2,
         65_535,
         Some(Then::ResumeAlone),
     ),
-    ("batches_16_0_then_alone", 16, 0, Some(Then::ResumeAlone)),
+    (
+        "batches_16_0_then_alone",
+        StoredLog::FiveBatches,
+        16,
+        0,
+        Some(Then::ResumeAlone),
+    ),
     (
         "batches_16_65535_then_alone",
+        StoredLog::FiveBatches,
         16,
         65_535,
         Some(Then::ResumeAlone),
     ),
-    ("report_2_0", 2, 0, None),
-    ("report_2_65535", 2, 65_535, None),
-    ("report_16_0", 16, 0, None),
-    ("report_16_65535", 16, 65_535, None),
+    ("report_2_0", StoredLog::FiveBatches, 2, 0, None),
+    ("report_2_65535", StoredLog::FiveBatches, 2, 65_535, None),
+    ("report_16_0", StoredLog::FiveBatches, 16, 0, None),
+    ("report_16_65535", StoredLog::FiveBatches, 16, 65_535, None),
+    (
+        "retries_2_0",
+        StoredLog::TriedAgain,
+        2,
+        0,
+        Some(Then::Resume),
+    ),
+    (
+        "retries_16_65535",
+        StoredLog::TriedAgain,
+        16,
+        65_535,
+        Some(Then::Resume),
+    ),
+    (
+        "retries_2_0_then_alone",
+        StoredLog::TriedAgain,
+        2,
+        0,
+        Some(Then::ResumeAlone),
+    ),
+    ("report_2_0_of_retries", StoredLog::TriedAgain, 2, 0, None),
+    (
+        "report_16_65535_of_retries",
+        StoredLog::TriedAgain,
+        16,
+        65_535,
+        None,
+    ),
 ];
 
-/// What comes of the step on five batches with a name; `None` where there is no such step, or what it stands on could not be made.
+/// What comes of the step on several batches with a name; `None` where there is no such step, or what it stands on could not be made.
 fn tried_on_batches<R: Threads + Wait + Sync + rt::Files + AllocGlobal>(
     rt: &R,
     refusal: &mut Refusal,
     step: &str,
 ) -> Option<Answer> {
-    let (_, workers, threshold, then) = *BATCHES.iter().find(|(name, _, _, _)| *name == step)?;
+    let (_, stored, workers, threshold, then) = *BATCHES
+        .iter()
+        .find(|(name, _, _, _, _)| *name == step)?;
     match then {
-        Some(then) => batches::try_batches(rt, refusal, workers, threshold, then),
-        None => batches::try_report_of_batches(rt, refusal, workers, threshold),
+        Some(then) => batches::try_batches(rt, refusal, stored, workers, threshold, then),
+        None => batches::try_report_of_batches(rt, refusal, stored, workers, threshold),
     }
 }
 

@@ -30,6 +30,7 @@ fn entries_of_bank(
         catalogue,
         procs,
         rows,
+        retries: _,
     } = bank(alloc)?;
     let batch = batch_with(alloc, &procs, FOUND_CALL)?;
     let store = RowStore::new(alloc, &catalogue, rows).ok()?;
@@ -91,6 +92,7 @@ fn found_of_bank(alloc: Global, refusal: &mut Refusal) -> Option<(Answer, Footpr
         catalogue,
         procs,
         rows,
+        retries: _,
     } = bank(alloc)?;
     let text = Value::Text(Text::new(alloc, "x").ok()?);
     let request = Request::new(&procs, "renew", vec![in alloc; text].ok()?).ok()?;

@@ -62,7 +62,7 @@ pub(crate) fn try_log(alloc: Global, refusal: &mut Refusal) -> Option<Answer> {
     let setup = bank(alloc)?;
     let log = log_text(alloc, "").ok()?;
     let mut source = ReadSource::new(log.as_bytes());
-    let mut reader = LogReader::new(&mut source);
+    let mut reader = LogReader::new(&mut source, 0);
     refusal.approach();
     let read = reader.next_batch(alloc, &setup.procs);
     let further = reader.next_batch(alloc, &setup.procs);

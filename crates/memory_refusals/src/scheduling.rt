@@ -19,6 +19,7 @@ pub(crate) fn scheduler_of(alloc: Global, setup: Setup, log: &str) -> Option<Sch
         catalogue,
         procs,
         rows,
+        retries: _,
     } = setup;
     let batch = batch_in(alloc, &procs, log)?;
     let store = RowStore::new(alloc, &catalogue, rows).ok()?;
@@ -95,7 +96,7 @@ fn reply_lines(alloc: Global, scheduler: &Scheduler) -> Option<String> {
     let mut lines = String::new(alloc);
     for number in 0..CALLS {
         let outcome = scheduler.reply(number)?;
-        push_reply_line(alloc, &mut lines, number, outcome).ok()?;
+        push_reply_line(alloc, &mut lines, number, None, outcome).ok()?;
     }
     Some(lines)
 }

@@ -49,12 +49,14 @@ fn setup(alloc: Global) -> Option<Setup> {
         catalogue,
         procs,
         rows: _,
+        retries: _,
     } = read_setup(alloc, SETUP.as_bytes()).ok()?;
     let rows = rows_of(alloc, catalogue.table("acct")?)?;
     Some(Setup {
         catalogue,
         procs,
         rows,
+        retries: 0,
     })
 }
 
@@ -64,7 +66,7 @@ fn is_settled(alloc: Global, scheduler: Scheduler) -> Option<bool> {
         return Some(false);
     }
     let mut line = String::new(alloc);
-    push_reply_line(alloc, &mut line, 0, scheduler.reply(0)?).ok()?;
+    push_reply_line(alloc, &mut line, 0, None, scheduler.reply(0)?).ok()?;
     all_is_free_with_nothing_lent();
     let rows = scheduler.into_finished().rows;
     let digest = rows_digest(alloc, rows.catalogue(), &rows).ok()?;

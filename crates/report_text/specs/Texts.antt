@@ -1,6 +1,6 @@
 -- Claimed: what contracts promise to a reader rests on these words.
 -- The lines of a report. Words are separated by one space, and each line ends with a newline byte.
-use Rattle.std.specs.Prelude.{ℕ, nat_lt, List, [], ◌∷◌, ◌++◌, length, filter, codes, option_map, unwrap_or, slice_get}
+use Rattle.std.specs.Prelude.{ℕ, nat_lt, List, [], ◌∷◌, ◌++◌, length, filter, codes, Option, Some, None, option_map, unwrap_or, slice_get}
 use Rattle.std.specs.Fmt.{decimal, signed_decimal}
 use Rattle.std.specs.FinMap.{entries}
 use Rattle.sha2.specs.Sha256.{sha256}
@@ -51,9 +51,14 @@ reply_words (commit values) = codes " commit" ++ values_text values
 reply_words (aborted code) = codes " abort " ++ decimal (number_of code)
 reply_words stale = codes " stale"
 
--- NO and its reply
-unfoldable pub reply_line : ℕ → Reply → List ℕ
-reply_line number reply = decimal number ++ reply_words reply ++ line_end
+-- behind a later attempt's number: the number of the request's first attempt
+abbrev pub of_words : Option ℕ → List ℕ
+of_words None = []
+of_words (Some first) = codes " of " ++ decimal first
+
+-- NO, for a later attempt `of FIRST`, and its reply
+unfoldable pub reply_line : ℕ → Option ℕ → Reply → List ℕ
+reply_line number of reply = decimal number ++ of_words of ++ reply_words reply ++ line_end
 
 -- the SHA-256 of a text (FIPS 180-4), in 64 lower-case hexadecimal digits
 unfoldable pub digest : List ℕ → List ℕ

@@ -1,7 +1,7 @@
 //! Reply lines, batch lines and end lines.
 
 ghost use Rattle.std.specs.Prelude.{◌≡◌, ◌++◌, OnOk, string_bytes};
-ghost use Rattle.report_text.specs.Texts.{reply_line, reply_words, batch_line, end_line};
+ghost use Rattle.report_text.specs.Texts.{reply_line, reply_words, of_words, batch_line, end_line};
 ghost use Rattle.meaning.specs.Outcomes.{as_reply};
 
 use crate::values_text::push_values;
@@ -26,17 +26,30 @@ fn push_reply_words(alloc: Global, text: &mut String, outcome: &Outcome) -> Resu
     }
 }
 
-/// Appends a reply line: the transaction's number, its outcome, and a newline.
+/// Appends what stands behind a later attempt's number: the number of the request's first attempt. Nothing for a first attempt.
+fn push_of_words(text: &mut String, of: Option<u64>) -> Result<(), AllocError>
+    ensures { OnOk result (string_bytes text.new ≡ string_bytes text.old ++ of_words of) }
+{
+    match of {
+        None => Ok(()),
+        Some(first) => write!(text, " of {first}"),
+    }
+}
+
+/// Appends a reply line: the transaction's number, for a later attempt of a request the number of its first attempt, the
+/// outcome, and a newline.
 #[tactic(auto, unfolding(crate::specs::Texts::reply_line))]
 pub fn push_reply_line(
     alloc: Global,
     text: &mut String,
     no: u64,
+    of: Option<u64>,
     outcome: &Outcome,
 ) -> Result<(), AllocError>
-    ensures { OnOk result (string_bytes text.new ≡ string_bytes text.old ++ reply_line no (as_reply outcome.now)) }
+    ensures { OnOk result (string_bytes text.new ≡ string_bytes text.old ++ reply_line no of (as_reply outcome.now)) }
 {
     write!(text, "{no}")?;
+    push_of_words(text, of)?;
     push_reply_words(alloc, text, outcome)?;
     text.push_str("\n")
 }

@@ -1,7 +1,9 @@
-pub mod RunEnds
-pub mod Runs
-pub mod Lines
 pub mod Reported
+pub mod Lines
+pub mod Runs
+pub mod Stopping
 pub mod SoFar
 pub mod Stopped
-pub mod Stopping
+pub mod Fronts
+pub mod Closers
+pub mod RunEnds

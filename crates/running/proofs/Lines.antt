@@ -1,63 +1,85 @@
 -- The text of a batch that was run.
-use Rattle.std.proofs.Common.{◌≡◌, ℕ, ◌+◌, List, [], ◌∷◌, length, map, refl, ap, ◌∙◌}
+use Rattle.std.proofs.Common.{◌≡◌, ℕ, ◌+◌, List, [], ◌∷◌, map, refl, ap, ◌∙◌}
 use Rattle.catalogue.specs.Shapes.{TableShape}
 use Rattle.values.specs.Database.{Database}
+use Rattle.requests.specs.ProcLists.{ProcsParts}
 use Rattle.requests.specs.Requests.{Call}
-use Rattle.meaning.specs.Entries.{EntryShape}
 use Rattle.meaning.specs.Entries as meant
+use Rattle.meaning.specs.Entries.{EntryShape}
 use Rattle.meaning.specs.Serial.{serial_end, serial_replies}
 use Rattle.sequencer.specs.declared.batch.Batch.{Batch}
-use Rattle.sequencer.specs.Batches.{RequestItem, items_of, items_from}
+use Rattle.sequencer.specs.Attempts.{attempts_of, Attempt}
+use Rattle.sequencer.specs.Batches.{items_of, items_from, RequestItem}
 use Rattle.sequencer.specs.Entries.{prepared}
-use Rattle.report_text.specs.Report.{batch_text, reply_lines}
+use Rattle.report_text.specs.Report.{batch_text, entries_in, reply_lines, Transaction}
+use Rattle.retries.specs.Standings.{attempts_at, behind, replies_at, transaction_of, transactions_at}
 use Rattle.engine.specs.declared.replies.BatchDone.{BatchDone}
 use Rattle.engine.specs.declared.replies.Reply.{Reply}
-use Rattle.engine.specs.Batches.{entries_of}
-use Rattle.engine.specs.Engines.{EngineParts}
-use Rattle.engine.specs.Executions.{IsExecutionOf}
-use Rattle.engine.specs.Replies.{reply_of, sent_of, sent_from, Sent}
+use Rattle.engine.specs.Batches.{entries_of, next_attempts}
+use Rattle.engine.specs.Engines.{EngineParts, tables_of}
+use Rattle.engine.specs.Executions.{IsExecutionOf, KeepsSetting}
+use Rattle.engine.specs.Replies.{first_attempt, reply_of, sent_of, sent_from, Sent}
+use Rattle.running.specs.Standings.{standing_of}
 use Rattle.running.specs.Transcripts.{said_lines, with_batch_line}
 
-said_as : (n : ℕ) (rs : List Reply) (items : List RequestItem) (replies : List meant.Reply) → map sent_of rs ≡ sent_from n items → map reply_of rs ≡ replies → said_lines rs ≡ reply_lines n replies
-said_as n [] items [] e f = refl
-said_as n [] items (p ∷ ps) e f = absurd cc
-said_as n (r ∷ rs) items [] e f = absurd cc
-said_as n (r ∷ rs) [] (p ∷ ps) e f = absurd cc
-said_as n (r ∷ rs) (i ∷ is) (p ∷ ps) e f =
-    let head : sent_of r ≡ record { transaction = n; client = i.client; number = i.number } = cc in
+-- ---- the attempts of a batch
+
+-- the attempts of a batch that the engine takes are those at its standing
+pub attempts_are : (engine : EngineParts) (batch : Batch) (calls : List Call) → items_of batch ≡ items_from 0 calls → next_attempts engine batch ≡ attempts_at (standing_of engine) calls
+attempts_are engine batch calls e = ap (λ (items : List RequestItem). attempts_of engine.carried items) e
+
+entries_are : (db : Database) (attempts : List Attempt) → entries_of db attempts ≡ entries_in (map (transaction_of db) attempts)
+entries_are db [] = refl
+entries_are db (a ∷ attempts) = ap (λ rest. prepared db a.request ∷ rest) (entries_are db attempts)
+
+said_as : (n : ℕ) (db : Database) (rs : List Reply) (attempts : List Attempt) (replies : List meant.Reply) → map sent_of rs ≡ sent_from n attempts → map reply_of rs ≡ replies →
+    said_lines rs ≡ reply_lines n (map (transaction_of db) attempts) replies
+said_as n db [] [] [] e f = refl
+said_as n db [] [] (p ∷ ps) e f = absurd cc
+said_as n db [] (a ∷ as_) replies e f = absurd cc
+said_as n db (r ∷ rs) [] replies e f = absurd cc
+said_as n db (r ∷ rs) (a ∷ as_) [] e f = absurd cc
+said_as n db (r ∷ rs) (a ∷ as_) (p ∷ ps) e f =
+    let head : sent_of r ≡ record { transaction = n; client = a.client; number = a.number; of = first_attempt a } = cc in
     let number : r.no ≡ n = ap (λ (s : Sent). s.transaction) head in
+    let of_is : r.of ≡ first_attempt a = ap (λ (s : Sent). s.of) head in
     let reply : reply_of r ≡ p = cc in
-    let rest : said_lines rs ≡ reply_lines (n + 1) ps = said_as (n + 1) rs is ps (cc) (cc) in
-    rw (number, reply, rest) refl
+    let rest : said_lines rs ≡ reply_lines (n + 1) (map (transaction_of db) as_) ps = said_as (n + 1) db rs as_ ps (cc) (cc) in
+    rw (number, of_is, reply, rest) refl
 
-requests_in : (db : Database) (n : ℕ) (requests : List Call) → map (λ item. prepared db item.request) (items_from n requests) ≡ map (prepared db) requests
-requests_in db n [] = refl
-requests_in db n (r ∷ rs) = ap (λ rest. prepared db r ∷ rest) (requests_in db (n + 1) rs)
+-- ---- a batch that was run
 
--- the entries of a batch are those of its requests
-pub entries_in : (db : Database) (requests : List Call) (batch : Batch) → items_of batch ≡ items_from 0 requests → entries_of db batch ≡ map (prepared db) requests
-entries_in db requests batch e = ap (map (λ item. prepared db item.request)) e ∙ requests_in db 0 requests
+-- what a batch leaves
+module _ (old new : EngineParts) (batch : Batch) (run : BatchDone) (calls : List Call) (r : IsExecutionOf old new (next_attempts old batch) run) (e : items_of batch ≡ items_from 0 calls) where
+  abbrev ran : IsExecutionOf old new (attempts_at (standing_of old) calls) run
+  ran = rw (attempts_are old batch calls e) at r
 
--- the reply lines of a batch that was run are those of its entries one by one
-pub lines_are : (old new : EngineParts) (batch : Batch) (run : BatchDone) (requests : List Call) → IsExecutionOf old new batch run → items_of batch ≡ items_from 0 requests →
-    said_lines run.replies.items ≡ reply_lines old.next (serial_replies (map (prepared old.rows) requests) old.rows)
-lines_are old new batch run requests r e =
-    said_as old.next run.replies.items (items_of batch) _ r.sent r.replies
-    ∙ ap (λ (es : List EntryShape). reply_lines old.next (serial_replies es old.rows)) (entries_in old.rows requests batch e)
+  abbrev entries : entries_of old.rows (attempts_at (standing_of old) calls) ≡ entries_in (transactions_at (standing_of old) calls)
+  entries = entries_are old.rows (attempts_at (standing_of old) calls)
 
-pub rows_are : (old new : EngineParts) (batch : Batch) (run : BatchDone) (requests : List Call) → IsExecutionOf old new batch run → items_of batch ≡ items_from 0 requests →
-    new.rows ≡ serial_end (map (prepared old.rows) requests) old.rows
-rows_are old new batch run requests r e = r.rows ∙ ap (λ (es : List EntryShape). serial_end es old.rows) (entries_in old.rows requests batch e)
+  pub replies_are : map reply_of run.replies.items ≡ replies_at (standing_of old) calls
+  replies_are = ran.replies ∙ ap (λ (es : List EntryShape). serial_replies es old.rows) entries
 
-pub requests_count : (n : ℕ) (requests : List Call) → length (items_from n requests) ≡ length requests
-requests_count n [] = refl
-requests_count n (r ∷ rs) = let rest = requests_count (n + 1) rs in cc
+  -- the reply lines of the batch
+  pub lines_are : said_lines run.replies.items ≡ reply_lines old.next (transactions_at (standing_of old) calls) (replies_at (standing_of old) calls)
+  lines_are = said_as old.next old.rows run.replies.items (attempts_at (standing_of old) calls) _ ran.sent replies_are
 
-pub next_is : (old new : EngineParts) (batch : Batch) (run : BatchDone) (requests : List Call) → IsExecutionOf old new batch run → items_of batch ≡ items_from 0 requests →
-    new.next ≡ old.next + length requests
-next_is old new batch run requests r e = r.next ∙ ap (λ n. old.next + n) (ap length e ∙ requests_count 0 requests)
+  pub rows_are : new.rows ≡ serial_end (entries_in (transactions_at (standing_of old) calls)) old.rows
+  rows_are = ran.rows ∙ ap (λ (es : List EntryShape). serial_end es old.rows) entries
 
-pub text_is : (tables given : List TableShape) (batch n : ℕ) (db after : Database) (entries : List EntryShape) (lines : List ℕ) →
-    given ≡ tables → after ≡ serial_end entries db → lines ≡ reply_lines n (serial_replies entries db) → with_batch_line batch given after lines ≡ batch_text tables batch n db entries
+  pub standing_is : standing_of new ≡ behind old.retries (standing_of old) calls
+  standing_is = rw (ran.next, rows_are, ran.carried, entries) refl
+
+pub text_is : (tables given : List TableShape) (batch n : ℕ) (db after : Database) (transactions : List Transaction) (lines : List ℕ) →
+    given ≡ tables → after ≡ serial_end (entries_in transactions) db → lines ≡ reply_lines n transactions (serial_replies (entries_in transactions) db) →
+    with_batch_line batch given after lines ≡ batch_text tables batch n db transactions
 unfolding with_batch_line batch_text
-text_is tables given batch n db after entries lines t e f = rw (t, e, f) refl
+text_is tables given batch n db after transactions lines t e f = rw (t, e, f) refl
+
+-- the text of a batch on the engine that has run it
+pub batch_text_is : (old new : EngineParts) (batch : Batch) (run : BatchDone) (calls : List Call) (number : ℕ) (given : List TableShape) (rows : Database) (replies : List Reply) →
+    IsExecutionOf old new (next_attempts old batch) run → KeepsSetting old new → items_of batch ≡ items_from 0 calls → given ≡ tables_of new → rows ≡ new.rows → replies ≡ run.replies.items →
+    with_batch_line number given rows (said_lines replies) ≡ batch_text (tables_of old) number old.next old.rows (transactions_at (standing_of old) calls)
+batch_text_is old new batch run calls number given rows replies r same e t s f =
+    text_is (tables_of old) given number old.next old.rows rows (transactions_at (standing_of old) calls) (said_lines replies)
+    (t ∙ ap (λ (p : ProcsParts). p.tables) same.procs) (s ∙ rows_are old new batch run calls r e) (ap said_lines f ∙ lines_are old new batch run calls r e)

@@ -1,97 +1,139 @@
--- Batches one after another, and what a run knows of its log behind some.
-use Rattle.std.proofs.Common.{◌≡◌, ℕ, ◌+◌, List, [], ◌∷◌, ◌++◌, append_assoc, append-nil, length, arith, refl, sym, ◌∙◌, ap}
-use Rattle.std.proofs.lemmas.List.{length-append, length-map}
+-- What was reported of batches one after another.
+use Rattle.std.proofs.Common.{◌≡◌, ℕ, zero, suc, ◌+◌, ◌≤◌, ◌^◌, List, [], ◌∷◌, ◌++◌, append_assoc, append-nil, length, Option, refl, sym, ◌∙◌, ap, arith}
+use Rattle.std.specs.Io.KnownBytes.{Appends}
+use Rattle.std.proofs.KnownBytes.{Appends-nil, Appends-trans}
+use Rattle.std.proofs.lemmas.List.{length-append}
+use Rattle.std.proofs.lemmas.List.Sums.{sum_by-append}
+use Rattle.sha2.specs.Hashers.{Holds256}
 use Rattle.catalogue.specs.Shapes.{TableShape}
 use Rattle.values.specs.Database.{Database}
 use Rattle.requests.specs.ProcLists.{ProcsParts}
 use Rattle.requests.specs.Requests.{Call}
-use Rattle.meaning.specs.Entries.{EntryShape, meaning}
-use Rattle.meaning.specs.Serial.{serial_end}
-use Rattle.sequencer.specs.Entries.{prepared}
-use Rattle.batch_log.specs.Log.{batches_of, first_fault, log_said, IsNextBatch}
-use Rattle.report_text.specs.Report.{all_entries, batch_text, batch_texts, next_batch}
-use Rattle.running.specs.Reports.{prepared_in_turn, batches_in, fault_in}
-use Rattle.running.specs.Stopped.{entries_behind, rows_behind}
+use Rattle.batch_log.specs.Log.{most_calls}
+use Rattle.report_text.specs.Report.{batch_text, next_batch, reply_lines}
+use Rattle.retries.specs.Standings.{attempts_at, behind, call_count, replies_at, start_of, transactions_at, Standing}
+use Rattle.retries.proofs.Followed.{behind_all-append}
+use Rattle.retries.proofs.Reported.{texts_grown}
+use Rattle.retries.proofs.Serial.{lines_grown}
+use Rattle.retries.proofs.Spent.{at_most_next, fits}
+use Rattle.engine.specs.Engines.{EngineParts, tables_of}
+use Rattle.running.specs.declared.transcript.Transcript.{Transcript}
+use Rattle.running.specs.Hashers.{batch_of, said_of}
+use Rattle.running.specs.Reported.{lines_of, HasReported, IsBehindLog}
+use Rattle.running.specs.Standings.{standing_of}
+use Rattle.running.specs.Stopped.{next_text, standing_behind, texts_of}
 
-pub serial_end-append : (xs ys : List EntryShape) (db : Database) → serial_end (xs ++ ys) db ≡ serial_end ys (serial_end xs db)
-serial_end-append [] ys db = refl
-serial_end-append (x ∷ xs) ys db = serial_end-append xs ys (meaning x db).1
+-- ---- nothing has run
 
--- ---- one batch more
-
-pub entries_grown : (batches : List (List EntryShape)) (new : List EntryShape) → all_entries (batches ++ new ∷ []) ≡ all_entries batches ++ new
-entries_grown [] new = append-nil new
-entries_grown (batch ∷ batches) new = ap (λ es. batch ++ es) (entries_grown batches new) ∙ sym (append_assoc batch (all_entries batches) new)
-
-pub rows_grown : (db : Database) (batches : List (List EntryShape)) (new : List EntryShape) → rows_behind db (batches ++ new ∷ []) ≡ serial_end new (rows_behind db batches)
-rows_grown db batches new = ap (λ (es : List EntryShape). serial_end es db) (entries_grown batches new) ∙ serial_end-append (all_entries batches) new db
-
-pub total_grown : (db : Database) (batches : List (List EntryShape)) (calls : List Call) →
-    length (all_entries (batches ++ entries_behind db batches calls ∷ [])) ≡ length (all_entries batches) + length calls
-total_grown db batches calls =
-    ap length (entries_grown batches (entries_behind db batches calls)) ∙ length-append (all_entries batches) (entries_behind db batches calls) ∙ ap (λ n. length (all_entries batches) + n) (length-map calls (prepared (rows_behind db batches)))
-
-number_next : (n : ℕ) → next_batch (next_batch n) ≡ next_batch (n + 1)
-number_next n = omega arith
-
-pub first_number : 1 ≡ next_batch 0
+first_number : 1 ≡ next_batch 0
 first_number = omega arith
 
-pub number_grown : (b : ℕ) (batches : List (List EntryShape)) (new : List EntryShape) → b ≡ next_batch (length batches) → next_batch b ≡ next_batch (length (batches ++ new ∷ []))
-number_grown b batches new e = ap next_batch e ∙ number_next (length batches) ∙ ap next_batch (sym (length-append batches (new ∷ [])))
+at_start : (engine : EngineParts) → engine.next ≡ 0 → engine.carried ≡ [] → standing_of engine ≡ start_of engine.rows
+at_start engine e f = rw (e, f) refl
 
-texts_one_more : (tables : List TableShape) (k n : ℕ) (db : Database) (batches : List (List EntryShape)) (new : List EntryShape) →
-    batch_texts tables (next_batch k) n db (batches ++ new ∷ []) ≡
-    batch_texts tables (next_batch k) n db batches ++ batch_text tables (next_batch (k + length batches)) (n + length (all_entries batches)) (serial_end (all_entries batches) db) new
-texts_one_more tables k n db [] new = rw (append-nil, plus_none k, plus_none n) refl
-  where
-    plus_none : (m : ℕ) → m + 0 ≡ m
-    plus_none m = omega arith
-texts_one_more tables k n db (batch ∷ batches) new =
-    let rest = texts_one_more tables (k + 1) (n + length batch) (serial_end batch db) batches new in
-    let entries : serial_end (batch ++ all_entries batches) db ≡ serial_end (all_entries batches) (serial_end batch db) = serial_end-append batch (all_entries batches) db in
-    let count : n + length (batch ++ all_entries batches) ≡ (n + length batch) + length (all_entries batches) = ap (λ m. n + m) (length-append batch (all_entries batches)) ∙ moved n (length batch) (length (all_entries batches)) in
-    rw (number_next k, rest, entries, count, one_more k batch batches, append_assoc) refl
-  where
-    moved : (a b c : ℕ) → a + (b + c) ≡ (a + b) + c
-    moved a b c = omega arith
+pub HasReported-none : (engine : EngineParts) (transcript : Transcript) (sink : Option (List ℕ)) → engine.next ≡ 0 → engine.carried ≡ [] → batch_of transcript ≡ 1 → Holds256 (said_of transcript) [] →
+    HasReported engine.procs engine.retries engine.rows [] engine transcript sink sink
+HasReported-none engine transcript sink e f b h = record {
+  procs_are = refl;
+  retries_are = refl;
+  standing_is = at_start engine e f;
+  batch_is = b ∙ first_number;
+  said_is = h;
+  text_is = Appends-nil sink;
+}
 
-    one_more : (a : ℕ) (x : List EntryShape) (xs : List (List EntryShape)) → a + length (x ∷ xs) ≡ (a + 1) + length xs
-    one_more a x xs = omega arith
+-- ---- one more batch
 
--- the text of a batch behind the texts of those before it
-pub texts_grown : (tables : List TableShape) (db : Database) (b : ℕ) (es : List EntryShape) (batches : List (List EntryShape)) (front : List ℕ) (new : List EntryShape) →
-    es ≡ all_entries batches → front ≡ batch_texts tables 1 0 db batches → b ≡ next_batch (length batches) →
-    front ++ batch_text tables b (length es) (serial_end es db) new ≡ batch_texts tables 1 0 db (batches ++ new ∷ [])
-texts_grown tables db b es batches front new e f g =
-    let all = texts_one_more tables 0 0 db batches new in
-    let numbers : next_batch (length batches) ≡ next_batch (0 + length batches) = ap next_batch (behind_none (length batches)) in
-    rw (e, f, g) (ap (λ k. batch_texts tables k 0 db batches ++ batch_text tables (next_batch (length batches)) (length (all_entries batches)) (serial_end (all_entries batches) db) new) first_number
-    ∙ ap (λ k. batch_texts tables (next_batch 0) 0 db batches ++ batch_text tables k (length (all_entries batches)) (serial_end (all_entries batches) db) new) numbers
-    ∙ ap (λ n. batch_texts tables (next_batch 0) 0 db batches ++ batch_text tables (next_batch (0 + length batches)) n (serial_end (all_entries batches) db) new) (behind_none (length (all_entries batches)))
-    ∙ sym all ∙ ap (λ k. batch_texts tables k 0 db (batches ++ new ∷ [])) (sym first_number))
-  where
-    behind_none : (n : ℕ) → n ≡ 0 + n
-    behind_none n = omega arith
+number_next : (b n m : ℕ) → b ≡ next_batch n → m ≡ n + 1 → next_batch b ≡ next_batch m
+number_next b n m e f = omega arith
 
--- ---- what the log is, behind some batches
+pub standing_next : (retries : ℕ) (db : Database) (ran : List (List Call)) (calls : List Call) → standing_behind retries db (ran ++ calls ∷ []) ≡ behind retries (standing_behind retries db ran) calls
+standing_next retries db ran calls = behind_all-append retries (start_of db) ran (calls ∷ [])
 
--- these are the first batches of the log, and the rest of them are in what is not read
-pub record Behind (procs : ProcsParts) (db : Database) (m total : ℕ) (ran : List (List EntryShape)) (log rest : List ℕ) : Type 0 where
-  pub batches : batches_in procs db log ≡ ran ++ prepared_in_turn (rows_behind db ran) (batches_of (log_said procs.procs m total rest))
-  pub fault : fault_in procs log ≡ first_fault (log_said procs.procs m total rest)
+abbrev text_from : List TableShape → ℕ → Standing → List Call → List ℕ
+text_from tables batch standing calls = batch_text tables batch standing.next standing.rows (transactions_at standing calls)
 
-pub Behind-start : (procs : ProcsParts) (db : Database) (log : List ℕ) → Behind procs db 0 0 [] log log
-Behind-start procs db log = record { batches = refl; fault = refl }
+abbrev lines_from : Standing → List Call → List ℕ
+lines_from standing calls = reply_lines standing.next (transactions_at standing calls) (replies_at standing calls)
 
-pub Behind-next : (procs : ProcsParts) (db : Database) (m total next total2 : ℕ) (ran : List (List EntryShape)) (calls : List Call) (log mid rest : List ℕ) →
-    Behind procs db m total ran log mid → IsNextBatch (log_said procs.procs m total mid) calls (log_said procs.procs next total2 rest) →
-    Behind procs db next total2 (ran ++ entries_behind db ran calls ∷ []) log rest
-Behind-next procs db m total next total2 ran calls log mid rest g h =
-    let new : List EntryShape = entries_behind db ran calls in
-    let left : List (List Call) = batches_of (log_said procs.procs next total2 rest) in
+-- the text of a batch on the engine is that of the next batch
+pub next_text_is : (procs : ProcsParts) (retries : ℕ) (db : Database) (ran : List (List Call)) (calls : List Call) (engine : EngineParts) (transcript : Transcript) (sink gave : Option (List ℕ)) →
+    HasReported procs retries db ran engine transcript sink gave →
+    batch_text (tables_of engine) (batch_of transcript) engine.next engine.rows (transactions_at (standing_of engine) calls) ≡ next_text procs retries db ran calls
+next_text_is procs retries db ran calls engine transcript sink gave h =
+    ap (λ (p : ProcsParts). text_from p.tables (batch_of transcript) (standing_of engine) calls) h.procs_are
+    ∙ ap (λ b. text_from procs.tables b (standing_of engine) calls) h.batch_is
+    ∙ ap (λ (s : Standing). text_from procs.tables (next_batch (length ran)) s calls) h.standing_is
+
+-- a batch ran and was reported
+pub HasReported-next : (procs : ProcsParts) (retries : ℕ) (db : Database) (ran : List (List Call)) (calls : List Call) (engine after : EngineParts) (transcript behind_it : Transcript) (sink gave given : Option (List ℕ)) →
+    HasReported procs retries db ran engine transcript sink gave → after.procs ≡ engine.procs → after.retries ≡ engine.retries →
+    standing_of after ≡ behind engine.retries (standing_of engine) calls → batch_of behind_it ≡ next_batch (batch_of transcript) →
+    ((m : List ℕ) → Holds256 (said_of transcript) m →
+    Holds256 (said_of behind_it) (m ++ reply_lines engine.next (transactions_at (standing_of engine) calls) (replies_at (standing_of engine) calls))) →
+    Appends gave given (batch_text (tables_of engine) (batch_of transcript) engine.next engine.rows (transactions_at (standing_of engine) calls)) →
+    HasReported procs retries db (ran ++ calls ∷ []) after behind_it sink given
+HasReported-next procs retries db ran calls engine after transcript behind_it sink gave given h e r s b said text =
+    let grown : lines_of retries db ran ++ reply_lines engine.next (transactions_at (standing_of engine) calls) (replies_at (standing_of engine) calls) ≡ lines_of retries db (ran ++ calls ∷ []) =
+    ap (λ (s : Standing). lines_of retries db ran ++ lines_from s calls) h.standing_is ∙ sym (lines_grown retries db ran calls) in
+    let texts : texts_of procs retries db ran ++ batch_text (tables_of engine) (batch_of transcript) engine.next engine.rows (transactions_at (standing_of engine) calls) ≡ texts_of procs retries db (ran ++ calls ∷ []) =
+    ap (λ t. texts_of procs retries db ran ++ t) (next_text_is procs retries db ran calls engine transcript sink gave h) ∙ sym (texts_grown procs.tables retries db ran calls) in
     record {
-      batches = g.batches ∙ ap (λ (bs : List (List Call)). ran ++ prepared_in_turn (rows_behind db ran) bs) h.batches ∙ sym (append_assoc ran (new ∷ []) _)
-          ∙ ap (λ (d : Database). (ran ++ new ∷ []) ++ prepared_in_turn d left) (sym (rows_grown db ran new));
-      fault = g.fault ∙ h.fault;
+      procs_are = e ∙ h.procs_are;
+      retries_are = r ∙ h.retries_are;
+      standing_is = s ∙ ap (λ k. behind k (standing_of engine) calls) h.retries_are ∙ ap (λ (s : Standing). behind retries s calls) h.standing_is ∙ sym (standing_next retries db ran calls);
+      batch_is = b ∙ number_next (batch_of transcript) (length ran) _ h.batch_is (length-append ran (calls ∷ []));
+      said_is = rw grown at (said _ h.said_is);
+      text_is = rw texts at (Appends-trans sink gave given _ _ h.text_is text);
     }
+
+-- ---- what was reported first
+
+-- the texts of some batches are a beginning of those of more
+pub texts_further : (procs : ProcsParts) (retries : ℕ) (db : Database) (ran more : List (List Call)) → (rest : List ℕ) × (texts_of procs retries db (ran ++ more) ≡ texts_of procs retries db ran ++ rest)
+texts_further procs retries db ran [] = ([], ap (texts_of procs retries db) (append-nil ran) ∙ sym (append-nil (texts_of procs retries db ran)))
+texts_further procs retries db ran (calls ∷ more) =
+    let further = texts_further procs retries db (ran ++ calls ∷ []) more in (
+      next_text procs retries db ran calls ++ further.0,
+      ap (texts_of procs retries db) (sym (append_assoc ran (calls ∷ []) more)) ∙ further.1 ∙ ap (λ text. text ++ further.0) (texts_grown procs.tables retries db ran calls)
+          ∙ append_assoc (texts_of procs retries db ran) (next_text procs retries db ran calls) further.0,
+    )
+
+-- and so are they with the text of the next batch
+pub texts_next : (procs : ProcsParts) (retries : ℕ) (db : Database) (ran : List (List Call)) (calls : List Call) (more : List (List Call)) →
+    (rest : List ℕ) × (texts_of procs retries db (ran ++ calls ∷ more) ≡ (texts_of procs retries db ran ++ next_text procs retries db ran calls) ++ rest)
+texts_next procs retries db ran calls more =
+    let further = texts_further procs retries db (ran ++ calls ∷ []) more in
+    (further.0, ap (texts_of procs retries db) (sym (append_assoc ran (calls ∷ []) more)) ∙ further.1 ∙ ap (λ text. text ++ further.0) (texts_grown procs.tables retries db ran calls))
+
+-- ---- the number of calls
+
+pub calls_grown : (ran : List (List Call)) (calls : List Call) → call_count (ran ++ calls ∷ []) ≡ call_count ran + length calls
+calls_grown ran calls = sum_by-append (λ (calls : List Call). length calls) ran (calls ∷ []) ∙ omega arith
+
+-- a log has room for its next batch, whatever is carried to it
+pub room_behind : (retries : ℕ) (db : Database) (ran : List (List Call)) (calls : List Call) → retries ≤ 2 → call_count ran + length calls ≤ most_calls retries →
+    (standing_behind retries db ran).next + length (attempts_at (standing_behind retries db ran) calls) ≤ 2 ^ 48
+room_behind zero db ran calls few h = let most = at_most_next 0 db ran calls in omega (arith, most, h)
+room_behind (suc retries) db ran calls few h = fits (suc retries) db ran calls (omega arith) h
+
+pub room_at : (retries : ℕ) (standing : Standing) (db : Database) (ran : List (List Call)) (calls : List Call) → standing ≡ standing_behind retries db ran → retries ≤ 2 →
+    call_count ran + length calls ≤ most_calls retries → standing.next + length (attempts_at standing calls) ≤ 2 ^ 48
+room_at retries standing db ran calls e few h = rw e (room_behind retries db ran calls few h)
+
+-- a batch without calls
+pub IsBehindLog-next : (retries : ℕ) (standing after : Standing) → IsBehindLog retries standing → after ≡ behind retries standing [] → IsBehindLog retries after
+IsBehindLog-next retries standing after h e = record {
+  db = h.db;
+  ran = h.ran ++ [] ∷ [];
+  standing_is = e ∙ ap (λ (s : Standing). behind retries s []) h.standing_is ∙ sym (standing_next retries h.db h.ran []);
+  few = let few = h.few in omega (arith, calls_grown h.ran []);
+}
+
+-- the log's own batches
+pub log_behind : (retries total most : ℕ) (standing : Standing) (db : Database) (ran : List (List Call)) → standing ≡ standing_behind retries db ran → total ≡ call_count ran → total ≤ most → most ≡ most_calls retries → IsBehindLog retries standing
+log_behind retries total most standing db ran e f few g = record { db = db; ran = ran; standing_is = e; few = omega arith }
+
+pub room_in_log : (retries total total2 most : ℕ) (standing : Standing) (db : Database) (ran : List (List Call)) (calls : List Call) → standing ≡ standing_behind retries db ran → retries ≤ 2 → total ≡ call_count ran →
+    total2 ≡ total + length calls → total2 ≤ most → most ≡ most_calls retries → standing.next + length (attempts_at standing calls) ≤ 2 ^ 48
+room_in_log retries total total2 most standing db ran calls e tries f n few g = room_at retries standing db ran calls e tries (omega arith)

@@ -8,12 +8,13 @@ use Rattle.sequencer.specs.Batches.{items_of, AreOver}
 use Rattle.engine.specs.declared.engine.ExecFault.{ExecFault}
 use Rattle.engine.specs.declared.replies.BatchDone.{BatchDone}
 use Rattle.engine.specs.Engines.{EngineParts, tables_of}
+use Rattle.engine.specs.Batches.{next_attempts}
 use Rattle.engine.specs.Executions.{IsRefusal, IsExecutionOf, KeepsSetting}
 
 -- what comes of a batch that is given to an engine: it was run, or it was refused
 pub record IsExecution (old : EngineParts) (batch : Batch) (result : Result BatchDone ExecFault) (new : EngineParts) : Type 0 where
   pub same : KeepsSetting old new
-  pub done : IfOk result (IsExecutionOf old new batch)
+  pub done : IfOk result (IsExecutionOf old new (next_attempts old batch))
   pub refused : IfErr result (IsRefusal old new batch)
 
 -- a call that an executor is: on each engine it takes any batch over the engine's tables, and executes it there

@@ -1,7 +1,9 @@
+pub mod Standings
 pub mod Reports
 pub mod Transcripts
 pub mod Hashers
 pub mod Stops
 pub mod Stopped
+pub mod Reported
 pub mod Runs
 pub mod Executors

@@ -13,7 +13,7 @@ use Rattle.engine.specs.Replies.{reply_of}
 -- the reply lines of replies
 abbrev pub said_lines : List Reply → List ℕ
 said_lines [] = []
-said_lines (reply ∷ replies) = reply_line reply.no (reply_of reply) ++ said_lines replies
+said_lines (reply ∷ replies) = reply_line reply.no reply.of (reply_of reply) ++ said_lines replies
 
 -- reply lines, and the batch line with the digests of the rows and of these lines
 unfoldable pub with_batch_line : ℕ → List TableShape → Database → List ℕ → List ℕ

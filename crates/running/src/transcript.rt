@@ -35,7 +35,7 @@ fn reply_lines(alloc: Global, replies: &[Reply]) -> Result<String, AllocError>
 {
     let mut lines = String::new(alloc);
     for reply in replies {
-        push_reply_line(alloc, &mut lines, reply.no, &reply.outcome)?;
+        push_reply_line(alloc, &mut lines, reply.no, reply.of, &reply.outcome)?;
     }
     Ok(lines)
 }

@@ -24,6 +24,7 @@ pub(crate) fn scheduler(
         catalogue,
         procs,
         rows,
+        retries: _,
     } = bank(alloc)?;
     let batch = batch(alloc, &procs, calls)?;
     let store = RowStore::new(alloc, &catalogue, rows)?;

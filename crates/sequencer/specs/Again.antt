@@ -1,18 +1,17 @@
 -- Claimed: what contracts promise to a reader rests on these words.
 -- What being tried again says of a request.
 use Rattle.std.specs.Prelude.{◌≡◌, ◌<◌, ℕ, ◌+◌, List, Some, slice_get}
-use Rattle.meaning.specs.declared.outcome.Outcome.{Outcome}
-use Rattle.meaning.specs.declared.outcome.Outcome.TheVariants as endings
+use Rattle.meaning.specs.Entries.{Reply, stale}
 use Rattle.sequencer.specs.Attempts.{Attempt, tries_of, first_of}
 use Rattle.sequencer.specs.declared.attempts.Carried.{Carried}
 
 -- a request that was tried at some place and was stale there, with fewer attempts before that one than are tried again:
 -- it is the same request, its first attempt is what it was, or this one if none was before, and one more attempt is behind it
-pub record IsTriedAgain (retries first_no : ℕ) (attempts : List Attempt) (outcomes : List Outcome) (one : Carried) : Type 0 where
+pub record IsTriedAgain (retries first_no : ℕ) (attempts : List Attempt) (replies : List Reply) (one : Carried) : Type 0 where
   pub place : ℕ
   pub attempt : Attempt
   pub tried : slice_get attempts place ≡ Some attempt
-  pub stale : slice_get outcomes place ≡ Some endings.Stale
+  pub stale : slice_get replies place ≡ Some stale
   pub few : tries_of attempt.before < retries
   pub client : one.client ≡ attempt.client
   pub number : one.number ≡ attempt.number

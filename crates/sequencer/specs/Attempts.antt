@@ -3,8 +3,7 @@
 use Rattle.std.specs.Prelude.{◌≡◌, ℕ, ◌+◌, Bool, true, false, cond, nat_lt, List, [], ◌∷◌, ◌++◌, map, filter, Option, Some, None}
 use Rattle.std.specs.List.{AllByRecursion, zip}
 use Rattle.catalogue.specs.Shapes.{TableShape}
-use Rattle.meaning.specs.declared.outcome.Outcome.{Outcome}
-use Rattle.meaning.specs.declared.outcome.Outcome.TheVariants as outcomes
+use Rattle.meaning.specs.Entries.{Reply, commit, aborted, stale}
 use Rattle.requests.specs.Requests.{Call}
 use Rattle.sequencer.specs.Batches.{RequestItem, items_of}
 use Rattle.sequencer.specs.declared.attempts.Attempts.{Attempts}
@@ -70,10 +69,10 @@ abbrev pub numbered_from : ℕ → List Attempt → List Numbered
 numbered_from first_no [] = []
 numbered_from first_no (attempt ∷ attempts) = record { no = first_no; attempt = attempt } ∷ numbered_from (first_no + 1) attempts
 
-abbrev pub is_stale : Outcome → Bool
-is_stale (outcomes.Commit values) = false
-is_stale (outcomes.Abort code) = false
-is_stale outcomes.Stale = true
+abbrev pub is_stale : Reply → Bool
+is_stale (commit values) = false
+is_stale (aborted code) = false
+is_stale stale = true
 
 -- how many attempts were before
 abbrev pub tries_of : Option Earlier → ℕ
@@ -85,9 +84,12 @@ abbrev pub first_of : ℕ → Option Earlier → ℕ
 first_of own_no None = own_no
 first_of own_no (Some earlier) = earlier.first
 
--- whether what was tried and ended so is tried again: it was stale, and fewer attempts were before
-abbrev pub is_left : ℕ → Numbered × Outcome → Bool
-is_left retries ended = cond (is_stale ended.1) (nat_lt (tries_of ended.0.attempt.before) retries) false
+-- whether a request is tried again that was tried so often before and ended so: it was stale, and fewer attempts were before
+abbrev pub goes_on : ℕ → ℕ → Reply → Bool
+goes_on retries tries reply = cond (is_stale reply) (nat_lt tries retries) false
+
+abbrev pub is_left : ℕ → Numbered × Reply → Bool
+is_left retries ended = goes_on retries (tries_of ended.0.attempt.before) ended.1
 
 -- the request with one more attempt behind it
 abbrev pub carried_on : Numbered → Carried
@@ -100,5 +102,5 @@ carried_on tried = record {
 }
 
 -- of attempts that ended so, the requests that are tried again, in their order
-abbrev pub left_of : ℕ → ℕ → List Attempt → List Outcome → List Carried
-left_of retries first_no attempts outcomes = map (λ ended. carried_on ended.0) (filter (is_left retries) (zip (numbered_from first_no attempts) outcomes))
+abbrev pub left_of : ℕ → ℕ → List Attempt → List Reply → List Carried
+left_of retries first_no attempts replies = map (λ ended. carried_on ended.0) (filter (is_left retries) (zip (numbered_from first_no attempts) replies))

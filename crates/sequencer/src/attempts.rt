@@ -6,6 +6,7 @@ ghost use Rattle.sequencer.specs.Batches.{items_of, AreOver};
 ghost use Rattle.sequencer.specs.Attempts.{carried_of, batch_of, attempts_of, attempts_in, requests_in, AreCarriedOver, AreRequestsOver};
 
 use crate::batch::Batch;
+use intake::Item;
 use requests::Request;
 
 /// A request that is carried to the next batch: its last attempt was stale.
@@ -61,6 +62,14 @@ impl Attempts {
         ensures { result ≡ length (attempts_in self.now) }
     {
         self.carried.len() + self.batch.items().len()
+    }
+
+    /// The carried requests, and the batch's own. It takes no memory.
+    pub fn into_parts(self) -> (Vec<Carried>, Vec<Item<Request>>)
+        ensures carried { result.0.items ≡ carried_of self }
+        ensures own { result.1.items ≡ items_of (batch_of self) }
+    {
+        (self.carried, self.batch.into_items())
     }
 
     /// The request that is tried at that place, counted from 0.

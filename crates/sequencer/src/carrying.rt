@@ -1,9 +1,10 @@
 //! Which requests of a batch are tried again in the next one.
 
-ghost use Rattle.std.specs.Prelude.{◌≡◌, ◌+◌, ◌<◌, ◌≤◌, ◌^◌, ◌++◌, ◌∷◌, [], false, true, nat_lt, cond, length, List, map, filter, vec_len, vec_capacity, IfOk, IsOk, MatchResult};
+ghost use Rattle.std.specs.Prelude.{◌≡◌, ◌+◌, ◌<◌, ◌≤◌, ◌^◌, ◌++◌, ◌∷◌, [], true, cond, length, List, map, filter, vec_len, vec_capacity, IfOk, IsOk, MatchResult};
 ghost use Rattle.catalogue.specs.Shapes.{TableShape};
 ghost use Rattle.sequencer.specs.Batches.{items_of};
-ghost use Rattle.sequencer.specs.Attempts.{again, own, attempts_in, requests_in, is_stale, left_of, AreCarriedOver, AreRequestsOver};
+ghost use Rattle.meaning.specs.Outcomes.{as_reply};
+ghost use Rattle.sequencer.specs.Attempts.{again, own, attempts_in, requests_in, is_stale, goes_on, left_of, AreCarriedOver, AreRequestsOver};
 
 use crate::attempts::{Attempts, Carried};
 use intake::Item;
@@ -13,21 +14,22 @@ use std::alloc::Global;
 use values::NoMemory;
 
 fn is_stale(outcome: &Outcome) -> bool
-    ensures { result ≡ is_stale outcome.now }
+    ensures { result ≡ is_stale (as_reply outcome.now) }
 {
     matches!(outcome, Outcome::Stale)
 }
 
 fn stale_count(outcomes: &[Outcome]) -> usize
-    ensures { result ≡ length (filter is_stale outcomes.now) }
+    ensures { result ≡ length (filter (λ outcome. is_stale (as_reply outcome)) outcomes.now) }
 {
     outcomes.iter().filter(|outcome| is_stale(outcome)).count()
 }
 
-/// Carries on a request whose attempt ended so, if it is tried again. `tried` has the attempts that were before.
-fn carry_on(left: &mut Vec<Carried>, tried: Carried, outcome: &Outcome, retries: u8)
-    requires room { is_stale outcome.now ≡ true → vec_len left.old < vec_capacity left.old }
-    ensures left { left.new.items ≡ left.old.items ++ cond (cond (is_stale outcome.now) (nat_lt tried.tries retries) false)
+/// Carries on a request whose attempt ended so, if it is tried again: it was stale, and had fewer than `retries` attempts before it.
+/// `tried` has the attempts that were before this one, and the number of the first. It takes no memory: what is left has room for it.
+pub fn carry_on(left: &mut Vec<Carried>, tried: Carried, outcome: &Outcome, retries: u8)
+    requires room { goes_on retries tried.tries (as_reply outcome.now) ≡ true → vec_len left.old < vec_capacity left.old }
+    ensures left { left.new.items ≡ left.old.items ++ cond (goes_on retries tried.tries (as_reply outcome.now))
         (record tried { tries = tried.tries + 1 } ∷ []) [] }
     ensures room { vec_capacity left.new ≡ vec_capacity left.old }
 {
@@ -39,8 +41,8 @@ fn carry_on(left: &mut Vec<Carried>, tried: Carried, outcome: &Outcome, retries:
 
 /// Carries on those carried requests that are tried again.
 fn keep_carried(left: &mut Vec<Carried>, carried: Vec<Carried>, outcomes: &[Outcome], retries: u8)
-    requires room { vec_len left.old + length (filter is_stale outcomes.now) ≤ vec_capacity left.old }
-    ensures left { left.new.items ≡ left.old.items ++ left_of retries 0 (map again carried.items) outcomes.now }
+    requires room { vec_len left.old + length (filter is_stale (map as_reply outcomes.now)) ≤ vec_capacity left.old }
+    ensures left { left.new.items ≡ left.old.items ++ left_of retries 0 (map again carried.items) (map as_reply outcomes.now) }
     ensures room { vec_capacity left.new ≡ vec_capacity left.old }
 {
     for (tried, outcome) in carried.into_iter().zip(outcomes) {
@@ -57,8 +59,8 @@ fn keep_own(
     retries: u8,
 )
     requires few { no + length items.items ≤ 2 ^ 48 }
-    requires room { vec_len left.old + length (filter is_stale outcomes.now) ≤ vec_capacity left.old }
-    ensures { left.new.items ≡ left.old.items ++ left_of retries no (map own items.items) outcomes.now }
+    requires room { vec_len left.old + length (filter is_stale (map as_reply outcomes.now)) ≤ vec_capacity left.old }
+    ensures { left.new.items ≡ left.old.items ++ left_of retries no (map own items.items) (map as_reply outcomes.now) }
 {
     for (item, outcome) in items.into_iter().zip(outcomes) {
         let tried = Carried {
@@ -85,9 +87,9 @@ pub fn left(
 ) -> Result<Vec<Carried>, (Attempts, NoMemory)>
     requires each { length outcomes.now ≡ length (attempts_in attempts) }
     requires few { first_no + length (attempts_in attempts) ≤ 2 ^ 48 }
-    ensures left { MatchResult result (λ left. left.items ≡ left_of retries first_no (attempts_in attempts) outcomes.now)
+    ensures left { MatchResult result (λ left. left.items ≡ left_of retries first_no (attempts_in attempts) (map as_reply outcomes.now))
         (λ back. back.0 ≡ attempts) }
-    ensures no_memory { filter is_stale outcomes.now ≡ [] → IsOk result }
+    ensures no_memory { filter is_stale (map as_reply outcomes.now) ≡ [] → IsOk result }
     // What holds of the tables of all that were tried holds of what is left.
     ensures over { IfOk result (λ left. (tables : List TableShape) → AreRequestsOver tables (requests_in attempts) →
         AreCarriedOver tables left.items) }

@@ -6,11 +6,10 @@ ghost use Rattle.values.specs.Database.{Database};
 ghost use Rattle.proclang_types.specs.Procedures.{proc_syntax};
 ghost use Rattle.proclang_types.specs.Syntax.{is_recon};
 ghost use Rattle.requests.specs.Requests.{Call};
-ghost use Rattle.meaning.specs.Entries.{meaning, stale};
+ghost use Rattle.meaning.specs.Entries.{Reply, meaning, stale};
 ghost use Rattle.meaning.specs.Frame.{Agree};
 ghost use Rattle.meaning.specs.Reconnaissance.{reconnaissance_reply};
 ghost use Rattle.meaning.specs.Serial.{serial_end};
-ghost use Rattle.meaning.specs.declared.outcome.Outcome.{Outcome};
 ghost use Rattle.sequencer.specs.Again.{IsTriedAgain};
 ghost use Rattle.sequencer.specs.Attempts.{Attempt, carried_on, left_of, tries_of};
 ghost use Rattle.sequencer.specs.Entries.{prepared};
@@ -38,15 +37,15 @@ pub fn found_request_holds_in_its_batch()
 /// with one more attempt behind it; and each request that was stale and had fewer attempts before is left. So at most as many
 /// attempts are behind one that is left as are tried again, and where none is, nothing is left.
 pub fn left_requests_were_stale()
-    ensures again { (retries first_no : ℕ) (attempts : List Attempt) (outcomes : List Outcome) →
-        AllByRecursion (IsTriedAgain retries first_no attempts outcomes) (left_of retries first_no attempts outcomes) }
-    ensures all { (retries first_no : ℕ) (attempts : List Attempt) (outcomes : List Outcome) (place : ℕ) (attempt : Attempt) →
-        slice_get attempts place ≡ Some attempt → slice_get outcomes place ≡ Some Outcome.Stale →
+    ensures again { (retries first_no : ℕ) (attempts : List Attempt) (replies : List Reply) →
+        AllByRecursion (IsTriedAgain retries first_no attempts replies) (left_of retries first_no attempts replies) }
+    ensures all { (retries first_no : ℕ) (attempts : List Attempt) (replies : List Reply) (place : ℕ) (attempt : Attempt) →
+        slice_get attempts place ≡ Some attempt → slice_get replies place ≡ Some stale →
         tries_of attempt.before < retries →
-        Contains (left_of retries first_no attempts outcomes)
+        Contains (left_of retries first_no attempts replies)
         (carried_on (record { no = first_no + place; attempt = attempt })) }
-    ensures most { (retries first_no : ℕ) (attempts : List Attempt) (outcomes : List Outcome) →
-        AllByRecursion (λ one. one.tries ≤ retries) (left_of retries first_no attempts outcomes) }
-    ensures none { (first_no : ℕ) (attempts : List Attempt) (outcomes : List Outcome) →
-        left_of 0 first_no attempts outcomes ≡ [] }
+    ensures most { (retries first_no : ℕ) (attempts : List Attempt) (replies : List Reply) →
+        AllByRecursion (λ one. one.tries ≤ retries) (left_of retries first_no attempts replies) }
+    ensures none { (first_no : ℕ) (attempts : List Attempt) (replies : List Reply) →
+        left_of 0 first_no attempts replies ≡ [] }
 {}

@@ -10,7 +10,7 @@ mod preparing;
 
 pub use attempts::{Attempts, Carried};
 pub use batch::{Batch, BatchFault};
-pub use carrying::left;
+pub use carrying::{carry_on, left};
 pub use intake::{Batched, ClientPass, DrawPass, Full, Intake, Item, MOST_DRAWN};
 pub use interp::{Entry, Footing, RowView};
 pub use laws::{found_request_holds_in_its_batch, left_requests_were_stale};

@@ -1,3 +1,5 @@
+pub mod Again
+pub mod Alone
 pub mod Answered
 pub mod Served
 pub mod Executed

@@ -16,9 +16,9 @@ use Rattle.serving.specs.declared.told.ServeFault.TheVariants.{NoMemory}
 use Rattle.serving.specs.declared.owner.Owner.{Owner}
 use Rattle.serving.specs.Serving.{said_of}
 use Rattle.serving.specs.Services.{Served, Serves, IsService, calls_in}
-use Rattle.serving.specs.Steps.{DrawsOn, HasServed, GoesOn, IsServedToTheEnd, items_in}
-use Rattle.serving.proofs.Answered.{none_answered}
-use Rattle.serving.proofs.Served.{holds_none, none_served, nothing_served, then_served, more_dropped, refused_besides}
+use Rattle.serving.specs.Steps.{DrawsOn, HasServed, AnswersAll, ServesOn, GoesOn, IsServedToTheEnd, items_in}
+use Rattle.serving.proofs.Answered.{same_answered}
+use Rattle.serving.proofs.Served.{holds_none, none_served, nothing_served, then_on, then_served, more_dropped, refused_besides, refused_then}
 
 pub none_had : (owner : Owner) → is_busy owner.engine ≡ false → HasServed owner owner (Ok tt)
 none_had owner idle = record { drawn = []; grows = sym (append-nil (drawn_by owner.pass)); serves = nothing_served owner.engine owner.told.items idle }
@@ -27,7 +27,7 @@ pub then_had : (old mid new : Owner) (done : Unit {0}) (ended : Served) → HasS
 then_had old mid new done ended h k = record {
   drawn = h.drawn ++ k.drawn;
   grows = k.grows ∙ ap (λ l. l ++ k.drawn) h.grows ∙ append_assoc (drawn_by old.pass) h.drawn k.drawn;
-  serves = then_served h.drawn k.drawn done ended old.engine mid.engine new.engine old.told.items mid.told.items new.told.items h.serves k.serves;
+  serves = then_on h.drawn k.drawn ended old.engine mid.engine new.engine old.told.items mid.told.items new.told.items h.serves k.serves;
 }
 
 -- and then calls were turned away
@@ -40,11 +40,22 @@ then_away old mid pass fault h k = record {
 
 -- the batch that was refused, behind calls that were all answered
 pub left_stopped : (whole first b rest : List CallItem) (fault : ServeFault) (ended : Served) (old mid new : EngineParts) (before between after : List Told) → whole ≡ first ++ (b ++ rest) → ended ≡ Err fault
-    → Serves first (Ok tt) old mid before between → Serves b (Err fault) mid new between after → Serves whole ended old new before after
+    → AnswersAll first old mid before between → Serves b (Err fault) mid new between after → ServesOn whole ended old new before after
 left_stopped whole first b rest fault ended old mid new before between after list is h k =
-    subst (λ (r : Served). Serves whole r old new before after) (sym is)
+    subst (λ (r : Served). ServesOn whole r old new before after) (sym is)
     (subst (λ (l : List CallItem). Serves l (Err fault) old new before after) (append_assoc first b rest ∙ sym list)
-    (more_dropped (first ++ b) rest fault old new before after (then_served first b tt (Err fault) old mid new before between after h k)))
+    (more_dropped (first ++ b) rest fault old new before after (then_served first b (Err fault) old mid new before between after h k)))
+
+-- a batch without calls
+pub none_so : (b : List CallItem) (old new : EngineParts) (before after : List Told) → b ≡ [] → AnswersAll b old new before after → AnswersAll [] old new before after
+none_so b old new before after none h = subst (λ (l : List CallItem). AnswersAll l old new before after) none h
+
+-- ... that was refused
+pub stopped_so : (b : List CallItem) (fault : ServeFault) (ended : Served) (old mid new : EngineParts) (before between after : List Told) → b ≡ [] → ended ≡ Err fault
+    → AnswersAll [] old mid before between → Serves b (Err fault) mid new between after → Serves [] ended old new before after
+stopped_so b fault ended old mid new before between after none is h k =
+    subst (λ (r : Served). Serves [] r old new before after) (sym is)
+    (then_served [] [] (Err fault) old mid new before between after h (subst (λ (l : List CallItem). Serves l (Err fault) mid new between after) none k))
 
 pub ok_so : {A E : Type 0} (P : Type 0) (r : Result A E) → is_err r ≡ false → OnOk r P → P
 ok_so P (Ok a) fine h = h
@@ -70,12 +81,12 @@ ended_so old served hs new told ended drawn now list numbered all on = record {
 -- what was left is not answered for want of memory
 pub left_refused : (served : Served) (drawn : List CallItem) (engine : EngineParts) (told : List Told) → OnOk served (is_busy engine ≡ false) → GoesOn served drawn (Err NoMemory) engine engine told told
 left_refused (Ok done) drawn engine told idle =
-    none_served drawn (Err NoMemory) engine engine told told (none_answered engine engine told told (record { procs = refl; settings = refl }) refl refl refl) (holds_none engine.procs drawn engine.unfinished idle)
+    none_served drawn (Err NoMemory) engine engine told told (same_answered engine told told idle refl) (holds_none engine.procs _ drawn engine.unfinished idle)
 left_refused (Err fault) drawn engine told idle = (refl, refl, inr refl)
 
 goes_on_so : (served : Served) (d e : List CallItem) (ended : Served) (old mid new : EngineParts) (before between after : List Told)
-    → Serves d served old mid before between → GoesOn served e ended mid new between after → Serves (d ++ e) ended old new before after
-goes_on_so (Ok done) d e ended old mid new before between after h k = then_served d e done ended old mid new before between after h k
+    → ServesOn d served old mid before between → GoesOn served e ended mid new between after → Serves (d ++ e) ended old new before after
+goes_on_so (Ok done) d e ended old mid new before between after h k = then_served d e ended old mid new before between after h k
 goes_on_so (Err fault) d e ended old mid new before between after h k =
     let stopped : Serves (d ++ e) (Err fault) old new before after =
     subst (λ (x : EngineParts). Serves (d ++ e) (Err fault) old x before after) (sym k.0)
@@ -89,7 +100,7 @@ no_service engine logs told none idle = record {
   drawn = [];
   numbered = λ client. ([], refl);
   whole = λ not. absurd (not refl);
-  serves = none_served [] (Err NoMemory) engine engine [] told (none_answered engine engine [] told (record { procs = refl; settings = refl }) refl refl (ap (λ l. map said_of l) none)) (holds_none engine.procs [] engine.unfinished idle);
+  serves = none_served [] (Err NoMemory) engine engine [] told (same_answered engine [] told idle (ap (λ l. map said_of l) none)) (holds_none engine.procs _ [] engine.unfinished idle);
 }
 
 -- the passes of the clients did not come back for want of memory
@@ -99,7 +110,7 @@ cut_service first mid logs served none empty numbered h = record {
   drawn = h.drawn;
   numbered = subst IsNumbered (h.grows ∙ ap (λ l. l ++ h.drawn) none) numbered;
   whole = λ not. absurd (not refl);
-  serves = refused_besides h.drawn served first.engine mid.engine [] mid.told.items (subst (λ (t : List Told). Serves h.drawn served first.engine mid.engine t mid.told.items) empty h.serves);
+  serves = refused_then h.drawn served first.engine mid.engine [] mid.told.items (subst (λ (t : List Told). ServesOn h.drawn served first.engine mid.engine t mid.told.items) empty h.serves);
 }
 
 -- from the start to the end
@@ -112,5 +123,5 @@ whole_service first mid hs logs new told served ended none empty h same k =
       numbered = subst IsNumbered list k.numbered;
       whole = λ not. subst (λ l. HasAll l (histories_from 1 logs)) list (subst (λ l. HasAll (drawn_by mid.pass ++ k.drawn) l) same (k.all not));
       serves = goes_on_so served h.drawn k.drawn ended first.engine mid.engine new [] mid.told.items told
-          (subst (λ (t : List Told). Serves h.drawn served first.engine mid.engine t mid.told.items) empty h.serves) k.goes_on;
+          (subst (λ (t : List Told). ServesOn h.drawn served first.engine mid.engine t mid.told.items) empty h.serves) k.goes_on;
     }

@@ -1,17 +1,18 @@
 -- Claimed: what contracts promise to a reader rests on these words.
 -- What serving several clients comes to, however it ends.
-use Rattle.std.specs.Prelude.{◌≡◌, ◌≢◌, ◌+◌, ◌<◌, ◌^◌, List, [], ◌∷◌, ◌++◌, length, map, Result, Ok, Err, IfSome, IsSomeAnd, false}
+use Rattle.std.specs.Prelude.{◌≡◌, ◌≢◌, ◌+◌, ◌<◌, ◌^◌, List, [], ◌∷◌, ◌++◌, length, map, Option, Some, None, Result, Ok, Err, IfSome, IsSomeAnd, false}
 use Rattle.requests.specs.ProcLists.{ProcsParts}
-use Rattle.sequencer.specs.Batches.{items_of}
+use Rattle.sequencer.specs.declared.attempts.Carried.{Carried}
+use Rattle.retries.specs.Standings.{Standing}
 use Rattle.intake.specs.Histories.{HasAll, IsNumbered}
 use Rattle.engine.specs.Engines.{EngineParts, Unfinished, is_busy}
 use Rattle.engine.specs.Executions.{KeepsSetting}
-use Rattle.client_calls.specs.Calls.{CallItem, requests_of}
+use Rattle.client_calls.specs.Calls.{CallItem}
 use Rattle.client_calls.specs.Logs.{ClientLog, histories_from}
 use Rattle.serving.specs.declared.told.Told.{Told}
 use Rattle.serving.specs.declared.told.ServeFault.{ServeFault}
 use Rattle.serving.specs.declared.told.ServeFault.TheVariants.{LogFull, Spawn, NoMemory}
-use Rattle.serving.specs.Serving.{said_of, all_said, all_end}
+use Rattle.serving.specs.Serving.{said_of, attempts_at, all_said, all_end}
 
 -- that all was answered, or why not
 abbrev pub Served : Type 0
@@ -22,36 +23,51 @@ abbrev pub calls_in : List (List CallItem) → List CallItem
 calls_in [] = []
 calls_in (b ∷ bs) = b ++ calls_in bs
 
--- Batches of calls were answered: what was told in between is what their serial run on the rows before answers, and the rows are
--- those that it leaves. Each request that the calls make is a transaction
+-- where the log of an engine is
+abbrev pub standing_of : EngineParts → Standing
+standing_of engine = record { next = engine.next; rows = engine.rows; carried = engine.carried }
+
+-- where it is behind batches of calls
+abbrev pub standing_behind : EngineParts → List (List CallItem) → Standing
+standing_behind engine batches = all_end engine.retries engine.procs (standing_of engine) batches
+
+-- what is carried beside a batch: nothing where one is unfinished, since it has all that was carried among its attempts
+abbrev pub carried_beside : Option Unfinished → List Carried → List Carried
+carried_beside None carried = carried
+carried_beside (Some unfinished) carried = []
+
+-- Batches of calls were answered, of which some may have no calls: what was told in between is what their serial run answers where
+-- the engine's log was, and the log is where that leaves it. Each attempt of a request is a transaction
 pub record Answers (batches : List (List CallItem)) (old new : EngineParts) (before after : List Told) : Type 0 where
   pub same : KeepsSetting old new
-  pub rows : new.rows ≡ all_end old.procs old.rows batches
-  pub told : map said_of after ≡ map said_of before ++ all_said old.procs old.rows batches
-  pub next : new.next ≡ old.next + length (requests_of old.procs (calls_in batches))
+  pub next : new.next ≡ (standing_behind old batches).next
+  pub rows : new.rows ≡ (standing_behind old batches).rows
+  pub carried : new.carried ≡ carried_beside new.unfinished (standing_behind old batches).carried
+  pub told : map said_of after ≡ map said_of before ++ all_said old.retries old.procs (standing_of old) batches
 
--- an unfinished batch has the requests of calls with which this list begins
-pub record IsOfFirst (procs : ProcsParts) (calls : List CallItem) (unfinished : Unfinished) : Type 0 where
+-- an unfinished batch has as its attempts what was carried, and the requests of calls with which this list begins
+pub record IsOfFirst (procs : ProcsParts) (s : Standing) (calls : List CallItem) (unfinished : Unfinished) : Type 0 where
   pub first : List CallItem
   pub others : List CallItem
   pub begins : calls ≡ first ++ others
-  pub requests : items_of unfinished.batch ≡ requests_of procs first
+  pub attempts : unfinished.attempts ≡ attempts_at procs s first
 
--- with the requests of calls with which this list begins the log would have more than 2^48 transactions
-pub record IsTooLong (engine : EngineParts) (calls : List CallItem) : Type 0 where
+-- with what is carried and the requests of calls with which this list begins the log would have more than 2^48 transactions
+pub record IsTooLong (procs : ProcsParts) (s : Standing) (calls : List CallItem) : Type 0 where
   pub first : List CallItem
   pub others : List CallItem
   pub begins : calls ≡ first ++ others
-  pub long : 2 ^ 48 < engine.next + length (requests_of engine.procs first)
+  pub long : 2 ^ 48 < s.next + length (attempts_at procs s first)
 
--- What is so in the end of the engine, and of the calls that were drawn and not answered. After `Ok` there are none. Where the
--- engine's log would be too long, it holds no batch. Where a thread was refused, it holds the batch that comes next; where memory
--- was refused, that batch or none
-abbrev pub EndsSo : Served → EngineParts → List CallItem → Type 0
-EndsSo (Ok done) engine left = (left ≡ []) × (is_busy engine ≡ false)
-EndsSo (Err LogFull) engine left = (is_busy engine ≡ false) × IsTooLong engine left
-EndsSo (Err Spawn) engine left = IsSomeAnd engine.unfinished (IsOfFirst engine.procs left)
-EndsSo (Err NoMemory) engine left = IfSome engine.unfinished (IsOfFirst engine.procs left)
+-- What is so in the end of the engine, whose log is there, and of the calls that were drawn and not answered. After `Ok` there are
+-- none, and nothing is carried. Where the engine's log would be too long, it holds no batch. Where a thread was refused, it holds the
+-- batch that comes next; where memory was refused, that batch or none. Where all calls were answered, the batch that comes next has
+-- what is carried alone
+abbrev pub EndsSo : Served → Standing → EngineParts → List CallItem → Type 0
+EndsSo (Ok done) s engine left = (left ≡ []) × (is_busy engine ≡ false) × (engine.carried ≡ [])
+EndsSo (Err LogFull) s engine left = (is_busy engine ≡ false) × IsTooLong engine.procs s left
+EndsSo (Err Spawn) s engine left = IsSomeAnd engine.unfinished (IsOfFirst engine.procs s left)
+EndsSo (Err NoMemory) s engine left = IfSome engine.unfinished (IsOfFirst engine.procs s left)
 
 -- Of calls that were drawn a first part, cut in batches, was answered, each batch whole. The others were not
 pub record Serves (drawn : List CallItem) (ended : Served) (old new : EngineParts) (before after : List Told) : Type 0 where
@@ -59,7 +75,7 @@ pub record Serves (drawn : List CallItem) (ended : Served) (old new : EnginePart
   pub left : List CallItem
   pub cut : drawn ≡ calls_in batches ++ left
   pub answers : Answers batches old new before after
-  pub ends : EndsSo ended new left
+  pub ends : EndsSo ended (standing_behind old batches) new left
 
 -- There is one list of calls, which the owner drew. Each client's are numbered 0, 1, 2 and so on in it, in order and each once.
 -- Unless memory was refused, each client's part of it is that client's log. The list was served

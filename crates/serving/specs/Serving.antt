@@ -1,15 +1,17 @@
 -- Claimed: what contracts promise to a reader rests on these words.
 -- What the calls of several clients come to, which were drawn in batches.
-use Rattle.std.specs.Prelude.{◌≡◌, ℕ, ◌+◌, ◌==◌, not, List, [], ◌∷◌, ◌++◌, Option, Some, None, Result, Ok, Err, Vec, map, filter, ⊤}
+use Rattle.std.specs.Prelude.{◌≡◌, ℕ, ◌+◌, ◌==◌, not, List, [], ◌∷◌, ◌++◌, Option, Some, None, Result, Ok, Err, Vec, length, drop, map, filter, ⊤}
 use Rattle.std.specs.declared.alloc.Global.{Global}
-use Rattle.values.specs.Database.{Database}
-use Rattle.meaning.specs.Entries.{EntryShape, Reply}
+use Rattle.meaning.specs.Entries.{Reply}
 use Rattle.meaning.specs.Outcomes.{as_reply}
 use Rattle.meaning.specs.declared.outcome.Outcome.{Outcome}
 use Rattle.meaning.specs.Serial.{serial_end, serial_replies}
 use Rattle.requests.specs.ProcLists.{ProcsParts}
 use Rattle.requests.specs.declared.request.RequestFault.{RequestFault}
-use Rattle.sequencer.specs.Entries.{prepared}
+use Rattle.sequencer.specs.Attempts.{Attempt, attempts_of, left_of}
+use Rattle.sequencer.specs.declared.attempts.Carried.{Carried}
+use Rattle.retries.specs.Standings.{Standing}
+use Rattle.engine.specs.Batches.{entries_of}
 use Rattle.serving.specs.declared.told.Told.{Told}
 use Rattle.client_calls.specs.declared.taking_in.Asked.{Asked}
 use Rattle.client_calls.specs.Calls.{CallItem, requests_of, asked_of}
@@ -40,25 +42,41 @@ abbrev pub answers_to : List Asked → List Reply → List Said
 answers_to [] replies = []
 answers_to (x ∷ xs) replies = said_to x x.refused (answers_to xs) replies
 
--- the entries of a batch of calls, on the database before it
-abbrev pub entries_of : ProcsParts → Database → List CallItem → List EntryShape
-entries_of procs db items = map (λ item. prepared db item.request) (requests_of procs items)
+-- what is said again to those whose requests were carried: the replies, one after another
+abbrev pub said_again : List Carried → List Reply → List Said
+said_again [] replies = []
+said_again (one ∷ others) [] = []
+said_again (one ∷ others) (reply ∷ replies) = record { client = one.client; number = one.number; answer = Ok reply } ∷ said_again others replies
 
--- what a batch of calls is answered, and the database after it: those of the serial run of its requests
-abbrev pub batch_said : ProcsParts → Database → List CallItem → List Said
-batch_said procs db items = answers_to (asked_of procs items) (serial_replies (entries_of procs db items) db)
+-- the attempts of a batch of calls: what is carried stands before the requests that procedures make of the calls
+abbrev pub attempts_at : ProcsParts → Standing → List CallItem → List Attempt
+attempts_at procs s items = attempts_of s.carried (requests_of procs items)
 
-abbrev pub batch_end : ProcsParts → Database → List CallItem → Database
-batch_end procs db items = serial_end (entries_of procs db items) db
+-- the replies of a batch of calls: those of the serial run of its attempts
+abbrev pub replies_at : ProcsParts → Standing → List CallItem → List Reply
+replies_at procs s items = serial_replies (entries_of s.rows (attempts_at procs s items)) s.rows
 
--- the same of batches, each on the database that the one before it left
-abbrev pub all_said : ProcsParts → Database → List (List CallItem) → List Said
-all_said procs db [] = []
-all_said procs db (b ∷ bs) = batch_said procs db b ++ all_said procs (batch_end procs db b) bs
+-- what is said where a batch of calls is answered: the first replies go to those whose requests were carried, and what is behind
+-- them to those who asked
+abbrev pub batch_said : ProcsParts → Standing → List CallItem → List Said
+batch_said procs s items = said_again s.carried (replies_at procs s items) ++ answers_to (asked_of procs items) (drop (length s.carried) (replies_at procs s items))
 
-abbrev pub all_end : ProcsParts → Database → List (List CallItem) → Database
-all_end procs db [] = db
-all_end procs db (b ∷ bs) = all_end procs (batch_end procs db b) bs
+-- what a batch of calls leaves: each attempt has a number, the rows are those of the serial run, and stale requests are carried on
+abbrev pub batch_end : ℕ → ProcsParts → Standing → List CallItem → Standing
+batch_end retries procs s items = record {
+  next = s.next + length (attempts_at procs s items);
+  rows = serial_end (entries_of s.rows (attempts_at procs s items)) s.rows;
+  carried = left_of retries s.next (attempts_at procs s items) (replies_at procs s items);
+}
+
+-- the same of batches, each where the one before it has left the log
+abbrev pub all_said : ℕ → ProcsParts → Standing → List (List CallItem) → List Said
+all_said retries procs s [] = []
+all_said retries procs s (b ∷ bs) = batch_said procs s b ++ all_said retries procs (batch_end retries procs s b) bs
+
+abbrev pub all_end : ℕ → ProcsParts → Standing → List (List CallItem) → Standing
+all_end retries procs s [] = s
+all_end retries procs s (b ∷ bs) = all_end retries procs (batch_end retries procs s b) bs
 
 -- the answers to a client, in their order
 abbrev pub said_to_client : ℕ → List Said → List Said

@@ -4,11 +4,13 @@
 
 mod answering;
 mod by_client;
+mod laws;
 mod owner;
 mod service;
 mod told;
 
 pub use by_client::told_by_client;
 pub use client_calls::ClientCall;
+pub use laws::nothing_is_said_again_without_retries;
 pub use service::serve;
 pub use told::{Answer, ServeFault, Told};

@@ -1,10 +1,10 @@
 //! The owner of the intake: it draws, executes and answers.
 
-ghost use Rattle.std.specs.Prelude.{◌≡◌, false, OnOk};
+ghost use Rattle.std.specs.Prelude.{◌≡◌, [], false, OnOk};
 ghost use Rattle.intake.specs.Passes.{IsDrawerOf, held_by};
 ghost use Rattle.engine.specs.Engines.{is_busy};
 ghost use Rattle.serving.specs.Services.{Serves, calls_in};
-ghost use Rattle.serving.specs.Steps.{DrawsOn, HasServed, items_in};
+ghost use Rattle.serving.specs.Steps.{DrawsOn, HasServed, ServesOn, items_in};
 
 use crate::answering::answer_batch;
 use crate::told::{ServeFault, Told};
@@ -93,7 +93,43 @@ pub(crate) fn attend<R: Threads + Wait + Sync>(
 }
 
 /// Executes and answers batches that were drawn, up to the first that is refused.
-pub(crate) fn answer_left<R: Threads + Wait + Sync>(
+fn answer_left<R: Threads + Wait + Sync>(
+    rt: &R,
+    alloc: Global,
+    engine: &mut Engine,
+    told: &mut Vec<Told>,
+    left: Vec<Vec<CallItem>>,
+) -> Result<(), ServeFault>
+    requires { is_busy engine.old ≡ false }
+    ensures { ServesOn (calls_in (items_in left.items)) result engine.old engine.new told.old.items told.new.items }
+{
+    for items in left {
+        answer_batch(rt, alloc, engine, told, items)?;
+    }
+    Ok(())
+}
+
+/// Executes batches without calls, and answers the requests that were carried to them, until none is carried or one is refused.
+fn answer_carried<R: Threads + Wait + Sync>(
+    rt: &R,
+    alloc: Global,
+    engine: &mut Engine,
+    told: &mut Vec<Told>,
+) -> Result<(), ServeFault>
+    requires { is_busy engine.old ≡ false }
+    ensures { Serves [] result engine.old engine.new told.old.items told.new.items }
+{
+    for _ in rt.forever() {
+        if engine.carried() == 0 {
+            break;
+        }
+        answer_batch(rt, alloc, engine, told, Vec::new(alloc))?;
+    }
+    Ok(())
+}
+
+/// Executes and answers batches that were drawn, and then what is carried, until nothing is, up to the first batch that is refused.
+pub(crate) fn answer_to_the_end<R: Threads + Wait + Sync>(
     rt: &R,
     alloc: Global,
     engine: &mut Engine,
@@ -103,8 +139,6 @@ pub(crate) fn answer_left<R: Threads + Wait + Sync>(
     requires { is_busy engine.old ≡ false }
     ensures { Serves (calls_in (items_in left.items)) result engine.old engine.new told.old.items told.new.items }
 {
-    for items in left {
-        answer_batch(rt, alloc, engine, told, items)?;
-    }
-    Ok(())
+    answer_left(rt, alloc, engine, told, left)?;
+    answer_carried(rt, alloc, engine, told)
 }

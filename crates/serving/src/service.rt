@@ -8,7 +8,7 @@ ghost use Rattle.serving.specs.Services.{IsService};
 ghost use Rattle.serving.specs.Steps.{HasServed, IsServedToTheEnd};
 ghost use Rattle.client_calls.specs.Logs.{IsShort, histories_from};
 
-use crate::owner::{Owner, answer_left, attend};
+use crate::owner::{Owner, answer_to_the_end, attend};
 use crate::told::{ServeFault, Told};
 use client_calls::{CallItem, ClientCall, run_clients};
 use engine::Engine;
@@ -62,7 +62,7 @@ fn serve_beside<R: Threads + Wait + Sync>(
     )
 }
 
-/// Draws what the clients left in the intake, and answers it where nothing was refused before.
+/// Draws what the clients left in the intake, and where nothing was refused before answers it, and what is carried then.
 fn serve_left<R: Threads + Wait + Sync>(
     rt: &R,
     alloc: Global,
@@ -89,23 +89,26 @@ fn serve_left<R: Threads + Wait + Sync>(
     if let Err(fault) = served {
         return (engine, told, Err(fault));
     }
-    let served = answer_left(rt, alloc, &mut engine, &mut told, left);
+    let served = answer_to_the_end(rt, alloc, &mut engine, &mut told, left);
     (engine, told, served)
 }
 
 /// Serves up to four clients on an engine. Each client submits the calls of its log in their order, in a thread of its own, to an
 /// intake of that capacity. The owner draws them, executes them on the engine's workers and answers them, until all clients have
-/// ended and nothing is left. It may wait.
+/// ended and nothing is left. Then it executes batches without calls while requests are carried, and answers these. It may wait.
 ///
 /// The engine, what was told and whether all was answered come back. There is one list of calls: those that the owner drew. In it
 /// each client's are numbered from 0 in order, each once, and unless memory was refused they are that client's log. A first part of
-/// the list was answered, batch by batch, each batch whole. What was told, in that order, is what the serial run of this part
-/// answers on the rows before it, and the engine's rows are those that it leaves. A call that is no request is answered so, and
-/// changes nothing.
+/// the list was answered, batch by batch, each batch whole; batches without calls may stand among these. What was told, in that
+/// order, is what the serial run of these batches answers where the engine's log was, and its rows, its next number and what it
+/// carries are those that this run leaves. Of each batch the requests that were carried to it come first, each told under the client
+/// and number that it came with, and then the calls. So a client is told what came of each attempt of its requests, and that it was
+/// stale, where it was. A call that is no request is answered so, and changes nothing.
 ///
-/// After `Ok` the first part is all of the list, and the engine holds no batch. Where something is refused, the clients still come
-/// to the end of their logs, and their further calls are dropped. A batch that the engine then holds is the next one of the list;
-/// `resume` runs it.
+/// After `Ok` the first part is all of the list, the engine holds no batch, and nothing is carried. Where something is refused, the
+/// clients still come to the end of their logs, and their further calls are dropped. A batch that the engine then holds has what was
+/// carried, and behind it requests of the calls that come next in the list, if any are left; `resume` runs it. An engine that holds
+/// none carries what the answered batches have left.
 pub fn serve<R: Threads + Wait + Sync>(
     rt: &R,
     alloc: Global,

@@ -1,4 +1,6 @@
 pub mod Quietly
+pub mod Growing
+pub mod Rooms
 pub mod Turns
 pub mod Runs
-pub mod Growing
+pub mod Closers

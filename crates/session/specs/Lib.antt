@@ -2,4 +2,5 @@ pub mod Reports
 pub mod Writes
 pub mod Ends
 pub mod Works
+pub mod Steps
 pub mod Sessions

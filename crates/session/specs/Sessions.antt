@@ -35,6 +35,6 @@ IsOfLog P (Log fault) = P fault
 
 -- Of a log on these procedures and starting rows these bytes were fed to the session, which takes more of it. Each batch that ends
 -- in them was executed, and what was drained of the report and what waits are together the texts of all of these.
-pub record HasTaken (procs : ProcsParts) (db : Database) (fed drained : List ℕ) (session : Session) : Type 0 where
+pub record HasTaken (procs : ProcsParts) (retries : ℕ) (db : Database) (fed drained : List ℕ) (session : Session) : Type 0 where
   pub goes_on : stop_of session ≡ None
-  pub run : HasRun procs db fed drained session.work
+  pub run : HasRun procs retries db fed drained session.work

@@ -1,15 +1,15 @@
 //! Executing a batch, and reporting it.
 
-ghost use Rattle.std.specs.Prelude.{◌≡◌, ◌+◌, ◌≤◌, ◌^◌, ◌++◌, List, ℕ, length, map, IfOk, IfErr, OnOk, false};
+ghost use Rattle.std.specs.Prelude.{◌≡◌, ◌+◌, ◌≤◌, ◌^◌, ◌++◌, List, ℕ, length, IfOk, IfErr, OnOk, false};
 ghost use Rattle.std.specs.List.{AllByRecursion};
 ghost use Rattle.sha2.specs.Hashers.{Holds256};
-ghost use Rattle.meaning.specs.Serial.{serial_end, serial_replies};
-ghost use Rattle.sequencer.specs.Entries.{prepared};
 ghost use Rattle.report_text.specs.Texts.{digest, end_line, row_text};
 ghost use Rattle.report_text.specs.Report.{batch_text, next_batch, reply_lines};
+ghost use Rattle.retries.specs.Standings.{attempts_at, behind, replies_at, transactions_at};
 ghost use Rattle.engine.specs.Quiet.{tables_of, is_busy, KeepsSetting};
 ghost use Rattle.running.specs.Hashers.{batch_of, said_of};
 ghost use Rattle.session.specs.Reports.{waiting_in};
+ghost use Rattle.session.specs.Works.{standing_of};
 ghost use Rattle.session.specs.Writes.{IsFront};
 
 use crate::report::Report;
@@ -29,7 +29,8 @@ fn no_memory(line: u64) -> LogFault
     }
 }
 
-/// Executes the requests of a batch and writes its report. It fails only where memory is refused. The line is the last one read.
+/// Executes the requests of a batch, behind those that are carried to it, and writes its report. It fails only where memory is
+/// refused. The line is the last one read.
 pub(crate) fn run_batch(
     alloc: Global,
     engine: &mut QuietEngine,
@@ -41,21 +42,22 @@ pub(crate) fn run_batch(
     requires tables { AllByRecursion (λ request. request.proc.tables ≡ tables_of engine.old) requests.items }
     requires few { length requests.items ≤ 4096 }
     requires idle { is_busy engine.old ≡ false }
-    requires room { engine.old.next + length requests.items ≤ 2 ^ 48 }
+    requires room { engine.old.next + length (attempts_at (standing_of engine.old) requests.items) ≤ 2 ^ 48 }
     ensures same { KeepsSetting engine.old engine.new }
     ensures idle { OnOk result (is_busy engine.new ≡ false) }
-    ensures rows { OnOk result (engine.new.rows ≡ serial_end (map (prepared engine.old.rows) requests.items) engine.old.rows) }
-    ensures next { OnOk result (engine.new.next ≡ engine.old.next + length requests.items) }
+    ensures standing { OnOk result
+        (standing_of engine.new ≡ behind engine.old.retries (standing_of engine.old) requests.items) }
     ensures batch { OnOk result (batch_of transcript.new ≡ next_batch (batch_of transcript.old)) }
     ensures said { OnOk result ((m : List ℕ) → Holds256 (said_of transcript.old) m
         → Holds256 (said_of transcript.new) (m
-        ++ reply_lines engine.old.next (serial_replies (map (prepared engine.old.rows) requests.items) engine.old.rows))) }
+        ++ reply_lines engine.old.next (transactions_at (standing_of engine.old) requests.items)
+        (replies_at (standing_of engine.old) requests.items))) }
     ensures text { OnOk result (waiting_in report.new ≡ waiting_in report.old
         ++ batch_text (tables_of engine.old) (batch_of transcript.old) engine.old.next engine.old.rows
-        (map (prepared engine.old.rows) requests.items)) }
+        (transactions_at (standing_of engine.old) requests.items)) }
     ensures front { IsFront (waiting_in report.old) (waiting_in report.new)
         (batch_text (tables_of engine.old) (batch_of transcript.old) engine.old.next engine.old.rows
-        (map (prepared engine.old.rows) requests.items)) }
+        (transactions_at (standing_of engine.old) requests.items)) }
     ensures memory { IfErr result (λ e. e ≡ record { kind = LogFaultKind.Memory; line = line }) }
 {
     // The batch is not too long, and the engine is idle and has room for it: nothing but memory can be refused.

@@ -38,7 +38,8 @@ impl fmt::Display for SessionFault {
 
 /// A run of a log on a setup, on the thread that calls it. The log is fed in pieces of any size, and its report is drained in
 /// pieces of any size. A batch is executed, and its report waits to be drained, as soon as its cut was fed; calls behind the last
-/// cut are executed at the end.
+/// cut are executed at the end. A stale request is tried again in the next batch, as often as the setup says; at the end batches
+/// without calls follow while there are such requests.
 ///
 /// A fault ends the run: one of a line of the log (31 to 35), or want of memory (37). What was reported until then can be drained.
 #[derive(Drop)]
@@ -54,7 +55,7 @@ impl Session {
     /// A run on a setup, of whose log nothing was fed.
     pub fn new(alloc: Global, setup: Setup, settings: Settings) -> Result<Session, NoMemory>
         ensures open { IfOk result (λ session. stop_of session ≡ None) }
-        ensures begun { IfOk result (HasTaken setup.procs (with_rows map_of.empty setup.rows.items) [] []) }
+        ensures begun { IfOk result (HasTaken setup.procs setup.retries (with_rows map_of.empty setup.rows.items) [] []) }
     {
         let work = Work::new(alloc, setup, settings)?;
         Ok(Session { work, stop: None })
@@ -65,11 +66,11 @@ impl Session {
     #[tactic(auto, using(crate::proofs::Growing::begins_itself))]
     pub fn feed(&mut self, alloc: Global, bytes: &[u8]) -> Result<(), SessionFault>
         // The bytes are taken behind those that were fed before.
-        ensures taken { (procs : ProcsParts) → (db : Database) → (fed drained : List ℕ) → HasTaken procs db fed drained self.old →
-            OnOk result (HasTaken procs db (fed ++ bytes.now) drained self.new) }
+        ensures taken { (procs : ProcsParts) → (retries : ℕ) → (db : Database) → (fed drained : List ℕ) → HasTaken procs retries db fed drained self.old →
+            OnOk result (HasTaken procs retries db (fed ++ bytes.now) drained self.new) }
         // A fault is that of each log that begins with what was fed.
-        ensures fault { (procs : ProcsParts) → (db : Database) → (fed drained more : List ℕ) → HasTaken procs db fed drained self.old →
-            IfErr result (IsOfLog (IsRunInto procs db ((fed ++ bytes.now) ++ more) (drained ++ waiting_of self.new))) }
+        ensures fault { (procs : ProcsParts) → (retries : ℕ) → (db : Database) → (fed drained more : List ℕ) → HasTaken procs retries db fed drained self.old →
+            IfErr result (IsOfLog (IsRunInto procs retries db ((fed ++ bytes.now) ++ more) (drained ++ waiting_of self.new))) }
         // Report bytes that waited wait still.
         ensures kept { IsBeginning (waiting_of self.old) (waiting_of self.new) }
         ensures stops { stop_of self.old ≡ None → stop_of self.new ≡ stop_in result }
@@ -88,17 +89,18 @@ impl Session {
         }
     }
 
-    /// Takes the end of the log: a last line may have no newline, and calls behind the last cut are a batch. Then the end line is
-    /// reported, and the answer is the number of transactions. Nothing more is taken afterwards.
+    /// Takes the end of the log: a last line may have no newline, and calls behind the last cut are a batch. Batches without calls
+    /// follow while stale requests are to be tried again. Then the end line is reported, and the answer is the number of
+    /// transactions. Nothing more is taken afterwards.
     #[tactic(auto, using(crate::proofs::Growing::begins_itself))]
     pub fn end(&mut self, alloc: Global) -> Result<u64, SessionFault>
         // What was fed is a whole log. What was drained and what waits are together its report.
-        ensures whole { (procs : ProcsParts) → (db : Database) → (fed drained : List ℕ) → HasTaken procs db fed drained self.old →
-            IfOk result (IsWholeRun procs db fed (drained ++ waiting_of self.new)) }
-        ensures fault { (procs : ProcsParts) → (db : Database) → (fed drained : List ℕ) → HasTaken procs db fed drained self.old →
-            IfErr result (IsOfLog (IsRunInto procs db fed (drained ++ waiting_of self.new))) }
+        ensures whole { (procs : ProcsParts) → (retries : ℕ) → (db : Database) → (fed drained : List ℕ) → HasTaken procs retries db fed drained self.old →
+            IfOk result (IsWholeRun procs retries db fed (drained ++ waiting_of self.new)) }
+        ensures fault { (procs : ProcsParts) → (retries : ℕ) → (db : Database) → (fed drained : List ℕ) → HasTaken procs retries db fed drained self.old →
+            IfErr result (IsOfLog (IsRunInto procs retries db fed (drained ++ waiting_of self.new))) }
         // Report bytes that waited wait still.
-        ensures kept { (procs : ProcsParts) → (db : Database) → (fed drained : List ℕ) → HasTaken procs db fed drained self.old →
+        ensures kept { (procs : ProcsParts) → (retries : ℕ) → (db : Database) → (fed drained : List ℕ) → HasTaken procs retries db fed drained self.old →
             IsBeginning (waiting_of self.old) (waiting_of self.new) }
         ensures stops { IsSome (stop_of self.new) }
         ensures over { stop_of self.old ≡ None → stop_of self.new ≡ stop_behind result }
@@ -127,8 +129,8 @@ impl Session {
         ensures room { length into.new ≡ length into.old }
         ensures moved { waiting_of self.old ≡ take result into.new ++ waiting_of self.new }
         ensures rest { drop result into.new ≡ drop result into.old }
-        ensures taken { (procs : ProcsParts) → (db : Database) → (fed drained : List ℕ) → HasTaken procs db fed drained self.old →
-            HasTaken procs db fed (drained ++ take result into.new) self.new }
+        ensures taken { (procs : ProcsParts) → (retries : ℕ) → (db : Database) → (fed drained : List ℕ) → HasTaken procs retries db fed drained self.old →
+            HasTaken procs retries db fed (drained ++ take result into.new) self.new }
         ensures stays { stop_of self.new ≡ stop_of self.old }
     {
         self.work.report.drain(into)

@@ -1,5 +1,5 @@
 -- A text says one setup.
-use Rattle.std.proofs.Common.{◌≡◌, List, Some, Result, Ok, sym, ◌∙◌, subst, refl}
+use Rattle.std.proofs.Common.{◌≡◌, ℕ, List, Some, Result, Ok, sym, ap, ◌∙◌, subst, refl}
 use Rattle.serde_json.specs.Data.{Data}
 use Rattle.catalogue.specs.Rules.{SaysCatalogue, OneCatalogueIsSaid}
 use Rattle.catalogue.specs.Shapes.{TableShape}
@@ -18,9 +18,9 @@ some_is x y e = cc
 ok_is : (x y : List RowAt) → ◌≡◌ {A = Result (List RowAt) SetupFault} (Ok x) (Ok y) → x ≡ y
 ok_is x y e = cc
 
-same_shape : (ts us : List TableShape) (ps qs : List ProcSyntax) (rows others : List RowAt) → ts ≡ us → ps ≡ qs → rows ≡ others
-    → ◌≡◌ {A = SetupShape} (record { tables = ts; procs = ps; rows = rows }) (record { tables = us; procs = qs; rows = others })
-same_shape ts us ps qs rows others e f g = rw (e, f, g) refl
+same_shape : (ts us : List TableShape) (ps qs : List ProcSyntax) (rows others : List RowAt) (m n : ℕ) → ts ≡ us → ps ≡ qs → rows ≡ others → m ≡ n
+    → ◌≡◌ {A = SetupShape} (record { tables = ts; procs = ps; rows = rows; retries = m }) (record { tables = us; procs = qs; rows = others; retries = n })
+same_shape ts us ps qs rows others m n e f g h = rw (e, f, g, h) refl
 
 one_document : OneCatalogueIsSaid → OneListOfProceduresIsSaid → (d : Data) (s t : SetupShape) → SaysDocument d s → SaysDocument d t → s ≡ t
 one_document one_catalogue one_list d s t a b =
@@ -33,7 +33,8 @@ one_document one_catalogue one_list d s t a b =
     let rows : s.rows ≡ t.rows = ok_is s.rows t.rows (sym (rows_read s.tables a.form.rows s.rows a.rows) ∙ rows_read s.tables a.form.rows t.rows
     (subst (λ (ts : List TableShape). SaysRows ts a.form.rows t.rows) (sym tables)
     (subst (λ (f : SetupDocument). SaysRows t.tables f.rows t.rows) (sym forms) b.rows))) in
-    same_shape s.tables t.tables s.procs t.procs s.rows t.rows tables procs rows
+    let retries : s.retries ≡ t.retries = a.retries ∙ ap (λ (f : SetupDocument). f.retries) forms ∙ sym b.retries in
+    same_shape s.tables t.tables s.procs t.procs s.rows t.rows s.retries t.retries tables procs rows retries
 
 -- ... and so does a text
 pub one_setup : OneCatalogueIsSaid → OneListOfProceduresIsSaid → OneSetupIsSaid

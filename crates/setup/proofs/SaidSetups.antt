@@ -1,16 +1,17 @@
 -- What a setup's document says, and where it breaks a rule first, from what its parts say.
-use Rattle.std.proofs.Common.{◌≡◌, ◌⊎◌, inl, inr, ℕ, ℤ, pos, negsuc, Bool, true, false, if◌then◌else◌, ◌&&◌, List, [], ◌∷◌, Option, Some, None, option_and_then, Result, Ok, Err, refl, sym, ap, ◌∙◌, subst}
+use Rattle.std.proofs.Common.{◌≡◌, ◌≤◌, nat_le, ◌⊎◌, inl, inr, ℕ, ℤ, pos, negsuc, Bool, true, false, if◌then◌else◌, ◌&&◌, List, [], ◌∷◌, Option, Some, None, option_and_then, Result, Ok, Err, refl, sym, ap, ◌∙◌, subst}
 use Rattle.std.specs.Prelude.{codes}
+use Rattle.std.specs.Option.{option_or}
 use Rattle.std.specs.Result.{IsErrAnd, IfOk, IfErr, OnOk}
 use Rattle.std.specs.Str.{bytes_eq, IsUtf8, is_utf8}
-use Rattle.std.proofs.lemmas.Bool.{eqb-true}
+use Rattle.std.proofs.lemmas.Bool.{eqb-true, leb-true, le-leb}
 use Rattle.std.proofs.lemmas.Str.{IsUtf8-from_is_utf8, is_utf8-from_IsUtf8}
 use Rattle.std.proofs.lemmas.Slice.Eq.{bytes_eq-Decides}
 use Rattle.serde_json.specs.Data.{Data, string, array}
 use Rattle.serde_json.specs.Find.{as_str}
 use Rattle.serde_json.specs.Read.{read}
 use Rattle.serde_json.specs.View.{items_of}
-use Rattle.documents.specs.Json.{elements, five, integer, is_one}
+use Rattle.documents.specs.Json.{elements, five, six, integer, is_one}
 use Rattle.documents.specs.FirstFault.{first}
 use Rattle.documents.specs.Reading.{Reads}
 use Rattle.documents.proofs.Said.{string_said, elements_said}
@@ -32,8 +33,8 @@ use Rattle.requests.specs.declared.setup.Setup.{Setup}
 use Rattle.setup.specs.Faults.{is_memory}
 use Rattle.setup.specs.FirstFault.{InForm, InDocument, BreaksFirst, rows_faults}
 use Rattle.setup.specs.Rows.{RowAt}
-use Rattle.setup.specs.Says.{SaysRows, SpellsSetup, SaysDocument, IsJson, SaysSetup}
-use Rattle.setup.specs.Setups.{SetupDocument, SetupShape, parts_of, setup_form, setup_view}
+use Rattle.setup.specs.Says.{SaysRows, SpellsFirst, SpellsSecond, SpellsSetup, SaysDocument, IsJson, SaysSetup}
+use Rattle.setup.specs.Setups.{SetupDocument, SetupShape, first_parts, second_parts, is_two, retries_of, setup_form, setup_view}
 
 -- ---- the outer form
 
@@ -46,39 +47,104 @@ five_said (a ∷ b ∷ c ∷ []) p h = absurd cc
 five_said (a ∷ b ∷ c ∷ d ∷ []) p h = absurd cc
 five_said (a ∷ b ∷ c ∷ d ∷ e ∷ x ∷ ds) p h = absurd cc
 
+six_said : (ds : List Data) (p : Data × Data × Data × Data × Data × Data) → six ds ≡ Some p → ds ≡ p.0 ∷ p.1 ∷ p.2 ∷ p.3 ∷ p.4 ∷ p.5 ∷ []
+six_said (a ∷ b ∷ c ∷ d ∷ e ∷ f ∷ []) p h = cc
+six_said [] p h = absurd cc
+six_said (a ∷ []) p h = absurd cc
+six_said (a ∷ b ∷ []) p h = absurd cc
+six_said (a ∷ b ∷ c ∷ []) p h = absurd cc
+six_said (a ∷ b ∷ c ∷ d ∷ []) p h = absurd cc
+six_said (a ∷ b ∷ c ∷ d ∷ e ∷ []) p h = absurd cc
+six_said (a ∷ b ∷ c ∷ d ∷ e ∷ f ∷ x ∷ ds) p h = absurd cc
+
 one_is : (z : ℤ) → is_one z ≡ true → z ≡ pos 1
 one_is (pos n) e = ap pos (eqb-true n 1 e)
 one_is (negsuc n) e = absurd cc
 
-choice_said : (word : List ℕ) (z : ℤ) (x y : SetupDocument) → (if bytes_eq word (codes "setup") && is_one z then Some x else None) ≡ Some y → (word ≡ codes "setup") × (z ≡ pos 1) × (x ≡ y)
-choice_said word z x y e = by (bytes_eq word (codes "setup")) (is_one z) refl refl
+two_is : (z : ℤ) → is_two z ≡ true → z ≡ pos 2
+two_is (pos n) e = ap pos (eqb-true n 2 e)
+two_is (negsuc n) e = absurd cc
+
+retries_are : (z : ℤ) (retries : ℕ) → retries_of z ≡ Some retries → (z ≡ pos retries) × (retries ≤ 2)
+retries_are (negsuc n) retries e = absurd cc
+retries_are (pos n) retries e = by (nat_le n 2) refl
   where
-    by : (a b : Bool) → bytes_eq word (codes "setup") ≡ a → is_one z ≡ b → (word ≡ codes "setup") × (z ≡ pos 1) × (x ≡ y)
-    by true true p q = ((bytes_eq-Decides word (codes "setup")).0 p, one_is z q, (let h = rw (p, q) at e in cc))
+    by : (b : Bool) → nat_le n 2 ≡ b → (pos n ≡ pos retries) × (retries ≤ 2)
+    by true p = let h = rw p at e in let same : n ≡ retries = cc in (ap pos same, subst (λ m. m ≤ 2) same (leb-true n 2 p))
+    by false p = absurd (let h = rw p at e in cc)
+
+choice_said : (word : List ℕ) (b : Bool) (x y : SetupDocument) → (if bytes_eq word (codes "setup") && b then Some x else None) ≡ Some y → (word ≡ codes "setup") × (b ≡ true) × (x ≡ y)
+choice_said word b x y e = by (bytes_eq word (codes "setup")) b refl refl
+  where
+    by : (a c : Bool) → bytes_eq word (codes "setup") ≡ a → b ≡ c → (word ≡ codes "setup") × (b ≡ true) × (x ≡ y)
+    by true true p q = ((bytes_eq-Decides word (codes "setup")).0 p, q, (let h = rw (p, q) at e in cc))
     by true false p q = absurd (let h = rw (p, q) at e in cc)
-    by false b p q = absurd (let h = rw p at e in cc)
+    by false c p q = absurd (let h = rw p at e in cc)
 
 head_is : (a b : Data) (w : List ℕ) (rest : List Data) → a ≡ string w → w ≡ codes "setup" → array (items_of (a ∷ b ∷ rest)) ≡ array (items_of (string (codes "setup") ∷ b ∷ rest))
 head_is a b w rest p q = rw (p, q) refl
 
-pub form_said : (d : Data) (form : SetupDocument) → setup_form d ≡ Some form → SpellsSetup d form
-unfolding setup_form
-form_said d form e =
-    let p = and_then_ok parts_of (option_and_then five (elements d)) form e in
+abbrev form_of : Data → Data → Data → ℕ → SetupDocument
+form_of catalogue procs rows retries = record { catalogue = catalogue; procs = procs; rows = rows; retries = retries }
+
+first_said : (d : Data) (form : SetupDocument) → option_and_then first_parts (option_and_then five (elements d)) ≡ Some form → SpellsFirst d form
+first_said d form e =
+    let p = and_then_ok first_parts (option_and_then five (elements d)) form e in
     let ds = and_then_ok five (elements d) p.0 p.1 in
     let word = and_then_ok _ (as_str p.0.0) form p.2 in
     let version = and_then_ok _ (integer p.0.1) form word.2 in
-    let said = choice_said word.0 version.0 (record { catalogue = p.0.2; procs = p.0.3; rows = p.0.4 }) form version.2 in
-    let spelled : SpellsSetup d (record { catalogue = p.0.2; procs = p.0.3; rows = p.0.4 }) = record {
+    let said = choice_said word.0 (is_one version.0) (form_of p.0.2 p.0.3 p.0.4 0) form version.2 in
+    let spelled : SpellsFirst d (form_of p.0.2 p.0.3 p.0.4 0) = record {
       version = p.0.1;
       is_form = elements_said d ds.0 ds.1 ∙ ap (λ (es : List Data). array (items_of es)) (five_said ds.0 p.0 ds.2) ∙ head_is p.0.0 p.0.1 word.0 (p.0.2 ∷ p.0.3 ∷ p.0.4 ∷ []) (string_said p.0.0 word.0 word.1) said.0;
-      is_version = version.1 ∙ ap (λ (z : ℤ). Some z) said.1;
+      is_version = version.1 ∙ ap (λ (z : ℤ). Some z) (one_is version.0 said.1);
+      none = refl;
     } in
-    subst (SpellsSetup d) said.2 spelled
+    subst (SpellsFirst d) said.2 spelled
+
+second_said : (d : Data) (form : SetupDocument) → option_and_then second_parts (option_and_then six (elements d)) ≡ Some form → SpellsSecond d form
+second_said d form e =
+    let p = and_then_ok second_parts (option_and_then six (elements d)) form e in
+    let ds = and_then_ok six (elements d) p.0 p.1 in
+    let word = and_then_ok _ (as_str p.0.0) form p.2 in
+    let version = and_then_ok _ (integer p.0.1) form word.2 in
+    let number = and_then_ok _ (integer p.0.5) form version.2 in
+    let retries = and_then_ok _ (retries_of number.0) form number.2 in
+    let are = retries_are number.0 retries.0 retries.1 in
+    let said = choice_said word.0 (is_two version.0) (form_of p.0.2 p.0.3 p.0.4 retries.0) form retries.2 in
+    let spelled : SpellsSecond d (form_of p.0.2 p.0.3 p.0.4 retries.0) = record {
+      version = p.0.1;
+      number = p.0.5;
+      is_form = elements_said d ds.0 ds.1 ∙ ap (λ (es : List Data). array (items_of es)) (six_said ds.0 p.0 ds.2) ∙ head_is p.0.0 p.0.1 word.0 (p.0.2 ∷ p.0.3 ∷ p.0.4 ∷ p.0.5 ∷ []) (string_said p.0.0 word.0 word.1) said.0;
+      is_version = version.1 ∙ ap (λ (z : ℤ). Some z) (two_is version.0 said.1);
+      is_number = number.1 ∙ ap (λ (z : ℤ). Some z) are.0;
+      few = are.1;
+    } in
+    subst (SpellsSecond d) said.2 spelled
+
+either : {A : Type 0} (o p : Option A) (x : A) → option_or o p ≡ Some x → (o ≡ Some x) ⊎ (p ≡ Some x)
+either None p x e = inr e
+either (Some y) p x e = inl e
+
+pub form_said : (d : Data) (form : SetupDocument) → setup_form d ≡ Some form → SpellsSetup d form
+unfolding setup_form
+form_said d form e = by (either (option_and_then first_parts (option_and_then five (elements d))) (option_and_then second_parts (option_and_then six (elements d))) form e)
+  where
+    by : (option_and_then first_parts (option_and_then five (elements d)) ≡ Some form) ⊎ (option_and_then second_parts (option_and_then six (elements d)) ≡ Some form) → SpellsSetup d form
+    by (inl h) = inl (first_said d form h)
+    by (inr h) = inr (second_said d form h)
+
+retries_again : (retries : ℕ) → retries ≤ 2 → retries_of (pos retries) ≡ Some retries
+retries_again retries few = rw (le-leb retries 2 few) refl
 
 pub form_again : (d : Data) (form : SetupDocument) → SpellsSetup d form → setup_form d ≡ Some form
 unfolding setup_form
-form_again d form h = ap (λ (x : Data). option_and_then parts_of (option_and_then five (elements x))) h.is_form ∙ rw h.is_version refl
+form_again d form (inl h) =
+    ap (λ (x : Data). option_or (option_and_then first_parts (option_and_then five (elements x))) (option_and_then second_parts (option_and_then six (elements x)))) h.is_form
+    ∙ rw (h.is_version, h.none) refl
+form_again d form (inr h) =
+    ap (λ (x : Data). option_or (option_and_then first_parts (option_and_then five (elements x))) (option_and_then second_parts (option_and_then six (elements x)))) h.is_form
+    ∙ rw (h.is_version, h.is_number, retries_again form.retries h.few) refl
 
 -- a document has one form
 pub form_is : (d : Data) (form : SetupDocument) (s : SetupShape) → setup_form d ≡ Some form → (h : SaysDocument d s) → h.form ≡ form
@@ -149,16 +215,17 @@ module _ (d : Data) (form : SetupDocument) (s : SetupShape) where
       → ((ts : List TableShape) → IsCatalogue ts → SaysCatalogue form.catalogue ts → ◌≡◌ {A = Result (List TableShape) CatalogueFault} (Ok ts) (Ok tables))
       → ((ps : List ProcSyntax) → SaysProcs tables form.procs ps → ◌≡◌ {A = Result (List ProcSyntax) ProcFault} (Ok ps) (Ok procs))
       → ((rs : List RowAt) → SaysRows tables form.rows rs → ◌≡◌ {A = Result (List RowAt) SetupFault} (Ok rs) (Ok rows))
-      → ◌≡◌ {A = Result SetupShape SetupFault} (Ok s) (Ok (record { tables = tables; procs = procs; rows = rows }))
+      → ◌≡◌ {A = Result SetupShape SetupFault} (Ok s) (Ok (record { tables = tables; procs = procs; rows = rows; retries = form.retries }))
   only_parts tables procs rows e h only_tables only_procs only_rows =
       let same = tables_are tables e h only_tables in
       let procs_are = same_procs s.procs procs (only_procs s.procs (subst (λ (ts : List TableShape). SaysProcs ts form.procs s.procs) same (procs_of e h))) in
       let rows_are = same_rows s.rows rows (only_rows s.rows (subst (λ (ts : List TableShape). SaysRows ts form.rows s.rows) same (rows_of e h))) in
-      made s.tables tables s.procs procs s.rows rows same procs_are rows_are
+      let retries_are = h.retries ∙ ap (λ (f : SetupDocument). f.retries) (form_is d form s e h) in
+      made s.tables tables s.procs procs s.rows rows s.retries form.retries same procs_are rows_are retries_are
     where
-      made : (a b : List TableShape) (p q : List ProcSyntax) (x y : List RowAt) → a ≡ b → p ≡ q → x ≡ y
-          → ◌≡◌ {A = Result SetupShape SetupFault} (Ok (record { tables = a; procs = p; rows = x })) (Ok (record { tables = b; procs = q; rows = y }))
-      made a b p q x y g h i = rw (g, h, i) refl
+      made : (a b : List TableShape) (p q : List ProcSyntax) (x y : List RowAt) (m n : ℕ) → a ≡ b → p ≡ q → x ≡ y → m ≡ n
+          → ◌≡◌ {A = Result SetupShape SetupFault} (Ok (record { tables = a; procs = p; rows = x; retries = m })) (Ok (record { tables = b; procs = q; rows = y; retries = n }))
+      made a b p q x y m n g h i j = rw (g, h, i, j) refl
 
 -- ---- the first fault
 
@@ -173,8 +240,8 @@ module _ (d : Data) (form : SetupDocument) (tables : List TableShape) where
   in_rows procs f e says is are h known = inr (form, e, inr (inr (record { tables = tables; catalogue = says; is_catalogue = is; procs = procs; are_procs = are; is_first = h known })))
 
   pub found_parts : (procs : List ProcSyntax) (rows : List RowAt) → setup_form d ≡ Some form → SaysCatalogue form.catalogue tables → IsCatalogue tables → SaysProcs tables form.procs procs → SaysRows tables form.rows rows
-      → SaysDocument d (record { tables = tables; procs = procs; rows = rows })
-  found_parts procs rows e says is are there = record { form = form; is_form = form_said d form e; catalogue = says; is_catalogue = is; procs = are; rows = there }
+      → SaysDocument d (record { tables = tables; procs = procs; rows = rows; retries = form.retries })
+  found_parts procs rows e says is are there = record { form = form; is_form = form_said d form e; catalogue = says; is_catalogue = is; procs = are; rows = there; retries = refl }
 
 nothing_first : {F B : Type 0} (fs : List F) (f : F) → fs ≡ [] → first fs ≡ Some f → B
 nothing_first fs f none h = absurd (let g = sym (ap first none) ∙ h in cc)

@@ -1,6 +1,6 @@
 -- Claimed: what contracts promise to a reader rests on these words.
 -- Which documents say a setup: a relation between documents and what they say, apart from faults and the order in which a document is read.
-use Rattle.std.specs.Prelude.{◌≡◌, ◌⊎◌, ℕ, ◌==◌, ◌&&◌, pos, Bool, true, false, List, [], ◌∷◌, Some, None, codes}
+use Rattle.std.specs.Prelude.{◌≡◌, ◌≤◌, ◌⊎◌, ℕ, ◌==◌, ◌&&◌, pos, Bool, true, false, List, [], ◌∷◌, Some, None, codes}
 use Rattle.std.specs.List.{IsDistinct}
 use Rattle.std.specs.Str.{is_utf8}
 use Rattle.serde_json.specs.Data.{Data, string, array}
@@ -41,11 +41,24 @@ pub record SaysRows (tables : List TableShape) (d : Data) (rows : List RowAt) : 
 
 -- ---- setups
 
--- ["setup", 1, CATALOGUE, PROCEDURES, ROWS]
-pub record SpellsSetup (d : Data) (form : SetupDocument) : Type 0 where
+-- ["setup", 1, CATALOGUE, PROCEDURES, ROWS]: nothing is tried again
+pub record SpellsFirst (d : Data) (form : SetupDocument) : Type 0 where
   pub version : Data
   pub is_form : d ≡ array (items_of (string (codes "setup") ∷ version ∷ form.catalogue ∷ form.procs ∷ form.rows ∷ []))
   pub is_version : integer version ≡ Some (pos 1)
+  pub none : form.retries ≡ 0
+
+-- ["setup", 2, CATALOGUE, PROCEDURES, ROWS, RETRIES]: a stale request is tried again 0 to 2 times
+pub record SpellsSecond (d : Data) (form : SetupDocument) : Type 0 where
+  pub version : Data
+  pub number : Data
+  pub is_form : d ≡ array (items_of (string (codes "setup") ∷ version ∷ form.catalogue ∷ form.procs ∷ form.rows ∷ number ∷ []))
+  pub is_version : integer version ≡ Some (pos 2)
+  pub is_number : integer number ≡ Some (pos form.retries)
+  pub few : form.retries ≤ 2
+
+abbrev pub SpellsSetup : Data → SetupDocument → Type 0
+SpellsSetup d form = SpellsFirst d form ⊎ SpellsSecond d form
 
 pub record SaysDocument (d : Data) (s : SetupShape) : Type 0 where
   pub form : SetupDocument
@@ -54,6 +67,7 @@ pub record SaysDocument (d : Data) (s : SetupShape) : Type 0 where
   pub is_catalogue : IsCatalogue s.tables
   pub procs : SaysProcs s.tables form.procs s.procs
   pub rows : SaysRows s.tables form.rows s.rows
+  pub retries : s.retries ≡ form.retries
 
 -- a text is UTF-8 and JSON, and says that document
 pub record IsJson (text : List ℕ) (d : Data) : Type 0 where

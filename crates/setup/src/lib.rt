@@ -2,6 +2,7 @@
 #![tactic(auto)]
 
 mod fault;
+mod form;
 pub mod laws;
 mod reading;
 mod rows;

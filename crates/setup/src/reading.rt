@@ -1,37 +1,23 @@
 //! Reading setups.
 
-ghost use Rattle.std.specs.Prelude.{◌≡◌, true, false, option_map, Ok, IfOk, IfErr, OnOk};
+ghost use Rattle.std.specs.Prelude.{◌≡◌, true, false, Ok, IfOk, IfErr, OnOk};
 ghost use Rattle.serde_json.specs.View.{view};
 ghost use Rattle.documents.specs.Reading.{Reads};
 ghost use Rattle.requests.specs.ProcLists.{AreOver};
 ghost use Rattle.setup.specs.Faults.{is_memory};
 ghost use Rattle.setup.specs.FirstFault.{BreaksFirst, InDocument};
 ghost use Rattle.setup.specs.Says.{SaysDocument, SaysSetup};
-ghost use Rattle.setup.specs.Setups.{SetupShape, setup_form, setup_at, setup_said, setup_view};
+ghost use Rattle.setup.specs.Setups.{SetupShape, setup_at, setup_said, setup_view};
 
 use crate::fault::SetupFault;
+use crate::form::setup_form;
 use crate::rows::read_rows;
 use catalogue::Catalogue;
-use documents::five;
 use proclang::read_procs;
 use requests::Setup;
 use serde_json::Value;
 use std::alloc::Global;
 use std::str;
-
-/// The catalogue, the procedures and the rows of a document `["setup", 1, CATALOGUE, PROCEDURES, ROWS]`.
-#[tactic(auto, unfolding(crate::specs::Setups::setup_form))]
-fn setup_form(document: &Value) -> Option<(&Value, &Value, &Value)>
-    ensures { option_map (λ p. record { catalogue = view p.0.now; procs = view p.1.now; rows = view p.2.now }) result
-        ≡ setup_form (view document.now) }
-{
-    let (word, version, catalogue, procs, rows) = five(document)?;
-    if word.as_str()? == "setup" && version.as_i64()? == 1 {
-        Some((catalogue, procs, rows))
-    } else {
-        None
-    }
-}
 
 #[tactic(auto, unfolding(crate::specs::Setups::setup_at))]
 fn read_document(alloc: Global, document: &Value) -> Result<Setup, SetupFault>
@@ -42,7 +28,7 @@ fn read_document(alloc: Global, document: &Value) -> Result<Setup, SetupFault>
     ensures unbroken { OnOk result ((e : SetupFault) → InDocument (view document.now) e → ⊥) }
     ensures exact { Reads is_memory setup_view result (setup_at (view document.now)) }
 {
-    let (catalogue, procs, rows) = setup_form(document).ok_or(SetupFault::Shape)?;
+    let (catalogue, procs, rows, retries) = setup_form(document).ok_or(SetupFault::Shape)?;
     let catalogue = Catalogue::read(alloc, catalogue)?;
     let procs = read_procs(alloc, procs, &catalogue)?;
     let rows = read_rows(alloc, &catalogue, rows)?;
@@ -50,6 +36,7 @@ fn read_document(alloc: Global, document: &Value) -> Result<Setup, SetupFault>
         catalogue,
         procs,
         rows,
+        retries,
     })
 }
 

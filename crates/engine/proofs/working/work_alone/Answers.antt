@@ -1,4 +1,4 @@
-use Rattle.std.proofs.Common.{rules, length, sym, ap, ◌∙◌}
+use Rattle.std.proofs.Common.{rules, sym, ◌∙◌}
 use Rattle.engine.specs.declared.stage.Begun.{Begun as BegunOf}
 use Rattle.engine.proofs.Stops.{begun_on}
 use Rattle.engine.proofs.Told.{few_entries, end_told}
@@ -6,13 +6,13 @@ use Rattle.engine.proofs.working.work_alone.Goals as goal
 
 pub run_left-requires-clause-count : goal.run_left-requires-clause-count
 run_left-requires-clause-count g c =
-    ap length c.items-count.ensures ∙ sym (few_entries c.args.procs.now.tables c.args.first c.in-Ok.begun c.in-Ok.ensures.begun)
+    c.len-count.ensures ∙ sym (few_entries c.args.procs.now.tables c.args.first c.in-Ok.begun c.in-Ok.ensures.begun)
 
 pub returns-in-Ok-end-clause-told_end : goal.returns-in-Ok-end-clause-told_end
 returns-in-Ok-end-clause-told_end g c =
     let s = c.run_left.new.scheduler in
-    let b : BegunOf = record { batch = c.in-Ok.begun.batch; scheduler = s } in
+    let b : BegunOf = record { attempts = c.in-Ok.begun.attempts; scheduler = s } in
     let on = begun_on c.args.procs.now.tables c.args.first c.args.stage c.in-Ok.begun s c.in-Ok.ensures.begun c.in-Ok.ensures.start c.in-Ok.ensures.same
     c.run_left.ensures.work c.run_left.ensures.none_out c.run_left.ensures.settled in
-    end_told c.args.procs.now.tables s.work.tables c.args.first b c.in-Ok-end.ended (g.L.Listener.account c.run_left.new.listener) on (search rules)
+    end_told c.args.procs.now.tables s.work.tables c.args.first c.args.retries b c.in-Ok-end.ended (g.L.Listener.account c.run_left.new.listener) on (search rules)
     c.in-Ok-end.ensures.ended c.run_left.ensures.told

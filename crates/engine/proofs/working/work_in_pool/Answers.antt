@@ -19,7 +19,7 @@ end-requires-clause-begun g c =
     run.ensures.work run.ensures.none_out run.ensures.settled in
     let on = begun_on c.args.procs.now.tables c.args.first c.args.stage c.in-Ok.begun run.result.scheduler c.in-Ok.ensures.begun c.in-Ok.ensures.start c.in-Ok.ensures.same
     run.ensures.work run.ensures.none_out run.ensures.settled in
-    subst (λ ts. IsBegun ts c.args.first (record { batch = c.in-Ok.begun.batch; scheduler = run.result.scheduler })) (sym tables) on
+    subst (λ ts. IsBegun ts c.args.first (record { attempts = c.in-Ok.begun.attempts; scheduler = run.result.scheduler })) (sym tables) on
 
 pub returns-in-Err-end-clause-stop : goal.returns-in-Err-end-clause-stop
 returns-in-Err-end-clause-stop g c =
@@ -31,8 +31,8 @@ returns-in-Err-end-clause-stop g c =
 pub returns-in-Ok-end-clause-told_end : goal.returns-in-Ok-end-clause-told_end
 returns-in-Ok-end-clause-told_end g c =
     let run = c.run-run in
-    let b : BegunOf = record { batch = c.in-Ok.begun.batch; scheduler = run.result.scheduler } in
+    let b : BegunOf = record { attempts = c.in-Ok.begun.attempts; scheduler = run.result.scheduler } in
     let on = begun_on c.args.procs.now.tables c.args.first c.args.stage c.in-Ok.begun run.result.scheduler c.in-Ok.ensures.begun c.in-Ok.ensures.start c.in-Ok.ensures.same
     run.ensures.work run.ensures.none_out run.ensures.settled in
-    end_told c.args.procs.now.tables run.result.scheduler.work.tables c.args.first b c.in-Ok-end.ended (g.L.Listener.account run.result.listener) on (search rules)
+    end_told c.args.procs.now.tables run.result.scheduler.work.tables c.args.first c.args.retries b c.in-Ok-end.ended (g.L.Listener.account run.result.listener) on (search rules)
     c.in-Ok-end.ensures.ended run.ensures.told

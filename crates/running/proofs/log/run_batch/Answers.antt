@@ -1,65 +1,54 @@
-use Rattle.std.proofs.Common.{◌≡◌, ◌∙◌, ap, length, map}
+use Rattle.std.proofs.Common.{◌≡◌, ◌∙◌, ap, length, List}
 use Rattle.requests.specs.ProcLists.{ProcsParts}
-use Rattle.meaning.specs.Serial.{serial_replies}
-use Rattle.sequencer.specs.Entries.{prepared}
+use Rattle.sequencer.specs.Attempts.{Attempt}
 use Rattle.report_text.specs.Report.{batch_text, reply_lines}
+use Rattle.retries.specs.Standings.{replies_at, transactions_at}
 use Rattle.engine.specs.Engines.{tables_of}
 use Rattle.running.specs.Hashers.{batch_of}
+use Rattle.running.specs.Standings.{standing_of}
 use Rattle.running.specs.Transcripts.{said_lines, with_batch_line}
 use Rattle.running.specs.Executors.{HasAnswered}
 use Rattle.running.proofs.Runs.{held_fault, told_of_thread}
-use Rattle.running.proofs.Lines.{lines_are, next_is, requests_count, rows_are, text_is}
+use Rattle.running.proofs.Lines.{attempts_are, lines_are, rows_are, standing_is, batch_text_is}
 use Rattle.running.proofs.log.run_batch.Goals as goal
 
 pub execute-requires-clause-over : goal.execute-requires-clause-over
 execute-requires-clause-over g c = c.in-Ok.ensures.over (tables_of c.args.engine.now) c.requires.tables
 
-pub returns-in-Ok-write_batch-clause-rows : goal.returns-in-Ok-write_batch-clause-rows
-returns-in-Ok-write_batch-clause-rows g c = rows_are _ _ c.in-Ok.batch c.in-Ok-execute.done c.args.requests.items c.in-Ok-execute.ensures.done c.in-Ok.ensures.items
-
-pub returns-in-Ok-write_batch-clause-next : goal.returns-in-Ok-write_batch-clause-next
-returns-in-Ok-write_batch-clause-next g c = next_is _ _ c.in-Ok.batch c.in-Ok-execute.done c.args.requests.items c.in-Ok-execute.ensures.done c.in-Ok.ensures.items
+pub returns-in-Ok-write_batch-clause-standing : goal.returns-in-Ok-write_batch-clause-standing
+returns-in-Ok-write_batch-clause-standing g c = standing_is _ _ c.in-Ok.batch c.in-Ok-execute.done c.args.requests.items c.in-Ok-execute.ensures.done c.in-Ok.ensures.items
 
 pub returns-in-Ok-write_batch-clause-said : goal.returns-in-Ok-write_batch-clause-said
 returns-in-Ok-write_batch-clause-said g c = λ m h.
-    let lines : said_lines c.deref.result.now ≡ reply_lines c.args.engine.now.next (serial_replies (map (prepared c.args.engine.now.rows) c.args.requests.items) c.args.engine.now.rows) =
+    let lines : said_lines c.deref.result.now ≡ reply_lines c.args.engine.now.next (transactions_at (standing_of c.args.engine.now) c.args.requests.items) (replies_at (standing_of c.args.engine.now) c.args.requests.items) =
     ap said_lines c.deref.ensures.value ∙ lines_are _ _ c.in-Ok.batch c.in-Ok-execute.done c.args.requests.items c.in-Ok-execute.ensures.done c.in-Ok.ensures.items in
     rw (← lines) (c.in-Ok-write_batch.ensures.said m h)
 
 pub returns-in-Ok-write_batch-clause-text : goal.returns-in-Ok-write_batch-clause-text
 returns-in-Ok-write_batch-clause-text g c =
-    let lines : said_lines c.deref.result.now ≡ reply_lines c.args.engine.now.next (serial_replies (map (prepared c.args.engine.now.rows) c.args.requests.items) c.args.engine.now.rows) =
-    ap said_lines c.deref.ensures.value ∙ lines_are _ _ c.in-Ok.batch c.in-Ok-execute.done c.args.requests.items c.in-Ok-execute.ensures.done c.in-Ok.ensures.items in
     let text : with_batch_line (batch_of c.args.transcript.now) c.rows.result.now.tables c.rows.result.now.rows (said_lines c.deref.result.now)
-    ≡ batch_text (tables_of c.args.engine.now) (batch_of c.args.transcript.now) c.args.engine.now.next c.args.engine.now.rows (map (prepared c.args.engine.now.rows) c.args.requests.items) =
-    text_is _ _ _ _ _ _ _ _ (c.rows.ensures.tables ∙ ap (λ (p : ProcsParts). p.tables) c.in-Ok-execute.ensures.same.procs)
-    (c.rows.ensures.rows ∙ rows_are _ _ c.in-Ok.batch c.in-Ok-execute.done c.args.requests.items c.in-Ok-execute.ensures.done c.in-Ok.ensures.items) lines in
+    ≡ batch_text (tables_of c.args.engine.now) (batch_of c.args.transcript.now) c.args.engine.now.next c.args.engine.now.rows (transactions_at (standing_of c.args.engine.now) c.args.requests.items) =
+    batch_text_is _ _ c.in-Ok.batch c.in-Ok-execute.done c.args.requests.items _ _ _ _ c.in-Ok-execute.ensures.done c.in-Ok-execute.ensures.same c.in-Ok.ensures.items c.rows.ensures.tables c.rows.ensures.rows c.deref.ensures.value in
     rw (← text) c.in-Ok-write_batch.ensures.text
 
 pub returns-in-Ok-write_batch-clause-front : goal.returns-in-Ok-write_batch-clause-front
 returns-in-Ok-write_batch-clause-front g c =
-    let lines : said_lines c.deref.result.now ≡ reply_lines c.args.engine.now.next (serial_replies (map (prepared c.args.engine.now.rows) c.args.requests.items) c.args.engine.now.rows) =
-    ap said_lines c.deref.ensures.value ∙ lines_are _ _ c.in-Ok.batch c.in-Ok-execute.done c.args.requests.items c.in-Ok-execute.ensures.done c.in-Ok.ensures.items in
     let text : with_batch_line (batch_of c.args.transcript.now) c.rows.result.now.tables c.rows.result.now.rows (said_lines c.deref.result.now)
-    ≡ batch_text (tables_of c.args.engine.now) (batch_of c.args.transcript.now) c.args.engine.now.next c.args.engine.now.rows (map (prepared c.args.engine.now.rows) c.args.requests.items) =
-    text_is _ _ _ _ _ _ _ _ (c.rows.ensures.tables ∙ ap (λ (p : ProcsParts). p.tables) c.in-Ok-execute.ensures.same.procs)
-    (c.rows.ensures.rows ∙ rows_are _ _ c.in-Ok.batch c.in-Ok-execute.done c.args.requests.items c.in-Ok-execute.ensures.done c.in-Ok.ensures.items) lines in
+    ≡ batch_text (tables_of c.args.engine.now) (batch_of c.args.transcript.now) c.args.engine.now.next c.args.engine.now.rows (transactions_at (standing_of c.args.engine.now) c.args.requests.items) =
+    batch_text_is _ _ c.in-Ok.batch c.in-Ok-execute.done c.args.requests.items _ _ _ _ c.in-Ok-execute.ensures.done c.in-Ok-execute.ensures.same c.in-Ok.ensures.items c.rows.ensures.tables c.rows.ensures.rows c.deref.ensures.value in
     rw (← text) c.write_batch.ensures.front
 
 pub returns-clause-front : goal.returns-clause-front
 returns-clause-front g c =
-    let lines : said_lines c.deref.result.now ≡ reply_lines c.args.engine.now.next (serial_replies (map (prepared c.args.engine.now.rows) c.args.requests.items) c.args.engine.now.rows) =
-    ap said_lines c.deref.ensures.value ∙ lines_are _ _ c.in-Ok.batch c.in-Ok-execute.done c.args.requests.items c.in-Ok-execute.ensures.done c.in-Ok.ensures.items in
     let text : with_batch_line (batch_of c.args.transcript.now) c.rows.result.now.tables c.rows.result.now.rows (said_lines c.deref.result.now)
-    ≡ batch_text (tables_of c.args.engine.now) (batch_of c.args.transcript.now) c.args.engine.now.next c.args.engine.now.rows (map (prepared c.args.engine.now.rows) c.args.requests.items) =
-    text_is _ _ _ _ _ _ _ _ (c.rows.ensures.tables ∙ ap (λ (p : ProcsParts). p.tables) c.in-Ok-execute.ensures.same.procs)
-    (c.rows.ensures.rows ∙ rows_are _ _ c.in-Ok.batch c.in-Ok-execute.done c.args.requests.items c.in-Ok-execute.ensures.done c.in-Ok.ensures.items) lines in
+    ≡ batch_text (tables_of c.args.engine.now) (batch_of c.args.transcript.now) c.args.engine.now.next c.args.engine.now.rows (transactions_at (standing_of c.args.engine.now) c.args.requests.items) =
+    batch_text_is _ _ c.in-Ok.batch c.in-Ok-execute.done c.args.requests.items _ _ _ _ c.in-Ok-execute.ensures.done c.in-Ok-execute.ensures.same c.in-Ok.ensures.items c.rows.ensures.tables c.rows.ensures.rows c.deref.ensures.value in
     rw (← text) c.write_batch.ensures.front
 
 pub exec_fault-requires : goal.exec_fault-requires
 exec_fault-requires g c =
     held_fault c.args.engine.now c.execute.new.engine c.in-Ok.batch c.in-Err.fault c.in-Err.ensures.refused c.requires.idle
-    (rw (ap length c.in-Ok.ensures.items ∙ requests_count 0 c.args.requests.items) c.requires.room)
+    (rw (ap (λ (attempts : List Attempt). length attempts) (attempts_are c.args.engine.now c.in-Ok.batch c.args.requests.items c.in-Ok.ensures.items)) c.requires.room)
 
 pub returns-in-Err-clause-threads : goal.returns-in-Err-clause-threads
 returns-in-Err-clause-threads g c =

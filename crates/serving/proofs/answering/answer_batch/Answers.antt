@@ -1,8 +1,13 @@
 use Rattle.std.proofs.Common.{◌≡◌, rules}
 use Rattle.sequencer.specs.Batches.{items_of}
 use Rattle.client_calls.specs.Calls.{requests_of, asked_of}
+use Rattle.serving.proofs.Again.{enough_said}
 use Rattle.serving.proofs.Executed.{err_is, stopped_served, executed_served}
 use Rattle.serving.proofs.answering.answer_batch.Goals as goal
+
+pub answer-requires-clause-each : goal.answer-requires-clause-each
+answer-requires-clause-each g c =
+    enough_said c.carried-carried.result c.args.engine.now.carried (items_of c.of_items.result) c.args.engine.now.next c.in_ok-done.done.replies.items c.carried-carried.ensures c.in_ok-done.ensures.done.sent
 
 pub returns-in_err-done : goal.returns-in_err-done
 returns-in_err-done g c =
@@ -14,5 +19,5 @@ pub returns : goal.returns
 returns g c =
     let requests : items_of c.of_items.result ≡ requests_of c.args.engine.now.procs c.args.items.items = search rules in
     let asked : c.in_ok-requests.asked.items ≡ asked_of c.args.engine.now.procs c.args.items.items = search rules in
-    executed_served c.args.items.items c.of_items.result c.in_ok-done.done c.in_ok-requests.asked.items c.args.engine.now c.execute.new.engine c.args.told.now.items c.reserve.new.self.items c.answer.new.told.items
-    requests asked c.in_ok-done.ensures.same c.in_ok-done.ensures.done c.in_ok-reserve.ensures.items c.answer.ensures
+    executed_served c.args.items.items c.of_items.result c.in_ok-done.done c.carried-carried.result c.in_ok-requests.asked.items c.args.engine.now c.execute.new.engine c.args.told.now.items c.reserve.new.self.items c.answer.new.told.items
+    requests c.carried-carried.ensures asked c.in_ok-done.ensures.same c.in_ok-done.ensures.done c.in_ok-reserve.ensures.items c.answer.ensures

@@ -1,8 +1,8 @@
-use Rattle.std.proofs.Common.{◌≡◌, ◌∙◌, ◌∷◌, ◌++◌, [], Ok, sym, ap, append_assoc, rules}
+use Rattle.std.proofs.Common.{◌≡◌, ◌∙◌, ◌∷◌, ◌++◌, [], sym, ap, append_assoc, rules}
 use Rattle.std.specs.Vec.Iter.{into_iter_items}
 use Rattle.serving.specs.Services.{calls_in}
 use Rattle.serving.specs.Steps.{items_in}
-use Rattle.serving.proofs.Served.{nothing_served, then_served}
+use Rattle.serving.proofs.Served.{nothing_served, then_all}
 use Rattle.serving.proofs.Executed.{err_is}
 use Rattle.serving.proofs.Owned.{left_stopped}
 use Rattle.serving.proofs.owner.answer_left.Goals as goal
@@ -20,8 +20,8 @@ loop-items-preserved g c =
     record {
       first = inv.first ++ b;
       calls = inv.calls ∙ ap (λ l. inv.first ++ calls_in (items_in l)) turn ∙ sym (append_assoc inv.first b (calls_in (items_in (into_iter_items c.next.new.self))));
-      served = then_served inv.first b tt (Ok tt) c.args.engine.now c.loop-items.engine c.answer_batch.new.engine c.args.told.now.items c.loop-items.told.items c.answer_batch.new.told.items inv.served c.in_ok-answer_batch.ensures;
-      idle = c.in_ok-answer_batch.ensures.ends.1;
+      served = then_all inv.first b c.args.engine.now c.loop-items.engine c.answer_batch.new.engine c.args.told.now.items c.loop-items.told.items c.answer_batch.new.told.items inv.served c.in_ok-answer_batch.ensures;
+      idle = c.in_ok-answer_batch.ensures.idle;
     }
 
 pub returns-in_err-answer_batch : goal.returns-in_err-answer_batch

@@ -14,6 +14,6 @@ pub loop-preserved : goal.loop-preserved
 loop-preserved g c = record {
   pass = c.in_default.ensures.pass.0;
   held = c.in_default.ensures.pass.1 ∙ c.loop.invariant.held;
-  idle = c.in_default.ensures.served.serves.ends.1;
+  idle = c.in_default.ensures.served.serves.idle;
   served = then_had c.args.owner c.loop.owner c.attend_once.new.owner tt (Ok tt) c.loop.invariant.served c.in_default.ensures.served;
 }

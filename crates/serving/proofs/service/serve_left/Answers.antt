@@ -33,7 +33,7 @@ returns g c =
     let fine : is_err c.drain.result ≡ false = search rules in
     let all = ok_so _ c.drain.result fine c.drain.ensures.all in
     let same : c.as_mut_slice.result.now ≡ c.args.clients.items = search rules in
-    let served = c.answer_left-served in
+    let served = c.answer_to_the_end-served in
     ended_so c.args.owner c.args.served _ served.new.engine served.new.told.items served.result left (drawn_by c.drain.new.pass)
     (drawn_so c.drain.new.into.items drawn.0 _ _ (drawn.1 ∙ ap (λ l. l ++ drawn.0) c.new-left.ensures.items) drawn.2) c.drain.ensures.drawer.0.numbered
     (λ not. subst (λ l. HasAll (drawn_by c.drain.new.pass) (map own_history l)) same all.0)

@@ -10,6 +10,6 @@ use Rattle.session.proofs.work.Work.take_bytes.Given as goal
 abbrev pub invariant-loop-byte : goal.invariant-loop-byte
 invariant-loop-byte l = record {
   ready : IsReady l.self;
-  taken : (procs : ProcsParts) → (db : Database) → (fed drained : List ℕ) → HasRun procs db fed drained l.fn.self → HasRun procs db (fed ++ take l.byte-index l.bytes) drained l.self;
+  taken : (procs : ProcsParts) → (retries : ℕ) → (db : Database) → (fed drained : List ℕ) → HasRun procs retries db fed drained l.fn.self → HasRun procs retries db (fed ++ take l.byte-index l.bytes) drained l.self;
   kept : IsBeginning (waiting_in l.fn.self.report) (waiting_in l.self.report);
 }

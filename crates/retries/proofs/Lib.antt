@@ -1,0 +1,9 @@
+pub mod Followed
+pub mod Serial
+pub mod Few
+pub mod Ended
+pub mod Spent
+pub mod Short
+pub mod Later
+pub mod NeverStale
+pub mod Reported
