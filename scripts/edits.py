@@ -1,7 +1,7 @@
 #!/usr/bin/env python3
 """Tries the edits that `rt ci` doesn't, many in one check:
 
-    scripts/edits.py together [CRATE ..]  those in crates/NAME/must-fail/together/, which the gate has tried
+    scripts/edits.py together [CRATE ..]  those in crates/NAME/must-fail/together/, as a step of the gate
     scripts/edits.py more [CRATE ..]      those in crates/NAME/must-fail/more/, which it leaves out
     scripts/edits.py form                 says only which edits, of the gate and of the others, cannot be made
 
@@ -163,13 +163,13 @@ def group_of(edits):
 
 
 def refused_together(crate, edits, kept):
-    """Tries edits of a crate, many in one check, and gives those that are refused so."""
+    """Tries edits of a crate, many in one check, and gives those that are refused so, check by check."""
     left, refused = edits, []
     while left:
         group, texts = group_of(left)
         is_refused, opened = check(crate, texts, kept, functions_in(group)) if len(group) > 1 else (False, set())
         done = [edit for edit in group if is_refused and edit.functions() <= opened]
-        refused += done
+        refused.append(done)
         left = [edit for edit in left if edit not in (done or group or left)]
     return refused
 
@@ -189,15 +189,17 @@ def not_refused(crate, edits):
         own = Path(crate.folder, "out", "incremental")
         if own.is_dir():
             shutil.copytree(own, kept, dirs_exist_ok=True)
-        together = refused_together(crate, edits, kept)
-        failed = []
+        refused = refused_together(crate, edits, kept)
+        together, failed = sum(refused, []), []
         for edit in edits:
             alone = edit not in together and is_refused_alone(crate, edit, kept)
             print(f"{edit}: {'refused' if edit in together else 'refused, alone' if alone else 'NOT REFUSED'}", flush=True)
             failed += [] if alone or edit in together else [edit]
-        # What the checks kept is to be sound: where what they changed isn't proved over it, each edit is tried from nothing.
-        if checked(crate, {}, kept, functions_in(edits)).returncode:
-            failed = [edit for edit in edits if not is_refused_alone(crate, edit, None)]
+        # What the checks kept is to be sound: where what they changed isn't proved over it, each edit is tried from nothing, as those
+        # of the first check were.
+        over = [edit for edit in edits if own.is_dir() or edit not in refused[0]]
+        if over and checked(crate, {}, kept, functions_in(over)).returncode:
+            failed = [edit for edit in over if not is_refused_alone(crate, edit, None)]
         return failed
 
 

@@ -7,3 +7,5 @@ mod answers;
 mod logs;
 #[cfg(test)]
 mod servers;
+#[cfg(test)]
+mod tried_again;

@@ -69,3 +69,23 @@ pub(crate) fn four(alloc: Global) -> Result<Vec<Vec<ClientCall>>, Fail>
     logs.push(payments(alloc)?)?;
     Ok(logs)
 }
+
+/// The log of a client with one call, which has a row lead where the row that it leads to does.
+fn one_step(alloc: Global) -> Result<Vec<ClientCall>, Fail>
+    ensures { IfOk result IsShort }
+{
+    let mut log = Vec::new(alloc);
+    log.push(call(alloc, "go", &[1])?)?;
+    short(log)
+}
+
+/// The logs of three clients of one call each, which is the same one.
+pub(crate) fn three(alloc: Global) -> Result<Vec<Vec<ClientCall>>, Fail>
+    ensures { IfOk result (λ logs. AllByRecursion IsShort logs.items) }
+{
+    let mut logs = Vec::new(alloc);
+    logs.push(one_step(alloc)?)?;
+    logs.push(one_step(alloc)?)?;
+    logs.push(one_step(alloc)?)?;
+    Ok(logs)
+}
