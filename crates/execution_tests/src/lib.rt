@@ -2,8 +2,6 @@
 #![tactic(auto)]
 
 #[cfg(test)]
-mod carrying;
-#[cfg(test)]
 mod choices;
 #[cfg(test)]
 mod gates;

@@ -20,3 +20,5 @@ mod report_lines;
 mod stored_rows;
 #[cfg(test)]
 mod test_world;
+#[cfg(test)]
+mod tried_again;
