@@ -28,7 +28,7 @@ those of `calvin_c` alone, whose functions C calls. Those in `must-fail/more/` t
 `scripts/edits.py more` tries them. A file is named after the function whose meaning it turns, and after what it does.
 `scripts/list_edits.sh` writes this list from those names.
 
-Without an edit in the gate are laws, which have no body; `Entry::request`, `RowStore::catalogue`, `Loan::catalogue`,
+Without an edit in the gate are laws, which have no body; `Entry::request`, `Attempts::batch`, `RowStore::catalogue`, `Loan::catalogue`,
 `Proc::clone`, `Procs::new`, `ProcFault::from` and `LineFault::from`, for which no other answer can be written down with what their
 crates have; `procs` and `rows` of both engines, whose edits stand in `must-fail/more/`, since another answer takes a field of its
 own; each other `from` of a fault, which says only which refusal is answered; the orders of `RowName` and of

@@ -130,8 +130,11 @@ run_tried() {
         : > "$folder/cases/$step.$before"
         printf '%s:%06d\n' "$step" "$before" > "$folder/cases/$step.$before.args"
     done < "$1"
-    rt try --fail-alloc "$refused" --data setup.json=data/setup.json --data log=data/log --data report=data/report \
-        --cases "$folder/cases" 2> "$folder/said"
+    local given=() file
+    for file in setup.json log report retries-setup.json retries-log retries-report; do
+        given+=(--data "$file=data/$file")
+    done
+    rt try --fail-alloc "$refused" "${given[@]}" --cases "$folder/cases" 2> "$folder/said"
     rm -r -- "$folder/cases"
 }
 

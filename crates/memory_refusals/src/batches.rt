@@ -8,9 +8,10 @@ ghost use Rattle.engine.specs.Engines.{tables_of};
 use crate::answer::Answer;
 use crate::bank::{batch_in, batch_of};
 use crate::executing::{Then, push_replies};
+use crate::reading::unread;
 use crate::refusal::Refusal;
 use crate::reporting::try_report;
-use calvin::{Batch, BatchDone, Engine, OpenGate, Settings, read_setup};
+use calvin::{Batch, BatchDone, Engine, OpenGate, Settings, Setup, read_setup};
 use proclang::Procs;
 use report_text::{digest_text, rows_digest};
 use row_store::all_is_free_with_nothing_lent;
@@ -42,6 +43,24 @@ impl StoredLog {
         match self {
             StoredLog::FiveBatches => 200,
             StoredLog::TriedAgain => 62,
+        }
+    }
+}
+
+/// How batches are executed, and gone on with where memory or a thread was refused.
+#[derive(Clone, Copy)]
+pub(crate) enum Way {
+    /// On the workers of the settings, and then so.
+    Workers(Then),
+    /// On the thread that calls, also then.
+    Alone,
+}
+
+impl Way {
+    fn then(self) -> Then {
+        match self {
+            Way::Workers(then) => then,
+            Way::Alone => Then::ResumeAlone,
         }
     }
 }
@@ -87,17 +106,21 @@ fn execute_batch<R: Threads + Wait + Sync + AllocGlobal>(
     rt: &R,
     engine: &mut Engine,
     batch: Batch,
-    then: Then,
+    way: Way,
     answer: &mut Answer,
 ) -> Option<BatchDone>
     requires { AreOver (tables_of engine.old) (items_of batch) }
 {
     let alloc = rt.alloc();
-    match engine.execute(rt, alloc, batch, &OpenGate) {
+    let ended = match way {
+        Way::Workers(_) => engine.execute(rt, alloc, batch, &OpenGate),
+        Way::Alone => engine.run_alone(rt, alloc, batch, &[]),
+    };
+    match ended {
         Ok(done) => Some(done),
         Err(_) if engine.is_busy() => {
             *answer = Answer::Refused;
-            then.go_on(rt, engine).ok()
+            way.then().go_on(rt, engine).ok()
         }
         Err(_) => None,
     }
@@ -126,18 +149,18 @@ fn execute_first<R: Threads + Wait + Sync + AllocGlobal>(
     rt: &R,
     engine: &mut Engine,
     log: &str,
-    then: Then,
+    way: Way,
     answer: &mut Answer,
 ) -> Option<BatchDone> {
     let batch = batch_read(rt.alloc(), engine.procs(), log)?;
-    execute_batch(rt, engine, batch, then, answer)
+    execute_batch(rt, engine, batch, way, answer)
 }
 
 /// Executes batches without calls while calls are carried, and keeps what comes of them.
 fn execute_carried<R: Threads + Wait + Sync + AllocGlobal>(
     rt: &R,
     engine: &mut Engine,
-    then: Then,
+    way: Way,
     done: &mut Vec<BatchDone>,
     answer: &mut Answer,
 ) -> Option<()> {
@@ -146,7 +169,7 @@ fn execute_carried<R: Threads + Wait + Sync + AllocGlobal>(
             return Some(());
         }
         let batch = no_calls(rt.alloc(), engine.procs())?;
-        let batch = execute_batch(rt, engine, batch, then, answer)?;
+        let batch = execute_batch(rt, engine, batch, way, answer)?;
         done.push(batch).ok()?;
     }
     Some(())
@@ -158,15 +181,15 @@ fn execute_each<R: Threads + Wait + Sync + AllocGlobal>(
     rt: &R,
     engine: &mut Engine,
     log: &str,
-    then: Then,
+    way: Way,
     done: &mut Vec<BatchDone>,
 ) -> Option<Answer> {
     let mut answer = Answer::Right;
     for batch in log.split(CUT).filter(|batch| !batch.is_empty()) {
-        let batch = execute_first(rt, engine, batch, then, &mut answer)?;
+        let batch = execute_first(rt, engine, batch, way, &mut answer)?;
         done.push(batch).ok()?;
     }
-    execute_carried(rt, engine, then, done, &mut answer)?;
+    execute_carried(rt, engine, way, done, &mut answer)?;
     Some(answer)
 }
 
@@ -189,13 +212,13 @@ fn execute_log<R: Threads + Wait + Sync + AllocGlobal>(
     refusal: &mut Refusal,
     engine: &mut Engine,
     [log, report]: [&str; 2],
-    then: Then,
+    way: Way,
 ) -> Option<Answer> {
     let alloc = rt.alloc();
     // (room for what comes of each batch)
     let mut done = Vec::with_capacity(alloc, 8).ok()?;
     refusal.approach();
-    let ended = execute_each(rt, engine, log, then, &mut done);
+    let ended = execute_each(rt, engine, log, way, &mut done);
     refusal.pass();
     match ended {
         Some(answer) => Some(answer.if_right(is_end(alloc, report, engine, &done)?)),
@@ -210,7 +233,7 @@ pub(crate) fn try_batches<R: Threads + Wait + Sync + rt::Files + AllocGlobal>(
     stored: StoredLog,
     workers: usize,
     threshold: usize,
-    then: Then,
+    way: Way,
 ) -> Option<Answer> {
     let (log, report) = (text(rt, stored, "log")?, text(rt, stored, "report")?);
     let mut engine = engine(rt, stored, workers, threshold)?;
@@ -219,8 +242,42 @@ pub(crate) fn try_batches<R: Threads + Wait + Sync + rt::Files + AllocGlobal>(
         refusal,
         &mut engine,
         [log.as_str(), report.as_str()],
-        then,
+        way,
     )
+}
+
+/// An engine on a setup that was read executes the batches of its log.
+fn execute_on<R: Threads + Wait + Sync + rt::Files + AllocGlobal>(
+    rt: &R,
+    stored: StoredLog,
+    setup: Setup,
+) -> Option<Answer> {
+    let alloc = rt.alloc();
+    let (log, report) = (text(rt, stored, "log")?, text(rt, stored, "report")?);
+    let mut engine = Engine::new(alloc, setup, settings(1, 0)?).ok()?;
+    execute_log(
+        rt,
+        &mut Refusal::elsewhere(alloc),
+        &mut engine,
+        [log.as_str(), report.as_str()],
+        Way::Alone,
+    )
+}
+
+/// The setup of a log is read; the batches of the log are executed on it.
+pub(crate) fn try_setup<R: Threads + Wait + Sync + rt::Files + AllocGlobal>(
+    rt: &R,
+    refusal: &mut Refusal,
+    stored: StoredLog,
+) -> Option<Answer> {
+    let setup = text(rt, stored, "setup.json")?;
+    refusal.approach();
+    let read = read_setup(rt.alloc(), setup.as_bytes());
+    refusal.pass();
+    match read {
+        Ok(setup) => execute_on(rt, stored, setup),
+        Err(fault) => Some(unread(&fault)),
+    }
 }
 
 /// The report of a log is written, on so many workers, with this threshold.

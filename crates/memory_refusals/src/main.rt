@@ -20,7 +20,7 @@ mod sweeping;
 mod texts;
 
 use answer::Answer;
-use batches::StoredLog;
+use batches::{StoredLog, Way};
 use executing::Then;
 use refusal::Refusal;
 use std::sync::Wait;
@@ -29,64 +29,64 @@ use std::{env, io, rt};
 
 /// A step on several batches: its log, its workers, its threshold, and how a batch is gone on with; without that, the report is
 /// written.
-type OnBatches = (&'static str, StoredLog, usize, usize, Option<Then>);
+type OnBatches = (&'static str, StoredLog, usize, usize, Option<Way>);
 
-const BATCHES: [OnBatches; 17] = [
+const BATCHES: [OnBatches; 18] = [
     (
         "batches_2_0",
         StoredLog::FiveBatches,
         2,
         0,
-        Some(Then::Resume),
+        Some(Way::Workers(Then::Resume)),
     ),
     (
         "batches_2_65535",
         StoredLog::FiveBatches,
         2,
         65_535,
-        Some(Then::Resume),
+        Some(Way::Workers(Then::Resume)),
     ),
     (
         "batches_16_0",
         StoredLog::FiveBatches,
         16,
         0,
-        Some(Then::Resume),
+        Some(Way::Workers(Then::Resume)),
     ),
     (
         "batches_16_65535",
         StoredLog::FiveBatches,
         16,
         65_535,
-        Some(Then::Resume),
+        Some(Way::Workers(Then::Resume)),
     ),
     (
         "batches_2_0_then_alone",
         StoredLog::FiveBatches,
         2,
         0,
-        Some(Then::ResumeAlone),
+        Some(Way::Workers(Then::ResumeAlone)),
     ),
     (
         "batches_2_65535_then_alone",
         StoredLog::FiveBatches,
         2,
         65_535,
-        Some(Then::ResumeAlone),
+        Some(Way::Workers(Then::ResumeAlone)),
     ),
     (
         "batches_16_0_then_alone",
         StoredLog::FiveBatches,
         16,
         0,
-        Some(Then::ResumeAlone),
+        Some(Way::Workers(Then::ResumeAlone)),
     ),
     (
         "batches_16_65535_then_alone",
         StoredLog::FiveBatches,
         16,
         65_535,
-        Some(Then::ResumeAlone),
+        Some(Way::Workers(Then::ResumeAlone)),
     ),
     ("report_2_0", StoredLog::FiveBatches, 2, 0, None),
     ("report_2_65535", StoredLog::FiveBatches, 2, 65_535, None),
@@ -97,21 +97,28 @@ const BATCHES: [OnBatches; 17] = [
         StoredLog::TriedAgain,
         2,
         0,
-        Some(Then::Resume),
+        Some(Way::Workers(Then::Resume)),
     ),
     (
         "retries_16_65535",
         StoredLog::TriedAgain,
         16,
         65_535,
-        Some(Then::Resume),
+        Some(Way::Workers(Then::Resume)),
     ),
     (
         "retries_2_0_then_alone",
         StoredLog::TriedAgain,
         2,
         0,
-        Some(Then::ResumeAlone),
+        Some(Way::Workers(Then::ResumeAlone)),
+    ),
+    (
+        "run_alone_of_retries",
+        StoredLog::TriedAgain,
+        1,
+        0,
+        Some(Way::Alone),
     ),
     ("report_2_0_of_retries", StoredLog::TriedAgain, 2, 0, None),
     (
@@ -129,11 +136,11 @@ fn tried_on_batches<R: Threads + Wait + Sync + rt::Files + AllocGlobal>(
     refusal: &mut Refusal,
     step: &str,
 ) -> Option<Answer> {
-    let (_, stored, workers, threshold, then) = *BATCHES
+    let (_, stored, workers, threshold, way) = *BATCHES
         .iter()
         .find(|(name, _, _, _, _)| *name == step)?;
-    match then {
-        Some(then) => batches::try_batches(rt, refusal, stored, workers, threshold, then),
+    match way {
+        Some(way) => batches::try_batches(rt, refusal, stored, workers, threshold, way),
         None => batches::try_report_of_batches(rt, refusal, stored, workers, threshold),
     }
 }
@@ -147,6 +154,7 @@ fn tried<R: Threads + Wait + Sync + rt::Files + AllocGlobal>(
     let alloc = rt.alloc();
     match step {
         "read_setup" => reading::try_setup(rt, refusal),
+        "read_setup_of_retries" => batches::try_setup(rt, refusal, StoredLog::TriedAgain),
         "recon" => planning::try_recon(alloc, refusal),
         "next_batch" => reading::try_log(alloc, refusal),
         "prepare" => planning::try_prepare(alloc, refusal),

@@ -19,12 +19,17 @@ pub(crate) fn try_setup<R: Wait + AllocGlobal>(rt: &R, refusal: &mut Refusal) ->
     refusal.pass();
     match read {
         Ok(setup) => Some(Answer::Right.if_right(runs_on(rt, setup)?)),
-        Err(
-            SetupFault::Memory
-            | SetupFault::Catalogue(CatalogueFault::Memory)
-            | SetupFault::Procedure(ProcFault::Memory),
-        ) => Some(Answer::Refused),
-        Err(_) => Some(Answer::Wrong),
+        Err(fault) => Some(unread(&fault)),
+    }
+}
+
+/// What the fault of a setup says that has none.
+pub(crate) fn unread(fault: &SetupFault) -> Answer {
+    match fault {
+        SetupFault::Memory
+        | SetupFault::Catalogue(CatalogueFault::Memory)
+        | SetupFault::Procedure(ProcFault::Memory) => Answer::Refused,
+        _ => Answer::Wrong,
     }
 }
 
