@@ -1,9 +1,9 @@
 #!/usr/bin/env bash
-# Refuses each allocation of each step of crates/memory_refusals in turn, and counts what the steps answer:
+# Refuses each allocation of each step of crates/test_memory_refusals in turn, and counts what the steps answer:
 #
 #     scripts/refuse_memory.sh [--built | --left] [STEP ..]
 #
-# The steps are the words in crates/memory_refusals/args; without any named here, all of them. For each step it prints how many
+# The steps are the words in crates/test_memory_refusals/args; without any named here, all of them. For each step it prints how many
 # refusals were met, one a run: how many of these runs answered so, how many were right all the same, and how many were wrong.
 # The last runs of a step meet no refusal. It ends with status 1 where an answer is wrong or one is missing.
 #
@@ -20,7 +20,7 @@
 # Without either, the refusals are those of the toolchain's `try`, which also looks for bad accesses. A run takes a second or so,
 # and the steps have some thousands of allocations.
 set -euo pipefail
-cd -- "$(dirname -- "$0")/../crates/memory_refusals"
+cd -- "$(dirname -- "$0")/../crates/test_memory_refusals"
 
 # The number of the allocation that is refused, which is that of src/refusal.rt.
 refused=20000
@@ -113,7 +113,7 @@ run_built() {
     mkdir -- "$folder/shares"
     awk -v refused="$refused" '{
         thread = $3 ? $3 : $1 ~ /^resume/ ? 2 : 0
-        printf "REFUSED=%d REFUSED_THREAD=%d ../out/memory_refusals %s:%06d\n", $3 ? 0 : refused, thread, $1, $2
+        printf "REFUSED=%d REFUSED_THREAD=%d ../out/test_memory_refusals %s:%06d\n", $3 ? 0 : refused, thread, $1, $2
     }' "$1" | split -n "r/$(nproc)" - "$folder/shares/"
     for share in "$folder"/shares/*; do
         (cd data && xargs -r -L 1 env LD_PRELOAD="$folder/refuse.so" < "$share" > "$share.said" || true) &

@@ -1,4 +1,0 @@
-use Rattle.embedding.proofs.calls.batch_over.Goals as goal
-
-pub returns : goal.returns
-returns c = c.in_ok-batch.ensures.over c.args._procs.now.tables c.requires
