@@ -2,8 +2,9 @@
 """Proves and builds a program of the repository and the libraries that it stands on, on all processors:
 
     scripts/build.py PROGRAM [WORD ..]
+    scripts/build.py --only PROGRAM
 
-and runs the program with these words, whose exit status is then its own. A library is begun once those that it stands on are
+and runs the program with these words, whose exit status is then its own; with `--only` it runs nothing that can be seen. A library is begun once those that it stands on are
 built. The one with the longest chain of code above it has as many jobs as there are processors, and goes before the others,
 which have two jobs each and take the processors where it leaves them. What is begun, how long it took and how many are left
 goes to standard error; what the toolchain says of a crate, to the file `build.log` in its folder `out/`. A crate whose source
@@ -101,7 +102,21 @@ def build_all(libraries):
     return None
 
 
-def main(name, *words):
+def run_unseen(crate):
+    """Proves, compiles and links a program, and has it read a setup that can't be there: it does nothing, and ends with status 4, which
+    no failure of a build has."""
+    sys.stderr.flush()
+    seen = os.dup(2)
+    os.dup2(crate.out.fileno(), 2)
+    try:
+        return 0 if crate.run([], ["run", "/dev/null/no-setup"]) == 4 else 1
+    finally:
+        os.dup2(seen, 2)
+
+
+def main(*words):
+    only = words[0] == "--only"
+    name, *words = words[1:] if only else words
     rtlib = toolchain()
     top = os.path.dirname(os.path.dirname(os.path.realpath(__file__)))
     crate = rtlib.Crate(os.path.join(top, "crates", name), top, {})
@@ -116,7 +131,7 @@ def main(name, *words):
             say(f"proving and compiling {name}, the last crate")
             os.makedirs("out", exist_ok=True)
             with open(os.path.join("out", "build.log"), "w") as crate.out:
-                status = crate.run([], words)
+                status = run_unseen(crate) if only else crate.run([], words)
     except KeyboardInterrupt:
         status = 130
     # (not by a return, which would wait for the checks that still run: they end with this process, and so does the lock)

@@ -98,9 +98,11 @@ class Edit:
         return f"{self.crate.name}/{self.path.stem}"
 
     def made_on(self, texts):
-        """The texts of the files with this edit, `None` where one of its old texts doesn't stand there exactly once."""
+        """The texts of the files with this edit, `None` where a file is missing or one of its old texts isn't there exactly once."""
         texts = dict(texts)
         for file, old, new in self.changes:
+            if file not in texts and not (self.crate / file).is_file():
+                return None
             text = texts.get(file) or (self.crate / file).read_text()
             if not old or text.count(old) != 1:
                 return None

@@ -3,8 +3,8 @@ use Rattle.std.proofs.Common.{ℕ, Result, Ok, Err, IfErr}
 use denote.Ref.{MutBor}
 use denote.Param.Members.{Shared}
 use Rattle.sequencer.specs.declared.batch.Batch.{Batch}
-use Rattle.engine.specs.declared.engine.ExecFault.{ExecFault}
-use Rattle.engine.specs.declared.engine.ExecFault.TheVariants.{Spawn}
+use Rattle.engine.specs.declared.fault.ExecFault.{ExecFault}
+use Rattle.engine.specs.declared.fault.ExecFault.TheVariants.{Spawn}
 use Rattle.engine.specs.declared.replies.BatchDone.{BatchDone}
 use Rattle.engine.specs.Engines.{EngineParts}
 use Rattle.running.specs.declared.run_fault.RunFault.{RunFault}

@@ -12,6 +12,7 @@ use Rattle.running.specs.declared.run_fault.RunFault.{RunFault}
 use Rattle.calvin.specs.CommandEnds.{AreLocksAt, AreReplicas, IsAnswered, IsCompared, IsRunAt, IsSetupAt, IsTold, IsWithoutSetup, kept_status, run_status, setup_status}
 use Rattle.calvin.specs.FirstBatches.{IsFirstBatchPlanned}
 use Rattle.running.specs.Runs.{Device, IsRunOfLog}
+use Rattle.running.specs.Starts.{start_in}
 use Rattle.running.specs.Stops.{IsNotOfThread}
 
 -- a text that is no setup, or memory was refused
@@ -23,7 +24,7 @@ without_setup holds text fault status held first is = elim (is_memory fault) as 
 ] refl
 
 pub run_at : (alone : Bool) (holds : Option (List ℕ) → Type 0) (source spent sink filled : Device) (status : ℕ) (setup : Setup) (result : Result ℕ RunFault) → IsSetupAt holds setup →
-    IsRunOfLog setup.procs setup.retries (with_rows map_of.empty setup.rows.items) source spent sink filled result → (alone ≡ true → IsNotOfThread result) → status ≡ run_status result →
+    IsRunOfLog (start_in setup) source spent sink filled result → (alone ≡ true → IsNotOfThread result) → status ≡ run_status result →
     IsRunAt alone holds source spent sink filled status
 run_at alone holds source spent sink filled status setup result is run threadless ends = record { setup = setup; is_setup = is; result = result; run = run; threadless = threadless; ends = ends }
 
@@ -50,11 +51,11 @@ kept report full = record { bytes = Some report; failed = full }
 
 pub replicas_at : (holds holds_other : Option (List ℕ) → Type 0) (source spent sink filled : Device) (status : ℕ) (other : List ℕ) (setup : Setup) (result : Result ℕ RunFault) (before report : List ℕ) (was full : Bool) →
     holds_other (Some other) → IsSetupAt holds setup → before ≡ [] → was ≡ false →
-    IsRunOfLog setup.procs setup.retries (with_rows map_of.empty setup.rows.items) source spent (kept before was) (kept report full) result →
+    IsRunOfLog (start_in setup) source spent (kept before was) (kept report full) result →
     IsCompared result full report other sink filled status → AreReplicas holds holds_other source spent sink filled status
 replicas_at holds holds_other source spent sink filled status other setup result before report was full held is nothing room run ends =
-    let from : IsRunOfLog setup.procs setup.retries (with_rows map_of.empty setup.rows.items) source spent (kept [] false) (kept report full) result =
-    subst (λ (d : Device). IsRunOfLog setup.procs setup.retries (with_rows map_of.empty setup.rows.items) source spent d (kept report full) result) (λ i. kept (nothing i) (room i)) run in
+    let from : IsRunOfLog (start_in setup) source spent (kept [] false) (kept report full) result =
+    subst (λ (d : Device). IsRunOfLog (start_in setup) source spent d (kept report full) result) (λ i. kept (nothing i) (room i)) run in
     record {
       other = other;
       held = held;

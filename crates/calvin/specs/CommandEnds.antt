@@ -27,6 +27,7 @@ use Rattle.calvin.specs.Comparisons.{IsFirstDifference}
 use Rattle.calvin.specs.FirstBatches.{IsFirstBatchPlanned}
 use Rattle.running.specs.Reports.{report_of}
 use Rattle.running.specs.Runs.{Device, IsRunOfLog}
+use Rattle.running.specs.Starts.{start_in}
 use Rattle.running.specs.Stops.{is_of_device, IsNotOfThread}
 
 -- what a machine may hold at a path: a text, or nothing that can be read
@@ -76,7 +77,7 @@ pub record IsRunAt (alone : Bool) (holds : Holding) (source spent sink filled : 
   pub setup : Setup
   pub is_setup : IsSetupAt holds setup
   pub result : Result ℕ RunFault
-  pub run : IsRunOfLog setup.procs setup.retries (with_rows map_of.empty setup.rows.items) source spent sink filled result
+  pub run : IsRunOfLog (start_in setup) source spent sink filled result
   -- Alone on one thread, no thread is refused.
   pub threadless : alone ≡ true → IsNotOfThread result
   pub ends : status ≡ run_status result
@@ -128,7 +129,7 @@ pub record AreReplicas (holds holds_other : Holding) (source spent sink filled :
   -- what was kept of the report, and whether memory was refused for it
   pub report : List ℕ
   pub is_full : Bool
-  pub run : IsRunOfLog setup.procs setup.retries (with_rows map_of.empty setup.rows.items) source spent (record { bytes = Some []; failed = false }) (record { bytes = Some report; failed = is_full }) result
+  pub run : IsRunOfLog (start_in setup) source spent (record { bytes = Some []; failed = false }) (record { bytes = Some report; failed = is_full }) result
   pub whole : OnOk result (IfSome source.bytes (λ log. report ≡ report_of setup.procs setup.retries (with_rows map_of.empty setup.rows.items) log))
   pub ends : IsCompared result is_full report other sink filled status
 

@@ -1,18 +1,13 @@
 //! Running a log on worker threads, or on one thread.
 
-ghost use Rattle.std.specs.Prelude.{◌≡◌, ◌||◌, [], Some, None, length, IfOk, IfErr, IfSome, OnOk, false};
-ghost use Rattle.std.specs.FinMap as map_of;
-ghost use Rattle.std.specs.Io.KnownBytes.{Appends};
-ghost use Rattle.devices.specs.Devices.{AppendsFront};
-ghost use Rattle.row_store.specs.Stock.{with_rows};
+ghost use Rattle.std.specs.Prelude.{◌≡◌, IfErr, false};
 ghost use Rattle.sequencer.specs.Batches.{items_of, AreOver};
-ghost use Rattle.report_text.specs.Report.{all_transactions};
 ghost use Rattle.engine.specs.Engines.{is_busy, tables_of};
 ghost use Rattle.engine.specs.Executions.{IsSpawn};
 ghost use Rattle.running.specs.Executors.{IsExecution};
-ghost use Rattle.running.specs.Reports.{batches_in, fault_in, report_of};
-ghost use Rattle.running.specs.Runs.{IsRunOfLog, device_with};
-ghost use Rattle.running.specs.Stops.{ends_in_io, IfOfLine, IfOfMachine, IsLineOf, IsNotOfThread};
+ghost use Rattle.running.specs.Runs.{RunsLog};
+ghost use Rattle.running.specs.Starts.{start_in, start_of};
+ghost use Rattle.running.specs.Stops.{IsNotOfThread};
 
 use batch_log::{LogFaultKind, Sink, Source};
 use engine::{
@@ -34,16 +29,13 @@ pub(crate) fn run_log_alone<R: Wait, S: Source, K: Sink>(
     source: &mut S,
     sink: &mut K,
 ) -> Result<u64, RunFault>
-    ensures run { IsRunOfLog setup.procs setup.retries (with_rows map_of.empty setup.rows.items)
-        (device_with (S.left source.old) (S.failed source.old))
-        (device_with (S.left source.new) (S.failed source.new))
-        (device_with (K.taken sink.old) (K.broken sink.old))
-        (device_with (K.taken sink.new) (K.broken sink.new)) result }
+    ensures run { RunsLog S.left S.failed K.taken K.broken (start_in setup)
+        source.old source.new sink.old sink.new result }
     ensures threadless { IsNotOfThread result }
 {
     let executor = move |engine: &mut Engine, batch: Batch| -> Result<BatchDone, ExecFault>
-        requires { AreOver (tables_of engine.old) (items_of batch) }
-        ensures run { IsExecution engine.old batch result engine.new }
+        requires { AreOver (tables_of engine.old.core) (items_of batch) }
+        ensures run { IsExecution engine.old.core batch result engine.new.core }
         ensures threadless { IfErr result (λ fault. ¬ IsSpawn fault) }
     { engine.run_alone(rt, alloc, batch, &[]) };
     run_log(rt, alloc, &executor, setup, settings, source, sink)
@@ -66,32 +58,26 @@ fn run_log_at<'a, R: Threads + Wait + Sync, G: Gate, S: Source, K: Sink>(
     sink: &'a mut K,
 ) -> Result<u64, RunFault>
     requires place { head ≡ place.now }
-    requires idle { is_busy engine.old ≡ false }
-    requires unused { engine.old.next ≡ 0 }
-    ensures { IsRunOfLog engine.old.procs engine.old.retries engine.old.rows
-        (device_with (S.left source.old) (S.failed source.old))
-        (device_with (S.left source.new) (S.failed source.new))
-        (device_with (K.taken sink.old) (K.broken sink.old))
-        (device_with (K.taken sink.new) (K.broken sink.new)) result }
+    requires idle { is_busy engine.old.core ≡ false }
+    requires unused { engine.old.core.next ≡ 0 }
+    ensures { RunsLog S.left S.failed K.taken K.broken (start_of engine.old.core)
+        source.old source.new sink.old sink.new result }
 {
     let (ended, engine, source, sink) = thread::scope(
         thread::scope_env(),
         rt,
         move |scope| -> (Result<u64, RunFault>, &mut Engine, &mut S, &mut K)
-            requires { (head ≡ place.now) × (is_busy engine.now ≡ false) × (engine.now.next ≡ 0) }
+            requires { (head ≡ place.now) × (is_busy engine.now.core ≡ false) × (engine.now.core.next ≡ 0) }
             ensures engine { result.1.ghost_name ≡ engine.entry.ghost_name }
             ensures source { result.2.ghost_name ≡ source.entry.ghost_name }
             ensures sink { result.3.ghost_name ≡ sink.entry.ghost_name }
-            ensures run { IsRunOfLog engine.entry.now.procs engine.entry.now.retries engine.entry.now.rows
-                (device_with (S.left source.entry.now) (S.failed source.entry.now))
-                (device_with (S.left result.2.now) (S.failed result.2.now))
-                (device_with (K.taken sink.entry.now) (K.broken sink.entry.now))
-                (device_with (K.taken result.3.now) (K.broken result.3.now)) result.0 }
+            ensures run { RunsLog S.left S.failed K.taken K.broken (start_of engine.entry.now.core)
+                source.entry.now result.2.now sink.entry.now result.3.now result.0 }
         {
             let pool = Mutex::new(WorkerPool::new(rt, scope, gate, place, head));
             let executor = |engine: &mut Engine, batch: Batch| -> Result<BatchDone, ExecFault>
-                requires { AreOver (tables_of engine.old) (items_of batch) }
-                ensures { IsExecution engine.old batch result engine.new }
+                requires { AreOver (tables_of engine.old.core) (items_of batch) }
+                ensures { IsExecution engine.old.core batch result engine.new.core }
             { engine.execute_in(alloc, batch, &mut pool.lock(rt)) };
             let ended = run_log_on(rt, alloc, &executor, engine, source, sink);
             (ended, engine, source, sink)
@@ -112,13 +98,10 @@ pub(crate) fn run_log_in_pool<R: Threads + Wait + Sync, G: Gate, S: Source, K: S
     source: &mut S,
     sink: &mut K,
 ) -> Result<u64, RunFault>
-    requires idle { is_busy engine.old ≡ false }
-    requires unused { engine.old.next ≡ 0 }
-    ensures { IsRunOfLog engine.old.procs engine.old.retries engine.old.rows
-        (device_with (S.left source.old) (S.failed source.old))
-        (device_with (S.left source.new) (S.failed source.new))
-        (device_with (K.taken sink.old) (K.broken sink.old))
-        (device_with (K.taken sink.new) (K.broken sink.new)) result }
+    requires idle { is_busy engine.old.core ≡ false }
+    requires unused { engine.old.core.next ≡ 0 }
+    ensures { RunsLog S.left S.failed K.taken K.broken (start_of engine.old.core)
+        source.old source.new sink.old sink.new result }
 {
     match Workplace::new(alloc, engine.settings()) {
         Ok((place, head)) => run_log_at(rt, alloc, engine, &place, head, gate, source, sink),
@@ -136,11 +119,8 @@ pub(crate) fn run_log_on_workers<R: Threads + Wait + Sync, G: Gate, S: Source, K
     source: &mut S,
     sink: &mut K,
 ) -> Result<u64, RunFault>
-    ensures { IsRunOfLog setup.procs setup.retries (with_rows map_of.empty setup.rows.items)
-        (device_with (S.left source.old) (S.failed source.old))
-        (device_with (S.left source.new) (S.failed source.new))
-        (device_with (K.taken sink.old) (K.broken sink.old))
-        (device_with (K.taken sink.new) (K.broken sink.new)) result }
+    ensures { RunsLog S.left S.failed K.taken K.broken (start_in setup)
+        source.old source.new sink.old sink.new result }
 {
     match Engine::new(alloc, setup, settings) {
         Ok(mut engine) => run_log_in_pool(rt, alloc, &mut engine, gate, source, sink),
@@ -163,31 +143,8 @@ pub fn run_text<R: Threads + Wait + Sync, G: Gate, S: Source, K: Sink>(
     source: &mut S,
     sink: &mut K,
 ) -> Result<u64, RunFault>
-    // `Ok`: the log has no fault, all of it was read, and its report was written.
-    ensures count { IfOk result (λ n.
-        IfSome (S.left source.old) (λ log. n ≡ length (all_transactions (batches_in setup.procs setup.retries
-        (with_rows map_of.empty setup.rows.items) log)))) }
-    ensures sound { OnOk result (IfSome (S.left source.old) (λ log. fault_in setup.procs setup.retries log ≡ None)) }
-    ensures read { OnOk result (IfSome (S.left source.old) (λ _. S.left source.new ≡ Some [])) }
-    ensures ok { OnOk result (IfSome (S.left source.old) (λ log.
-        Appends (K.taken sink.old) (K.taken sink.new)
-        (report_of setup.procs setup.retries (with_rows map_of.empty setup.rows.items) log))) }
-    // A fault of a line is the log's first, and the report of the batches before it was written.
-    ensures fault { IfErr result (λ e.
-        IfOfLine e (λ fault. IfSome (S.left source.old) (λ log. fault_in setup.procs setup.retries log ≡ Some fault))) }
-    ensures until { IfErr result (λ e.
-        IfOfLine e (λ fault. IfSome (S.left source.old) (λ log.
-        Appends (K.taken sink.old) (K.taken sink.new)
-        (report_of setup.procs setup.retries (with_rows map_of.empty setup.rows.items) log)))) }
-    // However it ends, what was written is a beginning of the report.
-    ensures front { IfSome (S.left source.old) (λ log.
-        AppendsFront (K.taken sink.old) (K.taken sink.new)
-        (report_of setup.procs setup.retries (with_rows map_of.empty setup.rows.items) log)) }
-    // The fault of a device comes only where one has failed meanwhile. Each fault names its line.
-    ensures devices { (S.failed source.new || K.broken sink.new)
-        ≡ ((S.failed source.old || K.broken sink.old) || ends_in_io result) }
-    ensures line { S.failed source.old ≡ false →
-        IfErr result (λ e. IfOfMachine e (IsLineOf (S.failed source.new) (S.left source.old) (S.left source.new))) }
+    ensures { RunsLog S.left S.failed K.taken K.broken (start_in setup)
+        source.old source.new sink.old sink.new result }
 {
     run_log_on_workers(rt, alloc, setup, settings, gate, source, sink)
 }

@@ -1,13 +1,12 @@
 //! Running the log on a setup, on one thread or on worker threads, and telling meanwhile on standard error how far it is.
 
 ghost use Rattle.std.specs.Prelude.{◌≡◌, IfErr, false, true};
-ghost use Rattle.std.specs.FinMap as map_of;
-ghost use Rattle.row_store.specs.Stock.{with_rows};
 ghost use Rattle.sequencer.specs.Batches.{items_of, AreOver};
 ghost use Rattle.engine.specs.Engines.{is_busy, tables_of};
 ghost use Rattle.engine.specs.Executions.{IsSpawn};
 ghost use Rattle.running.specs.Executors.{IsExecution};
-ghost use Rattle.running.specs.Runs.{IsRunOfLog, device_with};
+ghost use Rattle.running.specs.Runs.{RunsLog};
+ghost use Rattle.running.specs.Starts.{start_in, start_of};
 ghost use Rattle.running.specs.Stops.{IsNotOfThread};
 
 use crate::executing::{run_log_alone, run_log_in_pool, run_log_on_workers};
@@ -31,18 +30,15 @@ fn run_telling<R: Wait, S: Source, K: Sink, E: Sink>(
     sink: &mut K,
     err: &RefCell<&mut E>,
 ) -> Result<u64, RunFault>
-    requires idle { is_busy engine.old ≡ false }
-    requires unused { engine.old.next ≡ 0 }
-    ensures run { IsRunOfLog engine.old.procs engine.old.retries engine.old.rows
-        (device_with (S.left source.old) (S.failed source.old))
-        (device_with (S.left source.new) (S.failed source.new))
-        (device_with (K.taken sink.old) (K.broken sink.old))
-        (device_with (K.taken sink.new) (K.broken sink.new)) result }
+    requires idle { is_busy engine.old.core ≡ false }
+    requires unused { engine.old.core.next ≡ 0 }
+    ensures run { RunsLog S.left S.failed K.taken K.broken (start_of engine.old.core)
+        source.old source.new sink.old sink.new result }
     ensures threadless { IsNotOfThread result }
 {
     let executor = move |engine: &mut Engine, batch: Batch| -> Result<BatchDone, ExecFault>
-        requires { AreOver (tables_of engine.old) (items_of batch) }
-        ensures run { IsExecution engine.old batch result engine.new }
+        requires { AreOver (tables_of engine.old.core) (items_of batch) }
+        ensures run { IsExecution engine.old.core batch result engine.new.core }
         ensures threadless { IfErr result (λ fault. ¬ IsSpawn fault) }
     {
         let done = engine.run_alone(rt, alloc, batch, &[]);
@@ -66,11 +62,8 @@ pub(crate) fn run_log_alone_telling<R: Wait, S: Source, K: Sink, E: Sink>(
     sink: &mut K,
     err: &mut E,
 ) -> Result<u64, RunFault>
-    ensures run { IsRunOfLog setup.procs setup.retries (with_rows map_of.empty setup.rows.items)
-        (device_with (S.left source.old) (S.failed source.old))
-        (device_with (S.left source.new) (S.failed source.new))
-        (device_with (K.taken sink.old) (K.broken sink.old))
-        (device_with (K.taken sink.new) (K.broken sink.new)) result }
+    ensures run { RunsLog S.left S.failed K.taken K.broken (start_in setup)
+        source.old source.new sink.old sink.new result }
     ensures threadless { IsNotOfThread result }
 {
     let Ok(mut engine) = Engine::new(alloc, setup, settings) else {
@@ -94,13 +87,10 @@ fn run_to_end<R: Threads + Wait + Sync, S: Source, K: Sink>(
     sink: &mut K,
     end: &RunEnd,
 ) -> Result<u64, RunFault>
-    requires idle { is_busy engine.old ≡ false }
-    requires unused { engine.old.next ≡ 0 }
-    ensures { IsRunOfLog engine.old.procs engine.old.retries engine.old.rows
-        (device_with (S.left source.old) (S.failed source.old))
-        (device_with (S.left source.new) (S.failed source.new))
-        (device_with (K.taken sink.old) (K.broken sink.old))
-        (device_with (K.taken sink.new) (K.broken sink.new)) result }
+    requires idle { is_busy engine.old.core ≡ false }
+    requires unused { engine.old.core.next ≡ 0 }
+    ensures { RunsLog S.left S.failed K.taken K.broken (start_of engine.old.core)
+        source.old source.new sink.old sink.new result }
 {
     let ended = run_log_in_pool(rt, alloc, engine, &OpenGate, source, sink);
     end.come();
@@ -119,13 +109,10 @@ fn run_beside_teller<R: Threads + Wait + Sync, S: Source, K: Sink, E: Sink + Sen
     sink: &mut K,
     err: &mut E,
 ) -> Result<u64, RunFault>
-    requires idle { is_busy engine.old ≡ false }
-    requires unused { engine.old.next ≡ 0 }
-    ensures { IsRunOfLog engine.old.procs engine.old.retries engine.old.rows
-        (device_with (S.left source.old) (S.failed source.old))
-        (device_with (S.left source.new) (S.failed source.new))
-        (device_with (K.taken sink.old) (K.broken sink.old))
-        (device_with (K.taken sink.new) (K.broken sink.new)) result }
+    requires idle { is_busy engine.old.core ≡ false }
+    requires unused { engine.old.core.next ≡ 0 }
+    ensures { RunsLog S.left S.failed K.taken K.broken (start_of engine.old.core)
+        source.old source.new sink.old sink.new result }
 {
     let end = RunEnd::new();
     let end = &end;
@@ -133,12 +120,9 @@ fn run_beside_teller<R: Threads + Wait + Sync, S: Source, K: Sink, E: Sink + Sen
         rt,
         &mut || tell_until(rt, alloc, lines, watcher, end, err),
         &mut || -> Result<u64, RunFault>
-            requires { (is_busy engine.now ≡ false) × (engine.now.next ≡ 0) }
-            ensures { IsRunOfLog engine.entry.now.procs engine.entry.now.retries engine.entry.now.rows
-                (device_with (S.left source.entry.now) (S.failed source.entry.now))
-                (device_with (S.left source.exit.now) (S.failed source.exit.now))
-                (device_with (K.taken sink.entry.now) (K.broken sink.entry.now))
-                (device_with (K.taken sink.exit.now) (K.broken sink.exit.now)) result }
+            requires { (is_busy engine.now.core ≡ false) × (engine.now.core.next ≡ 0) }
+            ensures { RunsLog S.left S.failed K.taken K.broken (start_of engine.entry.now.core)
+                source.entry.now source.exit.now sink.entry.now sink.exit.now result }
         { run_to_end(rt, alloc, engine, source, sink, end) },
     );
     ended
@@ -161,11 +145,8 @@ pub(crate) fn run_log_on_workers_telling<
     sink: &mut K,
     err: &mut E,
 ) -> Result<u64, RunFault>
-    ensures { IsRunOfLog setup.procs setup.retries (with_rows map_of.empty setup.rows.items)
-        (device_with (S.left source.old) (S.failed source.old))
-        (device_with (S.left source.new) (S.failed source.new))
-        (device_with (K.taken sink.old) (K.broken sink.old))
-        (device_with (K.taken sink.new) (K.broken sink.new)) result }
+    ensures { RunsLog S.left S.failed K.taken K.broken (start_in setup)
+        source.old source.new sink.old sink.new result }
 {
     let Ok(mut engine) = Engine::new(alloc, setup, settings) else {
         return Err(RunFault::at(LogFaultKind::Memory, 0));
@@ -197,11 +178,8 @@ pub(crate) fn run_setup<R: Threads + Wait + Sync, S: Source, K: Sink, E: Sink + 
     out: &mut K,
     err: &mut E,
 ) -> Result<u64, RunFault>
-    ensures run { IsRunOfLog setup.procs setup.retries (with_rows map_of.empty setup.rows.items)
-        (device_with (S.left source.old) (S.failed source.old))
-        (device_with (S.left source.new) (S.failed source.new))
-        (device_with (K.taken out.old) (K.broken out.old))
-        (device_with (K.taken out.new) (K.broken out.new)) result }
+    ensures run { RunsLog S.left S.failed K.taken K.broken (start_in setup)
+        source.old source.new out.old out.new result }
     ensures threadless { alone ≡ true → IsNotOfThread result }
 {
     match (alone, lines) {

@@ -10,15 +10,17 @@ use Rattle.sequencer.specs.Attempts.{carried_on, is_left, left_of, Attempt, AreC
 use Rattle.sequencer.proofs.Carryings.{left_next}
 use Rattle.engine.specs.Accounts.{Shows, settled_of}
 use Rattle.engine.specs.Batches.{over_tables}
-use Rattle.engine.specs.Engines.{Account}
-use Rattle.engine.specs.declared.stage.Stage.{Stage}
-use Rattle.engine.specs.Stages.{IsTold, rows_in, unfinished_in}
+use Rattle.engine.specs.Engines.{Account, EngineParts}
+use Rattle.engine.specs.Stages.{IsTold}
 
--- what is settled is as before: nothing
-pub told_anew : (next : ℕ) (old new : Stage) (account : Option Account) → settled_of (unfinished_in (Some new)) (rows_in (Some new)) ≡ settled_of (unfinished_in (Some old)) (rows_in (Some old))
-    → IsTold next (Some old) account → IsTold next (Some new) account
-told_anew next old new None same told = absurd told
-told_anew next old new (Some account) same told = record { ended = told.ended; shows = subst (Shows account) (sym same) told.shows }
+-- what is settled is as before
+pub told_anew : (old new : EngineParts) (account : Option Account) → new.next ≡ old.next
+    → settled_of new.unfinished new.rows ≡ settled_of old.unfinished old.rows → IsTold old account → IsTold new account
+told_anew old new None next same told = absurd told
+told_anew old new (Some account) next same told = record {
+  ended = told.ended ∙ sym next;
+  shows = subst (Shows account) (sym same) told.shows;
+}
 
 -- over other tables
 pub moved_over : (tables : List TableShape) (carried : List Carried) → AreCarriedOver tables (map (over_tables tables) carried)

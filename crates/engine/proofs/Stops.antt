@@ -1,20 +1,25 @@
 -- Where a batch stops.
-use Rattle.std.proofs.Common.{◌≡◌, ℕ, List, length, map, Option, Some, refl, sym, ap, ◌∙◌, subst}
+use Rattle.std.proofs.Common.{◌≡◌, ℕ, List, length, map, Option, Some, Result, Ok, Err, IfErr, refl, sym, ap, ◌∙◌, subst}
 use Rattle.catalogue.specs.Shapes.{TableShape}
 use Rattle.interp.specs.Entries.{entry_shape}
 use Rattle.scheduler.specs.Schedules.{Schedule, Work, phases_of}
 use Rattle.sequencer.specs.Attempts.{attempts_in}
-use Rattle.engine.specs.declared.pool.Refusal.{Refusal}
-use Rattle.engine.specs.declared.pool.Refusal.TheVariants.{Thread, Memory}
+use Rattle.engine.specs.declared.refusal.Refusal.{Refusal}
+use Rattle.engine.specs.declared.refusal.Refusal.TheVariants.{Thread, Memory}
 use Rattle.engine.specs.declared.stage.Begun.{Begun as BegunOf}
 use Rattle.engine.specs.declared.stage.Stage.{Stage}
 use Rattle.engine.specs.declared.stage.Stage.TheVariants.{Begun}
+use Rattle.engine.specs.declared.ending.Ended.{Ended}
 use Rattle.engine.specs.declared.working.Interruption.{Interruption}
 use Rattle.engine.specs.Batches.{entries_of}
 use Rattle.engine.specs.Engines.{Unfinished, NoneIsOut, StaysSettled}
 use Rattle.engine.specs.Executions.{WaitsIn}
-use Rattle.engine.specs.Stages.{IsBegun, IsInterruptedStage, rows_in, unfinished_in, unfinished_of}
+use Rattle.engine.specs.Stages.{IsBegun, IsInterruptedStage, refusal_in, rows_in, unfinished_in, unfinished_of}
 use Rattle.engine.proofs.EmptyLanes.{none_kept}
+
+by_thread : (ran : Result (Unit {0}) Refusal) → refusal_in ran ≡ Thread → ran ≡ Err Thread
+by_thread (Ok done) e = absurd cc
+by_thread (Err refusal) e = ap Err e
 
 module _ (tables : List TableShape) (first : ℕ) (old : Stage) (b : BegunOf) (s : Schedule) (h : IsBegun tables first b) (start : b.scheduler.work.start ≡ rows_in (Some old))
     (same : Some (unfinished_of b) ≡ unfinished_in (Some old)) (work : s.work ≡ b.scheduler.work) (none : NoneIsOut (phases_of s)) (settled : StaysSettled (phases_of b.scheduler) (phases_of s)) where
@@ -50,7 +55,9 @@ module _ (tables : List TableShape) (first : ℕ) (old : Stage) (b : BegunOf) (s
     batch = ap (λ (t : Schedule). Some (unfinished_of (record { attempts = b.attempts; scheduler = t }))) (nothing refl) ∙ same;
   }
 
-  pub stop_of : (stop : Interruption) → stop.stage ≡ Begun now → stop.refusal ≡ Memory → IsInterruptedStage tables first old stop
-  stop_of stop stage refusal =
+  pub stopped_so : (r : Result Ended Interruption) (ran : Result (Unit {0}) Refusal) → IfErr r (λ stop. stop.stage ≡ Begun now) → IfErr r (λ stop. stop.refusal ≡ refusal_in ran)
+      → (ran ≡ Err Thread → s ≡ b.scheduler) → IfErr r (IsInterruptedStage tables first old)
+  stopped_so (Ok ended) ran stage refusal nothing = tt
+  stopped_so (Err stop) ran stage refusal nothing =
       subst (λ (st : Stage). IsInterruptedStage tables first old (record { stage = st; refusal = stop.refusal })) (sym stage)
-      (subst (λ (r : Refusal). IsInterruptedStage tables first old (record { stage = Begun now; refusal = r })) (sym refusal) (record { fits = begun_on; rows = rows; batch = waits_on }))
+      (subst (λ (r : Refusal). IsInterruptedStage tables first old (record { stage = Begun now; refusal = r })) (sym refusal) (stop_by (refusal_in ran) (λ e. nothing (by_thread ran e))))

@@ -1,5 +1,5 @@
 -- What a listener was told, step by step.
-use Rattle.std.proofs.Common.{◌≡◌, ℕ, zero, suc, ◌+◌, ◌-◌, ◌≤◌, ◌^◌, nat_lt, true, false, List, [], ◌∷◌, length, map, Option, None, Some, refl, sym, ap, ◌∙◌, subst, arith, slice_get, slice_set}
+use Rattle.std.proofs.Common.{◌≡◌, ℕ, zero, suc, ◌+◌, ◌-◌, ◌≤◌, ◌^◌, nat_lt, true, false, List, [], ◌∷◌, length, map, Option, None, Some, Result, Ok, Err, IfOk, OnOk, refl, sym, ap, ◌∙◌, subst, arith, slice_get, slice_set}
 use Rattle.std.proofs.lemmas.Bool.Decides.{nat_tests}
 use Rattle.std.proofs.lemmas.List.{length-map}
 use Rattle.catalogue.specs.Shapes.{TableShape}
@@ -24,6 +24,7 @@ use Rattle.engine.specs.declared.stage.Begun.{Begun as BegunOf}
 use Rattle.engine.specs.declared.stage.Stage.{Stage}
 use Rattle.engine.specs.declared.stage.Stage.TheVariants.{Begun}
 use Rattle.engine.specs.declared.ending.Ended.{Ended}
+use Rattle.engine.specs.declared.working.Interruption.{Interruption}
 use Rattle.engine.specs.Engines.{Account, Unfinished}
 use Rattle.engine.specs.Tallies.{tally_of, together, counted, settled_among}
 use Rattle.engine.specs.Accounts.{settled_of}
@@ -183,7 +184,7 @@ same_length : (phases : List Phase) (log : List Transaction) → is_done log pha
 same_length phases log done = grind (arith, nat_tests, done)
 
 pub end_told : (tables of_end : List TableShape) (first retries : ℕ) (b : BegunOf) (ended : Ended) (a : Option Account) → IsBegun tables first b
-    → is_done (log_of b.scheduler.work) (phases_of b.scheduler) ≡ true → IsEndOf of_end first retries (attempts_in b.attempts) b.scheduler.work.start ended → AreCounted b.scheduler a → KnowsEnd ended a
+    → is_done (log_of b.scheduler.work) (phases_of b.scheduler) ≡ true → IsEndOf of_end first retries (attempts_in b.attempts) b.scheduler.work.start ended → AreCounted b.scheduler a → KnowsEnd ended.done a
 end_told tables of_end first retries b ended None h done end counts = tt
 end_told tables of_end first retries b ended (Some a) h done end counts =
     let w : Work = b.scheduler.work in
@@ -193,3 +194,9 @@ end_told tables of_end first retries b ended (Some a) h done end counts =
     let all = all_among (phases_of b.scheduler) (replies_in w) (omega (arith, log, same, many)) (and_right _ _ done) in
     counts.shows
     ∙ ap (λ (rs : List Reply). together a.ended (tally_of rs)) (all ∙ ap (λ (es : List EntryShape). serial_replies es w.start) h.schedule.entries ∙ sym end.replies)
+
+pub ended_told : (tables : List TableShape) (first retries : ℕ) (b : BegunOf) (r : Result Ended Interruption) (a : Option Account) → IsBegun tables first b
+    → OnOk r (is_done (log_of b.scheduler.work) (phases_of b.scheduler) ≡ true)
+    → IfOk r (IsEndOf b.scheduler.work.tables first retries (attempts_in b.attempts) b.scheduler.work.start) → AreCounted b.scheduler a → IfOk r (λ ended. KnowsEnd ended.done a)
+ended_told tables first retries b (Ok ended) a h done end counts = end_told tables b.scheduler.work.tables first retries b ended a h done end counts
+ended_told tables first retries b (Err stop) a h done end counts = tt

@@ -36,9 +36,9 @@ pub record Account : Type 0 where
   pub published : List Tally
   pub place : Place
 
--- The procedures, the settings, how often a stale request is tried again, the number of the next transaction, the database that
--- the batches which ended have left, the requests that are carried to the next batch, the batch that is unfinished, and what the
--- watchers are told. While a batch is unfinished the carried requests are among its attempts, and none is carried beside them.
+-- An engine: the procedures, the settings, how often a stale request is tried again, the number of the next transaction, the
+-- database that the batches which ended have left, the requests that are carried to the next batch, and the batch that is
+-- unfinished. While a batch is unfinished the carried requests are among its attempts, and none is carried beside them.
 pub record EngineParts : Type 0 where
   pub procs : ProcsParts
   pub settings : Settings
@@ -47,6 +47,10 @@ pub record EngineParts : Type 0 where
   pub rows : Database
   pub carried : List Carried
   pub unfinished : Option Unfinished
+
+-- an engine that publishes, and what its watchers are told
+pub record PublishingParts : Type 0 where
+  pub core : EngineParts
   pub account : Account
 
 abbrev pub tables_of : EngineParts → List TableShape
@@ -62,36 +66,47 @@ NoneIsOut phases = (place : ℕ) → is_out (slice_get phases place) ≡ false
 
 -- what is settled stays settled
 abbrev pub StaysSettled : List Phase → List Phase → Type 0
-StaysSettled old new = (place : ℕ) → is_settled (slice_get old place) ≡ true → is_settled (slice_get new place) ≡ true
+StaysSettled old new =
+    (place : ℕ) → is_settled (slice_get old place) ≡ true → is_settled (slice_get new place) ≡ true
 
 abbrev pub earlier_code : Coded Earlier
-earlier_code = code_by (ℕ × ℕ) (coded× coded_ℕ coded_ℕ) (λ e. (e.first, e.tries)) (λ p. record { first = p.0; tries = p.1 }) (λ _. refl)
+earlier_code =
+    code_by (ℕ × ℕ) (coded× coded_ℕ coded_ℕ)
+    (λ e. (e.first, e.tries))
+    (λ p. record { first = p.0; tries = p.1 })
+    (λ _. refl)
 
 abbrev pub attempt_code : Coded Attempt
-attempt_code = code_by (ℕ × (ℕ × (Call × Option Earlier))) (coded× coded_ℕ (coded× coded_ℕ (coded× requests.the_row.coded (coded_option earlier_code))))
+attempt_code =
+    code_by (ℕ × (ℕ × (Call × Option Earlier)))
+    (coded× coded_ℕ (coded× coded_ℕ (coded× requests.the_row.coded (coded_option earlier_code))))
     (λ a. (a.client, (a.number, (a.request, a.before))))
     (λ p. record { client = p.0; number = p.1.0; request = p.1.1.0; before = p.1.1.1 })
     (λ _. refl)
 
 abbrev pub unfinished_code : Coded Unfinished
-unfinished_code = code_by (List Attempt × List Phase) (coded× (coded_list attempt_code) (coded_list phase.the_row.coded)) (λ u. (u.attempts, u.phases)) (λ p. record { attempts = p.0; phases = p.1 }) (λ _. refl)
+unfinished_code =
+    code_by (List Attempt × List Phase) (coded× (coded_list attempt_code) (coded_list phase.the_row.coded))
+    (λ u. (u.attempts, u.phases))
+    (λ p. record { attempts = p.0; phases = p.1 })
+    (λ _. refl)
 
 abbrev pub account_code : Coded Account
-account_code = code_by (Tally × (List Tally × Place)) (coded× tally.the_row.coded (coded× (coded_list tally.the_row.coded) (coded_option table_id_coded))) (λ a. (a.ended, (a.published, a.place))) (λ p. record { ended = p.0; published = p.1.0; place = p.1.1 }) (λ _. refl)
-
--- the beginning of a published list, and where that is published: what a watcher knows
-pub record Watched : Type 0 where
-  pub seen : List Tally
-  pub place : Place
-
-abbrev pub watched_code : Coded Watched
-watched_code = code_by (List Tally × Place) (coded× (coded_list tally.the_row.coded) (coded_option table_id_coded)) (λ w. (w.seen, w.place)) (λ p. record { seen = p.0; place = p.1 }) (λ _. refl)
+account_code =
+    code_by (Tally × (List Tally × Place))
+    (coded× tally.the_row.coded (coded× (coded_list tally.the_row.coded) (coded_option table_id_coded)))
+    (λ a. (a.ended, (a.published, a.place)))
+    (λ p. record { ended = p.0; published = p.1.0; place = p.1.1 })
+    (λ _. refl)
 
 abbrev pub engine_code : Coded EngineParts
-engine_code = code_by (ProcsParts × (Settings × (ℕ × (ℕ × (Database × (List Carried × (Option Unfinished × Account)))))))
+engine_code =
+    code_by (ProcsParts × (Settings × (ℕ × (ℕ × (Database × (List Carried × Option Unfinished))))))
     (coded× procs.the_row.coded
-    (coded× settings.the_row.coded (coded× coded_ℕ (coded× coded_ℕ (coded× rows_code (coded× (coded_list carried.the_row.coded) (coded× (coded_option unfinished_code) account_code)))))))
-    (λ e. (e.procs, (e.settings, (e.retries, (e.next, (e.rows, (e.carried, (e.unfinished, e.account))))))))
+    (coded× settings.the_row.coded
+    (coded× coded_ℕ
+    (coded× coded_ℕ (coded× rows_code (coded× (coded_list carried.the_row.coded) (coded_option unfinished_code)))))))
+    (λ e. (e.procs, (e.settings, (e.retries, (e.next, (e.rows, (e.carried, e.unfinished)))))))
     (λ p. record {
       procs = p.0;
       settings = p.1.0;
@@ -99,7 +114,25 @@ engine_code = code_by (ProcsParts × (Settings × (ℕ × (ℕ × (Database × (
       next = p.1.1.1.0;
       rows = p.1.1.1.1.0;
       carried = p.1.1.1.1.1.0;
-      unfinished = p.1.1.1.1.1.1.0;
-      account = p.1.1.1.1.1.1.1;
+      unfinished = p.1.1.1.1.1.1;
     })
+    (λ _. refl)
+
+abbrev pub publishing_code : Coded PublishingParts
+publishing_code =
+    code_by (EngineParts × Account) (coded× engine_code account_code)
+    (λ e. (e.core, e.account))
+    (λ p. record { core = p.0; account = p.1 })
+    (λ _. refl)
+
+-- the beginning of a published list, and where that is published: what a watcher knows
+pub record Watched : Type 0 where
+  pub seen : List Tally
+  pub place : Place
+
+abbrev pub watched_code : Coded Watched
+watched_code =
+    code_by (List Tally × Place) (coded× (coded_list tally.the_row.coded) (coded_option table_id_coded))
+    (λ w. (w.seen, w.place))
+    (λ p. record { seen = p.0; place = p.1 })
     (λ _. refl)

@@ -4,15 +4,14 @@ use Rattle.std.specs.Prelude.{◌≡◌, ◌+◌, ◌<◌, ◌^◌, List, [], le
 use Rattle.meaning.specs.Serial.{serial_end, serial_replies}
 use Rattle.sequencer.specs.declared.batch.Batch.{Batch}
 use Rattle.sequencer.specs.Attempts.{Attempt, left_of}
-use Rattle.engine.specs.declared.engine.ExecFault.{ExecFault}
-use Rattle.engine.specs.declared.engine.ExecFault.TheVariants.{Busy, LogFull, Spawn, NoMemory}
-use Rattle.engine.specs.declared.pool.Refusal.{Refusal}
-use Rattle.engine.specs.declared.pool.Refusal.TheVariants.{Thread, Memory}
+use Rattle.engine.specs.declared.fault.ExecFault.{ExecFault}
+use Rattle.engine.specs.declared.fault.ExecFault.TheVariants.{Busy, LogFull, Spawn, NoMemory}
+use Rattle.engine.specs.declared.refusal.Refusal.{Refusal}
+use Rattle.engine.specs.declared.refusal.Refusal.TheVariants.{Thread, Memory}
 use Rattle.engine.specs.declared.replies.BatchDone.{BatchDone}
 use Rattle.engine.specs.Batches.{entries_of, next_attempts}
 use Rattle.engine.specs.Engines.{EngineParts, Unfinished, is_busy, NoneIsOut, StaysSettled}
 use Rattle.engine.specs.Replies.{reply_of, sent_of, sent_from}
-use Rattle.engine.specs.Tallies.{tally_of, together}
 
 -- procedures, with their tables, settings, and how often a stale request is tried again are as they were
 pub record KeepsSetting (old new : EngineParts) : Type 0 where
@@ -28,9 +27,9 @@ pub record IsExecutionOf (old new : EngineParts) (attempts : List Attempt) (run 
   pub replies : map reply_of run.replies.items ≡ serial_replies (entries_of old.rows attempts) old.rows
   pub rows : new.rows ≡ serial_end (entries_of old.rows attempts) old.rows
   pub next : new.next ≡ old.next + length attempts
-  pub carried : new.carried ≡ left_of old.retries old.next attempts (serial_replies (entries_of old.rows attempts) old.rows)
+  pub carried : new.carried
+      ≡ left_of old.retries old.next attempts (serial_replies (entries_of old.rows attempts) old.rows)
   pub idle : new.unfinished ≡ None
-  pub counted : new.account.ended ≡ together old.account.ended (tally_of (map reply_of run.replies.items))
 
 -- the attempts of a batch as it is taken: nothing of it is admitted
 abbrev pub taken : List Attempt → Unfinished
@@ -47,21 +46,27 @@ WaitsIn None new = ⊥
 WaitsIn (Some old) None = ⊥
 WaitsIn (Some old) (Some new) = Waits old new
 
--- A batch was not run to its end. Where a thread was refused, nothing of it has run in this call, and where memory was
--- refused, not all of it. The engine holds it with all that was carried to it, its transactions have no numbers yet, the rows before
--- it are kept, and so is the tally of the batches that ended.
+-- what an engine keeps while it holds a batch: that batch has no numbers yet, the rows are those before it, and nothing is carried
+-- beside it
+pub record Holds (old new : EngineParts) : Type 0 where
+  pub next : new.next ≡ old.next
+  pub rows : new.rows ≡ old.rows
+  pub carried : new.carried ≡ []
+
+-- A batch was not run to its end, and the engine holds it with all that was carried to it. Where a thread was refused, nothing of it
+-- has run in this call, and if allocation failed, not all of it.
 abbrev pub IsInterruption : EngineParts → Option Unfinished → EngineParts → ExecFault → Type 0
 IsInterruption old unfinished new (Busy back) = ⊥
 IsInterruption old unfinished new (LogFull back) = ⊥
-IsInterruption old unfinished new Spawn = (new.unfinished ≡ unfinished) × (new.next ≡ old.next) × (new.rows ≡ old.rows) × (new.carried ≡ []) × (new.account.ended ≡ old.account.ended)
-IsInterruption old unfinished new NoMemory =
-    WaitsIn unfinished new.unfinished × (new.next ≡ old.next) × (new.rows ≡ old.rows) × (new.carried ≡ []) × (new.account.ended ≡ old.account.ended)
+IsInterruption old unfinished new Spawn = (new.unfinished ≡ unfinished) × Holds old new
+IsInterruption old unfinished new NoMemory = WaitsIn unfinished new.unfinished × Holds old new
 
 -- The batch was not run: it comes back from a busy engine, and where the log would have more than 2^48 transactions, and
 -- nothing is changed; or it was taken and interrupted.
 abbrev pub IsRefusal : EngineParts → EngineParts → Batch → ExecFault → Type 0
 IsRefusal old new batch (Busy back) = (back ≡ batch) × (is_busy old ≡ true) × (new ≡ old)
-IsRefusal old new batch (LogFull back) = (back ≡ batch) × (2 ^ 48 < old.next + length (next_attempts old batch)) × (new ≡ old)
+IsRefusal old new batch (LogFull back) =
+    (back ≡ batch) × (2 ^ 48 < old.next + length (next_attempts old batch)) × (new ≡ old)
 IsRefusal old new batch Spawn = IsInterruption old (Some (taken (next_attempts old batch))) new Spawn
 IsRefusal old new batch NoMemory = IsInterruption old (Some (taken (next_attempts old batch))) new NoMemory
 
@@ -69,6 +74,13 @@ IsRefusal old new batch NoMemory = IsInterruption old (Some (taken (next_attempt
 abbrev pub IsSpawn : ExecFault → Type 0
 IsSpawn Spawn = ⊤
 IsSpawn fault = ⊥
+
+-- the batch came back
+abbrev pub IsBack : ExecFault → Type 0
+IsBack (Busy batch) = ⊤
+IsBack (LogFull batch) = ⊤
+IsBack Spawn = ⊥
+IsBack NoMemory = ⊥
 
 -- what resuming an unfinished batch comes to
 abbrev pub ResumesTo : EngineParts → EngineParts → Option Unfinished → BatchDone → Type 0

@@ -5,7 +5,6 @@ pub mod Replies
 pub mod Tallies
 pub mod Accounts
 pub mod Executions
-pub mod Quiet
 pub mod Listeners
 pub mod Stages
 pub mod HandedOut

@@ -1,6 +1,6 @@
 -- Of the code: invariants and steps; no promise rests on these words.
 -- What a listener is told while a batch runs.
-use Rattle.std.specs.Prelude.{◌≡◌, ◌+◌, ◌-◌, ◌<◌, ◌≤◌, ◌^◌, ℕ, List, [], ◌∷◌, ◌++◌, length, map, Option, Some, None, ⊤, slice_set}
+use Rattle.std.specs.Prelude.{◌≡◌, ◌+◌, ◌-◌, ◌<◌, ◌≤◌, ◌^◌, ℕ, List, [], ◌∷◌, ◌++◌, length, map, Bool, true, false, Option, Some, None, ⊤, slice_set}
 use Rattle.meaning.specs.Entries.{Reply}
 use Rattle.meaning.specs.Serial.{serial_replies}
 use Rattle.interp.specs.Entries.{entry_shape}
@@ -54,3 +54,8 @@ abbrev pub HearsOn : Option Account → Option Account → Type 0
 HearsOn None new = new ≡ None
 HearsOn (Some old) None = ⊥
 HearsOn (Some old) (Some new) = (new.ended ≡ old.ended) × PublishesOn old new
+
+-- what was published counts among the batches that ended, where a batch has ended
+abbrev pub published_until : Bool → Account → Account
+published_until true account = record account { ended = latest account.published }
+published_until false account = account

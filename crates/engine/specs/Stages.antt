@@ -1,6 +1,6 @@
 -- Of the code: invariants and steps; no promise rests on these words.
 -- The stages of an engine.
-use Rattle.std.specs.Prelude.{◌≡◌, ◌+◌, ◌≤◌, ◌^◌, ℕ, List, [], length, map, Option, Some, None, ⊤}
+use Rattle.std.specs.Prelude.{◌≡◌, ◌+◌, ◌≤◌, ◌^◌, ℕ, List, [], length, map, Option, Some, None, Result, Ok, Err, ⊤}
 use Rattle.std.specs.FinMap.{empty}
 use Rattle.progress.specs.Tallies.{opening}
 use Rattle.catalogue.specs.Shapes.{TableShape}
@@ -14,14 +14,16 @@ use Rattle.scheduler.specs.Schedules.{Schedule, phases_of, KeepsItsJobs}
 use Rattle.meaning.specs.Serial.{serial_end, serial_replies}
 use Rattle.engine.specs.declared.stage.Begun.{Begun as BegunOf}
 use Rattle.engine.specs.declared.ending.Ended.{Ended}
+use Rattle.engine.specs.declared.fault.ExecFault.{ExecFault}
+use Rattle.engine.specs.declared.replies.BatchDone.{BatchDone}
 use Rattle.engine.specs.declared.stage.Stage.{Stage}
 use Rattle.engine.specs.declared.stage.Stage.TheVariants.{Idle, Held, Begun}
 use Rattle.engine.specs.Batches.{entries_of}
-use Rattle.engine.specs.Engines.{Account, Unfinished, NoneIsOut}
+use Rattle.engine.specs.Engines.{Account, EngineParts, Unfinished, NoneIsOut}
 use Rattle.engine.specs.Accounts.{Shows, settled_of}
 use Rattle.engine.specs.Replies.{reply_of, sent_of, sent_from}
-use Rattle.engine.specs.declared.pool.Refusal.{Refusal}
-use Rattle.engine.specs.declared.pool.Refusal.TheVariants.{Thread, Memory}
+use Rattle.engine.specs.declared.refusal.Refusal.{Refusal}
+use Rattle.engine.specs.declared.refusal.Refusal.TheVariants.{Thread, Memory}
 use Rattle.engine.specs.declared.working.Interruption.{Interruption}
 use Rattle.engine.specs.Executions.{taken, WaitsIn}
 
@@ -81,7 +83,8 @@ pub record IsBegun (tables : List TableShape) (first : ℕ) (begun : BegunOf) : 
 
 -- how a stage fits the tables and the number of the next transaction
 abbrev pub Fits : List TableShape → ℕ → Stage → Type 0
-Fits tables next (Idle store carried) = IsFree tables store × (next ≤ 2 ^ 48) × AreCarriedOver tables carried.items × (length carried.items ≤ next)
+Fits tables next (Idle store carried) =
+    IsFree tables store × (next ≤ 2 ^ 48) × AreCarriedOver tables carried.items × (length carried.items ≤ next)
 Fits tables next (Held attempts store) = IsHeld tables next attempts store
 Fits tables next (Begun begun) = IsBegun tables next begun
 
@@ -94,23 +97,27 @@ abbrev pub account_in : Option Account → Account
 account_in None = record { ended = opening; published = []; place = None }
 account_in (Some account) = account
 
--- what they are told is what is settled: so many transactions in the batches that ended, and those of this stage
-pub record IsShown (next : ℕ) (stage : Option Stage) (account : Account) : Type 0 where
+-- what they are told is what is settled: so many transactions in the batches that ended, and those of an unfinished one on these rows
+pub record IsShown (next : ℕ) (unfinished : Option Unfinished) (rows : Database) (account : Account) : Type 0 where
   pub ended : account.ended.settled ≡ next
-  pub shows : Shows account (settled_of (unfinished_in stage) (rows_in stage))
+  pub shows : Shows account (settled_of unfinished rows)
 
-abbrev pub IsTold : ℕ → Option Stage → Option Account → Type 0
-IsTold next stage None = ⊥
-IsTold next stage (Some account) = IsShown next stage account
+abbrev pub IsTold : EngineParts → Option Account → Type 0
+IsTold engine None = ⊥
+IsTold engine (Some account) = IsShown engine.next engine.unfinished engine.rows account
 
 -- a listener that claims anything was told this
+abbrev pub IsHeard : ℕ → Option Unfinished → Database → Option Account → Type 0
+IsHeard next unfinished rows None = ⊤
+IsHeard next unfinished rows (Some account) = IsShown next unfinished rows account
+
 abbrev pub Knows : ℕ → Stage → Option Account → Type 0
-Knows first stage None = ⊤
-Knows first stage (Some account) = IsShown first (Some stage) account
+Knows first stage account = IsHeard first (unfinished_in (Some stage)) (rows_in (Some stage)) account
 
 -- the end of a batch of these attempts: the rows are those that their entries one by one on the rows before it leave, the replies are
 -- theirs, and of those that were stale the requests are left that had few enough attempts before
-pub record IsEndOf (tables : List TableShape) (first retries : ℕ) (attempts : List Attempt) (start : Database) (ended : Ended) : Type 0 where
+pub record IsEndOf (tables : List TableShape) (first retries : ℕ) (attempts : List Attempt) (start : Database) (ended : Ended)
+    : Type 0 where
   pub free : IsFree tables ended.store
   pub rows : ended.store.rows ≡ serial_end (entries_of start attempts) start
   pub numbered : ended.done.first ≡ first
@@ -118,13 +125,19 @@ pub record IsEndOf (tables : List TableShape) (first retries : ℕ) (attempts : 
   pub replies : map reply_of ended.done.replies.items ≡ serial_replies (entries_of start attempts) start
   pub count : length ended.done.replies.items ≡ length attempts
   pub few : first + length attempts ≤ 2 ^ 48
-  pub left : ended.left.items ≡ left_of retries first attempts (serial_replies (entries_of start attempts) start)
+  pub left : ended.left.items
+      ≡ left_of retries first attempts (serial_replies (entries_of start attempts) start)
   pub left_over : AreCarriedOver tables ended.left.items
   pub left_few : length ended.left.items ≤ length ended.done.replies.items
 
 abbrev pub EndsBatch : List TableShape → ℕ → ℕ → Option Unfinished → Database → Ended → Type 0
 EndsBatch tables first retries None start ended = ⊥
 EndsBatch tables first retries (Some unfinished) start ended = IsEndOf tables first retries unfinished.attempts start ended
+
+-- what the system refused: memory, where all transactions were run
+abbrev pub refusal_in : Result (Unit {0}) Refusal → Refusal
+refusal_in (Ok ran) = Memory
+refusal_in (Err refusal) = refusal
 
 -- where a stop leaves an unfinished batch: where memory was refused no job of it is out and what was settled of it is settled
 -- still, and where a thread was refused, nothing has changed
@@ -138,6 +151,11 @@ pub record IsInterruptedStage (tables : List TableShape) (first : ℕ) (old : St
   pub batch : Stopped stop.refusal (unfinished_in (Some old)) (unfinished_in (Some stop.stage))
 
 -- what a listener was told when a batch ended counts its replies
-abbrev pub KnowsEnd : Ended → Option Account → Type 0
-KnowsEnd ended None = ⊤
-KnowsEnd ended (Some account) = Shows account (map reply_of ended.done.replies.items)
+abbrev pub KnowsEnd : BatchDone → Option Account → Type 0
+KnowsEnd done None = ⊤
+KnowsEnd done (Some account) = Shows account (map reply_of done.replies.items)
+
+-- what a listener was told by the call that left an engine so
+abbrev pub HasHeard : EngineParts → Result BatchDone ExecFault → Option Account → Type 0
+HasHeard engine (Ok done) account = KnowsEnd done account
+HasHeard engine (Err fault) account = IsHeard engine.next engine.unfinished engine.rows account

@@ -13,7 +13,7 @@ use crate::alone::run_next;
 use crate::brief::is_brief;
 use crate::gate::Gate;
 use crate::listener::{Listener, tell};
-use crate::quarters::{Drowsiness, Quarters};
+use crate::parking::{Idling, Parking};
 use crate::worker::run_one;
 use lanes::{Lanes, SchedulerSeat, WorkerSeat};
 use scheduler::{AdmitFault, Scheduler};
@@ -48,7 +48,7 @@ fn hand_out(
     lanes: &Lanes,
     seat: &mut SchedulerSeat,
     out: usize,
-    quarters: &Quarters,
+    parking: &Parking,
 ) -> Result<bool, NoMemory>
     requires seat { seat.old.lanes ≡ lanes.now }
     requires lanes { AreInLanes scheduler.old seat.old }
@@ -65,10 +65,10 @@ fn hand_out(
     let Some(job) = scheduler.lend()? else {
         return Ok(false);
     };
-    quarters.expect_job();
+    parking.expect_job();
     match lanes.put(seat, job) {
         Ok(_) => {
-            quarters.wake_worker_beside(out);
+            parking.wake_worker_beside(out);
             Ok(true)
         }
         Err(_) => unreachable!(),
@@ -84,7 +84,7 @@ fn hand_out_all(
     count: usize,
     out: &mut usize,
     admitted: &mut usize,
-    quarters: &Quarters,
+    parking: &Parking,
 ) -> Result<(), NoMemory>
     requires seat { seat.old.lanes ≡ lanes.now }
     requires lanes { AreInLanes scheduler.old seat.old }
@@ -99,7 +99,7 @@ fn hand_out_all(
 {
     admit_ahead(scheduler, admitted)?;
     'jobs: while *out < count {
-        if !hand_out(scheduler, lanes, seat, *out, quarters)? {
+        if !hand_out(scheduler, lanes, seat, *out, parking)? {
             return Ok(());
         }
         *out += 1;
@@ -115,7 +115,7 @@ fn take_in<L: Listener>(
     lanes: &Lanes,
     seat: &mut SchedulerSeat,
     out: &mut usize,
-    quarters: &Quarters,
+    parking: &Parking,
 ) -> Result<bool, NoMemory>
     requires seat { seat.old.lanes ≡ lanes.now }
     requires lanes { AreInLanes scheduler.old seat.old }
@@ -129,13 +129,13 @@ fn take_in<L: Listener>(
     ensures onward { HearsOn (L.account listener.old) (L.account listener.new) }
     ensures out { out.new ≡ jobs_in seat.new.jobs }
 {
-    if !quarters.has_results() {
+    if !parking.has_results() {
         return Ok(false);
     }
     let Some((_, done)) = lanes.collect(seat) else {
         return Ok(false);
     };
-    quarters.take_result();
+    parking.take_result();
     let is_run = done.is_run();
     let no = done.no();
     scheduler.settle(done);
@@ -149,7 +149,7 @@ fn run_only_job<G: Gate>(
     lanes: &Lanes,
     hand: &mut WorkerSeat,
     out: usize,
-    quarters: &Quarters,
+    parking: &Parking,
     gate: &G,
 ) -> bool
     requires hand { hand.old.lanes ≡ lanes.now }
@@ -157,11 +157,11 @@ fn run_only_job<G: Gate>(
     ensures hand { hand.new.lanes ≡ lanes.now }
     ensures free { HoldsNoJob hand.new }
 {
-    out == 1 && run_one(lanes, hand, quarters, gate)
+    out == 1 && run_one(lanes, hand, parking, gate)
 }
 
 /// Settles what is delivered next, until nothing more is found, and tells the listener. Where one job alone is out and waits, no worker
-/// could do anything beside it, so it is run here. Else this sleeps until something is delivered. An error says that a job came back
+/// could do anything beside it, so it is run here. Else this parks until something is delivered. An error says that a job came back
 /// without a run, for want of memory.
 fn take_in_next<R: Wait, G: Gate, L: Listener>(
     rt: &R,
@@ -171,7 +171,7 @@ fn take_in_next<R: Wait, G: Gate, L: Listener>(
     seat: &mut SchedulerSeat,
     hand: &mut WorkerSeat,
     out: &mut usize,
-    quarters: &Quarters,
+    parking: &Parking,
     gate: &G,
 ) -> Result<(), NoMemory>
     requires seat { seat.old.lanes ≡ lanes.now }
@@ -190,20 +190,20 @@ fn take_in_next<R: Wait, G: Gate, L: Listener>(
     ensures onward { HearsOn (L.account listener.old) (L.account listener.new) }
     ensures out { out.new ≡ jobs_in seat.new.jobs }
 {
-    let mut drowsiness = Drowsiness::Busy;
+    let mut idling = Idling::Busy;
     let mut is_found = false;
     for _ in rt.forever() {
-        if take_in(scheduler, listener, lanes, seat, out, quarters)? {
-            quarters.rise_scheduler(drowsiness);
-            drowsiness = Drowsiness::Busy;
+        if take_in(scheduler, listener, lanes, seat, out, parking)? {
+            parking.end_idling(idling);
+            idling = Idling::Busy;
             is_found = true;
         } else if is_found {
             break;
-        } else if run_only_job(lanes, hand, *out, quarters, gate) {
-            quarters.rise_scheduler(drowsiness);
-            drowsiness = Drowsiness::Busy;
+        } else if run_only_job(lanes, hand, *out, parking, gate) {
+            parking.end_idling(idling);
+            idling = Idling::Busy;
         } else {
-            drowsiness = quarters.rest_scheduler(rt, drowsiness);
+            idling = parking.idle_scheduler(rt, idling);
         }
     }
     Ok(())
@@ -245,7 +245,7 @@ fn hand_over<R: Wait, G: Gate, L: Listener>(
     hand: &mut WorkerSeat,
     count: usize,
     out: &mut usize,
-    quarters: &Quarters,
+    parking: &Parking,
     gate: &G,
 ) -> Result<(), NoMemory>
     requires seat { seat.old.lanes ≡ lanes.now }
@@ -272,10 +272,10 @@ fn hand_over<R: Wait, G: Gate, L: Listener>(
             break;
         }
         if !run_brief(scheduler, listener, *out, gate)? {
-            hand_out_all(scheduler, lanes, seat, count, out, &mut admitted, quarters)?;
+            hand_out_all(scheduler, lanes, seat, count, out, &mut admitted, parking)?;
             let handed_out = *out;
             take_in_next(
-                rt, scheduler, listener, lanes, seat, hand, out, quarters, gate,
+                rt, scheduler, listener, lanes, seat, hand, out, parking, gate,
             )?;
             admitted = without_settled(admitted, handed_out, *out);
         }
@@ -293,7 +293,7 @@ fn take_in_all<R: Wait, G: Gate, L: Listener>(
     seat: &mut SchedulerSeat,
     hand: &mut WorkerSeat,
     out: &mut usize,
-    quarters: &Quarters,
+    parking: &Parking,
     gate: &G,
 )
     requires seat { seat.old.lanes ≡ lanes.now }
@@ -317,7 +317,7 @@ fn take_in_all<R: Wait, G: Gate, L: Listener>(
             break;
         }
         let _ = take_in_next(
-            rt, scheduler, listener, lanes, seat, hand, out, quarters, gate,
+            rt, scheduler, listener, lanes, seat, hand, out, parking, gate,
         );
     }
 }
@@ -333,7 +333,7 @@ pub(crate) fn schedule<R: Wait, G: Gate, L: Listener>(
     seat: &mut SchedulerSeat,
     hand: &mut WorkerSeat,
     count: usize,
-    quarters: &Quarters,
+    parking: &Parking,
     gate: &G,
 ) -> Result<(), NoMemory>
     requires seat { seat.old.lanes ≡ lanes.now }
@@ -356,12 +356,12 @@ pub(crate) fn schedule<R: Wait, G: Gate, L: Listener>(
 {
     let mut out = 0;
     let ended = hand_over(
-        rt, scheduler, listener, lanes, seat, hand, count, &mut out, quarters, gate,
+        rt, scheduler, listener, lanes, seat, hand, count, &mut out, parking, gate,
     );
     if ended.is_err() {
-        quarters.wake_worker();
+        parking.wake_worker();
         take_in_all(
-            rt, scheduler, listener, lanes, seat, hand, &mut out, quarters, gate,
+            rt, scheduler, listener, lanes, seat, hand, &mut out, parking, gate,
         );
     }
     ended

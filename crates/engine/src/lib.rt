@@ -2,10 +2,13 @@
 #![tactic(auto)]
 
 mod alone;
+mod batch_engine;
 mod beginning;
 mod brief;
+mod configuration;
 mod ending;
 mod engine;
+mod fault;
 mod gate;
 mod handing;
 mod laws;
@@ -13,8 +16,9 @@ mod listener;
 mod pool;
 mod pooled;
 mod publisher;
-mod quarters;
+mod parking;
 mod quiet;
+mod refusal;
 mod repartition;
 mod replies;
 mod settings;
@@ -25,7 +29,9 @@ mod worker;
 mod working;
 mod workplace;
 
-pub use engine::{Engine, ExecFault};
+pub use batch_engine::BatchEngine;
+pub use engine::Engine;
+pub use fault::ExecFault;
 pub use gate::{Gate, OpenGate};
 pub use laws::{settled_transactions_are_counted, tallies_add_up};
 pub use pool::WorkerPool;

@@ -1,9 +1,9 @@
 //! Who is told of what is settled.
 
-ghost use Rattle.std.specs.Prelude.{◌≤◌, Option};
+ghost use Rattle.std.specs.Prelude.{◌≡◌, ◌≤◌, Option};
 ghost use Rattle.meaning.specs.Outcomes.{as_reply};
 ghost use Rattle.engine.specs.Engines.{Account};
-ghost use Rattle.engine.specs.Listeners.{AreCounted, AreOthersCounted, HasRoom, Hears, HearsOn};
+ghost use Rattle.engine.specs.Listeners.{AreCounted, AreOthersCounted, HasRoom, Hears, HearsOn, published_until};
 
 use crate::publisher::Publisher;
 use meaning::Outcome;
@@ -35,6 +35,19 @@ impl<R: Wait> Listener for Publishing<'_, R> {
 
     fn hear(&mut self, outcome: &Outcome) {
         self.publisher.publish(self.rt, outcome);
+    }
+}
+
+impl<R: Wait> Publishing<'_, R> {
+    /// What has published, after a call that ran a batch to its end, or did not.
+    pub fn into_publisher(self, has_ended: bool) -> Publisher
+        ensures { result ≡ published_until has_ended self.entry.publisher }
+    {
+        let mut publisher = self.publisher;
+        if has_ended {
+            publisher.end_batch();
+        }
+        publisher
     }
 }
 

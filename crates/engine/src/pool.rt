@@ -8,58 +8,18 @@ ghost use Rattle.engine.specs.Engines.{NoneIsOut, StaysSettled};
 ghost use Rattle.engine.specs.Listeners.{AreCounted, HearsOn};
 ghost use Rattle.engine.specs.Workers.{HoldsNoJob};
 
-use crate::engine::ExecFault;
 use crate::gate::Gate;
 use crate::handing::schedule;
 use crate::listener::Listener;
+use crate::refusal::Refusal;
 use crate::worker::{Worker, start};
 use crate::workplace::{HeadSeat, Workplace};
 use lanes::{SchedulerSeat, WorkerSeat};
 use scheduler::Scheduler;
 use std::sync::Wait;
 use std::thread::Scope;
-use values::NoMemory;
 
-/// What the system refused.
-#[derive(Clone, Copy, Debug, PartialEq, Eq)]
-pub(crate) enum Refusal {
-    Thread,
-    Memory,
-}
-
-impl From<NoMemory> for Refusal {
-    ghost use Rattle.engine.specs.declared.pool.Refusal.TheVariants.{Memory};
-
-    ghost from_gives = { λ _ refusal. refusal ≡ Memory };
-
-    fn from(_: NoMemory) -> Refusal {
-        Refusal::Memory
-    }
-}
-
-impl From<Refusal> for ExecFault {
-    ghost use Rattle.engine.specs.Executions.{fault_of};
-
-    ghost from_gives = { λ refusal given. given ≡ fault_of refusal };
-
-    fn from(refusal: Refusal) -> ExecFault {
-        match refusal {
-            Refusal::Thread => ExecFault::Spawn,
-            Refusal::Memory => ExecFault::NoMemory,
-        }
-    }
-}
-
-/// Where a run of the transactions that are left came to.
-#[derive(Drop)]
-pub(crate) struct Run<L: Listener + Drop> {
-    pub scheduler: Scheduler,
-    pub listener: L,
-    /// Why not all are done; nothing has run where a thread was refused.
-    pub ended: Result<(), Refusal>,
-}
-
-/// Worker threads of a scope at a workplace. They are started as batches need them, work at one batch after another, sleep in
+/// Worker threads of a scope at a workplace. They are started as batches need them, work at one batch after another, park in
 /// between, and end when the pool goes: the scope doesn't end before.
 pub struct WorkerPool<'s, E, R, G> {
     pub(crate) rt: &'s R,
@@ -87,7 +47,7 @@ impl<'s, E, R, G> Drop for WorkerPool<'s, E, R, G> {
             hand: _,
             started: _,
         } = self;
-        place.quarters.end();
+        place.parking.end();
     }
 }
 
@@ -120,15 +80,15 @@ impl<'s, E, R: Wait + Sync, G: Gate> WorkerPool<'s, E, R, G> {
     fn start_workers(&mut self, wanted: usize) -> Result<(), Refusal> {
         let place = self.place;
         'workers: while self.started < wanted {
-            let Some(bed) = place.quarters.workers.get(self.started) else {
+            let Some(spot) = place.parking.workers.get(self.started) else {
                 return Ok(());
             };
             let seat = place.lanes.worker_seat(&mut self.seat)?;
             let worker = Worker {
                 lanes: &place.lanes,
                 seat,
-                quarters: &place.quarters,
-                bed,
+                parking: &place.parking,
+                spot,
             };
             if !start(self.rt, self.scope, self.gate, worker) {
                 return Err(Refusal::Thread);
@@ -139,48 +99,37 @@ impl<'s, E, R: Wait + Sync, G: Gate> WorkerPool<'s, E, R, G> {
     }
 
     /// Runs the transactions of a batch that are left. It starts no more workers than there are transactions in the batch; those that
-    /// were started for an earlier one work at this one, too. Where memory is refused, no job is out then, and where a thread is
+    /// were started for an earlier one work at this one, too. If allocation fails, no job is out then, and where a thread is
     /// refused, nothing has run. The listener hears of each transaction as it is settled.
-    pub(crate) fn run<L: Listener + Drop>(
+    pub(crate) fn run<L: Listener>(
         &mut self,
         transactions: usize,
-        scheduler: Scheduler,
-        listener: L,
-    ) -> Run<L>
-        requires none_out { NoneIsOut (phases_of scheduler) }
-        requires told { AreCounted scheduler (L.account listener) }
-        ensures work { result.scheduler.work ≡ scheduler.work }
-        ensures settled { StaysSettled (phases_of scheduler) (phases_of result.scheduler) }
-        ensures none_out { NoneIsOut (phases_of result.scheduler) }
-        ensures done { OnOk result.ended (is_done (log_of result.scheduler.work) (phases_of result.scheduler) ≡ true) }
-        ensures thread { result.ended ≡ Err Refusal.Thread → result.scheduler ≡ scheduler }
-        ensures told { AreCounted result.scheduler (L.account result.listener) }
-        ensures onward { HearsOn (L.account listener) (L.account result.listener) }
+        scheduler: &mut Scheduler,
+        listener: &mut L,
+    ) -> Result<(), Refusal>
+        requires none_out { NoneIsOut (phases_of scheduler.old) }
+        requires told { AreCounted scheduler.old (L.account listener.old) }
+        ensures work { scheduler.new.work ≡ scheduler.old.work }
+        ensures settled { StaysSettled (phases_of scheduler.old) (phases_of scheduler.new) }
+        ensures none_out { NoneIsOut (phases_of scheduler.new) }
+        ensures done { OnOk result (is_done (log_of scheduler.new.work) (phases_of scheduler.new) ≡ true) }
+        ensures thread { result ≡ Err Refusal.Thread → scheduler.new ≡ scheduler.old }
+        ensures told { AreCounted scheduler.new (L.account listener.new) }
+        ensures onward { HearsOn (L.account listener.old) (L.account listener.new) }
     {
-        let mut scheduler = scheduler;
-        let mut listener = listener;
-        let ended = match self.start_workers(transactions) {
-            Ok(()) => {
-                let place = self.place;
-                schedule(
-                    self.rt,
-                    &mut scheduler,
-                    &mut listener,
-                    &place.lanes,
-                    &mut self.seat,
-                    &mut self.hand,
-                    place.count,
-                    &place.quarters,
-                    self.gate,
-                )
-                .map_err(Refusal::from)
-            }
-            Err(refusal) => Err(refusal),
-        };
-        Run {
+        self.start_workers(transactions)?;
+        let place = self.place;
+        schedule(
+            self.rt,
             scheduler,
             listener,
-            ended,
-        }
+            &place.lanes,
+            &mut self.seat,
+            &mut self.hand,
+            place.count,
+            &place.parking,
+            self.gate,
+        )
+        .map_err(Refusal::from)
     }
 }

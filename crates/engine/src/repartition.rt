@@ -3,11 +3,12 @@
 ghost use Rattle.std.specs.Prelude.{◌≡◌, ◌↔◌, IfOk, OnOk, OnErr, Ok, Err, false, true, map};
 ghost use Rattle.std.specs.List.{AllByRecursion};
 ghost use Rattle.catalogue.specs.Schemas.{HaveSameSchema};
-ghost use Rattle.requests.specs.ProcLists.{procs_over};
-ghost use Rattle.engine.specs.Batches.{over_tables};
+ghost use Rattle.engine.specs.Batches.{moved_over, over_tables};
+ghost use Rattle.engine.specs.Engines.{tables_of, is_busy};
 ghost use Rattle.engine.specs.declared.repartition.RepartFault.TheVariants as faults;
 
 use crate::engine::Engine;
+use crate::quiet::QuietEngine;
 use crate::stage::Stage;
 use catalogue::Catalogue;
 use sequencer::Carried;
@@ -56,22 +57,15 @@ fn moved(
     Ok(moved)
 }
 
-impl Engine {
-    ghost use Rattle.engine.specs.Engines.{tables_of, is_busy};
-
-    /// Splits the tables anew, as a catalogue says that has the same tables and columns in the same order. The rows, the
-    /// settings, the number of the next transaction and what watchers are told stay as they are; the engine's tables, those of
-    /// its procedures and of the carried requests too, are the new catalogue's from then on. An `Err` changes nothing. Each row is
-    /// visited once and shared.
-    ///
-    /// A request that was made before, and isn't carried, is over the old tables; `Request::over` brings it over to the new ones.
-    pub fn repartition(&mut self, alloc: Global, catalogue: &Catalogue) -> Result<(), RepartFault>
-        ensures done { OnOk result (self.new ≡ record self.old {
-          procs = procs_over catalogue.now self.old.procs;
-          carried = map (over_tables catalogue.now) self.old.carried;
-        }) }
+impl QuietEngine {
+    /// Splits the tables anew, as `Engine::repartition` says.
+    pub(crate) fn repartition(
+        &mut self,
+        alloc: Global,
+        catalogue: &Catalogue,
+    ) -> Result<(), RepartFault>
+        ensures done { OnOk result (self.new ≡ moved_over catalogue.now self.old) }
         ensures same { OnOk result (HaveSameSchema (tables_of self.old) catalogue.now) }
-        // While a batch is unfinished nothing is done.
         ensures busy { (result ≡ Err RepartFault.Busy) ↔ (is_busy self.old ≡ true) }
         ensures different { is_busy self.old ≡ false →
             (result ≡ Err RepartFault.Different) ↔ ¬ HaveSameSchema (tables_of self.old) catalogue.now }
@@ -84,10 +78,31 @@ impl Engine {
             return Err(RepartFault::Different);
         }
         let carried = moved(alloc, carried.as_slice(), catalogue)?;
-        let procs = self.procs.rebuild(alloc, catalogue)?;
+        let procs = self.configuration.procs.rebuild(alloc, catalogue)?;
         let store = store.rebuild(catalogue)?;
-        self.procs = procs;
+        self.configuration.procs = procs;
         self.stage = Some(Stage::Idle(store, carried));
         Ok(())
+    }
+}
+
+impl Engine {
+    /// Splits the tables anew, as a catalogue says that has the same tables and columns in the same order. The rows, the
+    /// settings, the number of the next transaction and what watchers are told stay as they are; the engine's tables, those of
+    /// its procedures and of the carried requests too, are the new catalogue's from then on. An `Err` changes nothing. Each row is
+    /// visited once and shared.
+    ///
+    /// A request that was made before, and isn't carried, is over the old tables; `Request::over` brings it over to the new ones.
+    pub fn repartition(&mut self, alloc: Global, catalogue: &Catalogue) -> Result<(), RepartFault>
+        ensures done { OnOk result (self.new ≡ record self.old { core = moved_over catalogue.now self.old.core }) }
+        ensures same { OnOk result (HaveSameSchema (tables_of self.old.core) catalogue.now) }
+        // While a batch is unfinished nothing is done.
+        ensures busy { (result ≡ Err RepartFault.Busy) ↔ (is_busy self.old.core ≡ true) }
+        ensures different { is_busy self.old.core ≡ false →
+            (result ≡ Err RepartFault.Different) ↔ ¬ HaveSameSchema (tables_of self.old.core) catalogue.now }
+        ensures err { OnErr result (self.new ≡ self.old) }
+    {
+        let _publisher = &self.publisher;
+        self.core.repartition(alloc, catalogue)
     }
 }

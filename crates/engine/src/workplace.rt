@@ -2,20 +2,20 @@
 
 ghost use Rattle.std.specs.Prelude.{◌≡◌, IfOk};
 
-use crate::quarters::Quarters;
+use crate::parking::Parking;
 use crate::settings::Settings;
 use lanes::{Lanes, SchedulerSeat, WorkerSeat};
 use std::alloc::Global;
 use std::marker::Model;
 use values::NoMemory;
 
-/// Where a scheduler and its workers meet, as their threads share it: the lanes between them, and where each of them sleeps.
+/// Where a scheduler and its workers meet, as their threads share it: the lanes between them, and where each of them parks.
 #[derive(Drop)]
 pub struct Workplace {
     pub(crate) lanes: Lanes,
     /// How many lanes there are.
     pub(crate) count: usize,
-    pub(crate) quarters: Quarters,
+    pub(crate) parking: Parking,
 }
 
 impl Model for Workplace {
@@ -69,11 +69,11 @@ impl Workplace {
         } = settings;
         let (lanes, mut seat) = Lanes::new(alloc, count)?;
         let hand = lanes.worker_seat(&mut seat)?;
-        let quarters = Quarters::new(alloc, workers)?;
+        let parking = Parking::new(alloc, workers)?;
         let place = Workplace {
             lanes,
             count,
-            quarters,
+            parking,
         };
         Ok((place, HeadSeat { seat, hand }))
     }

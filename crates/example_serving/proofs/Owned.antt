@@ -20,14 +20,14 @@ use Rattle.example_serving.specs.Steps.{DrawsOn, HasServed, AnswersAll, ServesOn
 use Rattle.example_serving.proofs.Answered.{same_answered}
 use Rattle.example_serving.proofs.Served.{holds_none, none_served, nothing_served, then_on, then_served, more_dropped, refused_besides, refused_then}
 
-pub none_had : (owner : Owner) → is_busy owner.engine ≡ false → HasServed owner owner (Ok tt)
-none_had owner idle = record { drawn = []; grows = sym (append-nil (drawn_by owner.pass)); serves = nothing_served owner.engine owner.told.items idle }
+pub none_had : (owner : Owner) → is_busy owner.engine.core ≡ false → HasServed owner owner (Ok tt)
+none_had owner idle = record { drawn = []; grows = sym (append-nil (drawn_by owner.pass)); serves = nothing_served owner.engine.core owner.told.items idle }
 
 pub then_had : (old mid new : Owner) (done : Unit {0}) (ended : Served) → HasServed old mid (Ok done) → HasServed mid new ended → HasServed old new ended
 then_had old mid new done ended h k = record {
   drawn = h.drawn ++ k.drawn;
   grows = k.grows ∙ ap (λ l. l ++ k.drawn) h.grows ∙ append_assoc (drawn_by old.pass) h.drawn k.drawn;
-  serves = then_on h.drawn k.drawn ended old.engine mid.engine new.engine old.told.items mid.told.items new.told.items h.serves k.serves;
+  serves = then_on h.drawn k.drawn ended old.engine.core mid.engine.core new.engine.core old.told.items mid.told.items new.told.items h.serves k.serves;
 }
 
 -- and then calls were turned away
@@ -35,7 +35,7 @@ pub then_away : (old mid : Owner) (pass : DrawPass ClientCall) (fault : ServeFau
 then_away old mid pass fault h k = record {
   drawn = h.drawn ++ k.0;
   grows = k.1 ∙ ap (λ l. l ++ k.0) h.grows ∙ append_assoc (drawn_by old.pass) h.drawn k.0;
-  serves = more_dropped h.drawn k.0 fault old.engine mid.engine old.told.items mid.told.items h.serves;
+  serves = more_dropped h.drawn k.0 fault old.engine.core mid.engine.core old.told.items mid.told.items h.serves;
 }
 
 -- the batch that was refused, behind calls that were all answered
@@ -70,7 +70,7 @@ pub drawn_so : (into more : List (Vec CallItem Global)) (new old : List CallItem
 drawn_so into more new old same is = is ∙ ap (λ l. old ++ l) (calls_are more ∙ ap (λ l. calls_in (items_in l)) (sym same))
 
 pub ended_so : (old : Owner) (served : Served) (hs : List (History ClientCall)) (new : EngineParts) (told : List Told) (ended : Served) (drawn now : List CallItem) → now ≡ drawn_by old.pass ++ drawn → IsNumbered now
-    → (ended ≢ Err NoMemory → HasAll now hs) → GoesOn served drawn ended old.engine new old.told.items told → IsServedToTheEnd old served hs new told ended
+    → (ended ≢ Err NoMemory → HasAll now hs) → GoesOn served drawn ended old.engine.core new old.told.items told → IsServedToTheEnd old served hs new told ended
 ended_so old served hs new told ended drawn now list numbered all on = record {
   drawn = drawn;
   numbered = subst IsNumbered list numbered;
@@ -105,23 +105,23 @@ no_service engine logs told none idle = record {
 
 -- the passes of the clients did not come back for want of memory
 pub cut_service : (first mid : Owner) (logs : List ClientLog) (served : Served) → drawn_by first.pass ≡ [] → first.told.items ≡ [] → IsNumbered (drawn_by mid.pass) → HasServed first mid served
-    → IsService first.engine logs mid.engine mid.told.items (Err NoMemory)
+    → IsService first.engine.core logs mid.engine.core mid.told.items (Err NoMemory)
 cut_service first mid logs served none empty numbered h = record {
   drawn = h.drawn;
   numbered = subst IsNumbered (h.grows ∙ ap (λ l. l ++ h.drawn) none) numbered;
   whole = λ not. absurd (not refl);
-  serves = refused_then h.drawn served first.engine mid.engine [] mid.told.items (subst (λ (t : List Told). ServesOn h.drawn served first.engine mid.engine t mid.told.items) empty h.serves);
+  serves = refused_then h.drawn served first.engine.core mid.engine.core [] mid.told.items (subst (λ (t : List Told). ServesOn h.drawn served first.engine.core mid.engine.core t mid.told.items) empty h.serves);
 }
 
 -- from the start to the end
 pub whole_service : (first mid : Owner) (hs : List (History ClientCall)) (logs : List ClientLog) (new : EngineParts) (told : List Told) (served ended : Served) → drawn_by first.pass ≡ [] → first.told.items ≡ []
-    → HasServed first mid served → hs ≡ histories_from 1 logs → IsServedToTheEnd mid served hs new told ended → IsService first.engine logs new told ended
+    → HasServed first mid served → hs ≡ histories_from 1 logs → IsServedToTheEnd mid served hs new told ended → IsService first.engine.core logs new told ended
 whole_service first mid hs logs new told served ended none empty h same k =
     let list : drawn_by mid.pass ++ k.drawn ≡ h.drawn ++ k.drawn = ap (λ l. l ++ k.drawn) (h.grows ∙ ap (λ l. l ++ h.drawn) none) in
     record {
       drawn = h.drawn ++ k.drawn;
       numbered = subst IsNumbered list k.numbered;
       whole = λ not. subst (λ l. HasAll l (histories_from 1 logs)) list (subst (λ l. HasAll (drawn_by mid.pass ++ k.drawn) l) same (k.all not));
-      serves = goes_on_so served h.drawn k.drawn ended first.engine mid.engine new [] mid.told.items told
-          (subst (λ (t : List Told). ServesOn h.drawn served first.engine mid.engine t mid.told.items) empty h.serves) k.goes_on;
+      serves = goes_on_so served h.drawn k.drawn ended first.engine.core mid.engine.core new [] mid.told.items told
+          (subst (λ (t : List Told). ServesOn h.drawn served first.engine.core mid.engine.core t mid.told.items) empty h.serves) k.goes_on;
     }

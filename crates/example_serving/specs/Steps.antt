@@ -62,7 +62,7 @@ ServesOn drawn (Err fault) old new before after = Serves drawn (Err fault) old n
 pub record HasServed (old new : Owner) (ended : Served) : Type 0 where
   pub drawn : List CallItem
   pub grows : drawn_by new.pass ≡ drawn_by old.pass ++ drawn
-  pub serves : ServesOn drawn ended old.engine new.engine old.told.items new.told.items
+  pub serves : ServesOn drawn ended old.engine.core new.engine.core old.told.items new.told.items
 
 -- further calls are served, and then what is carried, or nothing is done any more
 abbrev pub GoesOn : Served → List CallItem → Served → EngineParts → EngineParts → List Told → List Told → Type 0
@@ -74,4 +74,4 @@ pub record IsServedToTheEnd (old : Owner) (served : Served) (clients : List (His
   pub drawn : List CallItem
   pub numbered : IsNumbered (drawn_by old.pass ++ drawn)
   pub all : ended ≢ Err NoMemory → HasAll (drawn_by old.pass ++ drawn) clients
-  pub goes_on : GoesOn served drawn ended old.engine new old.told.items told
+  pub goes_on : GoesOn served drawn ended old.engine.core new old.told.items told

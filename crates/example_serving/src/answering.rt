@@ -85,11 +85,11 @@ fn execute<R: Threads + Wait + Sync>(
     engine: &mut Engine,
     batch: Batch,
 ) -> Result<BatchDone, ServeFault>
-    requires idle { is_busy engine.old ≡ false }
-    requires over { AreOver (tables_of engine.old) (items_of batch) }
-    ensures same { KeepsSetting engine.old engine.new }
-    ensures done { IfOk result (IsExecutionOf engine.old engine.new (next_attempts engine.old batch)) }
-    ensures stopped { IfErr result (IsStopped engine.old engine.new batch) }
+    requires idle { is_busy engine.old.core ≡ false }
+    requires over { AreOver (tables_of engine.old.core) (items_of batch) }
+    ensures same { KeepsSetting engine.old.core engine.new.core }
+    ensures done { IfOk result (IsExecutionOf engine.old.core engine.new.core (next_attempts engine.old.core batch)) }
+    ensures stopped { IfErr result (IsStopped engine.old.core engine.new.core batch) }
 {
     match engine.execute(rt, alloc, batch, &OpenGate) {
         Ok(done) => Ok(done),
@@ -109,8 +109,8 @@ pub(crate) fn answer_batch<R: Threads + Wait + Sync>(
     told: &mut Vec<Told>,
     items: Vec<CallItem>,
 ) -> Result<(), ServeFault>
-    requires { is_busy engine.old ≡ false }
-    ensures { ServesOn items.items result engine.old engine.new told.old.items told.new.items }
+    requires { is_busy engine.old.core ≡ false }
+    ensures { ServesOn items.items result engine.old.core engine.new.core told.old.items told.new.items }
 {
     let (requests, asked) = take_in(alloc, engine.procs(), items)?;
     let carried = engine.carried();

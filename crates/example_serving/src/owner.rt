@@ -33,7 +33,7 @@ fn attend_once<R: Threads + Wait + Sync>(
     owner: &mut Owner,
 ) -> Result<(), ServeFault>
     requires pass { IsDrawerOf intake.now owner.old.pass }
-    requires idle { is_busy owner.old.engine ≡ false }
+    requires idle { is_busy owner.old.engine.core ≡ false }
     ensures pass { IsDrawerOf intake.now owner.new.pass × (held_by owner.new.pass ≡ held_by owner.old.pass) }
     ensures served { HasServed owner.old owner.new result }
 {
@@ -75,7 +75,7 @@ pub(crate) fn attend<R: Threads + Wait + Sync>(
     ended: &AtomicBool,
 ) -> (Owner, Result<(), ServeFault>)
     requires pass { IsDrawerOf intake.now owner.pass }
-    requires idle { is_busy owner.engine ≡ false }
+    requires idle { is_busy owner.engine.core ≡ false }
     ensures pass { IsDrawerOf intake.now result.0.pass × (held_by result.0.pass ≡ held_by owner.pass) }
     ensures served { HasServed owner result.0 result.1 }
 {
@@ -100,8 +100,8 @@ fn answer_left<R: Threads + Wait + Sync>(
     told: &mut Vec<Told>,
     left: Vec<Vec<CallItem>>,
 ) -> Result<(), ServeFault>
-    requires { is_busy engine.old ≡ false }
-    ensures { ServesOn (calls_in (items_in left.items)) result engine.old engine.new told.old.items told.new.items }
+    requires { is_busy engine.old.core ≡ false }
+    ensures { ServesOn (calls_in (items_in left.items)) result engine.old.core engine.new.core told.old.items told.new.items }
 {
     for items in left {
         answer_batch(rt, alloc, engine, told, items)?;
@@ -116,8 +116,8 @@ fn answer_carried<R: Threads + Wait + Sync>(
     engine: &mut Engine,
     told: &mut Vec<Told>,
 ) -> Result<(), ServeFault>
-    requires { is_busy engine.old ≡ false }
-    ensures { Serves [] result engine.old engine.new told.old.items told.new.items }
+    requires { is_busy engine.old.core ≡ false }
+    ensures { Serves [] result engine.old.core engine.new.core told.old.items told.new.items }
 {
     for _ in rt.forever() {
         if engine.carried() == 0 {
@@ -136,8 +136,8 @@ pub(crate) fn answer_to_the_end<R: Threads + Wait + Sync>(
     told: &mut Vec<Told>,
     left: Vec<Vec<CallItem>>,
 ) -> Result<(), ServeFault>
-    requires { is_busy engine.old ≡ false }
-    ensures { Serves (calls_in (items_in left.items)) result engine.old engine.new told.old.items told.new.items }
+    requires { is_busy engine.old.core ≡ false }
+    ensures { Serves (calls_in (items_in left.items)) result engine.old.core engine.new.core told.old.items told.new.items }
 {
     answer_left(rt, alloc, engine, told, left)?;
     answer_carried(rt, alloc, engine, told)

@@ -34,7 +34,7 @@ fn serve_beside<R: Threads + Wait + Sync>(
     requires passes { (vec_len passes ≡ vec_len logs) × AreNewClients intake.now (vec_len logs) passes.items }
     requires short { AllByRecursion IsShort logs.items }
     requires pass { IsDrawerOf intake.now owner.pass }
-    requires idle { is_busy owner.engine ≡ false }
+    requires idle { is_busy owner.engine.core ≡ false }
     ensures clients { IfOk result.0 (λ passes. AreClientsOf intake.now passes.items) }
     ensures sent { IfOk result.0 (λ passes. map own_history passes.items ≡ histories_from 1 logs.items) }
     ensures pass { IsDrawerOf intake.now result.1.0.pass × (held_by result.1.0.pass ≡ held_by owner.pass) }
@@ -55,7 +55,7 @@ fn serve_beside<R: Threads + Wait + Sync>(
             passes
         },
         move || -> (Owner, Result<(), ServeFault>)
-            requires { IsDrawerOf intake.now owner.pass × (is_busy owner.engine ≡ false) }
+            requires { IsDrawerOf intake.now owner.pass × (is_busy owner.engine.core ≡ false) }
             ensures pass { IsDrawerOf intake.entry.now result.0.pass × (held_by result.0.pass ≡ held_by owner.pass) }
             ensures served { HasServed owner result.0 result.1 }
         { attend(rt, alloc, intake, owner, ended) },
@@ -72,9 +72,9 @@ fn serve_left<R: Threads + Wait + Sync>(
     clients: Vec<ClientPass<ClientCall>>,
 ) -> (Engine, Vec<Told>, Result<(), ServeFault>)
     requires pass { IsDrawerOf intake.now owner.pass }
-    requires idle { OnOk served (is_busy owner.engine ≡ false) }
+    requires idle { OnOk served (is_busy owner.engine.core ≡ false) }
     requires clients { AreClientsOf intake.now clients.items }
-    ensures { IsServedToTheEnd owner served (map own_history clients.items) result.0 result.1.items result.2 }
+    ensures { IsServedToTheEnd owner served (map own_history clients.items) result.0.core result.1.items result.2 }
 {
     let Owner { engine, pass, told } = owner;
     let (mut engine, mut pass, mut told) = (engine, pass, told);
@@ -119,8 +119,8 @@ pub fn serve<R: Threads + Wait + Sync>(
     requires clients { (0 < vec_len logs) × (vec_len logs ≤ 4) }
     requires capacity { 0 < capacity }
     requires short { AllByRecursion IsShort logs.items }
-    requires idle { is_busy engine ≡ false }
-    ensures { IsService engine logs.items result.0 result.1.items result.2 }
+    requires idle { is_busy engine.core ≡ false }
+    ensures { IsService engine.core logs.items result.0.core result.1.items result.2 }
 {
     let told = Vec::new(alloc);
     let Ok((intake, passes, pass)) = Intake::new(alloc, logs.len() as u8, capacity) else {

@@ -1,5 +1,5 @@
 -- A log is closed batch by batch.
-use Rattle.std.proofs.Common.{◌≡◌, ℕ, List, [], ◌∷◌, ◌++◌, append_assoc, append-nil, length, false, Option, Result, Ok, Err, IfOk, OnOk, refl, sym, ◌∙◌, ap, subst, arith}
+use Rattle.std.proofs.Common.{◌≡◌, ℕ, zero, suc, ◌+◌, List, [], ◌∷◌, ◌++◌, append_assoc, append-nil, length, false, Option, Some, None, Result, Ok, Err, IfOk, OnOk, refl, sym, ◌∙◌, ap, subst, arith}
 use Rattle.std.specs.Io.KnownBytes.{Appends}
 use Rattle.std.proofs.KnownBytes.{Appends-trans}
 use Rattle.sha2.specs.Hashers.{Holds256}
@@ -10,15 +10,15 @@ use Rattle.requests.specs.ProcLists.{ProcsParts}
 use Rattle.requests.specs.Requests.{Call}
 use Rattle.sequencer.specs.declared.attempts.Carried.{Carried}
 use Rattle.report_text.specs.Texts.{digest, end_line, row_text}
-use Rattle.report_text.specs.Report.{batch_text, end_text, next_batch, reply_lines}
-use Rattle.retries.specs.Standings.{behind, closing, replies_at, transactions_at, transactions_in, while_carried, Standing}
-use Rattle.retries.proofs.Ended.{closing_next}
+use Rattle.report_text.specs.Report.{end_text}
+use Rattle.retries.specs.Standings.{behind, closing, transactions_in, while_carried, Standing}
 use Rattle.retries.proofs.Reported.{end_is}
 use Rattle.engine.specs.Engines.{EngineParts, tables_of}
 use Rattle.running.specs.declared.run_fault.RunFault.{RunFault}
 use Rattle.running.specs.declared.transcript.Transcript.{Transcript}
-use Rattle.running.specs.Hashers.{batch_of, said_of}
-use Rattle.running.specs.Reported.{lines_of, with_closing, HasClosed, HasReported, IsClosing}
+use Rattle.running.specs.Batches.{due_text, IsReported}
+use Rattle.running.specs.Hashers.{said_of}
+use Rattle.running.specs.Reported.{lines_of, with_closing, with_drained, HasClosed, HasReported, IsClosing, IsCutShort}
 use Rattle.running.specs.Standings.{standing_of}
 use Rattle.running.specs.Stops.{IsNotOfThread}
 use Rattle.running.specs.Stopped.{at_end, in_closing, standing_behind, texts_of}
@@ -26,140 +26,169 @@ use Rattle.running.proofs.Reported.{next_text_is, standing_next, HasReported-nex
 
 -- ---- the batches that are still to come
 
-none_carried : (carried : List Carried) → length carried ≡ 0 → carried ≡ []
-none_carried [] h = refl
-none_carried (c ∷ cs) h = absurd (omega arith)
+none_to_come : (carried : List Carried) (rest : List (List Call)) → length carried ≡ 0 → while_carried carried rest ≡ []
+none_to_come [] rest h = refl
+none_to_come (c ∷ cs) rest h = absurd (omega arith)
 
-one_more : (carried : List Carried) (rest : List (List Call)) → ¬ (length carried ≡ 0) → while_carried carried rest ≡ [] ∷ rest
-one_more [] rest h = absurd (h refl)
-one_more (c ∷ cs) rest h = refl
+one_to_come : (carried : List Carried) (rest : List (List Call)) → ¬ (length carried ≡ 0) → while_carried carried rest ≡ [] ∷ rest
+one_to_come [] rest h = absurd (h refl)
+one_to_come (c ∷ cs) rest h = refl
 
--- where nothing is carried, no batch is to come
-closing_none : (retries : ℕ) (db : Database) (ran : List (List Call)) → length (standing_behind retries db ran).carried ≡ 0 → closing retries retries (standing_behind retries db ran) ≡ []
-closing_none retries db ran h =
-    closing_next retries db ran
-    ∙ ap (λ (carried : List Carried). while_carried carried (closing retries retries (behind retries (standing_behind retries db ran) []))) (none_carried (standing_behind retries db ran).carried h)
+-- where nothing is carried, no batch is to come, however many might
+closing_none : (retries most : ℕ) (s : Standing) → length s.carried ≡ 0 → closing retries most s ≡ []
+closing_none retries zero s h = refl
+closing_none retries (suc most) s h = none_to_come s.carried (closing retries most (behind retries s [])) h
 
--- and where something is carried, a batch without calls is the next
-closing_one : (retries : ℕ) (db : Database) (ran : List (List Call)) → ¬ (length (standing_behind retries db ran).carried ≡ 0) →
-    closing retries retries (standing_behind retries db ran) ≡ [] ∷ closing retries retries (standing_behind retries db (ran ++ [] ∷ []))
-closing_one retries db ran h =
-    closing_next retries db ran ∙ one_more (standing_behind retries db ran).carried (closing retries retries (behind retries (standing_behind retries db ran) [])) h
-    ∙ ap (λ (s : Standing). [] ∷ closing retries retries s) (sym (standing_next retries db ran []))
+-- ---- what a sink has given on before
 
--- how many requests the engine carries
-count_is : (procs : ProcsParts) (retries : ℕ) (db : Database) (ran : List (List Call)) (engine : EngineParts) (transcript : Transcript) (sink gave : Option (List ℕ)) (n : ℕ) →
-    HasReported procs retries db ran engine transcript sink gave → n ≡ length engine.carried → n ≡ length (standing_behind retries db ran).carried
-count_is procs retries db ran engine transcript sink gave n h e = e ∙ ap (λ (s : Standing). length s.carried) h.standing_is
+drained_before : (drained : List ℕ) (old new : Option (List ℕ)) (text : List ℕ) → Appends old new text → Appends (with_drained drained old) (with_drained drained new) text
+drained_before drained None new text h = tt
+drained_before drained (Some old) None text h = h
+drained_before drained (Some old) (Some new) text h = ap (λ (bytes : List ℕ). drained ++ bytes) h ∙ sym (append_assoc drained old text)
+
+pub none_drained : (taken : Option (List ℕ)) → with_drained [] taken ≡ taken
+none_drained None = refl
+none_drained (Some taken) = refl
+
+pub IsReported-drained : (drained : List ℕ) (sink filled : Option (List ℕ)) (old new : EngineParts) (before after : Transcript) (calls : List Call) → IsReported old new before after sink filled calls →
+    IsReported old new before after (with_drained drained sink) (with_drained drained filled) calls
+IsReported-drained drained sink filled old new before after calls h = record {
+  idle = h.idle;
+  standing = h.standing;
+  batch = h.batch;
+  said = h.said;
+  text = drained_before drained sink filled (due_text old before calls) h.text;
+  digest_kept = h.digest_kept;
+}
+
+pub AppendsFront-drained : (drained : List ℕ) (sink filled : Option (List ℕ)) (text : List ℕ) → AppendsFront sink filled text → AppendsFront (with_drained drained sink) (with_drained drained filled) text
+AppendsFront-drained drained sink filled text f = (f.0, f.1, f.2, drained_before drained sink filled f.0 f.3)
 
 -- ---- batch by batch
 
 pub HasClosed-none : (procs : ProcsParts) (retries : ℕ) (db : Database) (ran : List (List Call)) (engine : EngineParts) (transcript : Transcript) (sink gave : Option (List ℕ)) →
-    HasReported procs retries db ran engine transcript sink gave → HasClosed procs retries db ran engine transcript sink gave
+    HasReported procs retries db ran engine transcript sink gave → HasClosed procs retries db ran retries engine transcript sink gave
 HasClosed-none procs retries db ran engine transcript sink gave h = record {
   closers = [];
   reported = rw (append-nil ran) h;
   first = ap (λ (batches : List (List Call)). closing retries retries (standing_behind retries db batches)) (sym (append-nil ran));
 }
 
--- behind these batches, and the first of those that close the log, stands one without calls
-next_closer : (retries : ℕ) (db : Database) (ran closers : List (List Call)) → closing retries retries (standing_behind retries db ran) ≡ closers ++ closing retries retries (standing_behind retries db (ran ++ closers)) →
-    ¬ (length (standing_behind retries db (ran ++ closers)).carried ≡ 0) →
-    closing retries retries (standing_behind retries db ran) ≡ closers ++ [] ∷ closing retries retries (standing_behind retries db ((ran ++ closers) ++ [] ∷ []))
-next_closer retries db ran closers first some = first ∙ ap (λ (rest : List (List Call)). closers ++ rest) (closing_one retries db (ran ++ closers) some)
+-- after the first of the batches that close a log, something is carried, so that one without calls is next
+module _ (procs : ProcsParts) (retries most left n : ℕ) (db : Database) (ran : List (List Call)) (engine : EngineParts) (transcript : Transcript) (sink gave : Option (List ℕ))
+    (h : HasClosed procs retries db ran most engine transcript sink gave) (e : n ≡ length engine.carried) (some : ¬ (n ≡ 0)) (more : most ≡ left + 1) where
+  abbrev before : List (List Call)
+  before = ran ++ h.closers
 
-pub HasClosed-next : (procs : ProcsParts) (retries : ℕ) (db : Database) (ran : List (List Call)) (n : ℕ) (engine after : EngineParts) (transcript behind_it : Transcript) (sink gave given : Option (List ℕ)) →
-    HasClosed procs retries db ran engine transcript sink gave → n ≡ length engine.carried → ¬ (n ≡ 0) → after.procs ≡ engine.procs → after.retries ≡ engine.retries →
-    standing_of after ≡ behind engine.retries (standing_of engine) [] → batch_of behind_it ≡ next_batch (batch_of transcript) →
-    ((m : List ℕ) → Holds256 (said_of transcript) m →
-    Holds256 (said_of behind_it) (m ++ reply_lines engine.next (transactions_at (standing_of engine) []) (replies_at (standing_of engine) []))) →
-    Appends gave given (batch_text (tables_of engine) (batch_of transcript) engine.next engine.rows (transactions_at (standing_of engine) [])) →
-    HasClosed procs retries db ran after behind_it sink given
-HasClosed-next procs retries db ran n engine after transcript behind_it sink gave given h e some same same_retries stands batch said text =
-    let count = count_is procs retries db (ran ++ h.closers) engine transcript sink gave n h.reported e in
-    let all : (ran ++ h.closers) ++ [] ∷ [] ≡ ran ++ (h.closers ++ [] ∷ []) = append_assoc ran h.closers ([] ∷ []) in
-    let reported : HasReported procs retries db ((ran ++ h.closers) ++ [] ∷ []) after behind_it sink given =
-    HasReported-next procs retries db (ran ++ h.closers) [] engine after transcript behind_it sink gave given h.reported same same_retries stands batch said text in
-    record {
-      closers = h.closers ++ [] ∷ [];
-      reported = rw all at reported;
-      first = next_closer retries db ran h.closers h.first (λ none. some (count ∙ none))
-          ∙ sym (append_assoc h.closers ([] ∷ []) (closing retries retries (standing_behind retries db ((ran ++ h.closers) ++ [] ∷ []))))
-          ∙ ap (λ (batches : List (List Call)). (h.closers ++ [] ∷ []) ++ closing retries retries (standing_behind retries db batches)) all;
-    }
+  carries : ¬ (length (standing_behind retries db before).carried ≡ 0)
+  carries none = some (e ∙ ap (λ (s : Standing). length s.carried) h.reported.standing_is ∙ none)
 
--- a fault stopped it in a batch without calls
-pub HasClosed-cut : (procs : ProcsParts) (retries : ℕ) (db : Database) (ran : List (List Call)) (n : ℕ) (engine : EngineParts) (transcript : Transcript) (sink gave given : Option (List ℕ)) (fault : RunFault) →
-    HasClosed procs retries db ran engine transcript sink gave → n ≡ length engine.carried → ¬ (n ≡ 0) →
-    AppendsFront gave given (batch_text (tables_of engine) (batch_of transcript) engine.next engine.rows (transactions_at (standing_of engine) [])) →
-    IsClosing procs retries db ran sink given (Err fault)
-HasClosed-cut procs retries db ran n engine transcript sink gave given fault h e some front = let count = count_is procs retries db (ran ++ h.closers) engine transcript sink gave n h.reported e in record {
-  count = tt;
-  text = tt;
-  stop = record {
+  all : before ++ [] ∷ [] ≡ ran ++ (h.closers ++ [] ∷ [])
+  all = append_assoc ran h.closers ([] ∷ [])
+
+  next : closing retries most (standing_behind retries db before) ≡ [] ∷ closing retries left (standing_behind retries db (before ++ [] ∷ []))
+  next =
+      ap (λ k. closing retries k (standing_behind retries db before)) (more ∙ one_more left)
+      ∙ one_to_come (standing_behind retries db before).carried (closing retries left (behind retries (standing_behind retries db before) [])) carries
+      ∙ ap (λ (s : Standing). [] ∷ closing retries left s) (sym (standing_next retries db before []))
+    where
+      one_more : (k : ℕ) → k + 1 ≡ suc k
+      one_more k = omega arith
+
+  first_with : closing retries retries (standing_behind retries db ran) ≡ (h.closers ++ [] ∷ []) ++ closing retries left (standing_behind retries db (ran ++ (h.closers ++ [] ∷ [])))
+  first_with =
+      h.first ∙ ap (λ (rest : List (List Call)). h.closers ++ rest) next
+      ∙ sym (append_assoc h.closers ([] ∷ []) (closing retries left (standing_behind retries db (before ++ [] ∷ []))))
+      ∙ ap (λ (batches : List (List Call)). (h.closers ++ [] ∷ []) ++ closing retries left (standing_behind retries db batches)) all
+
+  -- it was run and reported
+  pub HasClosed-next : (after : EngineParts) (behind_it : Transcript) (given : Option (List ℕ)) → after.procs ≡ engine.procs → after.retries ≡ engine.retries →
+      IsReported engine after transcript behind_it gave given [] → HasClosed procs retries db ran left after behind_it sink given
+  HasClosed-next after behind_it given same same_retries reported = record {
+    closers = h.closers ++ [] ∷ [];
+    reported = rw all at (HasReported-next procs retries db before [] engine after transcript behind_it sink gave given h.reported same same_retries reported);
+    first = first_with;
+  }
+
+  -- or a fault stopped it
+  pub HasClosed-cut : (given : Option (List ℕ)) (fault : RunFault) → AppendsFront gave given (due_text engine transcript []) → IsCutShort procs retries db ran sink given fault
+  HasClosed-cut given fault front = record {
     stage = in_closing;
     closers = h.closers;
     all_read = tt;
     ends = refl;
     closed = (
-      closing retries retries (standing_behind retries db ((ran ++ h.closers) ++ [] ∷ [])),
-      next_closer retries db ran h.closers h.first (λ none. some (count ∙ none)),
+      closing retries left (standing_behind retries db (before ++ [] ∷ [])),
+      h.first ∙ ap (λ (rest : List (List Call)). h.closers ++ rest) next,
     );
-    written = (gave, h.reported.text_is, rw (next_text_is procs retries db (ran ++ h.closers) [] engine transcript sink gave h.reported) at front);
-  };
-}
+    written = (gave, h.reported.text_is, rw (next_text_is procs retries db before [] engine transcript sink gave h.reported) at front);
+  }
+
+-- nothing is carried any more, or no batch may be to come
+pub HasClosed-end : (procs : ProcsParts) (retries most : ℕ) (db : Database) (ran : List (List Call)) (engine : EngineParts) (transcript : Transcript) (sink gave : Option (List ℕ))
+    (h : HasClosed procs retries db ran most engine transcript sink gave) → closing retries most (standing_behind retries db (ran ++ h.closers)) ≡ [] →
+    HasReported procs retries db (with_closing retries db ran) engine transcript sink gave
+HasClosed-end procs retries most db ran engine transcript sink gave h none =
+    let closers : closing retries retries (standing_behind retries db ran) ≡ h.closers = h.first ∙ ap (λ (rest : List (List Call)). h.closers ++ rest) none ∙ append-nil h.closers in
+    rw closers h.reported
+
+pub HasClosed-uncarried : (procs : ProcsParts) (retries most n : ℕ) (db : Database) (ran : List (List Call)) (engine : EngineParts) (transcript : Transcript) (sink gave : Option (List ℕ)) →
+    HasClosed procs retries db ran most engine transcript sink gave → n ≡ length engine.carried → n ≡ 0 → HasReported procs retries db (with_closing retries db ran) engine transcript sink gave
+HasClosed-uncarried procs retries most n db ran engine transcript sink gave h e none =
+    HasClosed-end procs retries most db ran engine transcript sink gave h
+    (closing_none retries most (standing_behind retries db (ran ++ h.closers)) (sym (e ∙ ap (λ (s : Standing). length s.carried) h.reported.standing_is) ∙ none))
+
+pub HasClosed-spent : (procs : ProcsParts) (retries most : ℕ) (db : Database) (ran : List (List Call)) (engine : EngineParts) (transcript : Transcript) (sink gave : Option (List ℕ)) →
+    HasClosed procs retries db ran most engine transcript sink gave → most ≡ 0 → HasReported procs retries db (with_closing retries db ran) engine transcript sink gave
+HasClosed-spent procs retries most db ran engine transcript sink gave h none =
+    HasClosed-end procs retries most db ran engine transcript sink gave h (ap (λ n. closing retries n (standing_behind retries db (ran ++ h.closers))) none)
 
 -- ---- the end line
 
-end_line_is : (procs : ProcsParts) (retries : ℕ) (db : Database) (ran : List (List Call)) (engine : EngineParts) (transcript : Transcript) (sink gave : Option (List ℕ)) →
+pub end_line_is : (procs : ProcsParts) (retries : ℕ) (db : Database) (ran : List (List Call)) (engine : EngineParts) (transcript : Transcript) (sink gave : Option (List ℕ)) →
     HasReported procs retries db ran engine transcript sink gave →
     end_line engine.next (digest (row_text (tables_of engine) engine.rows)) (digest (lines_of retries db ran)) ≡ end_text false procs.tables db (transactions_in retries db ran)
 end_line_is procs retries db ran engine transcript sink gave h =
     let line : List TableShape → Standing → List ℕ = λ tables s. end_line s.next (digest (row_text tables s.rows)) (digest (lines_of retries db ran)) in
     ap (λ (p : ProcsParts). line p.tables (standing_of engine)) h.procs_are ∙ ap (line procs.tables) h.standing_is ∙ sym (end_is procs.tables retries db ran)
 
--- nothing is carried any more, and the end line is written or not
-ended : (r : Result ℕ RunFault) (procs : ProcsParts) (retries : ℕ) (db : Database) (ran closers : List (List Call)) (engine : EngineParts) (transcript : Transcript) (sink gave given : Option (List ℕ)) →
-    HasReported procs retries db (ran ++ closers) engine transcript sink gave → closing retries retries (standing_behind retries db ran) ≡ closers → IfOk r (λ n. n ≡ engine.next) →
-    OnOk r (Appends gave given (end_text false procs.tables db (transactions_in retries db (ran ++ closers)))) →
-    AppendsFront gave given (end_text false procs.tables db (transactions_in retries db (ran ++ closers))) → IsNotOfThread r → IsClosing procs retries db ran sink given r
-ended (Ok n) procs retries db ran closers engine transcript sink gave given h all count text front threadless =
-    let whole : ran ++ closers ≡ with_closing retries db ran = ap (λ (batches : List (List Call)). ran ++ batches) (sym all) in
-    record {
-      count = count ∙ ap (λ (s : Standing). s.next) h.standing_is ∙ ap (λ (batches : List (List Call)). (standing_behind retries db batches).next) whole;
-      text = let P : List (List Call) → Type 0 = λ batches. Appends sink given (texts_of procs retries db batches ++ end_text false procs.tables db (transactions_in retries db batches)) in
-          subst P whole (Appends-trans sink gave given _ _ h.text_is text);
-      stop = tt;
-    }
-ended (Err fault) procs retries db ran closers engine transcript sink gave given h all count text front threadless = record {
-  count = tt;
-  text = tt;
-  stop = record {
-    stage = at_end;
-    closers = closers;
-    all_read = tt;
-    ends = (refl, threadless);
-    closed = all;
-    written = (gave, h.text_is, front);
-  };
-}
-
 on_ok : (r : Result ℕ RunFault) (gave given : Option (List ℕ)) (text same : List ℕ) → text ≡ same → OnOk r (Appends gave given text) → OnOk r (Appends gave given same)
 on_ok (Ok n) gave given text same e h = rw e at h
 on_ok (Err fault) gave given text same e h = tt
 
-pub HasClosed-end : (r : Result ℕ RunFault) (procs : ProcsParts) (retries : ℕ) (db : Database) (ran : List (List Call)) (n : ℕ) (engine : EngineParts) (transcript : Transcript) (sink gave given : Option (List ℕ)) →
-    HasClosed procs retries db ran engine transcript sink gave → n ≡ length engine.carried → n ≡ 0 → IfOk r (λ n. n ≡ engine.next) →
+-- all batches that close the log are reported, and the end line is written or not
+ended : (r : Result ℕ RunFault) (procs : ProcsParts) (retries : ℕ) (db : Database) (ran : List (List Call)) (engine : EngineParts) (transcript : Transcript) (sink gave given : Option (List ℕ)) →
+    HasReported procs retries db (with_closing retries db ran) engine transcript sink gave → IfOk r (λ n. n ≡ engine.next) →
+    OnOk r (Appends gave given (end_text false procs.tables db (transactions_in retries db (with_closing retries db ran)))) →
+    AppendsFront gave given (end_text false procs.tables db (transactions_in retries db (with_closing retries db ran))) → IsNotOfThread r → IsClosing procs retries db ran sink given r
+ended (Ok n) procs retries db ran engine transcript sink gave given h count text front threadless = record {
+  count = count ∙ ap (λ (s : Standing). s.next) h.standing_is;
+  text = Appends-trans sink gave given _ _ h.text_is text;
+  stop = tt;
+}
+ended (Err fault) procs retries db ran engine transcript sink gave given h count text front threadless = record {
+  count = tt;
+  text = tt;
+  stop = record {
+    stage = at_end;
+    closers = closing retries retries (standing_behind retries db ran);
+    all_read = tt;
+    ends = (refl, threadless);
+    closed = refl;
+    written = (gave, h.text_is, front);
+  };
+}
+
+pub IsClosing-end : (r : Result ℕ RunFault) (procs : ProcsParts) (retries : ℕ) (db : Database) (ran : List (List Call)) (engine : EngineParts) (transcript : Transcript) (sink gave given : Option (List ℕ)) →
+    HasReported procs retries db (with_closing retries db ran) engine transcript sink gave → IfOk r (λ n. n ≡ engine.next) →
     ((m : List ℕ) → Holds256 (said_of transcript) m → OnOk r (Appends gave given (end_line engine.next (digest (row_text (tables_of engine) engine.rows)) (digest m)))) →
     ((m : List ℕ) → Holds256 (said_of transcript) m → AppendsFront gave given (end_line engine.next (digest (row_text (tables_of engine) engine.rows)) (digest m))) →
     IsNotOfThread r → IsClosing procs retries db ran sink given r
-HasClosed-end r procs retries db ran n engine transcript sink gave given h e none count text front threadless =
-    let batches : List (List Call) = ran ++ h.closers in
-    let line = end_line_is procs retries db batches engine transcript sink gave h.reported in
-    let all : closing retries retries (standing_behind retries db ran) ≡ h.closers =
-    h.first ∙ ap (λ (rest : List (List Call)). h.closers ++ rest) (closing_none retries db batches (sym (count_is procs retries db batches engine transcript sink gave n h.reported e) ∙ none)) ∙ append-nil h.closers in
-    ended r procs retries db ran h.closers engine transcript sink gave given h.reported all count
-    (on_ok r gave given _ _ line (text (lines_of retries db batches) h.reported.said_is)) (rw line at (front (lines_of retries db batches) h.reported.said_is)) threadless
+IsClosing-end r procs retries db ran engine transcript sink gave given h count text front threadless =
+    let batches : List (List Call) = with_closing retries db ran in
+    let line = end_line_is procs retries db batches engine transcript sink gave h in
+    ended r procs retries db ran engine transcript sink gave given h count
+    (on_ok r gave given _ _ line (text (lines_of retries db batches) h.said_is)) (rw line at (front (lines_of retries db batches) h.said_is)) threadless
 
 -- ---- a log that is closed
 

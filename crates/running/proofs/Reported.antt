@@ -18,6 +18,7 @@ use Rattle.retries.proofs.Serial.{lines_grown}
 use Rattle.retries.proofs.Spent.{at_most_next, fits}
 use Rattle.engine.specs.Engines.{EngineParts, tables_of}
 use Rattle.running.specs.declared.transcript.Transcript.{Transcript}
+use Rattle.running.specs.Batches.{due_text, IsReported}
 use Rattle.running.specs.Hashers.{batch_of, said_of}
 use Rattle.running.specs.Reported.{lines_of, HasReported, IsBehindLog}
 use Rattle.running.specs.Standings.{standing_of}
@@ -58,8 +59,7 @@ lines_from standing calls = reply_lines standing.next (transactions_at standing 
 
 -- the text of a batch on the engine is that of the next batch
 pub next_text_is : (procs : ProcsParts) (retries : ℕ) (db : Database) (ran : List (List Call)) (calls : List Call) (engine : EngineParts) (transcript : Transcript) (sink gave : Option (List ℕ)) →
-    HasReported procs retries db ran engine transcript sink gave →
-    batch_text (tables_of engine) (batch_of transcript) engine.next engine.rows (transactions_at (standing_of engine) calls) ≡ next_text procs retries db ran calls
+    HasReported procs retries db ran engine transcript sink gave → due_text engine transcript calls ≡ next_text procs retries db ran calls
 next_text_is procs retries db ran calls engine transcript sink gave h =
     ap (λ (p : ProcsParts). text_from p.tables (batch_of transcript) (standing_of engine) calls) h.procs_are
     ∙ ap (λ b. text_from procs.tables b (standing_of engine) calls) h.batch_is
@@ -68,23 +68,19 @@ next_text_is procs retries db ran calls engine transcript sink gave h =
 -- a batch ran and was reported
 pub HasReported-next : (procs : ProcsParts) (retries : ℕ) (db : Database) (ran : List (List Call)) (calls : List Call) (engine after : EngineParts) (transcript behind_it : Transcript) (sink gave given : Option (List ℕ)) →
     HasReported procs retries db ran engine transcript sink gave → after.procs ≡ engine.procs → after.retries ≡ engine.retries →
-    standing_of after ≡ behind engine.retries (standing_of engine) calls → batch_of behind_it ≡ next_batch (batch_of transcript) →
-    ((m : List ℕ) → Holds256 (said_of transcript) m →
-    Holds256 (said_of behind_it) (m ++ reply_lines engine.next (transactions_at (standing_of engine) calls) (replies_at (standing_of engine) calls))) →
-    Appends gave given (batch_text (tables_of engine) (batch_of transcript) engine.next engine.rows (transactions_at (standing_of engine) calls)) →
-    HasReported procs retries db (ran ++ calls ∷ []) after behind_it sink given
-HasReported-next procs retries db ran calls engine after transcript behind_it sink gave given h e r s b said text =
+    IsReported engine after transcript behind_it gave given calls → HasReported procs retries db (ran ++ calls ∷ []) after behind_it sink given
+HasReported-next procs retries db ran calls engine after transcript behind_it sink gave given h e r reported =
     let grown : lines_of retries db ran ++ reply_lines engine.next (transactions_at (standing_of engine) calls) (replies_at (standing_of engine) calls) ≡ lines_of retries db (ran ++ calls ∷ []) =
     ap (λ (s : Standing). lines_of retries db ran ++ lines_from s calls) h.standing_is ∙ sym (lines_grown retries db ran calls) in
-    let texts : texts_of procs retries db ran ++ batch_text (tables_of engine) (batch_of transcript) engine.next engine.rows (transactions_at (standing_of engine) calls) ≡ texts_of procs retries db (ran ++ calls ∷ []) =
+    let texts : texts_of procs retries db ran ++ due_text engine transcript calls ≡ texts_of procs retries db (ran ++ calls ∷ []) =
     ap (λ t. texts_of procs retries db ran ++ t) (next_text_is procs retries db ran calls engine transcript sink gave h) ∙ sym (texts_grown procs.tables retries db ran calls) in
     record {
       procs_are = e ∙ h.procs_are;
       retries_are = r ∙ h.retries_are;
-      standing_is = s ∙ ap (λ k. behind k (standing_of engine) calls) h.retries_are ∙ ap (λ (s : Standing). behind retries s calls) h.standing_is ∙ sym (standing_next retries db ran calls);
-      batch_is = b ∙ number_next (batch_of transcript) (length ran) _ h.batch_is (length-append ran (calls ∷ []));
-      said_is = rw grown at (said _ h.said_is);
-      text_is = rw texts at (Appends-trans sink gave given _ _ h.text_is text);
+      standing_is = reported.standing ∙ ap (λ k. behind k (standing_of engine) calls) h.retries_are ∙ ap (λ (s : Standing). behind retries s calls) h.standing_is ∙ sym (standing_next retries db ran calls);
+      batch_is = reported.batch ∙ number_next (batch_of transcript) (length ran) _ h.batch_is (length-append ran (calls ∷ []));
+      said_is = rw grown at (reported.said _ h.said_is);
+      text_is = rw texts at (Appends-trans sink gave given _ _ h.text_is reported.text);
     }
 
 -- ---- what was reported first

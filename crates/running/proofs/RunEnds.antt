@@ -27,6 +27,7 @@ use Rattle.running.specs.Reported.{with_closing, IsClosing}
 use Rattle.running.specs.Reports.{batches_in, fault_in, report_of}
 use Rattle.running.specs.Runs.{device_with, Device, IsRunOfLog}
 use Rattle.running.specs.Stops.{ends_in_io, is_of_device, IsMachineFault}
+use Rattle.running.specs.Starts.{start_at}
 use Rattle.running.specs.Stopped.{IsEndedBy, IsStoppedAt, reading, Stage}
 use Rattle.running.proofs.Fronts.{front_of_stopped}
 use Rattle.running.proofs.SoFar.{calls_at_end, report_at_end, report_at_fault, SoFar}
@@ -43,7 +44,7 @@ or_nothing false = refl
 pub run_stops : (stage : Stage) (e : RunFault) (procs : ProcsParts) (retries : ℕ) (db : Database) (left last taken given : Option (List ℕ)) (came : List ℕ) (at : Position) (line : ℕ) (f f2 k mid k2 : Bool) →
     IsMachineFault line e → IsEndedBy stage false e → f2 ≡ f → mid ≡ k → k2 ≡ (mid || is_of_device e) → line ≡ at.begun → Moves left (prepend_known came last) start at →
     IfSome left (λ log. IsStoppedAt stage procs retries db false log taken given line) →
-    IsRunOfLog procs retries db (device_with left f) (device_with last f2) (device_with taken k) (device_with given k2) (Err e)
+    IsRunOfLog (start_at procs retries db) (device_with left f) (device_with last f2) (device_with taken k) (device_with given k2) (Err e)
 run_stops stage e procs retries db left last taken given came at line f f2 k mid k2 stops ends same_f same_k fails begun moves stopped = record {
   count = tt;
   sound = tt;
@@ -74,7 +75,7 @@ pub run_faults : (fault : LogFault) (procs : ProcsParts) (retries : ℕ) (db : D
     (IsOfLine fault.kind → Passes (λ xs ys. IsFault (log_said retries procs.procs m total xs) fault) now (prepend_known came last)) →
     fault.line ≡ place_of fault.kind at → (is_io fault.kind ≡ true → came ≡ []) → mid ≡ f → f2 ≡ (mid || is_io fault.kind) → k2 ≡ k → Moves left (prepend_known came last) start at →
     IfSome left (λ log. IsStoppedAt reading procs retries db (is_io fault.kind) log taken gave fault.line) →
-    IsRunOfLog procs retries db (device_with left f) (device_with last f2) (device_with taken k) (device_with gave k2) (Err (runs.Log fault))
+    IsRunOfLog (start_at procs retries db) (device_with left f) (device_with last f2) (device_with taken k) (device_with gave k2) (Err (runs.Log fault))
 run_faults fault procs retries db m total engine transcript left now last taken gave came at f mid f2 k k2 s first place spent same_f fails same_k moves stopped =
     let failed : f2 ≡ (f || is_io fault.kind) = fails ∙ ap (λ x. x || is_io fault.kind) same_f in
     record {
@@ -93,7 +94,7 @@ run_faults fault procs retries db m total engine transcript left now last taken 
 
 -- memory was refused before anything was read
 pub nothing_run : (e : RunFault) (procs : ProcsParts) (retries : ℕ) (db : Database) (left taken : Option (List ℕ)) (f k : Bool) → e ≡ runs.Log (record { kind = Memory; line = 0 }) →
-    IsRunOfLog procs retries db (device_with left f) (device_with left f) (device_with taken k) (device_with taken k) (Err e)
+    IsRunOfLog (start_at procs retries db) (device_with left f) (device_with left f) (device_with taken k) (device_with taken k) (Err e)
 nothing_run e procs retries db left taken f k is =
     let none : Moves left (prepend_known [] left) start start = rw (none_before left) (Moves-none left start) in
     rw is (run_stops reading (runs.Log (record { kind = Memory; line = 0 })) procs retries db left left taken taken [] start 0 f f k k k (tt, refl) (refl, tt) refl refl (or_nothing k) refl none
@@ -126,7 +127,7 @@ pub run_closes : (r : Result ℕ RunFault) (procs : ProcsParts) (retries : ℕ) 
     Passes (λ xs ys. IsEnd (log_said retries procs.procs m total xs) × (ys ≡ [])) now (prepend_known came last) → Passes (TakesCalls retries procs.procs total false) now (prepend_known came last) →
     m ≡ p.newlines → next ≡ at.newlines → total2 ≡ total + 0 → Moves left now start p → Moves now (prepend_known came last) p at → Moves left (prepend_known came last) start at →
     IfErr r (IsMachineFault line) → f2 ≡ f → mid ≡ k → k2 ≡ (mid || ends_in_io r) → line ≡ at.begun →
-    IsRunOfLog procs retries db (device_with left f) (device_with last f2) (device_with taken k) (device_with given k2) r
+    IsRunOfLog (start_at procs retries db) (device_with left f) (device_with last f2) (device_with taken k) (device_with given k2) r
 run_closes (Ok n) procs retries db m total next total2 line engine transcript left now last taken gave given came p at f f2 k mid k2 s h end takes em en ec before after moves stops same_f same_k fails begun =
     let P : List ℕ → List ℕ → Type 0 = λ x y.
     (n ≡ length (all_transactions (batches_in procs retries db x))) × (fault_in procs retries x ≡ None) × Appends taken given (report_of procs retries db x) × (y ≡ []) in
@@ -156,7 +157,7 @@ run_closes (Err e) procs retries db m total next total2 line engine transcript l
 
 -- a run of a reader is one of the source that it reads
 pub run_through : {T : Type 0} (procs : ProcsParts) (retries : ℕ) (db : Database) (bytes : T → Option (List ℕ)) (failed : T → Bool) (old given first last : T) (unread : Option (List ℕ)) (sink filled : Device) (r : Result ℕ RunFault) →
-    IsRunOfLog procs retries db (device_with unread (failed first)) (device_with (bytes last) (failed last)) sink filled r →
+    IsRunOfLog (start_at procs retries db) (device_with unread (failed first)) (device_with (bytes last) (failed last)) sink filled r →
     unread ≡ bytes old → first ≡ old → given ≡ last →
-    IsRunOfLog procs retries db (device_with (bytes old) (failed old)) (device_with (bytes given) (failed given)) sink filled r
+    IsRunOfLog (start_at procs retries db) (device_with (bytes old) (failed old)) (device_with (bytes given) (failed given)) sink filled r
 run_through procs retries db bytes failed old given first last unread sink filled r h u f e = rw e (rw (u, f) at h)

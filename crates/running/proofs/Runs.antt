@@ -3,8 +3,8 @@ use Rattle.std.proofs.Common.{◌≡◌, ℕ, ◌+◌, ◌≤◌, ◌^◌, lengt
 use denote.Ref.{MutBor}
 use denote.Param.Members.{Shared}
 use Rattle.sequencer.specs.declared.batch.Batch.{Batch}
-use Rattle.engine.specs.declared.engine.ExecFault.{ExecFault}
-use Rattle.engine.specs.declared.engine.ExecFault.TheVariants.{Busy, LogFull, Spawn, NoMemory}
+use Rattle.engine.specs.declared.fault.ExecFault.{ExecFault}
+use Rattle.engine.specs.declared.fault.ExecFault.TheVariants.{Busy, LogFull, Spawn, NoMemory}
 use Rattle.engine.specs.declared.replies.BatchDone.{BatchDone}
 use Rattle.engine.specs.Batches.{next_attempts}
 use Rattle.engine.specs.Engines.{EngineParts, is_busy}
@@ -21,8 +21,8 @@ held_fault old new batch Spawn h idle room = tt
 held_fault old new batch NoMemory h idle room = tt
 
 -- a fault with which a call came back is one that it has answered
-pub has_answered : {X : Type 0} (calls : Shared X (MutBor EngineParts × (Batch × Unit {0})) (Result BatchDone ExecFault × (MutBor EngineParts × Unit {0}))) (executor : X)
-    (engine : MutBor EngineParts) (batch : Batch) (result : Result BatchDone ExecFault) (left : MutBor EngineParts) →
+pub has_answered : {X E : Type 0} (calls : Shared X (MutBor E × (Batch × Unit {0})) (Result BatchDone ExecFault × (MutBor E × Unit {0}))) (executor : X)
+    (engine : MutBor E) (batch : Batch) (result : Result BatchDone ExecFault) (left : MutBor E) →
     calls.post executor (engine, (batch, tt)) (result, (left, tt)) → IfErr result (HasAnswered calls executor)
 has_answered calls executor engine batch (Ok done) left p = tt
 has_answered calls executor engine batch (Err fault) left p = record { engine = engine; batch = batch; left = left; answers = p }

@@ -9,15 +9,15 @@ use Rattle.requests.specs.ProcLists.{ProcsParts}
 use Rattle.requests.specs.Requests.{Call}
 use Rattle.batch_log.specs.declared.fault.LogFault.{LogFault}
 use Rattle.batch_log.specs.Log.{batches_of, first_fault, log_said, IsEnd, IsFault, IsNextBatch}
-use Rattle.report_text.specs.Report.{batch_text, end_text, next_batch, reply_lines, report}
-use Rattle.retries.specs.Standings.{behind, call_count, closed, in_turn, replies_at, start_of, transactions_at, transactions_in}
+use Rattle.report_text.specs.Report.{end_text, report}
+use Rattle.retries.specs.Standings.{call_count, closed, in_turn, start_of, transactions_in}
 use Rattle.retries.proofs.Followed.{closed-append}
-use Rattle.engine.specs.Engines.{EngineParts, tables_of}
+use Rattle.engine.specs.Engines.{EngineParts}
 use Rattle.running.specs.declared.transcript.Transcript.{Transcript}
+use Rattle.running.specs.Batches.{IsReported}
 use Rattle.running.specs.Hashers.{batch_of, said_of}
 use Rattle.running.specs.Reported.{with_closing, HasReported}
 use Rattle.running.specs.Reports.{calls_in_turn, fault_in, report_of, whole_log}
-use Rattle.running.specs.Standings.{standing_of}
 use Rattle.running.specs.Stopped.{standing_behind, texts_of}
 use Rattle.running.proofs.Reported.{calls_grown, HasReported-next, HasReported-none}
 
@@ -101,14 +101,11 @@ SoFar-start m total engine transcript left now taken e f g n c b h =
 pub SoFar-next : (procs : ProcsParts) (retries : ℕ) (db : Database) (m total next total2 : ℕ) (calls : List Call) (engine after : EngineParts) (transcript behind_it : Transcript)
     (left now later taken gave given : Option (List ℕ)) → SoFar procs retries db m total engine transcript left now taken gave →
     Passes (λ xs ys. IsNextBatch (log_said retries procs.procs m total xs) calls (log_said retries procs.procs next total2 ys)) now later → total2 ≡ total + length calls →
-    after.procs ≡ engine.procs → after.retries ≡ engine.retries → standing_of after ≡ behind engine.retries (standing_of engine) calls → batch_of behind_it ≡ next_batch (batch_of transcript) →
-    ((t : List ℕ) → Holds256 (said_of transcript) t →
-    Holds256 (said_of behind_it) (t ++ reply_lines engine.next (transactions_at (standing_of engine) calls) (replies_at (standing_of engine) calls))) →
-    Appends gave given (batch_text (tables_of engine) (batch_of transcript) engine.next engine.rows (transactions_at (standing_of engine) calls)) →
+    after.procs ≡ engine.procs → after.retries ≡ engine.retries → IsReported engine after transcript behind_it gave given calls →
     SoFar procs retries db next total2 after behind_it left later taken given
-SoFar-next procs retries db m total next total2 calls engine after transcript behind_it left now later taken gave given s p n e r stands b said text = record {
+SoFar-next procs retries db m total next total2 calls engine after transcript behind_it left now later taken gave given s p n e r reported = record {
   ran = s.ran ++ calls ∷ [];
-  reported = HasReported-next procs retries db s.ran calls engine after transcript behind_it taken gave given s.reported e r stands b said text;
+  reported = HasReported-next procs retries db s.ran calls engine after transcript behind_it taken gave given s.reported e r reported;
   total_is = n ∙ ap (λ k. k + length calls) s.total_is ∙ sym (calls_grown s.ran calls);
   behind = Passes-trans _ _ _ _ _ _ s.behind p (λ x y z g h. Behind-next _ _ _ _ _ _ _ _ _ _ _ g h);
 }

@@ -1,4 +1,6 @@
+pub mod Starts
 pub mod Standings
+pub mod Batches
 pub mod Reports
 pub mod Transcripts
 pub mod Hashers

@@ -1,6 +1,6 @@
 -- Of the code: invariants and steps; no promise rests on these words.
 -- What was reported of batches one after another, and how a log is closed behind them.
-use Rattle.std.specs.Prelude.{◌≡◌, ℕ, ◌≤◌, List, ◌++◌, length, false, Option, Result, IfOk, IfErr, OnOk, ⊤}
+use Rattle.std.specs.Prelude.{◌≡◌, ℕ, ◌≤◌, List, ◌++◌, length, false, Option, Some, None, Result, IfOk, IfErr, OnOk, ⊤}
 use Rattle.std.specs.Io.KnownBytes.{Appends}
 use Rattle.sha2.specs.Hashers.{Holds256}
 use Rattle.values.specs.Database.{Database}
@@ -10,19 +10,23 @@ use Rattle.meaning.specs.Serial.{serial_replies}
 use Rattle.batch_log.specs.Log.{most_calls}
 use Rattle.report_text.specs.Report.{end_text, entries_in, next_batch, reply_lines}
 use Rattle.retries.specs.Standings.{call_count, closing, transactions_in, Standing}
-use Rattle.engine.specs.Engines.{EngineParts}
+use Rattle.engine.specs.Engines.{EngineParts, is_busy}
 use Rattle.running.specs.declared.run_fault.RunFault.{RunFault}
 use Rattle.running.specs.declared.transcript.Transcript.{Transcript}
+use Rattle.running.specs.Batches.{KeepsDigest}
 use Rattle.running.specs.Hashers.{batch_of, said_of}
 use Rattle.running.specs.Standings.{standing_of}
 use Rattle.running.specs.Stopped.{at_end, in_batch, in_closing, reading, standing_behind, text_at, texts_of, AppendsAndFront, HaveClosed, IsEndedBy, Stage}
 
 -- all reply lines of batches from starting rows
 abbrev pub lines_of : ℕ → Database → List (List Call) → List ℕ
-lines_of retries db batches = reply_lines 0 (transactions_in retries db batches) (serial_replies (entries_in (transactions_in retries db batches)) db)
+lines_of retries db batches =
+    reply_lines 0 (transactions_in retries db batches)
+    (serial_replies (entries_in (transactions_in retries db batches)) db)
 
 -- These batches have run on the engine from starting rows, and each of them was reported.
-pub record HasReported (procs : ProcsParts) (retries : ℕ) (db : Database) (ran : List (List Call)) (engine : EngineParts) (transcript : Transcript) (sink filled : Option (List ℕ)) : Type 0 where
+pub record HasReported (procs : ProcsParts) (retries : ℕ) (db : Database) (ran : List (List Call))
+    (engine : EngineParts) (transcript : Transcript) (sink filled : Option (List ℕ)) : Type 0 where
   pub procs_are : engine.procs ≡ procs
   pub retries_are : engine.retries ≡ retries
   pub standing_is : standing_of engine ≡ standing_behind retries db ran
@@ -30,22 +34,35 @@ pub record HasReported (procs : ProcsParts) (retries : ℕ) (db : Database) (ran
   pub said_is : Holds256 (said_of transcript) (lines_of retries db ran)
   pub text_is : Appends sink filled (texts_of procs retries db ran)
 
--- a standing is behind batches that have no more calls than a log may have
+-- what a sink has taken, where it has given these bytes on before
+abbrev pub with_drained : List ℕ → Option (List ℕ) → Option (List ℕ)
+with_drained drained None = None
+with_drained drained (Some waiting) = Some (drained ++ waiting)
+
+-- a standing is that after batches that have no more calls than a log may have
 pub record IsBehindLog (retries : ℕ) (standing : Standing) : Type 0 where
   pub db : Database
   pub ran : List (List Call)
   pub standing_is : standing ≡ standing_behind retries db ran
   pub few : call_count ran ≤ most_calls retries
 
+-- an engine that has run such batches of a log, and what was reported of them
+pub record IsBetweenBatches (engine : EngineParts) (transcript : Transcript) : Type 0 where
+  pub idle : is_busy engine ≡ false
+  pub digest_kept : KeepsDigest engine transcript
+  pub log : IsBehindLog engine.retries (standing_of engine)
+
 -- batches, and behind them those that close a log
 abbrev pub with_closing : ℕ → Database → List (List Call) → List (List Call)
 with_closing retries db ran = ran ++ closing retries retries (standing_behind retries db ran)
 
--- Of the batches that close a log behind these, the first ones are reported too.
-pub record HasClosed (procs : ProcsParts) (retries : ℕ) (db : Database) (ran : List (List Call)) (engine : EngineParts) (transcript : Transcript) (sink filled : Option (List ℕ)) : Type 0 where
+-- Of the batches that close a log after these, the first ones are reported too, and at most n are left.
+pub record HasClosed (procs : ProcsParts) (retries : ℕ) (db : Database) (ran : List (List Call)) (most : ℕ)
+    (engine : EngineParts) (transcript : Transcript) (sink filled : Option (List ℕ)) : Type 0 where
   pub closers : List (List Call)
   pub reported : HasReported procs retries db (ran ++ closers) engine transcript sink filled
-  pub first : closing retries retries (standing_behind retries db ran) ≡ closers ++ closing retries retries (standing_behind retries db (ran ++ closers))
+  pub first : closing retries retries (standing_behind retries db ran)
+      ≡ closers ++ closing retries most (standing_behind retries db (ran ++ closers))
 
 -- all of the log is read
 abbrev pub HasReadAll : Stage → Type 0
@@ -55,17 +72,28 @@ HasReadAll in_closing = ⊤
 HasReadAll at_end = ⊤
 
 -- A fault stopped a run that was closing its log behind these batches.
-pub record IsCutShort (procs : ProcsParts) (retries : ℕ) (db : Database) (ran : List (List Call)) (sink filled : Option (List ℕ)) (fault : RunFault) : Type 0 where
+pub record IsCutShort (procs : ProcsParts) (retries : ℕ) (db : Database) (ran : List (List Call))
+    (sink filled : Option (List ℕ)) (fault : RunFault) : Type 0 where
   pub stage : Stage
   pub closers : List (List Call)
   pub all_read : HasReadAll stage
   pub ends : IsEndedBy stage false fault
   pub closed : HaveClosed stage retries (standing_behind retries db ran) closers
-  pub written : AppendsAndFront sink filled (texts_of procs retries db (ran ++ closers)) (text_at stage procs retries db (ran ++ closers))
+  pub written : AppendsAndFront sink filled (texts_of procs retries db (ran ++ closers))
+      (text_at stage procs retries db (ran ++ closers))
+
+-- What comes of running the batches without calls that close a log after these: each was reported, or a fault stopped that.
+pub record ReportsClosing (procs : ProcsParts) (retries : ℕ) (db : Database) (ran : List (List Call))
+    (engine : EngineParts) (transcript : Transcript) (sink filled : Option (List ℕ)) (result : Result (Unit {0}) RunFault)
+    : Type 0 where
+  pub reported : OnOk result (HasReported procs retries db (with_closing retries db ran) engine transcript sink filled)
+  pub stop : IfErr result (IsCutShort procs retries db ran sink filled)
 
 -- What comes of closing a log behind these batches: the batches without calls that close it were reported and the end line was
 -- written, or a fault stopped it.
-pub record IsClosing (procs : ProcsParts) (retries : ℕ) (db : Database) (ran : List (List Call)) (sink filled : Option (List ℕ)) (result : Result ℕ RunFault) : Type 0 where
+pub record IsClosing (procs : ProcsParts) (retries : ℕ) (db : Database) (ran : List (List Call))
+    (sink filled : Option (List ℕ)) (result : Result ℕ RunFault) : Type 0 where
   pub count : IfOk result (λ n. n ≡ (standing_behind retries db (with_closing retries db ran)).next)
-  pub text : OnOk result (Appends sink filled (texts_of procs retries db (with_closing retries db ran) ++ end_text false procs.tables db (transactions_in retries db (with_closing retries db ran))))
+  pub text : OnOk result (Appends sink filled (texts_of procs retries db (with_closing retries db ran)
+      ++ end_text false procs.tables db (transactions_in retries db (with_closing retries db ran))))
   pub stop : IfErr result (IsCutShort procs retries db ran sink filled)

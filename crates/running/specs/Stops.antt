@@ -6,8 +6,8 @@ use Rattle.devices.specs.Lines.{line_number, lines_of, newlines_in, next_number}
 use Rattle.batch_log.specs.declared.fault.LogFault.{LogFault}
 use Rattle.batch_log.specs.declared.fault.LogFaultKind.TheVariants.{Memory}
 use Rattle.batch_log.specs.Faults.{is_io, IsOfLine}
-use Rattle.engine.specs.declared.engine.ExecFault.{ExecFault}
-use Rattle.engine.specs.declared.engine.ExecFault.TheVariants.{Busy, LogFull, Spawn, NoMemory}
+use Rattle.engine.specs.declared.fault.ExecFault.{ExecFault}
+use Rattle.engine.specs.declared.fault.ExecFault.TheVariants.{Busy, LogFull, Spawn, NoMemory}
 use Rattle.running.specs.declared.run_fault.RunFault.{RunFault}
 use Rattle.running.specs.declared.run_fault.RunFault.TheVariants as runs
 use Rattle.running.specs.Transcripts.{IsOfMachine}

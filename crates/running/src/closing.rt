@@ -1,59 +1,126 @@
 //! Closing a log without a fault.
 
-ghost use Rattle.std.specs.Prelude.{◌≡◌, ◌≤◌, ◌||◌, List, ℕ, Option, IfErr, IfSome, false};
+ghost use Rattle.std.specs.Prelude.{◌≡◌, ◌||◌, List, ℕ, Option, IfOk, IfErr, OnOk, false};
+ghost use Rattle.std.specs.Io.KnownBytes.{Appends};
+ghost use Rattle.sha2.specs.Hashers.{Holds256};
 ghost use Rattle.values.specs.Database.{Database};
 ghost use Rattle.requests.specs.Requests.{Call};
-ghost use Rattle.report_text.specs.Texts.{digest, row_text};
+ghost use Rattle.devices.specs.Devices.{AppendsFront};
+ghost use Rattle.report_text.specs.Texts.{digest, end_line, row_text};
 ghost use Rattle.engine.specs.Engines.{tables_of, is_busy};
+ghost use Rattle.engine.specs.Executions.{KeepsSetting};
+ghost use Rattle.running.specs.Batches.{KeepsDigest};
 ghost use Rattle.running.specs.Executors.{Executes, HasAnswered};
-ghost use Rattle.running.specs.Hashers.{rows_digest_of};
-ghost use Rattle.running.specs.Reported.{HasReported, IsBehindLog, IsClosing};
-ghost use Rattle.running.specs.Standings.{standing_of};
-ghost use Rattle.running.specs.Stops.{ends_in_io, IfOfThread, IsMachineFault};
+ghost use Rattle.running.specs.Hashers.{said_of};
+ghost use Rattle.running.specs.Reported.{with_drained, HasReported, IsBetweenBatches, IsClosing, ReportsClosing};
+ghost use Rattle.running.specs.Stops.{ends_in_io, IfOfThread, IsMachineFault, IsNotOfThread};
 
-use crate::log::{finish, run_batch};
+use crate::batch::run_batch;
 use crate::run_fault::RunFault;
 use crate::transcript::Transcript;
 use batch_log::Sink;
-use engine::{BatchDone, Engine, ExecFault};
+use engine::{BatchDone, BatchEngine, ExecFault};
 use sequencer::Batch;
 use std::alloc::Global;
-use std::sync::Wait;
 
-/// Closes a log behind its last batch: runs batches without calls while requests are carried, and writes their reports and then the
-/// end line. The line is the last one read.
-pub(crate) fn close<R: Wait, X: Fn(&mut Engine, Batch) -> Result<BatchDone, ExecFault>, K: Sink>(
-    rt: &R,
+/// Runs the batches without calls that close a log after its last batch, as long as requests are carried, and writes their reports.
+/// Each fault is a failed write (36), a failed allocation (37) or a refused thread (38), at this line, the last one read.
+pub fn run_closing_batches<
+    E: BatchEngine,
+    X: Fn(&mut E, Batch) -> Result<BatchDone, ExecFault>,
+    K: Sink,
+>(
     alloc: Global,
     executor: &X,
-    engine: &mut Engine,
+    engine: &mut E,
+    transcript: &mut Transcript,
+    sink: &mut K,
+    line: u64,
+) -> Result<(), RunFault>
+    requires executes { Executes E.parts X.Fn executor.now }
+    requires between { IsBetweenBatches (E.parts engine.old) transcript.old }
+    ensures same { KeepsSetting (E.parts engine.old) (E.parts engine.new) }
+    ensures closed { (db : Database) (ran : List (List Call)) (start : Option (List ℕ)) (drained : List ℕ) →
+        HasReported (E.parts engine.old).procs (E.parts engine.old).retries db ran
+        (E.parts engine.old) transcript.old start (with_drained drained (K.taken sink.old)) →
+        ReportsClosing (E.parts engine.old).procs (E.parts engine.old).retries db ran
+        (E.parts engine.new) transcript.new start (with_drained drained (K.taken sink.new)) result }
+    ensures between { OnOk result (IsBetweenBatches (E.parts engine.new) transcript.new) }
+    ensures grows { (bytes : List ℕ) × Appends (K.taken sink.old) (K.taken sink.new) bytes }
+    ensures stops { IfErr result (λ e.
+        IsMachineFault line e × IfOfThread e (HasAnswered X.Fn executor.now ExecFault.Spawn)) }
+    ensures fails { K.broken sink.new ≡ (K.broken sink.old || ends_in_io result) }
+{
+    // No request is tried again more often, so nothing is carried after so many batches.
+    for _turn in 0..engine.core().retries() {
+        if engine.core().carried() == 0 {
+            return Ok(());
+        }
+        let none = Vec::new(alloc);
+        match run_batch(alloc, executor, engine, none, transcript, sink, line) {
+            Ok(()) => {}
+            Err(fault) => return Err(fault),
+        }
+    }
+    Ok(())
+}
+
+/// Writes the end line, after the report of each batch. The line is the last one read.
+pub fn finish<E: BatchEngine, K: Sink>(
+    alloc: Global,
+    engine: &E,
     transcript: Transcript,
     sink: &mut K,
     line: u64,
 ) -> Result<u64, RunFault>
-    requires executes { Executes X.Fn executor.now }
-    requires idle { is_busy engine.old ≡ false }
-    requires few { engine.old.retries ≤ 2 }
-    requires log { IsBehindLog engine.old.retries (standing_of engine.old) }
-    requires digest { IfSome (rows_digest_of transcript) (λ text.
-        text ≡ digest (row_text (tables_of engine.old) engine.old.rows)) }
+    requires idle { is_busy (E.parts engine.now) ≡ false }
+    requires digest { KeepsDigest (E.parts engine.now) transcript }
+    ensures count { IfOk result (λ n. n ≡ (E.parts engine.now).next) }
+    ensures text { (m : List ℕ) → Holds256 (said_of transcript) m →
+        OnOk result (Appends (K.taken sink.old) (K.taken sink.new)
+        (end_line (E.parts engine.now).next
+        (digest (row_text (tables_of (E.parts engine.now)) (E.parts engine.now).rows)) (digest m))) }
+    ensures front { (m : List ℕ) → Holds256 (said_of transcript) m → AppendsFront (K.taken sink.old) (K.taken sink.new)
+        (end_line (E.parts engine.now).next
+        (digest (row_text (tables_of (E.parts engine.now)) (E.parts engine.now).rows)) (digest m)) }
+    ensures stops { IfErr result (IsMachineFault line) }
+    ensures threadless { IsNotOfThread result }
+    ensures fails { K.broken sink.new ≡ (K.broken sink.old || ends_in_io result) }
+{
+    let count = engine.core().transactions();
+    match transcript.write_last(alloc, sink, engine.core().rows(), count) {
+        Ok(()) => Ok(count),
+        Err(kind) => Err(RunFault::at(kind, line)),
+    }
+}
+
+/// Closes a log after its last batch: runs batches without calls while requests are carried, and writes their reports and then the
+/// end line. The line is the last one read.
+pub(crate) fn close<
+    E: BatchEngine,
+    X: Fn(&mut E, Batch) -> Result<BatchDone, ExecFault>,
+    K: Sink,
+>(
+    alloc: Global,
+    executor: &X,
+    engine: &mut E,
+    transcript: Transcript,
+    sink: &mut K,
+    line: u64,
+) -> Result<u64, RunFault>
+    requires executes { Executes E.parts X.Fn executor.now }
+    requires between { IsBetweenBatches (E.parts engine.old) transcript }
     ensures closed { (db : Database) (ran : List (List Call)) (start : Option (List ℕ)) →
-        HasReported engine.old.procs engine.old.retries db ran engine.old transcript start (K.taken sink.old) →
-        IsClosing engine.old.procs engine.old.retries db ran start (K.taken sink.new) result }
+        HasReported (E.parts engine.old).procs (E.parts engine.old).retries db ran
+        (E.parts engine.old) transcript start (K.taken sink.old) →
+        IsClosing (E.parts engine.old).procs (E.parts engine.old).retries db ran start (K.taken sink.new) result }
     ensures stops { IfErr result (IsMachineFault line) }
     ensures threads { IfErr result (λ e. IfOfThread e (HasAnswered X.Fn executor.now ExecFault.Spawn)) }
     ensures fails { K.broken sink.new ≡ (K.broken sink.old || ends_in_io result) }
 {
     let mut transcript = transcript;
-    'closing: for _ in rt.forever() {
-        if engine.carried() == 0 {
-            return finish(alloc, engine, transcript, sink, line);
-        }
-        let none = Vec::new(alloc);
-        match run_batch(alloc, executor, engine, none, &mut transcript, sink, line) {
-            Ok(()) => {}
-            Err(fault) => return Err(fault),
-        }
+    match run_closing_batches(alloc, executor, engine, &mut transcript, sink, line) {
+        Ok(()) => finish(alloc, engine, transcript, sink, line),
+        Err(fault) => Err(fault),
     }
-    unreachable!()
 }

@@ -191,30 +191,4 @@ impl Transcript {
         };
         write_text(sink, &text)
     }
-
-    /// Writes the end line, for so many transactions, over any rows.
-    pub fn write_end<K: Sink>(
-        self,
-        alloc: Global,
-        sink: &mut K,
-        rows: &RowStore,
-        count: u64,
-    ) -> Result<(), LogFaultKind>
-        requires { rows.now.lent ≡ map_of.empty }
-        ensures text { (m : List ℕ) → Holds256 (said_of self) m →
-            OnOk result (Appends (K.taken sink.old) (K.taken sink.new)
-            (end_line count (digest (row_text rows.now.tables rows.now.rows)) (digest m))) }
-        ensures front { (m : List ℕ) → Holds256 (said_of self) m →
-            AppendsFront (K.taken sink.old) (K.taken sink.new)
-            (end_line count (digest (row_text rows.now.tables rows.now.rows)) (digest m)) }
-        ensures kind { IfErr result IsOfMachine }
-        ensures fails { K.broken sink.new ≡ (K.broken sink.old || write_failed result) }
-    {
-        let afresh = Transcript {
-            batch: self.batch,
-            said: self.said,
-            rows: None,
-        };
-        afresh.write_last(alloc, sink, rows, count)
-    }
 }

@@ -1,6 +1,6 @@
 -- What grows keeps what it had.
 use Rattle.std.proofs.Common.{ℕ, List, [], ◌++◌, append-nil, append_assoc, sym, ap, ◌∙◌}
-use Rattle.session.specs.Writes.{IsBeginning, IsFront}
+use Rattle.session.specs.Writes.{IsBeginning}
 
 -- a text begins with itself
 pub begins_itself : (a : List ℕ) → IsBeginning a a
@@ -9,7 +9,3 @@ begins_itself a = ([], sym (append-nil a))
 -- what begins a beginning begins the whole
 pub begins_onward : (a b c : List ℕ) → IsBeginning a b → IsBeginning b c → IsBeginning a c
 begins_onward a b c (x, e) (y, f) = (x ++ y, f ∙ (ap (λ (t : List ℕ). t ++ y) e ∙ append_assoc a x y))
-
--- what grew by a beginning of a text keeps what it had
-pub begins_where_it_grew : (old new text : List ℕ) → IsFront old new text → IsBeginning old new
-begins_where_it_grew old new text (front, _, e) = (front, e)

@@ -1,6 +1,5 @@
-pub mod Quietly
 pub mod Growing
 pub mod Rooms
 pub mod Turns
 pub mod Runs
-pub mod Closers
+pub mod Closed

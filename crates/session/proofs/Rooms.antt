@@ -1,107 +1,108 @@
 -- A log has room for its next batch, whatever is carried to it.
-use Rattle.std.proofs.Common.{◌≡◌, ℕ, zero, suc, ◌+◌, ◌*◌, ◌^◌, ◌≤◌, List, [], length, false, Result, Ok, Err, OnOk, sym, ◌∙◌, ap, subst, arith}
+use Rattle.std.proofs.Common.{◌≡◌, ℕ, ◌+◌, ◌≤◌, List, [], ◌∷◌, ◌++◌, length, Result, Ok, Err, OnOk, refl, sym, ◌∙◌, ap, subst, arith}
 use Rattle.std.specs.List.{AllByRecursion}
-use Rattle.std.proofs.Math.Nat.{mul-le-mul_left}
 use Rattle.requests.specs.Requests.{Call}
-use Rattle.sequencer.specs.declared.attempts.Carried.{Carried}
 use Rattle.batch_log.specs.Log.{most_calls}
-use Rattle.retries.specs.Standings.{attempts_at, behind, may_have, Standing}
-use Rattle.retries.proofs.Few.{left_within}
-use Rattle.retries.proofs.Spent.{attempts_count, each_may, in_batch}
-use Rattle.engine.specs.Quiet.{is_busy, KeepsSetting, QuietParts}
+use Rattle.retries.specs.Standings.{behind, call_count, Standing}
+use Rattle.engine.specs.Engines.{tables_of, EngineParts}
+use Rattle.engine.specs.Executions.{KeepsSetting}
 use Rattle.log_feed.specs.declared.feed.LogFeed.{LogFeed}
 use Rattle.log_feed.specs.Feeds.{place_of}
+use Rattle.log_feed.specs.Places.{Place}
+use Rattle.running.specs.declared.transcript.Transcript.{Transcript}
+use Rattle.running.specs.Batches.{IsDue, IsReported}
+use Rattle.running.specs.Reported.{IsBehindLog, IsBetweenBatches}
+use Rattle.running.specs.Standings.{standing_of}
+use Rattle.running.specs.Stopped.{standing_behind}
+use Rattle.running.proofs.Reported.{calls_grown, room_at, standing_next}
 use Rattle.session.specs.declared.work.Work.{Work}
-use Rattle.session.specs.Steps.{attempts_in, HasRoom}
-use Rattle.session.specs.Works.{standing_of, IsReady}
+use Rattle.session.specs.Works.{IsAfterCalls, IsReady}
 
--- so many attempts have numbers
-numbered : (retries n : ℕ) → retries ≤ 2 → n ≤ (retries + 1) * most_calls retries → n ≤ 2 ^ 48
-numbered zero n few h = omega arith
-numbered (suc retries) n few h = twice_or_less retries n (omega arith) h
-  where
-    twice_or_less : (k n : ℕ) → k ≤ 1 → n ≤ (suc k + 1) * 2 ^ 46 → n ≤ 2 ^ 48
-    twice_or_less k n few h = omega arith
+-- ---- the next batch
 
-each_call : (retries n : ℕ) → n ≤ (retries + 1) * n
-each_call retries n = omega arith
+-- the calls of a batch, beside all that were read, are no more than a log may have
+within : (ran waiting total batch most : ℕ) → ran + waiting ≡ total → batch + total ≤ most + waiting → ran + batch ≤ most
+within ran waiting total batch most e h = omega (arith, e, h)
 
--- the attempts of the next batch have numbers
-pub room_for : (engine : QuietParts) (calls : List Call) → engine.retries ≤ 2 → HasRoom engine (length calls) → engine.next + length (attempts_at (standing_of engine) calls) ≤ 2 ^ 48
-room_for engine calls few h =
-    numbered engine.retries _ few
-    (fits engine.next (may_have engine.retries engine.carried) (length engine.carried) (length calls) _ _ _ (attempts_count (standing_of engine) calls) (each_may engine.retries engine.carried h.few)
-    (each_call engine.retries (length calls)) h.counted)
-  where
-    fits : (next may carried calls attempts of_calls most : ℕ) → attempts ≡ carried + calls → carried ≤ may → calls ≤ of_calls → (next + may) + of_calls ≤ most → next + attempts ≤ most
-    fits next may carried calls attempts of_calls most e f g h = omega arith
+pub few_calls : (work : Work) (batch : List Call) (h : IsReady work) → length batch + (place_of work.feed).total ≤ most_calls (place_of work.feed).retries + length (place_of work.feed).calls →
+    call_count h.log.ran + length batch ≤ most_calls work.engine.retries
+few_calls work batch h few = within _ _ _ (length batch) (most_calls work.engine.retries) h.log.counted (rw h.limit at few)
 
--- ---- behind a batch
+pub due_at : (work : Work) (batch : List Call) → (h : IsReady work) → AllByRecursion (λ (c : Call). c.proc.tables ≡ tables_of work.engine) batch → length batch ≤ 4096 →
+    length batch + (place_of work.feed).total ≤ most_calls (place_of work.feed).retries + length (place_of work.feed).calls → IsDue work.engine batch
+due_at work batch h over short few = record {
+  over = over;
+  few = short;
+  idle = h.idle;
+  room = room_at work.engine.retries (standing_of work.engine) h.log.db h.log.ran batch h.log.standing_is h.few (few_calls work batch h few);
+}
 
-abbrev AreWithin : ℕ → List Carried → Type 0
-AreWithin retries carried = AllByRecursion (λ (one : Carried). one.tries ≤ retries) carried
+-- the calls that wait
+pub waiting_few : (work : Work) (batch : List Call) → batch ≡ (place_of work.feed).calls → length batch + (place_of work.feed).total ≤ most_calls (place_of work.feed).retries + length (place_of work.feed).calls
+waiting_few work batch e = let few = work.feed.room in omega (arith, few, ap (λ (calls : List Call). length calls) e)
 
-pub within_behind : {T E : Type 0} (answer : Result T E) (old new : QuietParts) (calls : List Call) → new.retries ≡ old.retries → OnOk answer (standing_of new ≡ behind old.retries (standing_of old) calls) →
-    OnOk answer (AreWithin new.retries new.carried)
-within_behind (Ok x) old new calls e s =
-    let left : AreWithin old.retries new.carried = subst (λ (standing : Standing). AreWithin old.retries standing.carried) (sym s) (left_within old.retries (standing_of old) calls) in
-    rw (← e) at left
-within_behind (Err x) old new calls e s = tt
+-- ---- after it
 
-pub counted_behind : {T E : Type 0} (answer : Result T E) (old new : QuietParts) (calls : List Call) → new.retries ≡ old.retries → AreWithin old.retries old.carried →
-    OnOk answer (standing_of new ≡ behind old.retries (standing_of old) calls) → OnOk answer (attempts_in new ≤ attempts_in old + (old.retries + 1) * length calls)
-counted_behind (Ok x) old new calls e few s =
-    let less : new.next + may_have old.retries new.carried ≤ attempts_in old + (old.retries + 1) * length calls =
-    subst (λ (standing : Standing). standing.next + may_have old.retries standing.carried ≤ attempts_in old + (old.retries + 1) * length calls) (sym s) (in_batch old.retries (standing_of old) calls few) in
-    subst (λ k. new.next + may_have k new.carried ≤ attempts_in old + (old.retries + 1) * length calls) (sym e) less
-counted_behind (Err x) old new calls e few s = tt
-
--- a log that had room for a batch has room for one without calls
-pub HasRoom-behind : (old new : QuietParts) (calls : ℕ) → new.retries ≡ old.retries → HasRoom old calls → AreWithin new.retries new.carried → attempts_in new ≤ attempts_in old + (old.retries + 1) * calls → HasRoom new 0
-HasRoom-behind old new calls e room few less =
-    let counted = room.counted in
-    let most : attempts_in new + (old.retries + 1) * 0 ≤ (old.retries + 1) * most_calls old.retries = omega (arith, less, counted) in
-    record { few = few; counted = subst (λ k. attempts_in new + (k + 1) * 0 ≤ (k + 1) * most_calls k) (sym e) most }
-
-pub room_where_run : {T E : Type 0} (answer : Result T E) (old new : QuietParts) (calls : ℕ) → new.retries ≡ old.retries → HasRoom old calls → OnOk answer (AreWithin new.retries new.carried) →
-    OnOk answer (attempts_in new ≤ attempts_in old + (old.retries + 1) * calls) → OnOk answer (HasRoom new 0)
-room_where_run (Ok x) old new calls e room few less = HasRoom-behind old new calls e room few less
-room_where_run (Err x) old new calls e room few less = tt
-
--- ---- the calls that wait, and those of the log
-
--- a call more that was read and waits
-pub counted_more : (tries attempts calls total calls2 total2 : ℕ) → total2 + calls ≡ total + calls2 → attempts + tries * calls ≤ tries * total → attempts + tries * calls2 ≤ tries * total2
-counted_more tries attempts calls total calls2 total2 e h = let all = ap (λ n. tries * n) e in omega (arith, all, h)
-
--- a log has room for a batch of the calls that wait
-batch_counted : (tries attempts calls total last most : ℕ) → last + total ≤ most + calls → attempts + tries * calls ≤ tries * total → attempts + tries * last ≤ tries * most
-batch_counted tries attempts calls total last most few h = omega (arith, mul-le-mul_left tries few, h)
-
-pub room_at : (work : Work) (batch : ℕ) → IsReady work → batch + (place_of work.feed).total ≤ most_calls (place_of work.feed).retries + length (place_of work.feed).calls → HasRoom work.engine batch
-room_at work batch h few = record { few = h.few; counted = batch_counted (work.engine.retries + 1) (attempts_in work.engine) _ _ batch _ (rw h.limit at few) h.counted }
-
--- and one without calls
-pub room_for_none : (work : Work) → IsReady work → HasRoom work.engine 0
-room_for_none work h = let few = work.feed.room in room_at work 0 h (omega (arith, few))
-
-pub room_for_waiting : (work : Work) (batch : List Call) → IsReady work → batch ≡ (place_of work.feed).calls → HasRoom work.engine (length batch)
-room_for_waiting work batch h e = let few = work.feed.room in room_at work (length batch) h (omega (arith, few, ap (λ (calls : List Call). length calls) e))
+-- what a batch of these calls left
+stands_after : (retries : ℕ) (old new : EngineParts) (batch : List Call) (place : Place) (h : IsAfterCalls old.retries (standing_of old) place) → new.retries ≡ old.retries →
+    standing_of new ≡ behind old.retries (standing_of old) batch → standing_of new ≡ standing_behind new.retries h.db (h.ran ++ batch ∷ [])
+stands_after retries old new batch place h e s =
+    s ∙ ap (λ (t : Standing). behind old.retries t batch) h.standing_is ∙ sym (standing_next old.retries h.db h.ran batch)
+    ∙ ap (λ k. standing_behind k h.db (h.ran ++ batch ∷ [])) (sym e)
 
 -- the calls that waited were executed, and none waits
-pub ready_behind : {T E : Type 0} (answer : Result T E) (old new : Work) (feed : LogFeed) (batch : List Call) → IsReady old → new.feed ≡ feed →
+pub ready_after : {T E : Type 0} (answer : Result T E) (old new : Work) (feed : LogFeed) (batch : List Call) → IsReady old → new.feed ≡ feed →
     (batch ≡ (place_of old.feed).calls) × ((place_of feed).calls ≡ []) × ((place_of feed).total ≡ (place_of old.feed).total) → (place_of feed).retries ≡ (place_of old.feed).retries → KeepsSetting old.engine new.engine →
-    OnOk answer (is_busy new.engine ≡ false) → OnOk answer (AreWithin new.engine.retries new.engine.carried) → OnOk answer (attempts_in new.engine ≤ attempts_in old.engine + (old.engine.retries + 1) * length batch) → OnOk answer (IsReady new)
-ready_behind (Ok x) old new feed batch h f b r same idle few less =
+    (sink filled : _) → OnOk answer (IsReported old.engine new.engine old.transcript new.transcript sink filled batch) → OnOk answer (IsReady new)
+ready_after (Ok x) old new feed batch h f b r same sink filled reported =
     let none : (place_of new.feed).calls ≡ [] = ap (λ (l : LogFeed). (place_of l).calls) f ∙ b.1 in
     let total : (place_of new.feed).total ≡ (place_of old.feed).total = ap (λ (l : LogFeed). (place_of l).total) f ∙ b.2 in
-    let waited : attempts_in old.engine + (old.engine.retries + 1) * length batch ≤ (old.engine.retries + 1) * (place_of old.feed).total = rw b.0 h.counted in
-    let counted : attempts_in new.engine + (old.engine.retries + 1) * 0 ≤ (old.engine.retries + 1) * (place_of old.feed).total = omega (arith, less, waited) in
+    let waited : length batch ≡ length (place_of old.feed).calls = ap (λ (calls : List Call). length calls) b.0 in
+    let now : length (place_of new.feed).calls ≡ 0 = ap (λ (calls : List Call). length calls) none in
+    let grown = calls_grown h.log.ran batch in
+    let counted = h.log.counted in
     record {
       over = rw none tt;
-      idle = idle;
       limit = ap (λ (l : LogFeed). (place_of l).retries) f ∙ r ∙ h.limit ∙ sym same.retries;
-      few = few;
-      counted = rw (none, total) (subst (λ k. attempts_in new.engine + (k + 1) * 0 ≤ (k + 1) * (place_of old.feed).total) (sym same.retries) counted);
+      few = rw same.retries h.few;
+      idle = reported.idle;
+      digest_kept = reported.digest_kept;
+      log = record {
+        db = h.log.db;
+        ran = h.log.ran ++ batch ∷ [];
+        standing_is = stands_after old.engine.retries old.engine new.engine batch (place_of old.feed) h.log same.retries reported.standing;
+        counted = omega (arith, grown, counted, waited, now, total);
+      };
     }
-ready_behind (Err x) old new feed batch h f b r same idle few less = tt
+ready_after (Err x) old new feed batch h f b r same sink filled reported = tt
+
+-- the last batch was executed
+pub between_after : {T E : Type 0} (answer : Result T E) (old new : Work) (batch : List Call) (h : IsReady old) → KeepsSetting old.engine new.engine →
+    call_count h.log.ran + length batch ≤ most_calls old.engine.retries →
+    (sink filled : _) → OnOk answer (IsReported old.engine new.engine old.transcript new.transcript sink filled batch) → OnOk answer (IsBetweenBatches new.engine new.transcript)
+between_after (Ok x) old new batch h same few sink filled reported =
+    let grown = calls_grown h.log.ran batch in
+    let most : most_calls new.engine.retries ≡ most_calls old.engine.retries = ap most_calls same.retries in
+    record {
+      idle = reported.idle;
+      digest_kept = reported.digest_kept;
+      log = record {
+        db = h.log.db;
+        ran = h.log.ran ++ batch ∷ [];
+        standing_is = stands_after old.engine.retries old.engine new.engine batch (place_of old.feed) h.log same.retries reported.standing;
+        few = omega (arith, grown, few, most);
+      };
+    }
+between_after (Err x) old new batch h same few sink filled reported = tt
+
+-- or there is none
+pub between_now : (work : Work) → IsReady work → IsBetweenBatches work.engine work.transcript
+between_now work h =
+    let few = work.feed.room in
+    let counted = h.log.counted in
+    let most : most_calls (place_of work.feed).retries ≡ most_calls work.engine.retries = ap most_calls h.limit in
+    record {
+      idle = h.idle;
+      digest_kept = h.digest_kept;
+      log = record { db = h.log.db; ran = h.log.ran; standing_is = h.log.standing_is; few = omega (arith, few, counted, most) };
+    }

@@ -2,5 +2,4 @@ pub mod Reports
 pub mod Writes
 pub mod Ends
 pub mod Works
-pub mod Steps
 pub mod Sessions

@@ -1,61 +1,93 @@
 -- Claimed: what contracts promise to a reader rests on these words.
 -- A log at work: what was taken of it, executed and reported.
-use Rattle.std.specs.Prelude.{◌≡◌, ◌+◌, ◌*◌, ◌≤◌, ◌++◌, ℕ, List, [], length, false}
+use Rattle.std.specs.Prelude.{◌≡◌, ◌+◌, ◌≤◌, ◌++◌, ℕ, List, [], length, false, Some}
 use Rattle.std.specs.List.{AllByRecursion}
-use Rattle.sha2.specs.Hashers.{Holds256}
 use Rattle.values.specs.Database.{Database}
-use Rattle.requests.specs.ProcLists.{ProcsParts}
 use Rattle.requests.specs.Requests.{Call}
-use Rattle.meaning.specs.Serial.{serial_replies}
+use Rattle.batch_log.specs.declared.fault.LogFault.{LogFault}
 use Rattle.log_feed.specs.Feeds.{place_of}
-use Rattle.log_feed.specs.Places.{IsAt, IsWhole}
-use Rattle.report_text.specs.Report.{entries_in, next_batch, reply_lines}
-use Rattle.retries.specs.Standings.{closing, may_have, transactions_in, Standing}
-use Rattle.engine.specs.Quiet.{is_busy, tables_of, QuietParts}
+use Rattle.log_feed.specs.Places.{IsAt, IsWhole, Place}
+use Rattle.retries.specs.Standings.{call_count, Standing}
+use Rattle.engine.specs.Engines.{is_busy, tables_of, EngineParts}
 use Rattle.running.specs.declared.transcript.Transcript.{Transcript}
-use Rattle.running.specs.Hashers.{batch_of, said_of}
-use Rattle.running.specs.Stopped.{standing_behind, texts_of}
+use Rattle.running.specs.Batches.{KeepsDigest}
+use Rattle.running.specs.Reported as running
+use Rattle.running.specs.Reported.{with_closing}
+use Rattle.running.specs.Standings.{standing_of}
+use Rattle.running.specs.Starts.{Start}
+use Rattle.running.specs.Stopped.{standing_behind}
 use Rattle.session.specs.declared.report.Report.{Report}
 use Rattle.session.specs.declared.work.Work.{Work}
+use Rattle.session.specs.Ends.{IsRunInto}
 use Rattle.session.specs.Reports.{waiting_in}
 
--- where an engine is between two batches
-abbrev pub standing_of : QuietParts → Standing
-standing_of engine = record { next = engine.next; rows = engine.rows; carried = engine.carried }
+-- a standing is that after batches of all calls of a log that were read, but those that wait
+pub record IsAfterCalls (retries : ℕ) (standing : Standing) (place : Place) : Type 0 where
+  pub db : Database
+  pub ran : List (List Call)
+  pub standing_is : standing ≡ standing_behind retries db ran
+  pub counted : call_count ran + length place.calls ≡ place.total
 
 -- No batch is unfinished, and the calls that wait are over the engine's tables. The feed and the engine know of the same number of
--- retries, and no carried request has more attempts behind it. All attempts that were made, that carried requests may still have, and
--- that the calls which wait may have, are no more than those that the calls of the log that were read may have.
+-- retries. The engine has run all calls that were read, but those that wait.
 pub record IsReady (work : Work) : Type 0 where
   pub over : AllByRecursion (λ c. c.proc.tables ≡ tables_of work.engine) (place_of work.feed).calls
-  pub idle : is_busy work.engine ≡ false
   pub limit : (place_of work.feed).retries ≡ work.engine.retries
-  pub few : AllByRecursion (λ one. one.tries ≤ work.engine.retries) work.engine.carried
-  pub counted : (work.engine.next + may_have work.engine.retries work.engine.carried) + (work.engine.retries + 1) * length (place_of work.feed).calls
-      ≤ (work.engine.retries + 1) * (place_of work.feed).total
+  pub few : work.engine.retries ≤ 2
+  pub idle : is_busy work.engine ≡ false
+  pub digest_kept : KeepsDigest work.engine work.transcript
+  pub log : IsAfterCalls work.engine.retries (standing_of work.engine) (place_of work.feed)
 
--- These batches, and no others, were executed on these procedures and starting rows, one after another, where stale requests are
--- tried again so often. What was drained of their report and what waits are together the texts of them all.
-pub record HasReported (procs : ProcsParts) (retries : ℕ) (db : Database) (ended : List (List Call)) (drained : List ℕ) (engine : QuietParts) (transcript : Transcript) (report : Report) : Type 0 where
-  pub procs_are : engine.procs ≡ procs
-  pub retries_are : engine.retries ≡ retries
-  pub standing_is : standing_of engine ≡ standing_behind retries db ended
-  pub batch_is : batch_of transcript ≡ next_batch (length ended)
-  pub said_is : Holds256 (said_of transcript)
-      (reply_lines 0 (transactions_in retries db ended) (serial_replies (entries_in (transactions_in retries db ended)) db))
-  pub text_is : drained ++ waiting_in report ≡ texts_of procs retries db ended
+-- These batches, and no others, were executed from a start, one after another. What was drained of their report and what waits are
+-- together the texts of them all.
+abbrev pub HasReported : Start → List (List Call) → List ℕ → EngineParts → Transcript → Report → Type 0
+HasReported start ended drained engine transcript report =
+    running.HasReported start.procs start.retries start.rows ended engine transcript (Some [])
+    (Some (drained ++ waiting_in report))
 
--- Of a log on these procedures and starting rows these bytes were taken, and each batch that ends in them was executed and
--- reported. So much of the report was drained.
-pub record HasRun (procs : ProcsParts) (retries : ℕ) (db : Database) (taken drained : List ℕ) (work : Work) : Type 0 where
+-- Of a log from a start these bytes were taken, and each batch that ends in them was executed and reported. So much of the report was
+-- drained.
+pub record HasRun (start : Start) (taken drained : List ℕ) (work : Work) : Type 0 where
   pub ended : List (List Call)
-  pub limit : (place_of work.feed).retries ≡ retries
-  pub at : IsAt procs (place_of work.feed) ended taken
-  pub reported : HasReported procs retries db ended drained work.engine work.transcript work.report
+  pub limit : (place_of work.feed).retries ≡ start.retries
+  pub at : IsAt start.procs (place_of work.feed) ended taken
+  pub reported : HasReported start ended drained work.engine work.transcript work.report
+
+-- A whole log without a fault was taken, and each batch of its calls was executed and reported. Those that close it may be due.
+pub record HasRead (start : Start) (log drained : List ℕ) (work : Work) : Type 0 where
+  pub ended : List (List Call)
+  pub whole : IsWhole start.procs start.retries [] ended log
+  pub reported : HasReported start ended drained work.engine work.transcript work.report
 
 -- A whole log without a fault was taken, and each batch of it was executed and reported, and so were the batches without calls that
 -- close it. The end line was not.
-pub record HasRunWhole (procs : ProcsParts) (retries : ℕ) (db : Database) (log drained : List ℕ) (work : Work) : Type 0 where
+pub record HasRunWhole (start : Start) (log drained : List ℕ) (work : Work) : Type 0 where
   pub ended : List (List Call)
-  pub whole : IsWhole procs retries [] ended log
-  pub reported : HasReported procs retries db (ended ++ closing retries retries (standing_behind retries db ended)) drained work.engine work.transcript work.report
+  pub whole : IsWhole start.procs start.retries [] ended log
+  pub reported : HasReported start (with_closing start.retries start.rows ended) drained
+      work.engine work.transcript work.report
+
+-- a log at work goes on by these bytes
+abbrev pub Continues : Work → List ℕ → Work → Type 0
+Continues old bytes new =
+    (start : Start) (fed drained : List ℕ) → HasRun start fed drained old → HasRun start (fed ++ bytes) drained new
+
+-- this fault ends each log that goes on by these bytes
+abbrev pub FaultsAfter : Work → List ℕ → Report → LogFault → Type 0
+FaultsAfter old bytes report fault =
+    (start : Start) (fed drained more : List ℕ) → HasRun start fed drained old →
+    IsRunInto start ((fed ++ bytes) ++ more) (drained ++ waiting_in report) fault
+
+-- this fault ends a log whose end has come
+abbrev pub FaultsAtEnd : Work → Report → LogFault → Type 0
+FaultsAtEnd old report fault =
+    (start : Start) (fed drained : List ℕ) → HasRun start fed drained old →
+    IsRunInto start fed (drained ++ waiting_in report) fault
+
+-- a whole log was taken, and its batches were run
+abbrev pub ReadsWhole : Work → Work → Type 0
+ReadsWhole old new = (start : Start) (fed drained : List ℕ) → HasRun start fed drained old → HasRead start fed drained new
+
+-- and those that close it were run, too
+abbrev pub RunsWhole : Work → Work → Type 0
+RunsWhole old new = (start : Start) (fed drained : List ℕ) → HasRun start fed drained old → HasRunWhole start fed drained new

@@ -5,7 +5,3 @@ use Rattle.std.specs.Prelude.{◌≡◌, ℕ, List, ◌++◌}
 -- a text begins with these bytes
 abbrev pub IsBeginning : List ℕ → List ℕ → Type 0
 IsBeginning bytes text = (rest : List ℕ) × (text ≡ bytes ++ rest)
-
--- the bytes grew by a beginning of the text
-abbrev pub IsFront : List ℕ → List ℕ → List ℕ → Type 0
-IsFront old new text = (front : List ℕ) × IsBeginning front text × (new ≡ old ++ front)

@@ -2,7 +2,6 @@
 #![tactic(auto)]
 
 mod report;
-mod running_batches;
 mod session;
 mod work;
 

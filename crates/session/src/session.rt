@@ -3,12 +3,9 @@
 ghost use Rattle.std.specs.Prelude.{◌≡◌, ◌++◌, ◌≤◌, [], ℕ, List, length, take, None, Err, IfOk, IfErr, IfSome, IsSome, OnOk, drop, min};
 ghost use Rattle.std.specs.FinMap as map_of;
 ghost use Rattle.std.proofs.Props.{props};
-ghost use Rattle.values.specs.Database.{Database};
-ghost use Rattle.requests.specs.ProcLists.{ProcsParts};
 ghost use Rattle.row_store.specs.Stock.{with_rows};
-ghost use Rattle.session.specs.Ends.{IsRunInto, IsWholeRun};
+ghost use Rattle.running.specs.Starts.{Start};
 ghost use Rattle.session.specs.Works.{IsReady};
-ghost use Rattle.session.specs.Writes.{IsBeginning};
 
 use crate::work::Work;
 use batch_log::LogFault;
@@ -50,12 +47,16 @@ pub struct Session {
 }
 
 impl Session {
-    ghost use Rattle.session.specs.Sessions.{stop_behind, stop_in, stop_of, waiting_of, HasTaken, IsOfLog};
+    ghost use Rattle.session.specs.Sessions.{stop_at_end, stop_in, stop_of, waiting_of, EndsInFault, EndsWhole, FaultsOn, HasTaken, KeepsWaiting, KeepsWaitingAtEnd, TakesOn};
 
     /// A run on a setup, of whose log nothing was fed.
     pub fn new(alloc: Global, setup: Setup, settings: Settings) -> Result<Session, NoMemory>
         ensures open { IfOk result (λ session. stop_of session ≡ None) }
-        ensures begun { IfOk result (HasTaken setup.procs setup.retries (with_rows map_of.empty setup.rows.items) [] []) }
+        ensures begun { IfOk result (HasTaken (record {
+          procs = setup.procs;
+          retries = setup.retries;
+          rows = with_rows map_of.empty setup.rows.items;
+        }) [] []) }
     {
         let work = Work::new(alloc, setup, settings)?;
         Ok(Session { work, stop: None })
@@ -65,14 +66,12 @@ impl Session {
     /// further call answers the same.
     #[tactic(auto, using(crate::proofs::Growing::begins_itself))]
     pub fn feed(&mut self, alloc: Global, bytes: &[u8]) -> Result<(), SessionFault>
-        // The bytes are taken behind those that were fed before.
-        ensures taken { (procs : ProcsParts) → (retries : ℕ) → (db : Database) → (fed drained : List ℕ) → HasTaken procs retries db fed drained self.old →
-            OnOk result (HasTaken procs retries db (fed ++ bytes.now) drained self.new) }
+        // The bytes are taken after those that were fed before.
+        ensures taken { OnOk result (TakesOn self.old bytes.now self.new) }
         // A fault is that of each log that begins with what was fed.
-        ensures fault { (procs : ProcsParts) → (retries : ℕ) → (db : Database) → (fed drained more : List ℕ) → HasTaken procs retries db fed drained self.old →
-            IfErr result (IsOfLog (IsRunInto procs retries db ((fed ++ bytes.now) ++ more) (drained ++ waiting_of self.new))) }
+        ensures fault { IfErr result (FaultsOn self.old bytes.now self.new) }
         // Report bytes that waited wait still.
-        ensures kept { IsBeginning (waiting_of self.old) (waiting_of self.new) }
+        ensures kept { KeepsWaiting self.old self.new }
         ensures stops { stop_of self.old ≡ None → stop_of self.new ≡ stop_in result }
         ensures again { IfSome (stop_of self.old) (λ fault. (result ≡ Err fault) × (self.new ≡ self.old)) }
     {
@@ -95,15 +94,12 @@ impl Session {
     #[tactic(auto, using(crate::proofs::Growing::begins_itself))]
     pub fn end(&mut self, alloc: Global) -> Result<u64, SessionFault>
         // What was fed is a whole log. What was drained and what waits are together its report.
-        ensures whole { (procs : ProcsParts) → (retries : ℕ) → (db : Database) → (fed drained : List ℕ) → HasTaken procs retries db fed drained self.old →
-            IfOk result (IsWholeRun procs retries db fed (drained ++ waiting_of self.new)) }
-        ensures fault { (procs : ProcsParts) → (retries : ℕ) → (db : Database) → (fed drained : List ℕ) → HasTaken procs retries db fed drained self.old →
-            IfErr result (IsOfLog (IsRunInto procs retries db fed (drained ++ waiting_of self.new))) }
+        ensures whole { IfOk result (EndsWhole self.old self.new) }
+        ensures fault { IfErr result (EndsInFault self.old self.new) }
         // Report bytes that waited wait still.
-        ensures kept { (procs : ProcsParts) → (retries : ℕ) → (db : Database) → (fed drained : List ℕ) → HasTaken procs retries db fed drained self.old →
-            IsBeginning (waiting_of self.old) (waiting_of self.new) }
+        ensures kept { KeepsWaitingAtEnd self.old self.new }
         ensures stops { IsSome (stop_of self.new) }
-        ensures over { stop_of self.old ≡ None → stop_of self.new ≡ stop_behind result }
+        ensures over { stop_of self.old ≡ None → stop_of self.new ≡ stop_at_end result }
         ensures again { IfSome (stop_of self.old) (λ fault. (result ≡ Err fault) × (self.new ≡ self.old)) }
     {
         if let Some(fault) = self.stop {
@@ -129,8 +125,8 @@ impl Session {
         ensures room { length into.new ≡ length into.old }
         ensures moved { waiting_of self.old ≡ take result into.new ++ waiting_of self.new }
         ensures rest { drop result into.new ≡ drop result into.old }
-        ensures taken { (procs : ProcsParts) → (retries : ℕ) → (db : Database) → (fed drained : List ℕ) → HasTaken procs retries db fed drained self.old →
-            HasTaken procs retries db fed (drained ++ take result into.new) self.new }
+        ensures taken { (start : Start) (fed drained : List ℕ) → HasTaken start fed drained self.old →
+            HasTaken start fed (drained ++ take result into.new) self.new }
         ensures stays { stop_of self.new ≡ stop_of self.old }
     {
         self.work.report.drain(into)

@@ -1,38 +1,34 @@
-use Rattle.std.proofs.Common.{rules, Err, sym, ap, ◌∙◌, subst}
+use Rattle.std.proofs.Common.{sym, subst}
 use Rattle.engine.specs.declared.stage.Begun.{Begun as BegunOf}
-use Rattle.engine.specs.declared.stage.Stage.TheVariants.{Begun}
 use Rattle.engine.specs.Stages.{IsBegun}
-use Rattle.engine.proofs.Stops.{over, begun_on, stop_by, stop_of}
-use Rattle.engine.proofs.Told.{end_told}
+use Rattle.engine.proofs.Stops.{over, begun_on, stopped_so}
+use Rattle.engine.proofs.Told.{ended_told}
 use Rattle.engine.proofs.working.work_in_pool.Goals as goal
 
-pub returns-in-Err-ended-clause-stop : goal.returns-in-Err-ended-clause-stop
-returns-in-Err-ended-clause-stop g c =
-    let run = c.run-run in
-    stop_by c.args.procs.now.tables c.args.first c.args.stage c.in-Ok.begun run.result.scheduler c.in-Ok.ensures.begun c.in-Ok.ensures.start c.in-Ok.ensures.same
-    run.ensures.work run.ensures.none_out run.ensures.settled c.in-Err-ended.refusal (λ e. run.ensures.thread (c.in-Err-ended.is ∙ ap Err e))
-
-pub end-requires-clause-begun : goal.end-requires-clause-begun
-end-requires-clause-begun g c =
-    let run = c.run-run in
-    let tables = over c.args.procs.now.tables c.args.first c.args.stage c.in-Ok.begun run.result.scheduler c.in-Ok.ensures.begun c.in-Ok.ensures.start c.in-Ok.ensures.same
+pub end_run-requires-clause-begun : goal.end_run-requires-clause-begun
+end_run-requires-clause-begun g c =
+    let tables = c.args.configuration.now.procs.tables in
+    let run = c.run-ran in
+    let s = run.new.scheduler in
+    let same = over tables c.args.first c.args.stage c.in-Ok.begun s c.in-Ok.ensures.begun c.in-Ok.ensures.start c.in-Ok.ensures.same
     run.ensures.work run.ensures.none_out run.ensures.settled in
-    let on = begun_on c.args.procs.now.tables c.args.first c.args.stage c.in-Ok.begun run.result.scheduler c.in-Ok.ensures.begun c.in-Ok.ensures.start c.in-Ok.ensures.same
+    let on = begun_on tables c.args.first c.args.stage c.in-Ok.begun s c.in-Ok.ensures.begun c.in-Ok.ensures.start c.in-Ok.ensures.same
     run.ensures.work run.ensures.none_out run.ensures.settled in
-    subst (λ ts. IsBegun ts c.args.first (record { attempts = c.in-Ok.begun.attempts; scheduler = run.result.scheduler })) (sym tables) on
+    subst (λ ts. IsBegun ts c.args.first (record { attempts = c.in-Ok.begun.attempts; scheduler = s })) (sym same) on
 
-pub returns-in-Err-end-clause-stop : goal.returns-in-Err-end-clause-stop
-returns-in-Err-end-clause-stop g c =
-    let run = c.run-run in
-    stop_of c.args.procs.now.tables c.args.first c.args.stage c.in-Ok.begun run.result.scheduler c.in-Ok.ensures.begun c.in-Ok.ensures.start c.in-Ok.ensures.same
-    run.ensures.work run.ensures.none_out run.ensures.settled
-    c.no_memory-in-Err-end.result (c.no_memory-in-Err-end.ensures.stage ∙ ap (λ (b : BegunOf). Begun b) c.in-Err-end.ensures.back) c.no_memory-in-Err-end.ensures.refusal
+pub returns-clause-stop : goal.returns-clause-stop
+returns-clause-stop g c =
+    let tables = c.args.configuration.now.procs.tables in
+    let run = c.run-ran in
+    stopped_so tables c.args.first c.args.stage c.in-Ok.begun run.new.scheduler c.in-Ok.ensures.begun c.in-Ok.ensures.start c.in-Ok.ensures.same
+    run.ensures.work run.ensures.none_out run.ensures.settled c.end_run.result run.result c.end_run.ensures.stage c.end_run.ensures.refusal run.ensures.thread
 
-pub returns-in-Ok-end-clause-told_end : goal.returns-in-Ok-end-clause-told_end
-returns-in-Ok-end-clause-told_end g c =
-    let run = c.run-run in
-    let b : BegunOf = record { attempts = c.in-Ok.begun.attempts; scheduler = run.result.scheduler } in
-    let on = begun_on c.args.procs.now.tables c.args.first c.args.stage c.in-Ok.begun run.result.scheduler c.in-Ok.ensures.begun c.in-Ok.ensures.start c.in-Ok.ensures.same
+pub returns-clause-told_end : goal.returns-clause-told_end
+returns-clause-told_end g c =
+    let tables = c.args.configuration.now.procs.tables in
+    let run = c.run-ran in
+    let s = run.new.scheduler in
+    let b : BegunOf = record { attempts = c.in-Ok.begun.attempts; scheduler = s } in
+    let on = begun_on tables c.args.first c.args.stage c.in-Ok.begun s c.in-Ok.ensures.begun c.in-Ok.ensures.start c.in-Ok.ensures.same
     run.ensures.work run.ensures.none_out run.ensures.settled in
-    end_told c.args.procs.now.tables run.result.scheduler.work.tables c.args.first c.args.retries b c.in-Ok-end.ended (g.L.Listener.account run.result.listener) on (search rules)
-    c.in-Ok-end.ensures.ended run.ensures.told
+    ended_told tables c.args.first _ b c.end_run.result (g.L.Listener.account run.new.listener) on c.end_run.ensures.done c.end_run.ensures.ended run.ensures.told

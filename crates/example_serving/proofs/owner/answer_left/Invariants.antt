@@ -11,6 +11,6 @@ abbrev pub invariant-loop-items : goal.invariant-loop-items
 invariant-loop-items g l = record {
   first : List CallItem;
   calls : calls_in (items_in l.fn.left.items) ≡ first ++ calls_in (items_in (into_iter_items l.items-iterator));
-  served : AnswersAll first l.initial.engine l.engine l.initial.told.items l.told.items;
-  idle : is_busy l.engine ≡ false;
+  served : AnswersAll first l.initial.engine.core l.engine.core l.initial.told.items l.told.items;
+  idle : is_busy l.engine.core ≡ false;
 }

@@ -10,5 +10,5 @@ returns g c =
     let calls = calls_in (items_in c.args.left.items) in
     let left = c.answer_left.new in
     let all = c.answer_carried.new in
-    subst (λ l. Serves l c.answer_carried.result c.args.engine.now all.engine c.args.told.now.items all.told.items) (append-nil calls)
-    (then_served calls [] c.answer_carried.result c.args.engine.now left.engine all.engine c.args.told.now.items left.told.items all.told.items c.in_ok-answer_left.ensures c.answer_carried.ensures)
+    subst (λ l. Serves l c.answer_carried.result c.args.engine.now.core all.engine.core c.args.told.now.items all.told.items) (append-nil calls)
+    (then_served calls [] c.answer_carried.result c.args.engine.now.core left.engine.core all.engine.core c.args.told.now.items left.told.items all.told.items c.in_ok-answer_left.ensures c.answer_carried.ensures)

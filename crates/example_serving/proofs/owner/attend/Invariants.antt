@@ -8,6 +8,6 @@ abbrev pub invariant-loop : goal.invariant-loop
 invariant-loop g l = record {
   pass : IsDrawerOf l.intake l.owner.pass;
   held : held_by l.owner.pass ≡ held_by l.fn.owner.pass;
-  idle : is_busy l.owner.engine ≡ false;
+  idle : is_busy l.owner.engine.core ≡ false;
   served : HasServed l.fn.owner l.owner (Ok tt);
 }

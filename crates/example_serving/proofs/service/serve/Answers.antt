@@ -7,7 +7,7 @@ use Rattle.example_serving.proofs.Owned.{no_service, cut_service, whole_service}
 use Rattle.example_serving.proofs.service.serve.Goals as goal
 
 pub returns-in_default : goal.returns-in_default
-returns-in_default g c = no_service c.args.engine c.args.logs.items c.new-told.result.items c.new-told.ensures.items c.requires.idle
+returns-in_default g c = no_service c.args.engine.core c.args.logs.items c.new-told.result.items c.new-told.ensures.items c.requires.idle
 
 pub returns-in_default-clients : goal.returns-in_default-clients
 returns-in_default-clients g c =

@@ -28,17 +28,21 @@ batches-init g c = record {
   so_far = SoFar-start _ _ _ _ _ _ _ (ap (λ (p : Position). p.newlines) c.requires.unread.0) c.requires.unread.1 refl c.requires.unused c.requires.none_carried c.new-transcript.ensures.batch c.new-transcript.ensures.said;
 }
 
-pub close-requires-clause-log : goal.close-requires-clause-log
-close-requires-clause-log g c =
+pub close-requires-clause-between : goal.close-requires-clause-between
+close-requires-clause-between g c =
     let s = c.batches.invariant.so_far in
     let total : calls_read c.next_batch.new.self ≡ calls_read c.batches.reader + 0 = rw c.in-Ok-None.field-0-is at c.in-Ok-None.ensures.counted in
-    let most : most_calls (retries_of c.next_batch.new.self) ≡ most_calls c.args.engine.now.retries = ap most_calls (c.next_batch.ensures.retries ∙ c.batches.invariant.retries) in
-    rw s.reported.retries_are (log_behind _ (calls_read c.batches.reader) _ (standing_of c.batches.engine) _ s.ran s.reported.standing_is s.total_is (omega (arith, total, c.next_batch.ensures.room)) most)
+    let most : most_calls (retries_of c.next_batch.new.self) ≡ most_calls c.args.engine.now.core.retries = ap most_calls (c.next_batch.ensures.retries ∙ c.batches.invariant.retries) in
+    record {
+      idle = c.batches.invariant.idle;
+      digest_kept = c.batches.invariant.digest;
+      log = rw s.reported.retries_are (log_behind _ (calls_read c.batches.reader) _ (standing_of c.batches.engine.core) _ s.ran s.reported.standing_is s.total_is (omega (arith, total, c.next_batch.ensures.room)) most);
+    }
 
 pub returns-in-Ok-None-clause-run : goal.returns-in-Ok-None-clause-run
 returns-in-Ok-None-clause-run g c =
     let s = c.batches.invariant.so_far in
-    let pe : c.procs.result.now ≡ c.args.engine.now.procs = c.procs.ensures ∙ s.reported.procs_are in
+    let pe : c.procs.result.now ≡ c.args.engine.now.core.procs = c.procs.ensures ∙ s.reported.procs_are in
     run_closes c.close.result _ _ _ _ _ (newlines_taken c.next_batch.new.self) (calls_read c.next_batch.new.self) c.last_line-last.result _ _ _ _ _ _ _ _ (came c.next_batch.new.self)
     (position_of c.batches.reader) (position_of c.next_batch.new.self) _ _ _ _ _ s (closed_as _ _ _ _ _ _ _ _ _ _ s.reported c.close.ensures.closed)
     (rw (pe, c.batches.invariant.retries) at ((rw c.in-Ok-None.field-0-is at c.in-Ok-None.ensures.end) refl)) (rw (pe, c.batches.invariant.retries) at c.in-Ok-None.ensures.taken)
@@ -49,45 +53,46 @@ returns-in-Ok-None-clause-run g c =
 pub returns-in-Err-clause-run : goal.returns-in-Err-clause-run
 returns-in-Err-clause-run g c =
     let s = c.batches.invariant.so_far in
-    let pe : c.procs.result.now ≡ c.args.engine.now.procs = c.procs.ensures ∙ s.reported.procs_are in
+    let pe : c.procs.result.now ≡ c.args.engine.now.core.procs = c.procs.ensures ∙ s.reported.procs_are in
     run_faults c.in-Err.fault _ _ _ _ _ _ _ _ _ _ _ _ (came c.next_batch.new.self) (position_of c.next_batch.new.self) _ _ _ _ _ s
     (rw (pe, c.batches.invariant.retries) at (c.in-Err.ensures.fault c.batches.invariant.no_fault)) (c.in-Err.ensures.place c.batches.invariant.no_fault) (c.in-Err.ensures.spent c.batches.invariant.no_fault)
     c.batches.invariant.source_works (c.in-Err.ensures.fails c.batches.invariant.no_fault) c.batches.invariant.sink_works (Moves-trans _ _ _ _ _ _ c.batches.invariant.moves c.next_batch.ensures.moves)
     (SoFar-stopped_reading (is_io c.in-Err.fault.kind) _ _ _ _ _ _ _ _ _ _ _ _ _ _ _ _ s c.batches.invariant.moves c.next_batch.ensures.moves refl refl
     (rw (pe, c.batches.invariant.retries) at c.in-Err.ensures.taken) (c.in-Err.ensures.place c.batches.invariant.no_fault))
 
-pub run_batch-requires-clause-tables : goal.run_batch-requires-clause-tables
-run_batch-requires-clause-tables g c =
-    rw (ap (λ (p : ProcsParts). p.tables) c.procs.ensures) at (rw c.in-Ok-Some.field-0-is at c.in-Ok-Some.ensures.tables)
-
-pub run_batch-requires-clause-room : goal.run_batch-requires-clause-room
-run_batch-requires-clause-room g c =
+pub run_batch-requires-clause-due : goal.run_batch-requires-clause-due
+run_batch-requires-clause-due g c =
     let s = c.batches.invariant.so_far in
-    let most : most_calls (retries_of c.next_batch.new.self) ≡ most_calls c.args.engine.now.retries = ap most_calls (c.next_batch.ensures.retries ∙ c.batches.invariant.retries) in
-    room_in_log c.args.engine.now.retries (calls_read c.batches.reader) (calls_read c.next_batch.new.self) _ (standing_of c.batches.engine) _ s.ran c.in-Ok-Some.requests.items s.reported.standing_is c.requires.few s.total_is
-    (rw c.in-Ok-Some.field-0-is at c.in-Ok-Some.ensures.counted) c.next_batch.ensures.room most
+    let most : most_calls (retries_of c.next_batch.new.self) ≡ most_calls c.args.engine.now.core.retries = ap most_calls (c.next_batch.ensures.retries ∙ c.batches.invariant.retries) in
+    record {
+      over = rw (ap (λ (p : ProcsParts). p.tables) c.procs.ensures) at (rw c.in-Ok-Some.field-0-is at c.in-Ok-Some.ensures.tables);
+      few = rw c.in-Ok-Some.field-0-is at c.in-Ok-Some.ensures.few;
+      idle = c.batches.invariant.idle;
+      room = room_in_log c.args.engine.now.core.retries (calls_read c.batches.reader) (calls_read c.next_batch.new.self) _ (standing_of c.batches.engine.core) _ s.ran c.in-Ok-Some.requests.items s.reported.standing_is c.requires.few s.total_is
+          (rw c.in-Ok-Some.field-0-is at c.in-Ok-Some.ensures.counted) c.next_batch.ensures.room most;
+    }
 
 pub batches-preserved : goal.batches-preserved
 batches-preserved g c =
     let s = c.batches.invariant.so_far in
-    let pe : c.procs.result.now ≡ c.args.engine.now.procs = c.procs.ensures ∙ s.reported.procs_are in
+    let pe : c.procs.result.now ≡ c.args.engine.now.core.procs = c.procs.ensures ∙ s.reported.procs_are in
     record {
-      idle = c.in-Ok.ensures.idle;
+      idle = c.in-Ok.ensures.reported.idle;
       same = search rules;
       retries = c.next_batch.ensures.retries ∙ c.batches.invariant.retries;
       no_fault = search rules;
       moves = Moves-trans _ _ _ _ _ _ c.batches.invariant.moves c.next_batch.ensures.moves;
       source_works = c.in-Ok-Some.ensures.fails c.batches.invariant.no_fault ∙ sym (or_nothing _) ∙ c.batches.invariant.source_works;
       sink_works = c.in-Ok.ensures.fails ∙ sym (or_nothing _) ∙ c.batches.invariant.sink_works;
-      digest = c.in-Ok.ensures.digest;
+      digest = c.in-Ok.ensures.reported.digest_kept;
       so_far = SoFar-next _ _ _ _ _ _ _ _ _ _ _ _ _ _ _ _ _ _ s (rw (pe, c.batches.invariant.retries) at (rw c.in-Ok-Some.field-0-is at c.in-Ok-Some.ensures.batch))
-          (rw c.in-Ok-Some.field-0-is at c.in-Ok-Some.ensures.counted) c.in-Ok.ensures.same.procs c.in-Ok.ensures.same.retries c.in-Ok.ensures.standing c.in-Ok.ensures.batch c.in-Ok.ensures.said c.in-Ok.ensures.text;
+          (rw c.in-Ok-Some.field-0-is at c.in-Ok-Some.ensures.counted) c.in-Ok.ensures.same.procs c.in-Ok.ensures.same.retries c.in-Ok.ensures.reported;
     }
 
 pub returns-in-Err-run_batch-clause-run : goal.returns-in-Err-run_batch-clause-run
 returns-in-Err-run_batch-clause-run g c =
     let s = c.batches.invariant.so_far in
-    let pe : c.procs.result.now ≡ c.args.engine.now.procs = c.procs.ensures ∙ s.reported.procs_are in
+    let pe : c.procs.result.now ≡ c.args.engine.now.core.procs = c.procs.ensures ∙ s.reported.procs_are in
     run_stops (in_batch c.in-Ok-Some.requests.items) c.in-Err-run_batch.fault _ _ _ _ _ _ _ (came c.next_batch.new.self) (position_of c.next_batch.new.self) c.last_line-line.result _ _ _ _ _
     c.in-Err-run_batch.ensures.stops refl (c.in-Ok-Some.ensures.fails c.batches.invariant.no_fault ∙ sym (or_nothing _) ∙ c.batches.invariant.source_works) c.batches.invariant.sink_works
     c.in-Err-run_batch.ensures.fails c.last_line-line.ensures (Moves-trans _ _ _ _ _ _ c.batches.invariant.moves c.next_batch.ensures.moves)
