@@ -48,6 +48,8 @@ WAYS = (
     ("run --alone setup.json", None),
 )
 
+# What comes of reading a text that is no setup.
+NO_SETUP = (ValueError, LookupError, TypeError)
 FAULT_OF_SETUP = re.compile(rb"fault (?:(?:[1-5]|7|4[1-6])|1[1-8] at (?:/\d{1,5})*)\n")
 FAULT_OF_LINE = re.compile(rb"fault 3[1-5] line (\d+)\n")
 DIGESTS = re.compile(rb"rows [0-9a-f]{64} replies [0-9a-f]{64}")
@@ -185,6 +187,15 @@ def has_shape(report, batches, retries, is_whole):
     return bool(is_ended) and list(lines) == [b""]
 
 
+def retries_in(setup):
+    """How often a setup has a stale call tried again; `None` where it is none."""
+    try:
+        document = json.loads(setup)
+        return document[5] if document[1] == 2 else 0
+    except NO_SETUP:
+        return None
+
+
 def fits(left, setup, log):
     """Whether status, fault and report fit each other and the log."""
     lines = log.split(b"\n")
@@ -195,16 +206,33 @@ def fits(left, setup, log):
     is_whole = left.status == 0 and not left.err
     if not is_whole and not (left.status == 1 and at and 1 <= int(at[1]) <= len(lines)):
         return False
-    document = json.loads(setup)
     batches, begun = batches_in(lines if is_whole else lines[: int(at[1]) - 1])
     batches += [begun] if is_whole and begun else []
-    return has_shape(left.out, batches, document[5] if document[1] == 2 else 0, is_whole)
+    retries = retries_in(setup)
+    return retries is not None and has_shape(left.out, batches, retries, is_whole)
 
 
 def seconds_taken():
     """How many seconds of the processors this process's runs have taken."""
     taken = resource.getrusage(resource.RUSAGE_CHILDREN)
     return taken.ru_utime + taken.ru_stime
+
+
+def left_by(program, room, log):
+    """What each way leaves of a pair whose setup lies in a folder, and in which it takes a second."""
+    left, slow = [], []
+    for line, most in WAYS:
+        began = seconds_taken()
+        left.append(program.run(line.split(), room, log, most))
+        if left[-1].status is None or seconds_taken() - began >= 1:
+            slow.append(f"{line} takes a second")
+    return left, slow
+
+
+def has_right_threads(left, is_handed):
+    """Whether the way with `--alone` started no thread, and the others some, where they have calls to hand over."""
+    on_two, on_three, alone = (one.threads for one in left)
+    return alone == 0 and (on_two > 0 and on_three > 0 or not (is_handed and has_work_for_two(left[0].out)))
 
 
 def tried(program, pair):
@@ -214,21 +242,18 @@ def tried(program, pair):
         file = Path(room) / "setup.json"
         file.write_bytes(setup)
         is_handed = is_handed and program.run(["check", "setup.json"], room).status == 0
-        if is_handed:
-            setup = with_loops(setup)
-            file.write_bytes(setup)
-        left, wrong = [], []
-        for line, most in WAYS:
-            began = seconds_taken()
-            left.append(program.run(line.split(), room, log, most))
-            if seconds_taken() - began >= 1:
-                wrong.append(f"{line} takes a second")
-    if any((one.status, one.out, one.err) != (left[0].status, left[0].out, left[0].err) for one in left):
+        try:
+            setup = with_loops(setup) if is_handed else setup
+        except NO_SETUP:
+            return ["`check` takes what is no setup"], False, 0
+        file.write_bytes(setup)
+        left, wrong = left_by(program, room, log)
+    if len({(one.status, one.out, one.err) for one in left}) > 1:
         wrong.append("the ways differ")
     if not fits(left[0], setup, log):
         wrong.append("its parts don't fit")
-    if left[2].threads or (is_handed and has_work_for_two(left[0].out) and not (left[0].threads and left[1].threads)):
-        wrong.append(f"{[one.threads for one in left]} threads were started")
+    if not has_right_threads(left, is_handed):
+        wrong.append(f"its ways start {', '.join(str(one.threads) for one in left)} threads")
     return wrong, is_handed, left[0].threads + left[1].threads if is_handed else 0
 
 
