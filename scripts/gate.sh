@@ -1,8 +1,14 @@
 #!/usr/bin/env bash
-# Runs the gate: `rt ci`; then, on the programs that it left built, `scripts/examples.py` and `scripts/manual.py --check`, which
-# compare what comes out with what the documents say, and `scripts/refuse_memory.sh`, which refuses each 40th allocation; and then
-# `scripts/edits.py together`, which tries more edits, many in one check. It says before its last line how much of a processor's
-# time it took, and what each crate took of it. The last line counts what `rt ci` and the edits passed.
+# Runs the gate: `rt ci`; then, on the programs that it left built,
+#
+# - `scripts/examples.py` and `scripts/manual.py --check`, which compare what comes out with what the documents say,
+# - `scripts/cases.py`, which runs the stored cases, and `scripts/hostile_documents.py`, which runs 1,000 setups and logs made at
+#   random, each on the program as either compiler makes it,
+# - `scripts/refuse_memory.sh`, which refuses each 40th allocation;
+#
+# and then `scripts/edits.py together`, which tries more edits, many in one check. It says before its last line how much of a
+# processor's time it took, and what each crate took of it. The last line counts what `rt ci` and the edits passed, and each other
+# run of a script as one more.
 #
 # One check runs on each processor; each takes less than 5 GB of memory. The time of the whole is exact. The shares of the crates,
 # for their own proof, for their tests and for their edits, are read off the checks every two seconds, so that each lacks the
@@ -32,9 +38,33 @@ while sleep 2; do
 done > "$notes" &
 sampler=$!
 
+# Runs a script, and counts it.
+counted() {
+    if "$@"; then
+        echo '1 passed, 0 failed'
+    else
+        echo '0 passed, 1 failed'
+        return 1
+    fi
+}
+
 TIMEFORMAT='%U %S'
 gate() {
-    RT_JOBS="$(nproc)" rt ci && scripts/examples.py && scripts/manual.py --check && EVERY=40 scripts/refuse_memory.sh --left && scripts/edits.py together
+    local status=0 program
+    RT_JOBS="$(nproc)" rt ci || return
+    counted scripts/examples.py || status=1
+    counted scripts/manual.py --check || status=1
+    for program in crates/cli/out/cli{,.by-rattle}; do
+        if [[ $program == *.by-rattle && ! -x $program ]]; then
+            echo "the second compiler didn't make the program: its runs are left out"
+            continue
+        fi
+        counted scripts/cases.py "$program" || status=1
+        counted scripts/hostile_documents.py 1000 1 "$program" || status=1
+    done
+    EVERY=40 counted scripts/refuse_memory.sh --left || status=1
+    scripts/edits.py together || status=1
+    return "$status"
 }
 { time gate > "$output" 2>&1; } 2> "$taken" &
 gate=$!

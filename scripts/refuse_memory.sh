@@ -50,8 +50,8 @@ fi
 
 # The logs of several batches are those of stored cases.
 for pair in setup.json:setup.json log:log report:stdout; do
-    cmp -- "data/${pair%:*}" "../stored_cases/data/settings/calls-that-clash/${pair#*:}"
-    cmp -- "data/retries-${pair%:*}" "../stored_cases/data/retries/013/${pair#*:}"
+    cmp -- "data/${pair%:*}" "../../cases/settings/calls-that-clash/${pair#*:}"
+    cmp -- "data/retries-${pair%:*}" "../../cases/retries/013/${pair#*:}"
 done
 
 # Builds the program where that is asked for, and writes the library that refuses one allocation or one thread.

@@ -4,7 +4,8 @@
 #     scripts/static_library.sh [PROGRAM]      PROGRAM is crates/cli/out/cli where none is named
 #
 # Each setup in examples/ that has a log and a report is run by each of them, fed at once and in pieces of 1 and of 7 bytes, and so
-# are a log with a fault and a setup with one: standard output, standard error and the exit status are the program's. Then
+# are a log with a fault and a setup with one: standard output, standard error and the exit status are the program's. The example in
+# C is fed the logs of the stored cases, too, in pieces of 1, 7 and 4096 bytes, and leaves what is stored with them. Then
 # `scripts/refuse_memory.c` runs a log once for each of its allocations, and refuses it memory from there on. The archive is proved
 # and built first, over what is built already. All in C needs `cc`, and the example in Rust `cargo` and `cc`, which links it; where
 # one of these isn't there, the script says what it leaves out. It ends with how many runs agree, and with status 1 where one
@@ -72,8 +73,11 @@ for run in "${runs[@]}"; do
         done
     done
 done
+if [[ -x $work/replay-c ]]; then
+    scripts/cases.py --sessions "$work/replay-c" || differ=$((differ + 1))
+fi
 if [[ -x $work/refuse_memory ]]; then
     "$work/refuse_memory" examples/inventory.{json,log,report} || differ=$((differ + 1))
 fi
-echo "$agree runs of the static library agree, $differ don't"
+echo "$agree runs of the examples over the static library agree, $differ comparisons don't"
 ((differ == 0))
