@@ -21,7 +21,7 @@ use Rattle.running.specs.Hashers.{said_of}
 use Rattle.running.specs.Reported.{lines_of, with_closing, with_drained, HasClosed, HasReported, IsClosing, IsCutShort}
 use Rattle.running.specs.Standings.{standing_of}
 use Rattle.running.specs.Stops.{IsNotOfThread}
-use Rattle.running.specs.Stopped.{at_end, in_closing, standing_behind, texts_of}
+use Rattle.running.specs.Stopped.{at_end, in_closing, standing_behind}
 use Rattle.running.proofs.Reported.{next_text_is, standing_next, HasReported-next}
 
 -- ---- the batches that are still to come
@@ -66,12 +66,12 @@ AppendsFront-drained drained sink filled text f = (f.0, f.1, f.2, drained_before
 
 -- ---- batch by batch
 
-pub HasClosed-none : (procs : ProcsParts) (retries : ℕ) (db : Database) (ran : List (List Call)) (engine : EngineParts) (transcript : Transcript) (sink gave : Option (List ℕ)) →
-    HasReported procs retries db ran engine transcript sink gave → HasClosed procs retries db ran retries engine transcript sink gave
-HasClosed-none procs retries db ran engine transcript sink gave h = record {
+pub HasClosed-none : (procs : ProcsParts) (retries most : ℕ) (db : Database) (ran : List (List Call)) (engine : EngineParts) (transcript : Transcript) (sink gave : Option (List ℕ)) → most ≡ retries →
+    HasReported procs retries db ran engine transcript sink gave → HasClosed procs retries db ran most engine transcript sink gave
+HasClosed-none procs retries most db ran engine transcript sink gave e h = record {
   closers = [];
   reported = rw (append-nil ran) h;
-  first = ap (λ (batches : List (List Call)). closing retries retries (standing_behind retries db batches)) (sym (append-nil ran));
+  first = ap (λ n. closing retries n (standing_behind retries db ran)) (sym e) ∙ ap (λ (batches : List (List Call)). closing retries most (standing_behind retries db batches)) (sym (append-nil ran));
 }
 
 -- after the first of the batches that close a log, something is carried, so that one without calls is next
@@ -189,6 +189,27 @@ IsClosing-end r procs retries db ran engine transcript sink gave given h count t
     let line = end_line_is procs retries db batches engine transcript sink gave h in
     ended r procs retries db ran engine transcript sink gave given h count
     (on_ok r gave given _ _ line (text (lines_of retries db batches) h.said_is)) (rw line at (front (lines_of retries db batches) h.said_is)) threadless
+
+-- ---- nothing was given on
+
+pub undrained : (procs : ProcsParts) (retries : ℕ) (db : Database) (ran : List (List Call)) (engine : EngineParts) (transcript : Transcript) (sink gave : Option (List ℕ)) →
+    HasReported procs retries db ran engine transcript sink gave → HasReported procs retries db ran engine transcript sink (with_drained [] gave)
+undrained procs retries db ran engine transcript sink gave h =
+    subst (λ (o : Option (List ℕ)). HasReported procs retries db ran engine transcript sink o) (sym (none_drained gave)) h
+
+pub reported_undrained : (procs : ProcsParts) (retries : ℕ) (db : Database) (ran : List (List Call)) (engine : EngineParts) (transcript : Transcript) (sink gave : Option (List ℕ)) →
+    HasReported procs retries db ran engine transcript sink (with_drained [] gave) → HasReported procs retries db ran engine transcript sink gave
+reported_undrained procs retries db ran engine transcript sink gave h =
+    subst (λ (o : Option (List ℕ)). HasReported procs retries db ran engine transcript sink o) (none_drained gave) h
+
+-- a fault stopped the batches that close the log
+pub IsClosing-cut : (procs : ProcsParts) (retries : ℕ) (db : Database) (ran : List (List Call)) (sink gave : Option (List ℕ)) (fault : RunFault) →
+    IsCutShort procs retries db ran sink (with_drained [] gave) fault → IsClosing procs retries db ran sink gave (Err fault)
+IsClosing-cut procs retries db ran sink gave fault cut = record {
+  count = tt;
+  text = tt;
+  stop = subst (λ (o : Option (List ℕ)). IsCutShort procs retries db ran sink o fault) (none_drained gave) cut;
+}
 
 -- ---- a log that is closed
 

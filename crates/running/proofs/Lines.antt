@@ -1,5 +1,7 @@
 -- The text of a batch that was run.
-use Rattle.std.proofs.Common.{◌≡◌, ℕ, ◌+◌, List, [], ◌∷◌, map, refl, ap, ◌∙◌}
+use Rattle.std.proofs.Common.{◌≡◌, ℕ, ◌+◌, List, [], ◌∷◌, map, Option, Some, refl, sym, ap, subst, ◌∙◌}
+use Rattle.std.specs.Option.{IfSome}
+use Rattle.report_text.specs.Texts.{digest, row_text}
 use Rattle.catalogue.specs.Shapes.{TableShape}
 use Rattle.values.specs.Database.{Database}
 use Rattle.requests.specs.ProcLists.{ProcsParts}
@@ -19,6 +21,9 @@ use Rattle.engine.specs.Batches.{entries_of, next_attempts}
 use Rattle.engine.specs.Engines.{EngineParts, tables_of}
 use Rattle.engine.specs.Executions.{IsExecutionOf, KeepsSetting}
 use Rattle.engine.specs.Replies.{first_attempt, reply_of, sent_of, sent_from, Sent}
+use Rattle.running.specs.declared.transcript.Transcript.{Transcript}
+use Rattle.running.specs.Batches.{KeepsDigest}
+use Rattle.running.specs.Hashers.{rows_digest_of}
 use Rattle.running.specs.Standings.{standing_of}
 use Rattle.running.specs.Transcripts.{said_lines, with_batch_line}
 
@@ -83,3 +88,10 @@ pub batch_text_is : (old new : EngineParts) (batch : Batch) (run : BatchDone) (c
 batch_text_is old new batch run calls number given rows replies r same e t s f =
     text_is (tables_of old) given number old.next old.rows rows (transactions_at (standing_of old) calls) (said_lines replies)
     (t ∙ ap (λ (p : ProcsParts). p.tables) same.procs) (s ∙ rows_are old new batch run calls r e) (ap said_lines f ∙ lines_are old new batch run calls r e)
+
+-- the digest that is kept is that of the rows
+pub digest_of_rows : (new : EngineParts) (transcript : Transcript) (given : List TableShape) (rows : Database) → rows_digest_of transcript ≡ Some (digest (row_text given rows)) → given ≡ tables_of new → rows ≡ new.rows →
+    KeepsDigest new transcript
+digest_of_rows new transcript given rows kept t s =
+    let same : digest (row_text given rows) ≡ digest (row_text (tables_of new) new.rows) = rw (t, s) refl in
+    subst (λ (o : Option (List ℕ)). IfSome o (λ text. text ≡ digest (row_text (tables_of new) new.rows))) (sym kept) same

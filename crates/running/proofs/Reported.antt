@@ -1,6 +1,5 @@
 -- What was reported of batches one after another.
 use Rattle.std.proofs.Common.{◌≡◌, ℕ, zero, suc, ◌+◌, ◌≤◌, ◌^◌, List, [], ◌∷◌, ◌++◌, append_assoc, append-nil, length, Option, refl, sym, ◌∙◌, ap, arith}
-use Rattle.std.specs.Io.KnownBytes.{Appends}
 use Rattle.std.proofs.KnownBytes.{Appends-nil, Appends-trans}
 use Rattle.std.proofs.lemmas.List.{length-append}
 use Rattle.std.proofs.lemmas.List.Sums.{sum_by-append}
@@ -16,7 +15,7 @@ use Rattle.retries.proofs.Followed.{behind_all-append}
 use Rattle.retries.proofs.Reported.{texts_grown}
 use Rattle.retries.proofs.Serial.{lines_grown}
 use Rattle.retries.proofs.Spent.{at_most_next, fits}
-use Rattle.engine.specs.Engines.{EngineParts, tables_of}
+use Rattle.engine.specs.Engines.{EngineParts}
 use Rattle.running.specs.declared.transcript.Transcript.{Transcript}
 use Rattle.running.specs.Batches.{due_text, IsReported}
 use Rattle.running.specs.Hashers.{batch_of, said_of}

@@ -1,6 +1,5 @@
 -- How far a run has come in its log.
 use Rattle.std.proofs.Common.{◌≡◌, ℕ, ◌+◌, List, [], ◌∷◌, ◌++◌, append_assoc, append-nil, length, Option, Some, None, is_some, false, refl, sym, ◌∙◌, ap}
-use Rattle.std.specs.Io.KnownBytes.{Appends}
 use Rattle.sha2.specs.Hashers.{Holds256}
 use Rattle.devices.specs.Devices.{Passes}
 use Rattle.devices.proofs.Passing.{Passes-refl, Passes-trans}

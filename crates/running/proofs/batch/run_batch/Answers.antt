@@ -1,15 +1,26 @@
-use Rattle.std.proofs.Common.{◌≡◌, ◌∙◌, ap, length, List}
-use Rattle.requests.specs.ProcLists.{ProcsParts}
+use Rattle.std.proofs.Common.{◌≡◌, ◌∙◌, ap, subst, length, List, Option, ℕ}
+use Rattle.catalogue.specs.Shapes.{TableShape}
+use Rattle.values.specs.Database.{Database}
+use Rattle.devices.specs.Devices.{AppendsFront}
+use Rattle.requests.specs.Requests.{Call}
+use Rattle.sequencer.specs.declared.batch.Batch.{Batch}
 use Rattle.sequencer.specs.Attempts.{Attempt}
-use Rattle.report_text.specs.Report.{batch_text, reply_lines}
+use Rattle.sequencer.specs.Batches.{items_of, items_from}
+use Rattle.report_text.specs.Report.{reply_lines}
 use Rattle.retries.specs.Standings.{replies_at, transactions_at}
-use Rattle.engine.specs.Engines.{tables_of}
+use Rattle.engine.specs.declared.replies.BatchDone.{BatchDone}
+use Rattle.engine.specs.declared.replies.Reply.{Reply}
+use Rattle.engine.specs.Batches.{next_attempts}
+use Rattle.engine.specs.Engines.{tables_of, EngineParts}
+use Rattle.engine.specs.Executions.{IsExecutionOf, KeepsSetting}
+use Rattle.running.specs.declared.transcript.Transcript.{Transcript}
+use Rattle.running.specs.Batches.{due_text}
 use Rattle.running.specs.Hashers.{batch_of}
 use Rattle.running.specs.Standings.{standing_of}
 use Rattle.running.specs.Transcripts.{said_lines, with_batch_line}
 use Rattle.running.specs.Executors.{HasAnswered}
 use Rattle.running.proofs.Runs.{held_fault, told_of_thread}
-use Rattle.running.proofs.Lines.{attempts_are, lines_are, rows_are, standing_is, batch_text_is}
+use Rattle.running.proofs.Lines.{attempts_are, digest_of_rows, lines_are, standing_is, batch_text_is}
 use Rattle.running.proofs.batch.run_batch.Goals as goal
 
 pub execute-requires-clause-over : goal.execute-requires-clause-over
@@ -18,26 +29,46 @@ execute-requires-clause-over g c = c.in-Ok.ensures.over (tables_of (g.E.BatchEng
 pub returns-in-Ok-write_batch-clause-reported : goal.returns-in-Ok-write_batch-clause-reported
 returns-in-Ok-write_batch-clause-reported g c =
     let old = g.E.BatchEngine.parts c.args.engine.now in
+    let new = g.E.BatchEngine.parts c.execute.new.engine in
     let run = c.in-Ok-execute.ensures.done in
     let requests = c.args.requests.items in
     let items = c.in-Ok.ensures.items in
+    let tables : c.rows.result.now.tables ≡ tables_of new = c.rows.ensures.tables ∙ ap tables_of c.core.ensures in
+    let rows : c.rows.result.now.rows ≡ new.rows = c.rows.ensures.rows ∙ ap (λ (e : EngineParts). e.rows) c.core.ensures in
     let lines : said_lines c.deref.result.now ≡ reply_lines old.next (transactions_at (standing_of old) requests) (replies_at (standing_of old) requests) =
     ap said_lines c.deref.ensures.value ∙ lines_are _ _ c.in-Ok.batch c.in-Ok-execute.done requests run items in
     let text : with_batch_line (batch_of c.args.transcript.now) c.rows.result.now.tables c.rows.result.now.rows (said_lines c.deref.result.now) ≡ due_text old c.args.transcript.now requests =
-    batch_text_is _ _ c.in-Ok.batch c.in-Ok-execute.done requests _ _ _ _ run c.in-Ok-execute.ensures.same items (c.rows.ensures.tables ∙ ?) c.rows.ensures.rows c.deref.ensures.value in
+    batch_text_is _ _ c.in-Ok.batch c.in-Ok-execute.done requests _ _ _ _ run c.in-Ok-execute.ensures.same items tables rows c.deref.ensures.value in
     record {
       idle = c.in-Ok-execute.ensures.idle;
       standing = standing_is _ _ c.in-Ok.batch c.in-Ok-execute.done requests run items;
       batch = c.in-Ok-write_batch.ensures.batch;
       said = λ m h. rw (← lines) (c.in-Ok-write_batch.ensures.said m h);
       text = rw (← text) c.in-Ok-write_batch.ensures.text;
-      digest_kept = ?;
+      digest_kept = digest_of_rows new c.write_batch.new.self _ _ c.in-Ok-write_batch.ensures.rows tables rows;
     }
+
+front_is : (old new : EngineParts) (t : Transcript) (batch : Batch) (run : BatchDone) (requests : List Call) (given : List TableShape) (rows : Database) (replies : List Reply) (sink filled : Option (List ℕ)) →
+    IsExecutionOf old new (next_attempts old batch) run → KeepsSetting old new → items_of batch ≡ items_from 0 requests → given ≡ tables_of new → rows ≡ new.rows → replies ≡ run.replies.items →
+    AppendsFront sink filled (with_batch_line (batch_of t) given rows (said_lines replies)) → AppendsFront sink filled (due_text old t requests)
+front_is old new t batch run requests given rows replies sink filled r same e tables is f front =
+    subst (AppendsFront sink filled) (batch_text_is old new batch run requests (batch_of t) given rows replies r same e tables is f) front
+
+pub returns-in-Ok-write_batch-clause-front : goal.returns-in-Ok-write_batch-clause-front
+returns-in-Ok-write_batch-clause-front g c =
+    front_is _ _ c.args.transcript.now c.in-Ok.batch c.in-Ok-execute.done c.args.requests.items _ _ _ _ _ c.in-Ok-execute.ensures.done c.in-Ok-execute.ensures.same c.in-Ok.ensures.items
+    (c.rows.ensures.tables ∙ ap tables_of c.core.ensures) (c.rows.ensures.rows ∙ ap (λ (e : EngineParts). e.rows) c.core.ensures) c.deref.ensures.value c.write_batch.ensures.front
+
+pub returns-clause-front : goal.returns-clause-front
+returns-clause-front g c =
+    front_is _ _ c.args.transcript.now c.in-Ok.batch c.in-Ok-execute.done c.args.requests.items _ _ _ _ _ c.in-Ok-execute.ensures.done c.in-Ok-execute.ensures.same c.in-Ok.ensures.items
+    (c.rows.ensures.tables ∙ ap tables_of c.core.ensures) (c.rows.ensures.rows ∙ ap (λ (e : EngineParts). e.rows) c.core.ensures) c.deref.ensures.value c.write_batch.ensures.front
 
 pub exec_fault-requires : goal.exec_fault-requires
 exec_fault-requires g c =
-    held_fault c.args.engine.now c.execute.new.engine c.in-Ok.batch c.in-Err.fault c.in-Err.ensures.refused c.requires.idle
-    (rw (ap (λ (attempts : List Attempt). length attempts) (attempts_are c.args.engine.now c.in-Ok.batch c.args.requests.items c.in-Ok.ensures.items)) c.requires.room)
+    let old = g.E.BatchEngine.parts c.args.engine.now in
+    held_fault old (g.E.BatchEngine.parts c.execute.new.engine) c.in-Ok.batch c.in-Err.fault c.in-Err.ensures.refused c.requires.due.idle
+    (rw (ap (λ (attempts : List Attempt). length attempts) (attempts_are old c.in-Ok.batch c.args.requests.items c.in-Ok.ensures.items)) c.requires.due.room)
 
 pub returns-in-Err-clause-threads : goal.returns-in-Err-clause-threads
 returns-in-Err-clause-threads g c =

@@ -1,8 +1,7 @@
-use Rattle.std.proofs.Common.{◌≡◌, ◌+◌, ◌-◌, ◌∙◌, ◌++◌, List, [], refl, sym, arith, ap}
+use Rattle.std.proofs.Common.{◌≡◌, ℕ, ◌+◌, ◌-◌, ◌∙◌, ◌++◌, ◌≤◌, ◌<◌, [], length, refl, sym, arith, ap, subst}
 use Rattle.std.proofs.KnownBytes.{Appends-nil, Appends-trans}
-use Rattle.requests.specs.Requests.{Call}
 use Rattle.engine.specs.Engines.{EngineParts}
-use Rattle.running.specs.Batches.{IsReported}
+use Rattle.running.specs.Reported.{IsBehindLog}
 use Rattle.running.specs.Standings.{standing_of}
 use Rattle.running.proofs.Closers.{AppendsFront-drained, HasClosed-cut, HasClosed-next, HasClosed-none, HasClosed-spent, HasClosed-uncarried, IsReported-drained}
 use Rattle.running.proofs.Reported.{room_at, IsBehindLog-next}
@@ -15,5 +14,83 @@ loop-turn-init g c = record {
   between = c.requires.between;
   sink_works = refl;
   grows = ([], Appends-nil _);
-  closed = λ db ran start drained h. HasClosed-none _ _ _ _ _ _ _ _ h;
+  closed = λ db ran start drained h. HasClosed-none _ _ _ _ _ _ _ _ _ (omega arith) h;
+}
+
+few_retries : (core old now : EngineParts) → core ≡ old → now.retries ≡ old.retries → core.retries ≤ 2 → now.retries ≤ 2
+few_retries core old now e same few = let own = ap (λ (engine : EngineParts). engine.retries) e in omega (arith, own, same, few)
+
+-- a turn less is left
+one_less : (core old : EngineParts) (end turn : ℕ) → core ≡ old → end ≡ core.retries → turn < end → old.retries - turn ≡ (old.retries - (turn + 1)) + 1
+one_less core old end turn e f below = let own = ap (λ (engine : EngineParts). engine.retries) e in omega (arith, own, f, below)
+
+carries : (core now : EngineParts) (n : ℕ) → core ≡ now → n ≡ length core.carried → n ≡ length now.carried
+carries core now n e f = f ∙ ap (λ (engine : EngineParts). length engine.carried) e
+
+pub run_batch-requires-clause-due : goal.run_batch-requires-clause-due
+run_batch-requires-clause-due g c =
+    let now = g.E.BatchEngine.parts c.loop-turn.engine in
+    let between = c.loop-turn.invariant.between in
+    let few : now.retries ≤ 2 = few_retries _ _ now c.core.ensures c.loop-turn.invariant.same.retries c.retries-turn-end.ensures.few in
+    let calls = between.log.few in
+    record {
+      over = rw c.new-none.ensures.items tt;
+      few = rw c.new-none.ensures.items (omega arith);
+      idle = between.idle;
+      room = rw c.new-none.ensures.items (room_at now.retries (standing_of now) between.log.db between.log.ran [] between.log.standing_is few (omega (arith, calls)));
+    }
+
+pub loop-turn-preserved : goal.loop-turn-preserved
+loop-turn-preserved g c =
+    let now = g.E.BatchEngine.parts c.loop-turn.engine in
+    let new = g.E.BatchEngine.parts c.run_batch.new.engine in
+    let was = c.loop-turn.invariant in
+    let same = c.in-Ok.ensures.same in
+    let reported = rw c.new-none.ensures.items at c.in-Ok.ensures.reported in
+    record {
+      same = record {
+        procs = same.procs ∙ was.same.procs;
+        settings = same.settings ∙ was.same.settings;
+        retries = same.retries ∙ was.same.retries;
+      };
+      between = record {
+        idle = reported.idle;
+        digest_kept = reported.digest_kept;
+        log = subst (λ k. IsBehindLog k (standing_of new)) (sym same.retries) (IsBehindLog-next now.retries (standing_of now) (standing_of new) was.between.log reported.standing);
+      };
+      sink_works = c.in-Ok.ensures.fails ∙ sym (or_nothing _) ∙ was.sink_works;
+      grows = (was.grows.0 ++ _, Appends-trans _ _ _ _ _ was.grows.1 reported.text);
+      closed = λ db ran start drained h.
+          HasClosed-next _ _ _ _ _ db ran now c.loop-turn.transcript start _ (was.closed db ran start drained h) (carries _ now _ c.core-in-loop-turn.ensures c.carried.ensures.same) c.if-carried-eq0.false
+          (one_less _ _ _ _ c.core.ensures c.retries-turn-end.ensures.same c.loop-turn-test.true) new c.run_batch.new.transcript _ same.procs same.retries
+          (IsReported-drained drained _ _ _ _ _ _ _ reported);
+    }
+
+pub returns-then-carried-eq0-clause-closed : goal.returns-then-carried-eq0-clause-closed
+returns-then-carried-eq0-clause-closed g c = λ db ran start drained h. record {
+  reported = HasClosed-uncarried _ _ _ _ _ _ _ _ _ _ (c.loop-turn.invariant.closed db ran start drained h) (carries _ (g.E.BatchEngine.parts c.loop-turn.engine) _ c.core-in-loop-turn.ensures c.carried.ensures.same) c.if-carried-eq0.true;
+  stop = tt;
+}
+
+pub returns-in-Err-clause-closed : goal.returns-in-Err-clause-closed
+returns-in-Err-clause-closed g c = λ db ran start drained h. record {
+  reported = tt;
+  stop = HasClosed-cut _ _ _ _ _ db ran (g.E.BatchEngine.parts c.loop-turn.engine) c.loop-turn.transcript start _ (c.loop-turn.invariant.closed db ran start drained h) (carries _ (g.E.BatchEngine.parts c.loop-turn.engine) _ c.core-in-loop-turn.ensures c.carried.ensures.same) c.if-carried-eq0.false
+      (one_less _ _ _ _ c.core.ensures c.retries-turn-end.ensures.same c.loop-turn-test.true) _ c.in-Err.fault
+      (AppendsFront-drained drained _ _ _ (rw c.new-none.ensures.items at c.run_batch.ensures.front));
+}
+
+pub returns-in-Err-clause-grows : goal.returns-in-Err-clause-grows
+returns-in-Err-clause-grows g c =
+    let was = c.loop-turn.invariant.grows in
+    let front = c.run_batch.ensures.front in
+    (was.0 ++ front.0, Appends-trans _ _ _ _ _ was.1 front.3)
+
+spent : (core old : EngineParts) (end turn : ℕ) → core ≡ old → end ≡ core.retries → end ≤ turn → old.retries - turn ≡ 0
+spent core old end turn e f above = let own = ap (λ (engine : EngineParts). engine.retries) e in omega (arith, own, f, above)
+
+pub returns-clause-closed : goal.returns-clause-closed
+returns-clause-closed g c = λ db ran start drained h. record {
+  reported = HasClosed-spent _ _ _ _ _ _ _ _ _ (c.loop-turn.invariant.closed db ran start drained h) (spent _ _ _ _ c.core.ensures c.retries-turn-end.ensures.same c.loop-turn-test.false);
+  stop = tt;
 }
