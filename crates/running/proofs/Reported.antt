@@ -116,6 +116,9 @@ pub room_at : (retries : ℕ) (standing : Standing) (db : Database) (ran : List 
     call_count ran + length calls ≤ most_calls retries → standing.next + length (attempts_at standing calls) ≤ 2 ^ 48
 room_at retries standing db ran calls e few h = rw e (room_behind retries db ran calls few h)
 
+pub room_behind_log : (retries : ℕ) (standing : Standing) → retries ≤ 2 → IsBehindLog retries standing → standing.next + length (attempts_at standing []) ≤ 2 ^ 48
+room_behind_log retries standing few h = let calls = h.few in room_at retries standing h.db h.ran [] h.standing_is few (omega (arith, calls))
+
 -- a batch without calls
 pub IsBehindLog-next : (retries : ℕ) (standing after : Standing) → IsBehindLog retries standing → after ≡ behind retries standing [] → IsBehindLog retries after
 IsBehindLog-next retries standing after h e = record {

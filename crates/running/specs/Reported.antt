@@ -46,11 +46,11 @@ pub record IsBehindLog (retries : ℕ) (standing : Standing) : Type 0 where
   pub standing_is : standing ≡ standing_behind retries db ran
   pub few : call_count ran ≤ most_calls retries
 
--- an engine that has run such batches of a log, and what was reported of them
+-- an engine that has run such batches of a log, whichever these are, and what was reported of them
 pub record IsBetweenBatches (engine : EngineParts) (transcript : Transcript) : Type 0 where
   pub idle : is_busy engine ≡ false
   pub digest_kept : KeepsDigest engine transcript
-  pub log : IsBehindLog engine.retries (standing_of engine)
+  pub log : ∥ IsBehindLog engine.retries (standing_of engine) ∥₁
 
 -- batches, and behind them those that close a log
 abbrev pub with_closing : ℕ → Database → List (List Call) → List (List Call)

@@ -1,17 +1,19 @@
 -- A log has room for its next batch, whatever is carried to it.
-use Rattle.std.proofs.Common.{◌≡◌, ℕ, ◌+◌, ◌≤◌, List, [], ◌∷◌, ◌++◌, length, Result, Ok, Err, OnOk, refl, sym, ◌∙◌, ap, subst, arith}
+use Rattle.std.proofs.Common.{◌≡◌, ℕ, ◌+◌, ◌≤◌, List, [], ◌∷◌, ◌++◌, length, Option, None, is_some, refl, Result, Ok, Err, OnOk, subst, sym, ◌∙◌, ap, arith, ◌^◌}
+use Rattle.std.proofs.Math.Bridge.{le_prop}
+use Rattle.std.proofs.Math.Logic.{∥∥₁_elim, ∥∥₁_map}
 use Rattle.std.specs.List.{AllByRecursion}
 use Rattle.requests.specs.Requests.{Call}
 use Rattle.batch_log.specs.Log.{most_calls}
-use Rattle.retries.specs.Standings.{behind, call_count, Standing}
-use Rattle.engine.specs.Engines.{tables_of, EngineParts}
+use Rattle.retries.specs.Standings.{attempts_at, behind, call_count, Standing}
+use Rattle.engine.specs.Engines.{tables_of, EngineParts, Unfinished}
 use Rattle.engine.specs.Executions.{KeepsSetting}
 use Rattle.log_feed.specs.declared.feed.LogFeed.{LogFeed}
 use Rattle.log_feed.specs.Feeds.{place_of}
 use Rattle.log_feed.specs.Places.{Place}
-use Rattle.running.specs.declared.transcript.Transcript.{Transcript}
 use Rattle.running.specs.Batches.{IsDue, IsReported}
-use Rattle.running.specs.Reported.{IsBehindLog, IsBetweenBatches}
+use Rattle.running.specs.Reported.{IsBetweenBatches}
+use Rattle.running.specs.Hashers.{rows_digest_of}
 use Rattle.running.specs.Standings.{standing_of}
 use Rattle.running.specs.Stopped.{standing_behind}
 use Rattle.running.proofs.Reported.{calls_grown, room_at, standing_next}
@@ -24,85 +26,110 @@ use Rattle.session.specs.Works.{IsAfterCalls, IsReady}
 within : (ran waiting total batch most : ℕ) → ran + waiting ≡ total → batch + total ≤ most + waiting → ran + batch ≤ most
 within ran waiting total batch most e h = omega (arith, e, h)
 
-pub few_calls : (work : Work) (batch : List Call) (h : IsReady work) → length batch + (place_of work.feed).total ≤ most_calls (place_of work.feed).retries + length (place_of work.feed).calls →
-    call_count h.log.ran + length batch ≤ most_calls work.engine.retries
-few_calls work batch h few = within _ _ _ (length batch) (most_calls work.engine.retries) h.log.counted (rw h.limit at few)
+-- a batch that the log has room for, beside the calls that wait
+abbrev HasRoomFor : Work → List Call → Type 0
+HasRoomFor work batch = length batch + (place_of work.feed).total ≤ most_calls (place_of work.feed).retries + length (place_of work.feed).calls
 
-pub due_at : (work : Work) (batch : List Call) → (h : IsReady work) → AllByRecursion (λ (c : Call). c.proc.tables ≡ tables_of work.engine) batch → length batch ≤ 4096 →
-    length batch + (place_of work.feed).total ≤ most_calls (place_of work.feed).retries + length (place_of work.feed).calls → IsDue work.engine batch
+few_calls : (work : Work) (batch : List Call) → IsReady work → HasRoomFor work batch → (log : IsAfterCalls work.engine.retries (standing_of work.engine) (place_of work.feed)) →
+    call_count log.ran + length batch ≤ most_calls work.engine.retries
+few_calls work batch h few log = within _ _ _ (length batch) (most_calls work.engine.retries) log.counted (rw h.limit at few)
+
+room_after : (work : Work) (batch : List Call) → IsReady work → HasRoomFor work batch → IsAfterCalls work.engine.retries (standing_of work.engine) (place_of work.feed) →
+    work.engine.next + length (attempts_at (standing_of work.engine) batch) ≤ 2 ^ 48
+room_after work batch h few log = room_at work.engine.retries (standing_of work.engine) log.db log.ran batch log.standing_is h.few (few_calls work batch h few log)
+
+pub due_at : (work : Work) (batch : List Call) → IsReady work → AllByRecursion (λ (c : Call). c.proc.tables ≡ tables_of work.engine) batch → length batch ≤ 4096 →
+    HasRoomFor work batch → IsDue work.engine batch
 due_at work batch h over short few = record {
   over = over;
   few = short;
   idle = h.idle;
-  room = room_at work.engine.retries (standing_of work.engine) h.log.db h.log.ran batch h.log.standing_is h.few (few_calls work batch h few);
+  room = ∥∥₁_elim h.log le_prop (room_after work batch h few);
 }
 
 -- the calls that wait
-pub waiting_few : (work : Work) (batch : List Call) → batch ≡ (place_of work.feed).calls → length batch + (place_of work.feed).total ≤ most_calls (place_of work.feed).retries + length (place_of work.feed).calls
+pub waiting_few : (work : Work) (batch : List Call) → batch ≡ (place_of work.feed).calls → HasRoomFor work batch
 waiting_few work batch e = let few = work.feed.room in omega (arith, few, ap (λ (calls : List Call). length calls) e)
 
 -- ---- after it
 
 -- what a batch of these calls left
-stands_after : (retries : ℕ) (old new : EngineParts) (batch : List Call) (place : Place) (h : IsAfterCalls old.retries (standing_of old) place) → new.retries ≡ old.retries →
+stands_after : (old new : EngineParts) (batch : List Call) (place : Place) (h : IsAfterCalls old.retries (standing_of old) place) → new.retries ≡ old.retries →
     standing_of new ≡ behind old.retries (standing_of old) batch → standing_of new ≡ standing_behind new.retries h.db (h.ran ++ batch ∷ [])
-stands_after retries old new batch place h e s =
+stands_after old new batch place h e s =
     s ∙ ap (λ (t : Standing). behind old.retries t batch) h.standing_is ∙ sym (standing_next old.retries h.db h.ran batch)
     ∙ ap (λ k. standing_behind k h.db (h.ran ++ batch ∷ [])) (sym e)
+
+waited_none : (ran waiting total batch calls now more : ℕ) → ran + waiting ≡ total → batch ≡ waiting → calls ≡ ran + batch → now ≡ 0 → more ≡ total → calls + now ≡ more
+waited_none ran waiting total batch calls now more counted waited grown none same = omega (arith, counted, waited, grown, none, same)
 
 -- the calls that waited were executed, and none waits
 pub ready_after : {T E : Type 0} (answer : Result T E) (old new : Work) (feed : LogFeed) (batch : List Call) → IsReady old → new.feed ≡ feed →
     (batch ≡ (place_of old.feed).calls) × ((place_of feed).calls ≡ []) × ((place_of feed).total ≡ (place_of old.feed).total) → (place_of feed).retries ≡ (place_of old.feed).retries → KeepsSetting old.engine new.engine →
-    (sink filled : _) → OnOk answer (IsReported old.engine new.engine old.transcript new.transcript sink filled batch) → OnOk answer (IsReady new)
+    (sink filled : Option (List ℕ)) → OnOk answer (IsReported old.engine new.engine old.transcript new.transcript sink filled batch) → OnOk answer (IsReady new)
 ready_after (Ok x) old new feed batch h f b r same sink filled reported =
     let none : (place_of new.feed).calls ≡ [] = ap (λ (l : LogFeed). (place_of l).calls) f ∙ b.1 in
     let total : (place_of new.feed).total ≡ (place_of old.feed).total = ap (λ (l : LogFeed). (place_of l).total) f ∙ b.2 in
-    let waited : length batch ≡ length (place_of old.feed).calls = ap (λ (calls : List Call). length calls) b.0 in
-    let now : length (place_of new.feed).calls ≡ 0 = ap (λ (calls : List Call). length calls) none in
-    let grown = calls_grown h.log.ran batch in
-    let counted = h.log.counted in
     record {
       over = rw none tt;
       limit = ap (λ (l : LogFeed). (place_of l).retries) f ∙ r ∙ h.limit ∙ sym same.retries;
       few = rw same.retries h.few;
       idle = reported.idle;
       digest_kept = reported.digest_kept;
-      log = record {
-        db = h.log.db;
-        ran = h.log.ran ++ batch ∷ [];
-        standing_is = stands_after old.engine.retries old.engine new.engine batch (place_of old.feed) h.log same.retries reported.standing;
-        counted = omega (arith, grown, counted, waited, now, total);
-      };
+      log = ∥∥₁_map h.log (λ log. record {
+        db = log.db;
+        ran = log.ran ++ batch ∷ [];
+        standing_is = stands_after old.engine new.engine batch (place_of old.feed) log same.retries reported.standing;
+        counted = waited_none _ _ _ _ _ _ _ log.counted (ap (λ (calls : List Call). length calls) b.0) (calls_grown log.ran batch) (ap (λ (calls : List Call). length calls) none) total;
+      });
     }
 ready_after (Err x) old new feed batch h f b r same sink filled reported = tt
 
 -- the last batch was executed
-pub between_after : {T E : Type 0} (answer : Result T E) (old new : Work) (batch : List Call) (h : IsReady old) → KeepsSetting old.engine new.engine →
-    call_count h.log.ran + length batch ≤ most_calls old.engine.retries →
-    (sink filled : _) → OnOk answer (IsReported old.engine new.engine old.transcript new.transcript sink filled batch) → OnOk answer (IsBetweenBatches new.engine new.transcript)
-between_after (Ok x) old new batch h same few sink filled reported =
-    let grown = calls_grown h.log.ran batch in
-    let most : most_calls new.engine.retries ≡ most_calls old.engine.retries = ap most_calls same.retries in
-    record {
-      idle = reported.idle;
-      digest_kept = reported.digest_kept;
-      log = record {
-        db = h.log.db;
-        ran = h.log.ran ++ batch ∷ [];
-        standing_is = stands_after old.engine.retries old.engine new.engine batch (place_of old.feed) h.log same.retries reported.standing;
-        few = omega (arith, grown, few, most);
-      };
-    }
-between_after (Err x) old new batch h same few sink filled reported = tt
+pub between_after : {T E : Type 0} (answer : Result T E) (old new : Work) (batch : List Call) → IsReady old → HasRoomFor old batch → KeepsSetting old.engine new.engine →
+    (sink filled : Option (List ℕ)) → OnOk answer (IsReported old.engine new.engine old.transcript new.transcript sink filled batch) → OnOk answer (IsBetweenBatches new.engine new.transcript)
+between_after (Ok x) old new batch h few same sink filled reported = record {
+  idle = reported.idle;
+  digest_kept = reported.digest_kept;
+  log = ∥∥₁_map h.log (λ log. record {
+    db = log.db;
+    ran = log.ran ++ batch ∷ [];
+    standing_is = stands_after old.engine new.engine batch (place_of old.feed) log same.retries reported.standing;
+    few = grown_few _ _ _ _ _ (calls_grown log.ran batch) (few_calls old batch h few log) (ap most_calls same.retries);
+  });
+}
+  where
+    grown_few : (calls ran batch most other : ℕ) → calls ≡ ran + batch → ran + batch ≤ most → other ≡ most → calls ≤ other
+    grown_few calls ran batch most other e few f = omega (arith, e, few, f)
+between_after (Err x) old new batch h few same sink filled reported = tt
 
 -- or there is none
 pub between_now : (work : Work) → IsReady work → IsBetweenBatches work.engine work.transcript
-between_now work h =
-    let few = work.feed.room in
-    let counted = h.log.counted in
-    let most : most_calls (place_of work.feed).retries ≡ most_calls work.engine.retries = ap most_calls h.limit in
-    record {
-      idle = h.idle;
-      digest_kept = h.digest_kept;
-      log = record { db = h.log.db; ran = h.log.ran; standing_is = h.log.standing_is; few = omega (arith, few, counted, most) };
-    }
+between_now work h = record {
+  idle = h.idle;
+  digest_kept = h.digest_kept;
+  log = ∥∥₁_map h.log (λ log. record { db = log.db; ran = log.ran; standing_is = log.standing_is; few = fewer _ _ _ _ _ log.counted work.feed.room (ap most_calls h.limit) });
+}
+  where
+    fewer : (ran waiting total most other : ℕ) → ran + waiting ≡ total → total ≤ most → most ≡ other → ran ≤ other
+    fewer ran waiting total most other e few f = omega (arith, e, few, f)
+
+-- nothing was read
+pub ready_at_start : (work : Work) → work.engine.next ≡ 0 → work.engine.carried ≡ [] → work.engine.unfinished ≡ None → work.engine.retries ≤ 2 →
+    place_of work.feed ≡ record { retries = work.engine.retries; calls = []; total = 0; lines = 0; line = [] } → rows_digest_of work.transcript ≡ None → IsReady work
+ready_at_start work n c u few place none = record {
+  over = subst (AllByRecursion (λ (c : Call). c.proc.tables ≡ tables_of work.engine)) (sym (ap (λ (p : Place). p.calls) place)) tt;
+  limit = ap (λ (p : Place). p.retries) place;
+  few = few;
+  idle = ap (λ (o : Option Unfinished). is_some o) u;
+  digest_kept = rw none tt;
+  log = ∣ record {
+    db = work.engine.rows;
+    ran = [];
+    standing_is = rw (n, c) refl;
+    counted = none_counted _ _ (ap (λ (p : Place). length p.calls) place) (ap (λ (p : Place). p.total) place);
+  } ∣₁;
+}
+  where
+    none_counted : (waiting total : ℕ) → waiting ≡ 0 → total ≡ 0 → 0 + waiting ≡ total
+    none_counted waiting total e f = omega (arith, e, f)

@@ -1,5 +1,5 @@
 -- What was executed and reported, one batch more, and how a run ends.
-use Rattle.std.proofs.Common.{◌≡◌, ℕ, ◌+◌, ◌<◌, List, [], ◌∷◌, ◌++◌, append_assoc, length, take, drop, get_or, false, true, Some, Result, Ok, Err, IfOk, IfErr, OnOk, refl, sym, ◌∙◌, ap}
+use Rattle.std.proofs.Common.{◌≡◌, ℕ, ◌+◌, ◌<◌, List, [], ◌∷◌, ◌++◌, append_assoc, length, take, drop, get_or, false, true, Option, Some, Result, Ok, Err, IfErr, OnOk, refl, sym, ◌∙◌, ap, subst}
 use Rattle.std.proofs.lemmas.List.{take-append-drop, take_more}
 use Rattle.std.specs.Io.KnownBytes.{Appends}
 use Rattle.sha2.specs.Hashers.{Holds256}
@@ -23,7 +23,7 @@ use Rattle.running.specs.declared.transcript.Transcript.{Transcript}
 use Rattle.running.specs.Batches.{due_text, IsReported}
 use Rattle.running.specs.Hashers.{batch_of, said_of}
 use Rattle.running.specs.Reported as told
-use Rattle.running.specs.Reported.{lines_of, with_closing, IsCutShort}
+use Rattle.running.specs.Reported.{lines_of, with_closing, with_drained, ReportsClosing}
 use Rattle.running.specs.Reports.{report_of}
 use Rattle.running.specs.Starts.{Start}
 use Rattle.running.specs.Stopped.{next_text, texts_of}
@@ -75,12 +75,12 @@ reported_next start ended calls drained old new t u r s h same reported =
     h same.procs same.retries (reported_before drained (waiting_in r) (waiting_in s) old new t u calls reported)
 
 -- bytes that begin a text begin the whole
-front_begins : (old new text whole : List ℕ) → AppendsFront (Some old) (Some new) text → old ++ text ≡ whole → IsBeginning new whole
+pub front_begins : (old new text whole : List ℕ) → AppendsFront (Some old) (Some new) text → old ++ text ≡ whole → IsBeginning new whole
 front_begins old new text whole f e =
     let front : List ℕ = f.0 in let rest : List ℕ = f.1 in
     (rest, sym e ∙ ap (λ (x : List ℕ). old ++ x) f.2 ∙ sym (append_assoc old front rest) ∙ ap (λ (x : List ℕ). x ++ rest) (sym f.3))
 
-drained_front : (drained old new text : List ℕ) → AppendsFront (Some old) (Some new) text → AppendsFront (Some (drained ++ old)) (Some (drained ++ new)) text
+pub drained_front : (drained old new text : List ℕ) → AppendsFront (Some old) (Some new) text → AppendsFront (Some (drained ++ old)) (Some (drained ++ new)) text
 drained_front drained old new text f = (f.0, f.1, f.2, drained_before drained old new f.0 f.3)
 
 -- what was written keeps what waited
@@ -129,16 +129,17 @@ no_line kind e A of = let bad : true ≡ false = rw e at of in absurd cc
 memory_is_none : (kind : LogFaultKind) → kind ≡ Memory → is_io kind ≡ false
 memory_is_none kind e = rw e refl
 
--- memory was refused in a batch
+-- an allocation failed, and what was reported is a beginning of the report
+pub stopped_with : (start : Start) (log reported : List ℕ) (fault : LogFault) → fault.kind ≡ Memory → IsBeginning reported (report_of start.procs start.retries start.rows log) → IsRunInto start log reported fault
+stopped_with start log reported fault m f = record { first = no_line fault.kind m _; front = f; no_device = memory_is_none fault.kind m }
+
+-- an allocation failed in a batch
 pub stopped_in_batch : (start : Start) (log reported : List ℕ) (ended : List (List Call)) (fault : LogFault) → fault.kind ≡ Memory →
     IsBeginning reported (texts_of start.procs start.retries start.rows ended) → IsBeginning (texts_of start.procs start.retries start.rows ended) (report_of start.procs start.retries start.rows log) → IsRunInto start log reported fault
-stopped_in_batch start log reported ended fault m f g = record {
-  first = no_line fault.kind m _;
-  front = begins_onward reported (texts_of start.procs start.retries start.rows ended) (report_of start.procs start.retries start.rows log) f g;
-  no_device = memory_is_none fault.kind m;
-}
+stopped_in_batch start log reported ended fault m f g =
+    stopped_with start log reported fault m (begins_onward reported (texts_of start.procs start.retries start.rows ended) (report_of start.procs start.retries start.rows log) f g)
 
--- a fault was found, or memory was refused, in reading
+-- a fault was found, or an allocation failed, in reading
 pub stopped_reading : (start : Start) (log reported : List ℕ) (ended : List (List Call)) (fault : LogFault) → (IsOfLine fault.kind → IsFaulty start.procs start.retries fault ended log) → is_io fault.kind ≡ false →
     reported ≡ texts_of start.procs start.retries start.rows ended → IsBeginning (texts_of start.procs start.retries start.rows ended) (report_of start.procs start.retries start.rows log) → IsRunInto start log reported fault
 stopped_reading start log reported ended fault f n r g = record {
@@ -146,6 +147,18 @@ stopped_reading start log reported ended fault f n r g = record {
   front = rw r g;
   no_device = n;
 }
+
+-- ---- the batches that close a log
+
+pub closed_from : (answer : Result (Unit {0}) RunFault) (start : Start) (ended : List (List Call)) (drained : List ℕ) (old new : EngineParts) (t u : Transcript) (r s : Report) → HasReported start ended drained old t r →
+    ((db : Database) (ran : List (List Call)) (sink : Option (List ℕ)) (before : List ℕ) → told.HasReported old.procs old.retries db ran old t sink (with_drained before (Some (waiting_in r))) →
+    ReportsClosing old.procs old.retries db ran new u sink (with_drained before (Some (waiting_in s))) answer) →
+    ReportsClosing start.procs start.retries start.rows ended new u (Some []) (Some (drained ++ waiting_in s)) answer
+closed_from answer start ended drained old new t u r s h closed =
+    let Reported : ProcsParts → ℕ → Type 0 = λ p k. told.HasReported p k start.rows ended old t (Some []) (Some (drained ++ waiting_in r)) in
+    let Closed : ProcsParts → ℕ → Type 0 = λ p k. ReportsClosing p k start.rows ended new u (Some []) (Some (drained ++ waiting_in s)) answer in
+    let own : Reported old.procs old.retries = subst (λ p. Reported p old.retries) (sym h.procs_are) (subst (λ k. Reported start.procs k) (sym h.retries_are) h) in
+    subst (λ k. Closed start.procs k) h.retries_are (subst (λ p. Closed p old.retries) h.procs_are (closed start.rows ended (Some []) drained own))
 
 -- ---- the end line
 

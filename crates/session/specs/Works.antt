@@ -29,14 +29,14 @@ pub record IsAfterCalls (retries : ℕ) (standing : Standing) (place : Place) : 
   pub counted : call_count ran + length place.calls ≡ place.total
 
 -- No batch is unfinished, and the calls that wait are over the engine's tables. The feed and the engine know of the same number of
--- retries. The engine has run all calls that were read, but those that wait.
+-- retries. The engine has run all calls that were read, in whichever batches, but those that wait.
 pub record IsReady (work : Work) : Type 0 where
   pub over : AllByRecursion (λ c. c.proc.tables ≡ tables_of work.engine) (place_of work.feed).calls
   pub limit : (place_of work.feed).retries ≡ work.engine.retries
   pub few : work.engine.retries ≤ 2
   pub idle : is_busy work.engine ≡ false
   pub digest_kept : KeepsDigest work.engine work.transcript
-  pub log : IsAfterCalls work.engine.retries (standing_of work.engine) (place_of work.feed)
+  pub log : ∥ IsAfterCalls work.engine.retries (standing_of work.engine) (place_of work.feed) ∥₁
 
 -- These batches, and no others, were executed from a start, one after another. What was drained of their report and what waits are
 -- together the texts of them all.

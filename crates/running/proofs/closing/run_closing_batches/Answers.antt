@@ -1,10 +1,12 @@
 use Rattle.std.proofs.Common.{◌≡◌, ℕ, ◌+◌, ◌-◌, ◌∙◌, ◌++◌, ◌≤◌, ◌<◌, [], length, refl, sym, arith, ap, subst}
+use Rattle.std.proofs.Math.Bridge.{le_prop}
+use Rattle.std.proofs.Math.Logic.{∥∥₁_elim, ∥∥₁_map}
 use Rattle.std.proofs.KnownBytes.{Appends-nil, Appends-trans}
 use Rattle.engine.specs.Engines.{EngineParts}
 use Rattle.running.specs.Reported.{IsBehindLog}
 use Rattle.running.specs.Standings.{standing_of}
 use Rattle.running.proofs.Closers.{AppendsFront-drained, HasClosed-cut, HasClosed-next, HasClosed-none, HasClosed-spent, HasClosed-uncarried, IsReported-drained}
-use Rattle.running.proofs.Reported.{room_at, IsBehindLog-next}
+use Rattle.running.proofs.Reported.{room_behind_log, IsBehindLog-next}
 use Rattle.running.proofs.RunEnds.{or_nothing}
 use Rattle.running.proofs.closing.run_closing_batches.Goals as goal
 
@@ -32,12 +34,11 @@ run_batch-requires-clause-due g c =
     let now = g.E.BatchEngine.parts c.loop-turn.engine in
     let between = c.loop-turn.invariant.between in
     let few : now.retries ≤ 2 = few_retries _ _ now c.core.ensures c.loop-turn.invariant.same.retries c.retries-turn-end.ensures.few in
-    let calls = between.log.few in
     record {
       over = rw c.new-none.ensures.items tt;
       few = rw c.new-none.ensures.items (omega arith);
       idle = between.idle;
-      room = rw c.new-none.ensures.items (room_at now.retries (standing_of now) between.log.db between.log.ran [] between.log.standing_is few (omega (arith, calls)));
+      room = rw c.new-none.ensures.items (∥∥₁_elim between.log le_prop (room_behind_log now.retries (standing_of now) few));
     }
 
 pub loop-turn-preserved : goal.loop-turn-preserved
@@ -56,7 +57,7 @@ loop-turn-preserved g c =
       between = record {
         idle = reported.idle;
         digest_kept = reported.digest_kept;
-        log = subst (λ k. IsBehindLog k (standing_of new)) (sym same.retries) (IsBehindLog-next now.retries (standing_of now) (standing_of new) was.between.log reported.standing);
+        log = ∥∥₁_map was.between.log (λ log. subst (λ k. IsBehindLog k (standing_of new)) (sym same.retries) (IsBehindLog-next now.retries (standing_of now) (standing_of new) log reported.standing));
       };
       sink_works = c.in-Ok.ensures.fails ∙ sym (or_nothing _) ∙ was.sink_works;
       grows = (was.grows.0 ++ _, Appends-trans _ _ _ _ _ was.grows.1 reported.text);

@@ -36,7 +36,7 @@ close-requires-clause-between g c =
     record {
       idle = c.batches.invariant.idle;
       digest_kept = c.batches.invariant.digest;
-      log = rw s.reported.retries_are (log_behind _ (calls_read c.batches.reader) _ (standing_of c.batches.engine.core) _ s.ran s.reported.standing_is s.total_is (omega (arith, total, c.next_batch.ensures.room)) most);
+      log = ∣ rw s.reported.retries_are (log_behind _ (calls_read c.batches.reader) _ (standing_of c.batches.engine.core) _ s.ran s.reported.standing_is s.total_is (omega (arith, total, c.next_batch.ensures.room)) most) ∣₁;
     }
 
 pub returns-in-Ok-None-clause-run : goal.returns-in-Ok-None-clause-run

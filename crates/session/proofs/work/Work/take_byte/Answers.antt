@@ -1,4 +1,5 @@
 use Rattle.std.proofs.Common.{◌≡◌, ◌+◌, ◌++◌, [], ◌∷◌, append_assoc, ℕ, refl, ap, ◌∙◌, arith}
+use Rattle.std.proofs.Math.Logic.{∥∥₁_map}
 use Rattle.requests.specs.ProcLists.{ProcsParts}
 use Rattle.log_feed.specs.declared.feed.LogFeed.{LogFeed}
 use Rattle.log_feed.specs.Feeds.{place_of}
@@ -27,7 +28,7 @@ returns-in-Ok-Some-clause-taken c = on_ok c.run.result _ _ c.run.ensures.reporte
       ended = h.ended ++ c.in-Ok-Some.calls.items ∷ [];
       limit = ap (λ (feed : LogFeed). (place_of feed).retries) c.run.ensures.feed ∙ c.take.ensures.retries ∙ h.limit;
       at = rw c.run.ensures.feed at;
-      reported = reported_next start h.ended c.in-Ok-Some.calls.items drained _ _ _ _ _ _ h.reported c.run.ensures.same reported;
+      reported = reported_next start h.ended c.in-Ok-Some.calls.items drained _ _ _ _ c.args.self.now.report c.run.new.self.report h.reported c.run.ensures.same reported;
     })
 
 pub returns-in-Ok-Some-clause-fault : goal.returns-in-Ok-Some-clause-fault
@@ -44,19 +45,14 @@ returns-in-Ok-Some-clause-kept c = front_keeps _ _ _ c.run.ensures.front
 pub returns-in-Ok-None-clause-ready : goal.returns-in-Ok-None-clause-ready
 returns-in-Ok-None-clause-ready c =
     let counted = (rw c.in-Ok-None.field-0-is at c.in-Ok-None.ensures.counted) refl in
-    let was = c.requires.ready.log.counted in
+    let was = c.requires.ready in
     record {
       over = rw (ap (λ (p : ProcsParts). p.tables) c.procs.ensures) at c.take.ensures.tables;
-      limit = c.take.ensures.retries ∙ c.requires.ready.limit;
-      few = c.requires.ready.few;
-      idle = c.requires.ready.idle;
-      digest_kept = c.requires.ready.digest_kept;
-      log = record {
-        db = c.requires.ready.log.db;
-        ran = c.requires.ready.log.ran;
-        standing_is = c.requires.ready.log.standing_is;
-        counted = more _ _ _ _ _ was counted;
-      };
+      limit = c.take.ensures.retries ∙ was.limit;
+      few = was.few;
+      idle = was.idle;
+      digest_kept = was.digest_kept;
+      log = ∥∥₁_map was.log (λ log. record { db = log.db; ran = log.ran; standing_is = log.standing_is; counted = more _ _ _ _ _ log.counted counted });
     }
   where
     more : (ran calls total calls2 total2 : ℕ) → ran + calls ≡ total → total2 + calls ≡ total + calls2 → ran + calls2 ≡ total2

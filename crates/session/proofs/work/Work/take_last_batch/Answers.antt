@@ -1,6 +1,6 @@
 use Rattle.std.proofs.Common.{◌≡◌, ◌++◌, [], ◌∷◌, append-nil, length, refl, ap, ◌∙◌}
 use Rattle.requests.specs.ProcLists.{ProcsParts}
-use Rattle.session.proofs.Rooms.{between_after, between_now, due_at, few_calls}
+use Rattle.session.proofs.Rooms.{between_after, between_now, due_at}
 use Rattle.session.proofs.Runs.{front-next, front_keeps, on_err, on_ok, reported_next, stopped_in_batch, stopped_reading}
 use Rattle.session.proofs.Turns.{at-begins, report-begins}
 use Rattle.session.proofs.work.Work.take_last_batch.Goals as goal
@@ -12,8 +12,7 @@ run-requires c =
 
 pub returns-in-Ok-Some-clause-between : goal.returns-in-Ok-Some-clause-between
 returns-in-Ok-Some-clause-between c =
-    between_after c.run.result c.args.self.now c.run.new.self c.in-Ok-Some.calls.items c.requires.ready c.run.ensures.same
-    (few_calls c.args.self.now c.in-Ok-Some.calls.items c.requires.ready (rw c.in-Ok-Some.field-0-is at c.in-Ok-Some.ensures.room)) _ _ c.run.ensures.reported
+    between_after c.run.result c.args.self.now c.run.new.self c.in-Ok-Some.calls.items c.requires.ready (rw c.in-Ok-Some.field-0-is at c.in-Ok-Some.ensures.room) c.run.ensures.same _ _ c.run.ensures.reported
 
 pub returns-in-Ok-Some-clause-whole : goal.returns-in-Ok-Some-clause-whole
 returns-in-Ok-Some-clause-whole c = on_ok c.run.result _ _ c.run.ensures.reported
@@ -23,7 +22,7 @@ returns-in-Ok-Some-clause-whole c = on_ok c.run.result _ _ c.run.ensures.reporte
     record {
       ended = h.ended ++ c.in-Ok-Some.calls.items ∷ [];
       whole = rw h.limit at whole;
-      reported = reported_next start h.ended c.in-Ok-Some.calls.items drained _ _ _ _ _ _ h.reported c.run.ensures.same reported;
+      reported = reported_next start h.ended c.in-Ok-Some.calls.items drained _ _ _ _ c.args.self.now.report c.run.new.self.report h.reported c.run.ensures.same reported;
     })
 
 pub returns-in-Ok-Some-clause-fault : goal.returns-in-Ok-Some-clause-fault
