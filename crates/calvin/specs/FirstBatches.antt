@@ -1,15 +1,14 @@
 -- Claimed: what contracts promise to a reader rests on these words.
 -- The plans of a log's first batch, and their text.
-use Rattle.std.specs.Prelude.{◌≡◌, ℕ, ◌+◌, ◌||◌, List, [], ◌∷◌, ◌++◌, false, Option, Some, None, Result, Ok, Err, String, string_bytes, map, IfOk, IfErr, IfSome, IsOkAnd, ⊤}
+use Rattle.std.specs.Prelude.{◌≡◌, ℕ, ◌+◌, ◌||◌, List, [], ◌∷◌, ◌++◌, false, Option, Some, None, Result, Ok, Err, String, string_bytes, map, IfOk, IfErr, IfSome, IsOkAnd}
 use Rattle.std.specs.declared.alloc.Global.{Global}
 use Rattle.std.specs.Io.KnownBytes.{Consumes}
 use Rattle.catalogue.specs.Shapes.{TableShape}
 use Rattle.values.specs.Database.{Database}
 use Rattle.requests.specs.ProcLists.{ProcsParts}
 use Rattle.coarsen.specs.Subtrees.{Requests}
-use Rattle.coarsen.specs.Plans.{IsPlanFor}
-use Rattle.meaning.specs.Entries.{EntryShape, footprint_of}
-use Rattle.interp.specs.Over.{locked_for}
+use Rattle.meaning.specs.Entries.{EntryShape}
+use Rattle.scheduler.specs.Logs.{ArePlansOf}
 use Rattle.batch_log.specs.declared.fault.LogFault.{LogFault}
 use Rattle.report_text.specs.PlanTexts.{plan_lines}
 use Rattle.report_text.specs.Report.{entries_in}
@@ -21,17 +20,6 @@ use Rattle.running.specs.Stops.{ends_in_io, IfOfLine, IfOfMachine, IsLineOf, IsN
 
 -- ---- plans
 
--- the plan of an entry is the one for its footprint, and for the empty footprint where its declaration faults
-abbrev pub IsPlanOfEntry : Settings → EntryShape → Requests → Type 0
-IsPlanOfEntry settings entry plan = IsPlanFor settings.threshold settings.arena (locked_for (footprint_of entry.footing)) plan
-
--- the plan of each entry, in order
-abbrev pub ArePlansOf : Settings → List EntryShape → List Requests → Type 0
-ArePlansOf settings [] [] = ⊤
-ArePlansOf settings [] (plan ∷ plans) = ⊥
-ArePlansOf settings (entry ∷ entries) [] = ⊥
-ArePlansOf settings (entry ∷ entries) (plan ∷ plans) = IsPlanOfEntry settings entry plan × ArePlansOf settings entries plans
-
 -- the lines of plans, in order and numbered from a first one
 abbrev pub plans_text : List TableShape → ℕ → List Requests → List ℕ
 plans_text tables number [] = []
@@ -40,7 +28,7 @@ plans_text tables number (plan ∷ plans) = plan_lines tables number plan ++ pla
 -- the text of the plans of entries, which are numbered from 0
 pub record IsPlansText (tables : List TableShape) (settings : Settings) (entries : List EntryShape) (text : List ℕ) : Type 0 where
   pub plans : List Requests
-  pub of_entries : ArePlansOf settings entries plans
+  pub of_entries : ArePlansOf settings.threshold settings.arena entries plans
   pub lines : text ≡ plans_text tables 0 plans
 
 -- Law: entries have one text.

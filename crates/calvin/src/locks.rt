@@ -10,37 +10,22 @@ ghost use Rattle.interp.specs.Entries.{entry_shape};
 ghost use Rattle.batch_log.specs.Reader.{calls_read, fault_of, position_of, retries_of, source_name, source_of, unread};
 ghost use Rattle.report_text.specs.PlanTexts.{plan_lines};
 ghost use Rattle.running.specs.Runs.{device_with};
-ghost use Rattle.calvin.specs.FirstBatches.{IsFirstBatchPlanned, IsPlanOfEntry, IsPlansText};
+ghost use Rattle.scheduler.specs.Logs.{IsPlanOfEntry};
+ghost use Rattle.calvin.specs.FirstBatches.{IsFirstBatchPlanned, IsPlansText};
 
 use batch_log::{LogFaultKind, LogReader, Source};
 use catalogue::Catalogue;
-use coarsen::Plan;
 use engine::Settings;
-use footprint::Footprint;
 use interp::Entry;
 use report_text::push_plan;
 use requests::Request;
 use row_store::{RowStore, all_is_free_with_nothing_lent};
 use running::RunFault;
+use scheduler::plan_of;
 use sequencer::{Batch, BatchFault, prepare};
 use setup::Setup;
 use std::alloc::Global;
 use values::NoMemory;
-
-/// The plan of an entry. An entry whose declaration faults asks for nothing.
-fn plan_of(alloc: Global, settings: Settings, entry: &Entry) -> Result<Plan, NoMemory>
-    ensures { IfOk result (λ plan. IsPlanOfEntry settings (entry_shape entry.now) plan) }
-{
-    match entry.footprint() {
-        Some(footprint) => Plan::new(alloc, footprint, settings.threshold, settings.arena),
-        None => Plan::new(
-            alloc,
-            &Footprint::new(alloc),
-            settings.threshold,
-            settings.arena,
-        ),
-    }
-}
 
 /// Appends the lines of an entry's plan.
 fn push_entry(
@@ -51,10 +36,11 @@ fn push_entry(
     number: u64,
     entry: &Entry,
 ) -> Result<(), NoMemory>
-    ensures { OnOk result ((plan : Requests) × IsPlanOfEntry settings (entry_shape entry.now) plan
+    ensures { OnOk result ((plan : Requests)
+        × IsPlanOfEntry settings.threshold settings.arena (entry_shape entry.now) plan
         × (string_bytes text.new ≡ string_bytes text.old ++ plan_lines catalogue.now number plan)) }
 {
-    let plan = plan_of(alloc, settings, entry)?;
+    let plan = plan_of(alloc, entry, settings.threshold, settings.arena)?;
     push_plan(text, catalogue, number, &plan)?;
     Ok(())
 }
@@ -86,7 +72,8 @@ fn lines_of(
     requires few { length requests.items ≤ 4096 }
     requires tables { AllByRecursion (λ r. r.proc.tables ≡ setup.catalogue) requests.items }
     ensures { IfOk result (λ text.
-        IsPlansText setup.catalogue settings (map (prepared (with_rows map_of.empty setup.rows.items)) requests.items) (string_bytes text)) }
+        IsPlansText setup.catalogue settings
+            (map (prepared (with_rows map_of.empty setup.rows.items)) requests.items) (string_bytes text)) }
 {
     let Setup {
         catalogue,

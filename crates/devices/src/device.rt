@@ -6,8 +6,11 @@ ghost use Rattle.std.specs.Io.{ReadsAtMost, WritesAtMost};
 ghost use Rattle.std.specs.Io.KnownBytes.{Appends, ReadConsumes, WriteAppends};
 ghost use Rattle.devices.specs.Devices.{refuses, AppendsFront};
 
+use thiserror::Error;
+
 /// A device refused a read or a write, and says no more of it.
-#[derive(Clone, Copy, Debug, PartialEq, Eq)]
+#[derive(Clone, Copy, Debug, PartialEq, Eq, Error)]
+#[error("a device refused a read or a write")]
 pub struct DeviceFailed;
 
 /// What bytes are read from.

@@ -9,13 +9,16 @@ ghost use Rattle.devices.specs.Pieces.{LosesPiece, says_end, TakesPiece};
 
 use crate::device::{DeviceFailed, Source};
 use std::alloc::{AllocError, Global};
+use thiserror::Error;
 
 /// Why a line was not read. Lines are numbered from 1.
-#[derive(Clone, Copy, Debug, PartialEq, Eq)]
+#[derive(Clone, Copy, Debug, PartialEq, Eq, Error)]
 pub enum LineReadFault {
     /// A read failed. The line's number is that of the newlines taken, plus 1.
+    #[error("a read failed at line {line}")]
     Io { line: u64 },
     /// Memory was refused. The line is the one last begun, or 0 where none is.
+    #[error("out of memory at line {line}")]
     Memory { line: u64 },
 }
 

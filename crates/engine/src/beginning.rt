@@ -2,6 +2,7 @@
 
 ghost use Rattle.std.specs.Prelude.{◌≡◌, [], map, IfOk, IfErr};
 ghost use Rattle.row_store.specs.Stock.{Stock};
+ghost use Rattle.interp.specs.Entries.{entry_shape};
 ghost use Rattle.scheduler.specs.Logs.{ArePlansOf};
 ghost use Rattle.engine.specs.Stages.{IsFree, IsBatchFrom, IsScheduleOf};
 
@@ -28,7 +29,7 @@ pub(crate) fn begin(
     ensures unadmitted { IfOk result (λ scheduler. scheduler.slots ≡ []) }
     // The locks are coarsened, and find room, as the settings say.
     ensures plans { IfOk result (λ scheduler.
-        ArePlansOf settings.threshold settings.arena scheduler.work.entries scheduler.work.plans) }
+        ArePlansOf settings.threshold settings.arena (map entry_shape scheduler.work.entries) scheduler.work.plans) }
     ensures room { IfOk result (λ scheduler. scheduler.work.arena ≡ settings.arena) }
     ensures back { IfErr result (λ back. back ≡ store) }
 {

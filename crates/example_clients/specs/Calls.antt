@@ -11,7 +11,7 @@ use Rattle.requests.specs.ProcLists.{ProcsParts, proc_named}
 use Rattle.requests.specs.declared.request.RequestFault.{RequestFault}
 use Rattle.requests.specs.declared.request.RequestFault.TheVariants.{UnknownProc, Args}
 use Rattle.sequencer.specs.Batches.{RequestItem}
-use Rattle.intake.specs.declared.view.Item.{Item}
+use Rattle.batch_items.specs.declared.item.Item.{Item}
 use Rattle.example_clients.specs.declared.call.ClientCall.{ClientCall}
 use Rattle.example_clients.specs.declared.taking_in.Asked.{Asked}
 
@@ -28,7 +28,8 @@ takes (p ∷ ps) (v ∷ vs) = fits p.kind v && takes ps vs
 
 abbrev pub request_with : Option ProcParts → List Value → Result Call RequestFault
 request_with None values = Err UnknownProc
-request_with (Some proc) values = if takes proc.params values then Ok (record { proc = proc; args = values }) else Err Args
+request_with (Some proc) values =
+    if takes proc.params values then Ok (record { proc = proc; args = values }) else Err Args
 
 -- the request that procedures make of a call, or why it is none
 abbrev pub request_of : ProcsParts → ClientCall → Result Call RequestFault
@@ -50,4 +51,5 @@ refusal (Err fault) = Some fault
 -- who asked, and why the call is no request, if it is none
 abbrev pub asked_of : ProcsParts → List CallItem → List Asked
 asked_of procs [] = []
-asked_of procs (x ∷ xs) = record { client = x.client; number = x.number; refused = refusal (request_of procs x.request) } ∷ asked_of procs xs
+asked_of procs (x ∷ xs) =
+    record { client = x.client; number = x.number; refused = refusal (request_of procs x.request) } ∷ asked_of procs xs

@@ -17,4 +17,5 @@ abbrev pub AreAtTheirLogs : Intake ClientCall → ℕ → List Client → List C
 AreAtTheirLogs intake client [] [] = ⊤
 AreAtTheirLogs intake client [] (log ∷ logs) = ⊥
 AreAtTheirLogs intake client (c ∷ cs) [] = ⊥
-AreAtTheirLogs intake client (c ∷ cs) (log ∷ logs) = IsAtItsLog intake client c log × AreAtTheirLogs intake (client + 1) cs logs
+AreAtTheirLogs intake client (c ∷ cs) (log ∷ logs) =
+    IsAtItsLog intake client c log × AreAtTheirLogs intake (client + 1) cs logs

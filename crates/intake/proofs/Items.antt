@@ -4,7 +4,7 @@ use Rattle.std.proofs.lemmas.Bool.Decides.{eqb_tells}
 use Rattle.std.proofs.lemmas.Bool.{eq-eqb, ne_eqb}
 use Rattle.std.proofs.lemmas.List.{append-nil}
 use Rattle.std.proofs.lemmas.List.Elements.{filter-append}
-use Rattle.intake.specs.declared.view.Item.{Item}
+use Rattle.batch_items.specs.declared.item.Item.{Item}
 use Rattle.intake.specs.Histories.{from_client, numbered, IsNumbered}
 
 module _ {Q : Type 0} where

@@ -5,7 +5,7 @@ use lib.ListN.{get_elem?}
 use Rattle.std.proofs.lemmas.Bool.Decides.{nat_tests}
 use Rattle.crossbeam_queue.specs.Fifo.{Pushes, Pops, Forks, Merges, Learns}
 use Rattle.crossbeam_queue.proofs.Lists.{at_set}
-use Rattle.intake.specs.declared.view.Item.{Item}
+use Rattle.batch_items.specs.declared.item.Item.{Item}
 use Rattle.intake.specs.declared.view.History.{History}
 use Rattle.intake.specs.declared.view.View.{View}
 use Rattle.intake.specs.Histories.{from_client, numbered, HasAll, IsNumbered, view, history, opening, spent, without_drawing, only_drawing, without_first, only_first, joined, after_submit, after_draw}

@@ -4,7 +4,7 @@ use mathlib.Core.Option.{some, some-injective, some-ne-none}
 use lib.ListN.{get_elem?}
 use Rattle.crossbeam_queue.proofs.Lists.{at_set, at_snoc}
 use Rattle.std.proofs.lemmas.Bool.{eq-eqb}
-use Rattle.intake.specs.declared.view.Item.{Item}
+use Rattle.batch_items.specs.declared.item.Item.{Item}
 use Rattle.intake.specs.declared.view.History.{History}
 use Rattle.intake.specs.declared.view.View.{View}
 use Rattle.intake.specs.Histories.{from_client, numbered, HasAll, first_of, rest_of}

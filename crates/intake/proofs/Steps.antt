@@ -2,7 +2,7 @@
 use Rattle.std.proofs.Common.{◌≡◌, List, [], ◌∷◌, ◌++◌, refl, sym, ap, ◌∙◌, subst, append_assoc, false, length}
 use Rattle.crossbeam_queue.specs.Passes.{IsPassOf, IsSamePass}
 use Rattle.crossbeam_queue.specs.Passes.{view as known}
-use Rattle.intake.specs.declared.view.Item.{Item}
+use Rattle.batch_items.specs.declared.item.Item.{Item}
 use Rattle.intake.specs.declared.view.View.{View}
 use Rattle.intake.specs.declared.intake.Intake.{Intake}
 use Rattle.intake.specs.declared.passes.DrawPass.{DrawPass}

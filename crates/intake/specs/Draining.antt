@@ -3,7 +3,7 @@
 use Rattle.std.specs.Prelude.{◌≡◌, ◌<◌, ◌≤◌, false, List, [], ◌∷◌, ◌++◌, length}
 use Rattle.crossbeam_queue.specs.Passes.{IsPassOf}
 use Rattle.crossbeam_queue.specs.Passes.{view as known}
-use Rattle.intake.specs.declared.view.Item.{Item}
+use Rattle.batch_items.specs.declared.item.Item.{Item}
 use Rattle.intake.specs.declared.view.History.{History}
 use Rattle.intake.specs.declared.intake.Intake.{Intake}
 use Rattle.intake.specs.declared.passes.ClientPass.{ClientPass}

@@ -3,7 +3,7 @@
 use Rattle.std.specs.Prelude.{◌≡◌, ℕ, ◌+◌, ◌<◌, true, false, List, [], ◌∷◌, length, slice_index_or}
 use Rattle.crossbeam_queue.specs.Passes.{IsPassOf, ruled_capacity}
 use Rattle.crossbeam_queue.specs.Passes.{view as known}
-use Rattle.intake.specs.declared.view.Item.{Item}
+use Rattle.batch_items.specs.declared.item.Item.{Item}
 use Rattle.intake.specs.declared.view.History.{History}
 use Rattle.intake.specs.declared.view.View.{View}
 use Rattle.intake.specs.declared.intake.Intake.{Intake}

@@ -7,11 +7,11 @@ ghost use Rattle.intake.specs.Histories.{HasAll, without_first, only_first, join
 ghost use Rattle.intake.specs.Passes.{IsClientOf, IsDrawerOf, AreClientsOf, histories_of, own_history, drawn_by, held_by};
 ghost use Rattle.intake.specs.Draining.{all_items, AreBatches, Appends, IsLentBy, IsBackWith};
 
-use crate::batched::Batched;
 use crate::intake::{Intake, MOST_DRAWN};
 use crate::passes::{ClientPass, DrawPass};
 use crate::rule::{CutFirst, TakeIn};
-use crate::view::{Item, View};
+use crate::view::View;
+use batch_items::{Batched, Item};
 use crossbeam_queue::Pass;
 use std::alloc::AllocError;
 use std::sync::Wait;

@@ -6,10 +6,10 @@ ghost use Rattle.intake.specs.Histories.{HasAll};
 ghost use Rattle.intake.specs.Rule.{IsAccounted};
 ghost use Rattle.intake.specs.Passes.{MaySubmit, IsClientOf, IsDrawerOf, AreNewClients, capacity_of, client_of, sent_by, spare_of, known_by, drawn_by, held_by};
 
-use crate::batched::Batched;
 use crate::passes::{ClientPass, DrawPass, Full};
 use crate::rule::{CutDrawing, CutFirst, Draws, InOrder, Submits};
-use crate::view::{Item, View};
+use crate::view::View;
+use batch_items::{Batched, Item};
 use crossbeam_queue::RuledArrayQueue;
 use std::alloc::{AllocError, Global};
 use std::sync::Wait;

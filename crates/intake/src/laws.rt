@@ -2,7 +2,7 @@
 
 ghost use Rattle.std.specs.Prelude.{◌≡◌, ◌+◌, ◌≤◌, ◌∷◌, [], ℕ, List, length, true, false};
 ghost use Rattle.crossbeam_queue.specs.Fifo.{Held};
-ghost use Rattle.intake.specs.declared.view.Item.{Item};
+ghost use Rattle.batch_items.specs.declared.item.Item.{Item};
 ghost use Rattle.intake.specs.Histories.{history, spare_for, view};
 ghost use Rattle.intake.specs.Rule.{IsAccounted};
 

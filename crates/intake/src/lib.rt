@@ -2,7 +2,6 @@
 //! Each client's requests are drawn in the order in which it submitted them, each once. Generic in the request.
 #![tactic(auto)]
 
-mod batched;
 mod draining;
 mod intake;
 mod laws;
@@ -10,8 +9,7 @@ mod passes;
 mod rule;
 mod view;
 
-pub use batched::Batched;
+pub use batch_items::{Batched, Item};
 pub use intake::{Intake, MOST_DRAWN};
 pub use laws::refused_client_knows_the_queue;
 pub use passes::{ClientPass, DrawPass, Full};
-pub use view::Item;

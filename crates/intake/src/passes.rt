@@ -3,11 +3,14 @@
 ghost use Rattle.std.specs.Prelude.{◌≡◌};
 ghost use Rattle.intake.specs.Passes.{client_of, count_of};
 
-use crate::view::{Item, View};
+use crate::view::View;
+use batch_items::Item;
 use crossbeam_queue::Pass;
+use thiserror::Error;
 
 /// The intake was full; the request comes back.
-#[derive(Drop)]
+#[derive(Debug, Drop, Error)]
+#[error("the intake is full")]
 pub struct Full<Q>(pub Q);
 
 /// By this a client submits, and by no other. It may move into a thread.

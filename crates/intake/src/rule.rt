@@ -1,6 +1,7 @@
 //! The rule of the queue, and what each kind of step tells. These types are for the proofs alone.
 
-use crate::view::{Item, View};
+use crate::view::View;
+use batch_items::Item;
 use crossbeam_queue::protocol::{Join, Lesson, Outcome, Protocol, Split};
 
 /// What was drawn and then what the queue holds is, client by client, what was submitted.

@@ -9,13 +9,16 @@ use crate::requested::Requested;
 use coarsen::Plan;
 use std::alloc::Global;
 use std::marker::Model;
+use thiserror::Error;
 use values::NoMemory;
 
 /// Why a plan was not enqueued.
-#[derive(Clone, Copy, Debug, PartialEq, Eq)]
+#[derive(Clone, Copy, Debug, PartialEq, Eq, Error)]
 pub enum EnqueueFault {
     /// There is less room than the plan has requests.
+    #[error("less room than the plan has requests")]
     Full,
+    #[error("out of memory")]
     NoMemory,
 }
 

@@ -10,10 +10,12 @@ use crate::block::Block;
 use crate::node::{Held, Node, NodeId, Request, content};
 use std::alloc::Global;
 use std::marker::Model;
+use thiserror::Error;
 use values::NoMemory;
 
 /// There is no free node.
-#[derive(Clone, Copy, Debug, PartialEq, Eq)]
+#[derive(Clone, Copy, Debug, PartialEq, Eq, Error)]
+#[error("no free node is left")]
 pub struct Full;
 
 /// Queues of requests, and the chains of transactions. Contracts see the nodes of each queue, and what each node holds, from

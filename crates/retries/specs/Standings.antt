@@ -12,7 +12,7 @@ use Rattle.sequencer.specs.Batches.{items_from}
 use Rattle.sequencer.specs.Entries.{prepared}
 use Rattle.report_text.specs.Report.{Transaction, entries_in, all_transactions}
 
--- where a log is between two batches: the number of the next transaction, the database, and the requests that are carried
+-- where a log is between two batches: the number of the next transaction, the database, and the carried requests
 pub record Standing : Type 0 where
   pub next : ℕ
   pub rows : Database
@@ -30,7 +30,10 @@ attempts_at s calls = attempts_of s.carried (items_from 0 calls)
 
 -- the transaction of an attempt, whose entry is prepared on that database
 abbrev pub transaction_of : Database → Attempt → Transaction
-transaction_of db attempt = record { entry = prepared db attempt.request; of = option_map (λ earlier. earlier.first) attempt.before }
+transaction_of db attempt = record {
+  entry = prepared db attempt.request;
+  of = option_map (λ earlier. earlier.first) attempt.before;
+}
 
 -- a later attempt of the request whose first attempt has that number
 abbrev pub is_of : ℕ → Option ℕ → Bool

@@ -183,7 +183,8 @@ pub fn serial_run_is_one_run()
 /// The report of batches grows by the text of each, with the numbers and on the rows that the batches before it leave, and the end
 /// line has the count and the rows that all of them leave.
 pub fn report_grows_batch_by_batch()
-    ensures texts { (tables : List TableShape) (retries : ℕ) (db : Database) (batches : List (List Call)) (calls : List Call) →
+    ensures texts { (tables : List TableShape) (retries : ℕ) (db : Database)
+        (batches : List (List Call)) (calls : List Call) →
         batch_texts tables 1 0 db (in_turn retries (start_of db) (batches ++ calls ∷ []))
         ≡ batch_texts tables 1 0 db (in_turn retries (start_of db) batches)
         ++ batch_text tables (next_batch (length batches)) (behind_all retries (start_of db) batches).next

@@ -23,11 +23,11 @@ use Rattle.scheduler.proofs.Known.{Keeps, plans_in}
 
 -- ---- which plans they are
 
-pub plans_are : PlanIsOne → (k c : ℕ) (entries : List EntryParts) → ArePlansOf k c entries (plans_for k c entries)
+pub plans_are : PlanIsOne → (k c : ℕ) (entries : List EntryParts) → ArePlansOf k c (map entry_shape entries) (plans_for k c entries)
 plans_are one k c [] = tt
 plans_are one k c (e ∷ es) = let f = locked_for (footprint_of (entry_shape e).footing) in ((one k c f (plan_for k c f)).1 refl, plans_are one k c es)
 
-pub made_are : PlanIsOne → (k c : ℕ) (entries : List EntryParts) (plans : List Requests) → ArePlansOf k c entries plans → plans ≡ plans_for k c entries
+pub made_are : PlanIsOne → (k c : ℕ) (entries : List EntryParts) (plans : List Requests) → ArePlansOf k c (map entry_shape entries) plans → plans ≡ plans_for k c entries
 made_are one k c [] [] h = refl
 made_are one k c [] (p ∷ plans) h = absurd h
 made_are one k c (e ∷ es) [] h = absurd h

@@ -10,7 +10,7 @@ use Rattle.footprint.specs.declared.resource.Resource.{Resource}
 use Rattle.coarsen.specs.Subtrees.{Requests, covers_by_requests}
 use Rattle.coarsen.specs.Plans.{IsPlanFor, IsWellFormed, IsPlanOver}
 use Rattle.coarsen.specs.ThePlan.{plan_for}
-use Rattle.meaning.specs.Entries.{footprint_of}
+use Rattle.meaning.specs.Entries.{EntryShape, footprint_of}
 use Rattle.interp.specs.Entries.{EntryParts, entry_shape}
 use Rattle.interp.specs.Over.{locked_for}
 use Rattle.scheduler_core.specs.Transactions.{Transaction}
@@ -21,9 +21,9 @@ transactions_of [] plans = []
 transactions_of (entry ∷ entries) [] = []
 transactions_of (entry ∷ entries) (plan ∷ plans) = record { entry = entry_shape entry; plan = plan } ∷ transactions_of entries plans
 
--- an entry's plan is made for its footprint, and for nothing where its declaration faults
-abbrev pub IsPlanOfEntry : ℕ → ℕ → EntryParts → Requests → Type 0
-IsPlanOfEntry threshold arena entry plan = IsPlanFor threshold arena (locked_for (footprint_of (entry_shape entry).footing)) plan
+-- the plan of an entry is the one for its footprint, and for the empty footprint where its declaration faults
+abbrev pub IsPlanOfEntry : ℕ → ℕ → EntryShape → Requests → Type 0
+IsPlanOfEntry threshold arena entry plan = IsPlanFor threshold arena (locked_for (footprint_of entry.footing)) plan
 
 -- as many of the one as of the other, and of each pair at one place this holds
 abbrev pub Paired : {A B : Type 0} → (A → B → Type 0) → List A → List B → Type 0
@@ -32,8 +32,8 @@ Paired holds [] (b ∷ bs) = ⊥
 Paired holds (a ∷ rest) [] = ⊥
 Paired holds (a ∷ rest) (b ∷ bs) = holds a b × Paired holds rest bs
 
--- a plan for each entry
-abbrev pub ArePlansOf : ℕ → ℕ → List EntryParts → List Requests → Type 0
+-- the plan of each entry, in order
+abbrev pub ArePlansOf : ℕ → ℕ → List EntryShape → List Requests → Type 0
 ArePlansOf threshold arena = Paired (IsPlanOfEntry threshold arena)
 
 -- the plans that are made for entries

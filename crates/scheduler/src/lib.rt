@@ -17,5 +17,6 @@ mod straight;
 pub use finished::{Finished, Outcomes};
 pub use job::{Done, Job, run_job};
 pub use laws::lent_jobs_come_back;
+pub use planning::plan_of;
 pub use scheduler::{AdmitFault, Scheduler, Unmade};
 pub use scheduler_core::{Event, StepAnswer};

@@ -1,7 +1,7 @@
 //! Plans of entries.
 
-ghost use Rattle.std.specs.Prelude.{◌≡◌, ◌<◌, IfOk, IfSome, OnOk, OnErr, Some, length, slice_get};
-ghost use Rattle.coarsen.specs.Plans.{IsPlanFor};
+ghost use Rattle.std.specs.Prelude.{◌≡◌, ◌<◌, IfOk, IfSome, OnOk, OnErr, Some, length, map, slice_get};
+ghost use Rattle.interp.specs.Entries.{entry_shape};
 ghost use Rattle.scheduler.specs.Logs.{IsPlanOfEntry, ArePlansOf, plans_for};
 ghost use Rattle.scheduler.specs.Scheduled.{made_in, IsMade};
 
@@ -11,28 +11,20 @@ use interp::Entry;
 use std::alloc::Global;
 use values::NoMemory;
 
-/// The plan for a footprint.
-fn plan_for(
+/// The plan of an entry, coarsened above `threshold`, with at most `arena` requests. An entry whose declaration faults asks for
+/// nothing.
+pub fn plan_of(
     alloc: Global,
-    footprint: &Footprint,
+    entry: &Entry,
     threshold: usize,
     arena: usize,
 ) -> Result<Plan, NoMemory>
     requires { 0 < arena }
-    ensures { IfOk result (λ plan. IsPlanFor threshold arena footprint.now plan) }
-{
-    let plan = Plan::new(alloc, footprint, threshold, arena)?;
-    Ok(plan)
-}
-
-/// The plan of an entry. An entry whose declaration faults asks for nothing.
-fn plan_of(alloc: Global, entry: &Entry, threshold: usize, arena: usize) -> Result<Plan, NoMemory>
-    requires { 0 < arena }
-    ensures { IfOk result (λ plan. IsPlanOfEntry threshold arena entry.now plan) }
+    ensures { IfOk result (λ plan. IsPlanOfEntry threshold arena (entry_shape entry.now) plan) }
 {
     match entry.footprint() {
-        Some(footprint) => plan_for(alloc, footprint, threshold, arena),
-        None => plan_for(alloc, &Footprint::new(alloc), threshold, arena),
+        Some(footprint) => Plan::new(alloc, footprint, threshold, arena),
+        None => Plan::new(alloc, &Footprint::new(alloc), threshold, arena),
     }
 }
 
@@ -44,7 +36,7 @@ fn plans_of(
     arena: usize,
 ) -> Result<Vec<Plan>, NoMemory>
     requires { 0 < arena }
-    ensures { IfOk result (λ plans. ArePlansOf threshold arena entries.now plans.items) }
+    ensures { IfOk result (λ plans. ArePlansOf threshold arena (map entry_shape entries.now) plans.items) }
 {
     let mut plans = Vec::with_capacity(alloc, entries.len())?;
     for entry in entries {

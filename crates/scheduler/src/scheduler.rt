@@ -1,8 +1,9 @@
 //! The scheduler.
 
-ghost use Rattle.std.specs.Prelude.{◌≡◌, ◌↔◌, ◌<◌, ◌≤◌, ◌+◌, ◌-◌, ◌^◌, true, false, [], ◌∷◌, ◌++◌, length, None, Ok, Err, IfOk, IfErr, IfSome, OnOk, OnErr, slice_set};
+ghost use Rattle.std.specs.Prelude.{◌≡◌, ◌↔◌, ◌<◌, ◌≤◌, ◌+◌, ◌-◌, ◌^◌, true, false, [], ◌∷◌, ◌++◌, length, map, None, Ok, Err, IfOk, IfErr, IfSome, OnOk, OnErr, slice_set};
 ghost use Rattle.std.specs.FinMap as finite;
 ghost use Rattle.scheduler_core.specs.declared.event.Event.{Event as AnyEvent};
+ghost use Rattle.interp.specs.Entries.{entry_shape};
 ghost use Rattle.interp.specs.Over.{AreEntriesOver};
 ghost use Rattle.scheduler.specs.Logs.{ArePlansOf};
 ghost use Rattle.scheduler.specs.Schedules.{log_of, phases_of, work_of};
@@ -106,7 +107,8 @@ impl Scheduler {
               work = work_of catalogue arena first entries.items scheduler.work.plans store.rows;
               slots = [];
             }) }
-        ensures plans { IfOk result (λ scheduler. ArePlansOf threshold arena entries.items scheduler.work.plans) }
+        ensures plans { IfOk result (λ scheduler.
+            ArePlansOf threshold arena (map entry_shape entries.items) scheduler.work.plans) }
         ensures back { IfErr result (λ unmade. (unmade.0 ≡ catalogue) × (unmade.1 ≡ store) ×
             (unmade.2.items ≡ entries.items)) }
     {

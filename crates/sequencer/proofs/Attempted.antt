@@ -1,8 +1,9 @@
 -- The attempts of a batch.
-use Rattle.std.proofs.Common.{◌≡◌, ℕ, ◌-◌, ◌<◌, ◌≤◌, List, [], ◌∷◌, length, map, zero, suc, sym, ap, subst, slice_get, get_or, Some, option_map, arith}
+use Rattle.std.proofs.Common.{◌≡◌, ℕ, ◌+◌, ◌-◌, ◌<◌, ◌≤◌, List, [], ◌∷◌, length, length-append, map, zero, suc, refl, sym, ap, subst, slice_get, get_or, Some, option_map, arith}
 use Rattle.std.proofs.lemmas.List.{length-map}
 use Rattle.catalogue.specs.Shapes.{TableShape}
-use Rattle.sequencer.specs.Attempts.{own, attempts_of, AreCarriedOver, AreRequestsOver}
+use Rattle.requests.specs.Requests.{Call}
+use Rattle.sequencer.specs.Attempts.{own, attempts_of, requests_of, AreCarriedOver, AreRequestsOver}
 use Rattle.sequencer.specs.Batches.{RequestItem, AreOver}
 use Rattle.sequencer.specs.declared.attempts.Carried.{Carried}
 
@@ -39,3 +40,12 @@ item_at (c ∷ carried) items zero item past less is = absurd (omega (arith, pas
 item_at (c ∷ carried) items (suc place) item past less is =
     let e : suc place - suc (length carried) ≡ place - length carried = omega arith in
     item_at carried items place item (omega (arith, past)) (omega (arith, less)) (subst (λ p. item ≡ get_or items p item) e is)
+
+-- how many there are
+pub attempts_length : (carried : List Carried) (items : List RequestItem) → length (attempts_of carried items) ≡ length carried + length items
+attempts_length carried items = simp (length-append, length-map)
+
+-- the requests of a batch to which nothing is carried
+pub own_mapped : {C : Type 0} (f : Call → C) (items : List RequestItem) → map f (requests_of [] items) ≡ map (λ item. f item.request) items
+own_mapped f [] = refl
+own_mapped f (item ∷ items) = ap (λ cs. f item.request ∷ cs) (own_mapped f items)

@@ -6,8 +6,9 @@ use Rattle.sequencer.specs.Attempts.{Attempt, tries_of, first_of}
 use Rattle.sequencer.specs.declared.attempts.Carried.{Carried}
 
 -- a request that was tried at some place and was stale there, with fewer attempts before that one than are tried again:
--- it is the same request, its first attempt is what it was, or this one if none was before, and one more attempt is behind it
-pub record IsTriedAgain (retries first_no : ℕ) (attempts : List Attempt) (replies : List Reply) (one : Carried) : Type 0 where
+-- it is the same request, its first attempt is what it was, or this one if none was before, and it had one more attempt
+pub record IsTriedAgain (retries first_no : ℕ) (attempts : List Attempt) (replies : List Reply)
+    (one : Carried) : Type 0 where
   pub place : ℕ
   pub attempt : Attempt
   pub tried : slice_get attempts place ≡ Some attempt

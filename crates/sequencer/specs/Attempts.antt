@@ -15,7 +15,7 @@ pub record Earlier : Type 0 where
   pub first : ℕ
   pub tries : ℕ
 
--- a request that is tried, of a client and with its number among those of the client, and what was before, if anything was
+-- a request that is tried, of a client and with its number among those of the client, and what was before, if anything
 pub record Attempt : Type 0 where
   pub client : ℕ
   pub number : ℕ
@@ -48,8 +48,12 @@ batch_of attempts = attempts.batch
 abbrev pub attempts_in : Attempts → List Attempt
 attempts_in attempts = attempts_of (carried_of attempts) (items_of (batch_of attempts))
 
+-- their requests
+abbrev pub requests_of : List Carried → List RequestItem → List Call
+requests_of carried items = map (λ attempt. attempt.request) (attempts_of carried items)
+
 abbrev pub requests_in : Attempts → List Call
-requests_in attempts = map (λ attempt. attempt.request) (attempts_in attempts)
+requests_in attempts = requests_of (carried_of attempts) (items_of (batch_of attempts))
 
 -- each carried request is of a procedure over those tables
 abbrev pub AreCarriedOver : List TableShape → List Carried → Type 0
@@ -67,7 +71,8 @@ pub record Numbered : Type 0 where
 -- each attempt has a transaction's number of its own: they go up by one from a first one
 abbrev pub numbered_from : ℕ → List Attempt → List Numbered
 numbered_from first_no [] = []
-numbered_from first_no (attempt ∷ attempts) = record { no = first_no; attempt = attempt } ∷ numbered_from (first_no + 1) attempts
+numbered_from first_no (attempt ∷ attempts) =
+    record { no = first_no; attempt = attempt } ∷ numbered_from (first_no + 1) attempts
 
 abbrev pub is_stale : Reply → Bool
 is_stale (commit values) = false
@@ -84,7 +89,7 @@ abbrev pub first_of : ℕ → Option Earlier → ℕ
 first_of own_no None = own_no
 first_of own_no (Some earlier) = earlier.first
 
--- whether a request is tried again that was tried so often before and ended so: it was stale, and fewer attempts were before
+-- whether a request is tried again that had that many attempts before and ended so: it was stale, and had fewer before
 abbrev pub goes_on : ℕ → ℕ → Reply → Bool
 goes_on retries tries reply = cond (is_stale reply) (nat_lt tries retries) false
 
@@ -103,4 +108,5 @@ carried_on tried = record {
 
 -- of attempts that ended so, the requests that are tried again, in their order
 abbrev pub left_of : ℕ → ℕ → List Attempt → List Reply → List Carried
-left_of retries first_no attempts replies = map (λ ended. carried_on ended.0) (filter (is_left retries) (zip (numbered_from first_no attempts) replies))
+left_of retries first_no attempts replies =
+    map (λ ended. carried_on ended.0) (filter (is_left retries) (zip (numbered_from first_no attempts) replies))

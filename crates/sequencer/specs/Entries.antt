@@ -16,12 +16,14 @@ abbrev pub footing_of : Result FootprintOf AbortCode → Footing
 footing_of (Ok footprint) = declares footprint
 footing_of (Err code) = faults code
 
--- what a call may touch: the footprint that its procedure declares for its values, or the one that reconnaissance finds on a database
+-- what a call may touch: the footprint that its procedure declares for its values, or the one that reconnaissance finds
+-- on a database
 abbrev pub footing_on : Database → Call → FootprintSyntax → Footing
 footing_on db call (declared_by entries) = footing_of (declared_footprint call.proc.tables call.args entries)
 footing_on db call found_by_recon = finds (found_footprint call.proc.tables (proc_syntax call.proc).body call.args db)
 
--- the entry of a request, on the database at the start of its batch (Calvin, 2012: reconnaissance of dependent transactions)
+-- the entry of a request, on the database at the start of its batch (Calvin, 2012: reconnaissance of dependent
+-- transactions)
 abbrev pub prepared : Database → Call → EntryShape
 prepared db call = record {
   tables = call.proc.tables;

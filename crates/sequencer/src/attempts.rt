@@ -1,12 +1,12 @@
-//! The attempts of a batch: requests that were stale before, and behind them the batch's own calls.
+//! The attempts of a batch: requests that were stale before, and after them the batch's own calls.
 
 ghost use Rattle.std.specs.Prelude.{◌≡◌, ◌<◌, Some, List, length, slice_get};
 ghost use Rattle.catalogue.specs.Shapes.{TableShape};
 ghost use Rattle.sequencer.specs.Batches.{items_of, AreOver};
-ghost use Rattle.sequencer.specs.Attempts.{carried_of, batch_of, attempts_of, attempts_in, requests_in, AreCarriedOver, AreRequestsOver};
+ghost use Rattle.sequencer.specs.Attempts.{carried_of, batch_of, attempts_of, attempts_in, requests_in, requests_of, AreCarriedOver, AreRequestsOver};
 
 use crate::batch::Batch;
-use intake::Item;
+use batch_items::Item;
 use requests::Request;
 
 /// A request that is carried to the next batch: its last attempt was stale.
@@ -23,7 +23,7 @@ pub struct Carried {
     pub tries: u8,
 }
 
-/// The attempts of a batch: the carried requests, and behind them the batch's own calls.
+/// The attempts of a batch: the carried requests, and after them the batch's own calls.
 #[derive(Drop)]
 pub struct Attempts {
     pub(crate) carried: Vec<Carried>,
@@ -31,7 +31,7 @@ pub struct Attempts {
 }
 
 impl Attempts {
-    /// The carried requests, and behind them those of the batch. It takes no memory.
+    /// The carried requests, and after them those of the batch. It takes no memory.
     pub fn of(carried: Vec<Carried>, batch: Batch) -> Attempts
         ensures carried { carried_of result ≡ carried.items }
         ensures batch { batch_of result ≡ batch }
@@ -50,7 +50,7 @@ impl Attempts {
         self.carried.as_slice()
     }
 
-    /// The batch whose calls stand behind the carried requests.
+    /// The batch whose calls come after the carried requests.
     pub fn batch(&self) -> &Batch
         ensures { result.now ≡ batch_of self.now }
     {
@@ -65,7 +65,7 @@ impl Attempts {
     }
 
     /// The carried requests, and the batch's own. It takes no memory.
-    pub fn into_parts(self) -> (Vec<Carried>, Vec<Item<Request>>)
+    pub(crate) fn into_parts(self) -> (Vec<Carried>, Vec<Item<Request>>)
         ensures carried { result.0.items ≡ carried_of self }
         ensures own { result.1.items ≡ items_of (batch_of self) }
     {
@@ -77,9 +77,21 @@ impl Attempts {
         requires { place < length (attempts_in self.now) }
         ensures { slice_get (requests_in self.now) place ≡ Some result.now }
     {
-        match self.carried.get(place) {
-            Some(again) => &again.request,
-            None => &self.batch.items()[place - self.carried.len()].request,
-        }
+        request_at(&self.carried, self.batch.items(), place)
+    }
+}
+
+/// The request at that place among carried ones and, after them, a batch's own.
+pub(crate) fn request_at<'a>(
+    carried: &'a [Carried],
+    items: &'a [Item<Request>],
+    place: usize,
+) -> &'a Request
+    requires { place < length (attempts_of carried.now items.now) }
+    ensures { slice_get (requests_of carried.now items.now) place ≡ Some result.now }
+{
+    match carried.get(place) {
+        Some(again) => &again.request,
+        None => &items[place - carried.len()].request,
     }
 }

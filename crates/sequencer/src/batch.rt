@@ -5,7 +5,7 @@ ghost use Rattle.std.specs.List.{AllByRecursion};
 ghost use Rattle.catalogue.specs.Shapes.{TableShape};
 ghost use Rattle.sequencer.specs.Batches.{items_from, AreOver};
 
-use intake::{Batched, Item};
+use batch_items::{Batched, Item};
 use requests::Request;
 use std::alloc::Global;
 use thiserror::Error;

@@ -20,11 +20,13 @@ use meaning::found_entry_is_not_stale;
 /// where the calls of its batch before it have left as it was each row that it may read. So it is stale only where one of them
 /// changed such a row, and the first of a batch never is.
 pub fn found_request_holds_in_its_batch()
-    ensures outcome { (before : List Call) (call : Call) (db : Database) → is_recon (proc_syntax call.proc).footprint ≡ true →
+    ensures outcome { (before : List Call) (call : Call) (db : Database) →
+        is_recon (proc_syntax call.proc).footprint ≡ true →
         Agree (prepared db call) db (serial_end (map (prepared db) before) db) →
         (meaning (prepared db call) (serial_end (map (prepared db) before) db)).0
         ≡ reconnaissance_reply call.proc.tables (proc_syntax call.proc).body call.args db }
-    ensures not_stale { (before : List Call) (call : Call) (db : Database) → is_recon (proc_syntax call.proc).footprint ≡ true →
+    ensures not_stale { (before : List Call) (call : Call) (db : Database) →
+        is_recon (proc_syntax call.proc).footprint ≡ true →
         Agree (prepared db call) db (serial_end (map (prepared db) before) db) →
         ¬ ((meaning (prepared db call) (serial_end (map (prepared db) before) db)).0 ≡ stale) }
     ensures first { (call : Call) (db : Database) → is_recon (proc_syntax call.proc).footprint ≡ true →
@@ -39,7 +41,8 @@ pub fn found_request_holds_in_its_batch()
 pub fn left_requests_were_stale()
     ensures again { (retries first_no : ℕ) (attempts : List Attempt) (replies : List Reply) →
         AllByRecursion (IsTriedAgain retries first_no attempts replies) (left_of retries first_no attempts replies) }
-    ensures all { (retries first_no : ℕ) (attempts : List Attempt) (replies : List Reply) (place : ℕ) (attempt : Attempt) →
+    ensures all { (retries first_no : ℕ) (attempts : List Attempt) (replies : List Reply)
+        (place : ℕ) (attempt : Attempt) →
         slice_get attempts place ≡ Some attempt → slice_get replies place ≡ Some stale →
         tries_of attempt.before < retries →
         Contains (left_of retries first_no attempts replies)

@@ -6,13 +6,14 @@ ghost use Rattle.footprint.specs.OfCatalogue.{IsFootprintOf};
 ghost use Rattle.meaning.specs.Entries.{footprint_of};
 ghost use Rattle.interp.specs.Entries.{entry_shape, footing_shape};
 ghost use Rattle.interp.specs.Over.{locked_for, IsEntryOver, AreEntriesOver};
-ghost use Rattle.sequencer.specs.Attempts.{attempts_in, requests_in, AreRequestsOver};
+ghost use Rattle.sequencer.specs.Attempts.{requests_in, requests_of, AreRequestsOver};
 ghost use Rattle.sequencer.specs.Batches.{items_of, AreOver};
 ghost use Rattle.interp.specs.Touched.{ShowsEachName};
 ghost use Rattle.sequencer.specs.Entries.{prepared};
 
-use crate::attempts::Attempts;
+use crate::attempts::{Attempts, Carried, request_at};
 use crate::batch::Batch;
+use batch_items::Item;
 use catalogue::Catalogue;
 use footprint::declared;
 use interp::{Entry, Footing, recon};
@@ -66,8 +67,36 @@ fn entry_of<V: RowView>(
     Entry::new(alloc, request, footing)
 }
 
+/// The entries of carried requests and, after them, of a batch's own, each prepared on the view.
+fn entries_of<V: RowView>(
+    alloc: Global,
+    carried: &[Carried],
+    items: &[Item<Request>],
+    catalogue: &Catalogue,
+    view: &V,
+) -> Result<Vec<Entry>, NoMemory>
+    requires over { AreRequestsOver catalogue.now (requests_of carried.now items.now) }
+    requires view { V.tables view.now ≡ catalogue.now }
+    requires shows { ShowsEachName (V.shows view.now) }
+    ensures tables { IfOk result (λ entries.
+        AllByRecursion (λ entry. entry.request.proc.tables ≡ catalogue.now) entries.items) }
+    ensures of_catalogue { IfOk result (λ entries. AreEntriesOver catalogue.now entries.items) }
+    ensures exact { IfOk result (λ entries.
+        map entry_shape entries.items ≡ map (prepared (V.rows view.now)) (requests_of carried.now items.now)) }
+{
+    let count = carried.len() + items.len();
+    let mut entries = Vec::with_capacity(alloc, count)?;
+    for place in 0..count {
+        let request = request_at(carried, items, place);
+        entries.push(entry_of(alloc, catalogue, request, view)?)?;
+    }
+    Ok(entries)
+}
+
 /// The entries of a batch's requests, in order: each request with the footprint that its procedure declares for its values,
 /// or with the abort of the first fault, or with the footprint that reconnaissance finds on the view, which shows every name.
+/// The procedures are those that the requests are of. They aren't read, since each request has its own: they are there as `Request::new`
+/// takes them.
 pub fn prepare<V: RowView>(
     alloc: Global,
     batch: &Batch,
@@ -86,16 +115,11 @@ pub fn prepare<V: RowView>(
     ensures exact { IfOk result (λ entries.
         map entry_shape entries.items ≡ map (λ item. prepared (V.rows view.now) item.request) (items_of batch.now)) }
 {
-    let items = batch.items();
-    let mut entries = Vec::with_capacity(alloc, items.len())?;
-    for item in items {
-        entries.push(entry_of(alloc, catalogue, &item.request, view)?)?;
-    }
-    Ok(entries)
+    entries_of(alloc, &[], batch.items(), catalogue, view)
 }
 
-/// The entries of all attempts of a batch, in order: the carried requests, and behind them the batch's own, each prepared on
-/// the view, which shows every name.
+/// The entries of all attempts of a batch, in order: the carried requests, and after them the batch's own, each prepared on
+/// the view, which shows every name. The procedures aren't read here, either.
 pub fn prepare_attempts<V: RowView>(
     alloc: Global,
     attempts: &Attempts,
@@ -114,9 +138,11 @@ pub fn prepare_attempts<V: RowView>(
     ensures exact { IfOk result (λ entries.
         map entry_shape entries.items ≡ map (prepared (V.rows view.now)) (requests_in attempts.now)) }
 {
-    let mut entries = Vec::with_capacity(alloc, attempts.len())?;
-    for place in 0..attempts.len() {
-        entries.push(entry_of(alloc, catalogue, attempts.request(place), view)?)?;
-    }
-    Ok(entries)
+    entries_of(
+        alloc,
+        attempts.carried(),
+        attempts.batch().items(),
+        catalogue,
+        view,
+    )
 }

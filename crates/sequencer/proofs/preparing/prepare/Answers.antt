@@ -1,24 +1,21 @@
-use Rattle.std.proofs.Common.{◌≡◌, ◌<◌, length, ap, ◌∙◌, arith}
-use Rattle.std.specs.Prelude.{get_or}
-use Rattle.interp.specs.Entries.{entry_shape}
-use Rattle.interp.specs.Over.{IsEntryOver}
-use Rattle.meaning.specs.Entries.{EntryShape}
-use Rattle.sequencer.specs.Batches.{RequestItem}
+use Rattle.std.proofs.Common.{◌≡◌, List, [], map, ap, subst, sym, ◌∙◌, Result, Ok, Err, IfOk}
+use Rattle.sequencer.specs.Attempts.{requests_of, AreRequestsOver}
+use Rattle.sequencer.specs.Batches.{RequestItem, items_of}
 use Rattle.sequencer.specs.Entries.{prepared}
-use Rattle.sequencer.proofs.Mapped.{mapped_next, all_next, all_at}
+use Rattle.sequencer.proofs.Attempted.{attempts_over, own_mapped}
 use Rattle.sequencer.proofs.preparing.prepare.Goals as goal
 
-pub loop-item-preserved : goal.loop-item-preserved
-loop-item-preserved g c =
-    let items = c.items-items.ensures in
-    let less : c.loop-item.item-index < length c.args.batch.now.items.items = omega (arith, ap length items) in
-    let is = c.item-item.is ∙ ap (λ xs. get_or xs c.loop-item.item-index c.item-item.result) items in
-    let shape = c.in_ok-entry_of.ensures.shape in
-    let pushed = c.in_ok-push.ensures.items in
-    record {
-      exact = mapped_next (λ item. prepared (g.V.RowView.rows c.args.view.now) item.request) entry_shape c.args.batch.now.items.items c.loop-item.item-index c.item-item.result c.loop-item.entries.items c.push.new.self.items c.in_ok-entry_of.field-0 less is pushed c.loop-item.invariant.exact shape;
-      tables =
-          all_next (λ entry. entry.request.proc.tables ≡ c.args.catalogue.now) c.loop-item.entries.items c.push.new.self.items c.in_ok-entry_of.field-0 pushed c.loop-item.invariant.tables
-          (ap (λ (s : EntryShape). s.tables) shape ∙ all_at (λ (item : RequestItem). item.request.proc.tables ≡ c.args.catalogue.now) c.args.batch.now.items.items c.loop-item.item-index c.item-item.result less is c.requires.over);
-      of_catalogue = all_next (IsEntryOver c.args.catalogue.now) c.loop-item.entries.items c.push.new.self.items c.in_ok-entry_of.field-0 pushed c.loop-item.invariant.of_catalogue c.in_ok-entry_of.ensures.of_catalogue;
-    }
+pub entries_of-requires-clause-over : goal.entries_of-requires-clause-over
+entries_of-requires-clause-over g c =
+    subst (λ (items : List RequestItem). AreRequestsOver c.args.catalogue.now (requests_of [] items)) (sym c.items.ensures) (attempts_over c.args.catalogue.now [] (items_of c.args.batch.now) tt c.requires.over)
+
+pub returns-clause-exact : goal.returns-clause-exact
+returns-clause-exact g c =
+    let prepares = prepared (g.V.RowView.rows c.args.view.now) in
+    let same : map prepares (requests_of [] c.items.result.now) ≡ map (λ (item : RequestItem). prepares item.request) (items_of c.args.batch.now) =
+    own_mapped prepares c.items.result.now ∙ ap (map (λ (item : RequestItem). prepares item.request)) c.items.ensures in
+    if_ok c.entries_of.result _ _ (λ entries h. h ∙ same) c.entries_of.ensures.exact
+  where
+    if_ok : {A E : Type 0} (r : Result A E) (P Q : A → Type 0) → ((a : A) → P a → Q a) → IfOk r P → IfOk r Q
+    if_ok (Ok a) P Q goes h = goes a h
+    if_ok (Err e) P Q goes h = h

@@ -4,17 +4,17 @@ use Rattle.interp.specs.Entries.{entry_shape}
 use Rattle.interp.specs.Over.{IsEntryOver}
 use Rattle.meaning.specs.Entries.{EntryShape}
 use Rattle.requests.specs.Requests.{Call}
-use Rattle.sequencer.specs.Attempts.{requests_in}
+use Rattle.sequencer.specs.Attempts.{requests_of}
 use Rattle.sequencer.specs.Entries.{prepared}
 use Rattle.sequencer.proofs.Mapped.{mapped_next, all_next, all_at}
-use Rattle.sequencer.proofs.preparing.prepare_attempts.Goals as goal
+use Rattle.sequencer.proofs.preparing.entries_of.Goals as goal
 
 pub loop-place-preserved : goal.loop-place-preserved
 loop-place-preserved g c =
-    let requests = requests_in c.args.attempts.now in
-    let call = c.request.result.now in
-    let less = slice_get_within requests c.loop-place.place call c.request.ensures in
-    let is = sym (get_or_from_slice_get requests c.loop-place.place call call c.request.ensures) in
+    let requests = requests_of c.args.carried.now c.args.items.now in
+    let call = c.request_at-request.result.now in
+    let less = slice_get_within requests c.loop-place.place call c.request_at-request.ensures in
+    let is = sym (get_or_from_slice_get requests c.loop-place.place call call c.request_at-request.ensures) in
     let shape = c.in_ok-entry_of.ensures.shape in
     let pushed = c.in_ok-push.ensures.items in
     record {

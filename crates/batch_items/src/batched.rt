@@ -1,11 +1,11 @@
-//! Batches of drawn items.
+//! Batches of items.
 
-use crate::view::Item;
+use crate::item::Item;
 
 /// A batch of items.
 pub trait Batched<Q>: Drop {
     ghost use Rattle.std.specs.Prelude.{◌≡◌, List};
-    ghost use Rattle.intake.specs.declared.view.Item.{Item};
+    ghost use Rattle.batch_items.specs.declared.item.Item.{Item};
 
     /// The items of a batch.
     ghost items_of: { Self → List (Item Q) };
