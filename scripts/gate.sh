@@ -1,7 +1,8 @@
 #!/usr/bin/env bash
 # Runs the gate: `rt ci`; then, on the programs that it left built,
 #
-# - `scripts/examples.py` and `scripts/manual.py --check`, which compare what comes out with what the documents say,
+# - `scripts/examples.py`, `scripts/manual.py --check` and `scripts/crates.py --check`, which compare what comes out, and the crates,
+#   with what the documents say,
 # - `scripts/cases.py`, which runs the stored cases, and `scripts/hostile_documents.py`, which runs 1,000 setups and logs made at
 #   random, each on the program as either compiler makes it,
 # - `scripts/refuse_memory.sh`, which refuses each 40th allocation;
@@ -54,6 +55,7 @@ gate() {
     RT_JOBS="$(nproc)" rt ci || return
     counted scripts/examples.py || status=1
     counted scripts/manual.py --check || status=1
+    counted scripts/crates.py --check || status=1
     for program in crates/cli/out/cli{,.by-rattle}; do
         if [[ $program == *.by-rattle && ! -x $program ]]; then
             echo "the second compiler didn't make the program: its runs are left out"

@@ -1,45 +1,22 @@
-//! Running a log on worker threads, or on one thread.
+//! Running a log on worker threads.
 
-ghost use Rattle.std.specs.Prelude.{◌≡◌, IfErr, false};
+ghost use Rattle.std.specs.Prelude.{◌≡◌, false};
 ghost use Rattle.sequencer.specs.Batches.{items_of, AreOver};
 ghost use Rattle.engine.specs.Engines.{is_busy, tables_of};
-ghost use Rattle.engine.specs.Executions.{IsSpawn};
 ghost use Rattle.running.specs.Executors.{IsExecution};
 ghost use Rattle.running.specs.Runs.{RunsLog};
 ghost use Rattle.running.specs.Starts.{start_in, start_of};
-ghost use Rattle.running.specs.Stops.{IsNotOfThread};
 
 use batch_log::{LogFaultKind, Sink, Source};
 use engine::{
     Batch, BatchDone, Engine, ExecFault, Gate, HeadSeat, Settings, WorkerPool, Workplace,
 };
-use running::{RunFault, run_log, run_log_on};
+use running::{RunFault, run_log_on};
 use setup::Setup;
 use std::alloc::Global;
 use std::sync::{Mutex, Wait};
 use std::thread;
 use std::thread::Threads;
-
-/// Runs the log that a source gives on a setup, on one thread, and writes its report into a sink.
-pub(crate) fn run_log_alone<R: Wait, S: Source, K: Sink>(
-    rt: &R,
-    alloc: Global,
-    setup: Setup,
-    settings: Settings,
-    source: &mut S,
-    sink: &mut K,
-) -> Result<u64, RunFault>
-    ensures run { RunsLog S.left S.failed K.taken K.broken (start_in setup)
-        source.old source.new sink.old sink.new result }
-    ensures threadless { IsNotOfThread result }
-{
-    let executor = move |engine: &mut Engine, batch: Batch| -> Result<BatchDone, ExecFault>
-        requires { AreOver (tables_of engine.old.core) (items_of batch) }
-        ensures run { IsExecution engine.old.core batch result engine.new.core }
-        ensures threadless { IfErr result (λ fault. ¬ IsSpawn fault) }
-    { engine.run_alone(rt, alloc, batch, &[]) };
-    run_log(rt, alloc, &executor, setup, settings, source, sink)
-}
 
 /// Does nothing. That a reference is used which a scope has given back ties it to the one that the scope took.
 fn take_back<T>(reference: &mut T)
@@ -109,25 +86,6 @@ pub(crate) fn run_log_in_pool<R: Threads + Wait + Sync, G: Gate, S: Source, K: S
     }
 }
 
-/// Runs the log that a source gives on a setup, on worker threads, and writes its report into a sink.
-pub(crate) fn run_log_on_workers<R: Threads + Wait + Sync, G: Gate, S: Source, K: Sink>(
-    rt: &R,
-    alloc: Global,
-    setup: Setup,
-    settings: Settings,
-    gate: &G,
-    source: &mut S,
-    sink: &mut K,
-) -> Result<u64, RunFault>
-    ensures { RunsLog S.left S.failed K.taken K.broken (start_in setup)
-        source.old source.new sink.old sink.new result }
-{
-    match Engine::new(alloc, setup, settings) {
-        Ok(mut engine) => run_log_in_pool(rt, alloc, &mut engine, gate, source, sink),
-        Err(_) => Err(RunFault::at(LogFaultKind::Memory, 0)),
-    }
-}
-
 /// Runs the log that a source gives on a setup, on worker threads, and writes its report into a sink: for each batch a reply
 /// line a call and a batch line, and then the end line. The answer is the number of transactions.
 ///
@@ -146,5 +104,8 @@ pub fn run_text<R: Threads + Wait + Sync, G: Gate, S: Source, K: Sink>(
     ensures { RunsLog S.left S.failed K.taken K.broken (start_in setup)
         source.old source.new sink.old sink.new result }
 {
-    run_log_on_workers(rt, alloc, setup, settings, gate, source, sink)
+    match Engine::new(alloc, setup, settings) {
+        Ok(mut engine) => run_log_in_pool(rt, alloc, &mut engine, gate, source, sink),
+        Err(_) => Err(RunFault::at(LogFaultKind::Memory, 0)),
+    }
 }

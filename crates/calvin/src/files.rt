@@ -1,13 +1,16 @@
 //! The files that a command reads.
 
 use std::alloc::Global;
+use thiserror::Error;
 
 /// Why a file was not read.
-#[derive(Clone, Copy, Debug, PartialEq, Eq)]
+#[derive(Clone, Copy, Debug, PartialEq, Eq, Error)]
 pub enum FileFault {
     /// There is no such file, or it can't be read.
+    #[error("there is no such file, or it can't be read")]
     Unreadable,
     /// The system refused memory.
+    #[error("out of memory")]
     NoMemory,
 }
 

@@ -73,7 +73,7 @@ fn lines_of(
     requires tables { AllByRecursion (λ r. r.proc.tables ≡ setup.catalogue) requests.items }
     ensures { IfOk result (λ text.
         IsPlansText setup.catalogue settings
-            (map (prepared (with_rows map_of.empty setup.rows.items)) requests.items) (string_bytes text)) }
+        (map (prepared (with_rows map_of.empty setup.rows.items)) requests.items) (string_bytes text)) }
 {
     let Setup {
         catalogue,

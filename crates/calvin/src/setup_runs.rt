@@ -9,7 +9,7 @@ ghost use Rattle.running.specs.Runs.{RunsLog};
 ghost use Rattle.running.specs.Starts.{start_in, start_of};
 ghost use Rattle.running.specs.Stops.{IsNotOfThread};
 
-use crate::executing::{run_log_alone, run_log_in_pool, run_log_on_workers};
+use crate::executing::run_log_in_pool;
 use crate::telling::{Lines, RunEnd, tell_engine, tell_until};
 use batch_log::{LogFaultKind, Sink, Source};
 use engine::{Batch, BatchDone, Engine, ExecFault, OpenGate, Settings, Watcher};
@@ -20,11 +20,11 @@ use std::cell::RefCell;
 use std::sync::Wait;
 use std::thread::{Threads, join_mut};
 
-/// Runs a log on an engine that has run none, on one thread. At the end of each batch a line goes to `err`.
+/// Runs a log on an engine that has run none, on one thread. Where it is asked for lines, one goes to `err` at the end of each batch.
 fn run_telling<R: Wait, S: Source, K: Sink, E: Sink>(
     rt: &R,
     alloc: Global,
-    lines: Lines,
+    lines: Option<Lines>,
     engine: &mut Engine,
     source: &mut S,
     sink: &mut K,
@@ -42,7 +42,7 @@ fn run_telling<R: Wait, S: Source, K: Sink, E: Sink>(
         ensures threadless { IfErr result (λ fault. ¬ IsSpawn fault) }
     {
         let done = engine.run_alone(rt, alloc, batch, &[]);
-        if let Ok(mut err) = err.try_borrow_mut() {
+        if let (Some(lines), Ok(mut err)) = (lines, err.try_borrow_mut()) {
             tell_engine(rt, alloc, lines, engine, false, &mut **err);
         }
         done
@@ -50,12 +50,12 @@ fn run_telling<R: Wait, S: Source, K: Sink, E: Sink>(
     run_log_on(rt, alloc, &executor, engine, source, sink)
 }
 
-/// Runs the log that a source gives on a setup, on one thread, and writes its report into a sink. At the end of each batch a
-/// line goes to `err`.
-pub(crate) fn run_log_alone_telling<R: Wait, S: Source, K: Sink, E: Sink>(
+/// Runs the log that a source gives on a setup, on one thread, and writes its report into a sink. Where it is asked for lines, one goes
+/// to `err` at the end of each batch.
+fn run_alone<R: Wait, S: Source, K: Sink, E: Sink>(
     rt: &R,
     alloc: Global,
-    lines: Lines,
+    lines: Option<Lines>,
     setup: Setup,
     settings: Settings,
     source: &mut S,
@@ -72,8 +72,8 @@ pub(crate) fn run_log_alone_telling<R: Wait, S: Source, K: Sink, E: Sink>(
     let cell = RefCell::new(&mut *err);
     let ended = run_telling(rt, alloc, lines, &mut engine, source, sink, &cell);
     let err = cell.into_inner();
-    if matches!(lines, Lines::Over) {
-        tell_engine(rt, alloc, lines, &mut engine, true, err);
+    if let Some(Lines::Over) = lines {
+        tell_engine(rt, alloc, Lines::Over, &mut engine, true, err);
     }
     ended
 }
@@ -128,17 +128,12 @@ fn run_beside_teller<R: Threads + Wait + Sync, S: Source, K: Sink, E: Sink + Sen
     ended
 }
 
-/// Runs the log that a source gives on a setup, on worker threads, and writes its report into a sink. Meanwhile a line goes to
-/// `err` about twice a second, and one at the end.
-pub(crate) fn run_log_on_workers_telling<
-    R: Threads + Wait + Sync,
-    S: Source,
-    K: Sink,
-    E: Sink + Send,
->(
+/// Runs the log that a source gives on a setup, on worker threads, and writes its report into a sink. Where it is asked for lines, one
+/// goes to `err` about twice a second meanwhile, and one at the end.
+fn run_on_workers<R: Threads + Wait + Sync, S: Source, K: Sink, E: Sink + Send>(
     rt: &R,
     alloc: Global,
-    lines: Lines,
+    lines: Option<Lines>,
     setup: Setup,
     settings: Settings,
     source: &mut S,
@@ -150,6 +145,9 @@ pub(crate) fn run_log_on_workers_telling<
 {
     let Ok(mut engine) = Engine::new(alloc, setup, settings) else {
         return Err(RunFault::at(LogFaultKind::Memory, 0));
+    };
+    let Some(lines) = lines else {
+        return run_log_in_pool(rt, alloc, &mut engine, &OpenGate, source, sink);
     };
     let Ok(mut watcher) = engine.watcher(rt) else {
         return Err(RunFault::at(LogFaultKind::Memory, 0));
@@ -182,14 +180,9 @@ pub(crate) fn run_setup<R: Threads + Wait + Sync, S: Source, K: Sink, E: Sink + 
         source.old source.new out.old out.new result }
     ensures threadless { alone ≡ true → IsNotOfThread result }
 {
-    match (alone, lines) {
-        (true, None) => run_log_alone(rt, alloc, setup, settings, source, out),
-        (true, Some(lines)) => {
-            run_log_alone_telling(rt, alloc, lines, setup, settings, source, out, err)
-        }
-        (false, None) => run_log_on_workers(rt, alloc, setup, settings, &OpenGate, source, out),
-        (false, Some(lines)) => {
-            run_log_on_workers_telling(rt, alloc, lines, setup, settings, source, out, err)
-        }
+    if alone {
+        run_alone(rt, alloc, lines, setup, settings, source, out, err)
+    } else {
+        run_on_workers(rt, alloc, lines, setup, settings, source, out, err)
     }
 }

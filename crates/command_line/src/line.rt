@@ -48,12 +48,14 @@ pub struct Line {
 }
 
 /// Why a command line was not read.
-#[derive(Debug, Drop, PartialEq, Eq)]
+#[derive(Debug, Drop, PartialEq, Eq, thiserror::Error)]
 pub enum LineFault {
     /// The words ask for nothing that is served, or for help. The text says so to the user, in
     /// whole lines.
+    #[error("{0}")]
     Refused(String),
     /// Memory was refused.
+    #[error("out of memory")]
     NoMemory,
 }
 

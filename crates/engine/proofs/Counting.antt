@@ -9,8 +9,9 @@ use Rattle.scheduler_core.specs.declared.phase.Phase.TheVariants.{Idle, Out, Ran
 use Rattle.scheduler_core.specs.Phases.{is_settled, was_run}
 use Rattle.scheduler.specs.Settling.{after_settling}
 use Rattle.progress.specs.declared.tally.Tally.{Tally}
+use Rattle.sequencer.specs.Attempts.{is_stale}
 use Rattle.progress.specs.Tallies.{AddsUp}
-use Rattle.engine.specs.Tallies.{is_commit, is_abort, is_stale, tally_of, together, counted, settled_among}
+use Rattle.engine.specs.Tallies.{is_commit, is_abort, tally_of, together, counted, settled_among}
 use Rattle.engine.proofs.Facts.{none_some, some_is, and_left, and_right, not_true}
 
 -- ---- tallies

@@ -4,6 +4,7 @@ use Rattle.std.specs.Prelude.{◌≡◌, ◌+◌, Bool, true, false, if◌then�
 use Rattle.meaning.specs.Entries.{Reply, commit, aborted, stale}
 use Rattle.scheduler_core.specs.declared.phase.Phase.{Phase}
 use Rattle.scheduler_core.specs.Phases.{is_settled}
+use Rattle.sequencer.specs.Attempts.{is_stale}
 use Rattle.progress.specs.declared.tally.Tally.{Tally}
 use Rattle.progress.specs.Tallies.{latest}
 
@@ -16,11 +17,6 @@ abbrev pub is_abort : Reply → Bool
 is_abort (commit values) = false
 is_abort (aborted code) = true
 is_abort stale = false
-
-abbrev pub is_stale : Reply → Bool
-is_stale (commit values) = false
-is_stale (aborted code) = false
-is_stale stale = true
 
 -- the tally of these replies
 abbrev pub tally_of : List Reply → Tally

@@ -142,12 +142,7 @@ impl Parking {
 
     /// Takes a worker that has found no job a step nearer to being parked, or parks it until it is woken. It announces that it will park
     /// before it is no longer counted among those that look, and looks once more after that.
-    pub(crate) fn idle_worker<R: Wait>(
-        &self,
-        rt: &R,
-        spot: &Spot,
-        idling: Idling,
-    ) -> Idling {
+    pub(crate) fn idle_worker<R: Wait>(&self, rt: &R, spot: &Spot, idling: Idling) -> Idling {
         let next = spot.idle(rt, idling);
         match (idling, next) {
             (Idling::Busy, _) => {

@@ -267,14 +267,7 @@ impl QuietEngine {
         let Some(stage) = self.stage.take() else {
             unreachable!()
         };
-        let ended = work_in_pool(
-            alloc,
-            &self.configuration,
-            self.next,
-            stage,
-            listener,
-            pool,
-        );
+        let ended = work_in_pool(alloc, &self.configuration, self.next, stage, listener, pool);
         conclude(&mut self.next, &mut self.stage, ended)
     }
 

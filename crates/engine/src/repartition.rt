@@ -13,16 +13,20 @@ use crate::stage::Stage;
 use catalogue::Catalogue;
 use sequencer::Carried;
 use std::alloc::Global;
+use thiserror::Error;
 use values::NoMemory;
 
 /// Why tables were not split anew.
-#[derive(Clone, Copy, Debug, PartialEq, Eq)]
+#[derive(Clone, Copy, Debug, PartialEq, Eq, Error)]
 pub enum RepartFault {
     /// A batch is unfinished.
+    #[error("a batch is unfinished: resume it first")]
     Busy,
     /// Tables or columns differ from the engine's in name, type or order.
+    #[error("the tables or their columns are not the engine's")]
     Different,
-    /// The system refused memory.
+    /// An allocation failed.
+    #[error("out of memory")]
     NoMemory,
 }
 

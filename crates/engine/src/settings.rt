@@ -3,6 +3,8 @@
 ghost use Rattle.std.specs.Prelude.{◌≡◌, ◌≤◌, ◌↔◌, IfOk, IsOk, IsErr};
 ghost use Rattle.engine.specs.Ranges.{AreInRange, IsOneOutOfRange};
 
+use thiserror::Error;
+
 /// The settings of a run, each in its range. None of them changes what a run answers.
 #[derive(Clone, Copy, Debug, PartialEq, Eq)]
 pub struct Settings {
@@ -25,7 +27,8 @@ pub struct Settings {
 }
 
 /// A setting is outside its range.
-#[derive(Clone, Copy, Debug, PartialEq, Eq)]
+#[derive(Clone, Copy, Debug, PartialEq, Eq, Error)]
+#[error("a setting is outside its range")]
 pub struct BadSetting;
 
 impl Settings {

@@ -60,10 +60,7 @@ impl Engine {
         let Some(publisher) = self.publisher.take() else {
             unreachable!()
         };
-        let mut listener = Publishing {
-            rt,
-            publisher,
-        };
+        let mut listener = Publishing { rt, publisher };
         let ended = self.core.resume_alone(alloc, &mut listener, choices);
         self.publisher = Some(listener.into_publisher(ended.is_ok()));
         ended

@@ -5,7 +5,7 @@ ghost use Rattle.lanes.specs.Calls.{Claims};
 ghost use Rattle.engine.specs.Workers.{HoldsNoJob};
 
 use crate::gate::Gate;
-use crate::parking::{Spot, Idling, Parking};
+use crate::parking::{Idling, Parking, Spot};
 use lanes::{LaneNo, Lanes, WorkerSeat};
 use scheduler::{Job, run_job};
 use std::sync::Wait;

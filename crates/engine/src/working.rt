@@ -188,10 +188,12 @@ pub(crate) fn conclude(
             *stage = Some(Stage::Idle(store, left));
             Ok(done)
         }
-        Err(Interruption {
-            stage: reached,
-            refusal,
-        }) => {
+        Err(
+            Interruption {
+                stage: reached,
+                refusal,
+            },
+        ) => {
             *stage = Some(reached);
             Err(ExecFault::from(refusal))
         }

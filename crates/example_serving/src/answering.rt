@@ -11,8 +11,8 @@ ghost use Rattle.example_serving.specs.Serving.{said_of, answers_to};
 ghost use Rattle.example_serving.specs.Steps.{IsStopped, ServesOn, said_by};
 
 use crate::told::{ServeFault, Told};
-use example_clients::{Asked, CallItem, take_in};
 use engine::{BatchDone, Engine, ExecFault, OpenGate, Reply};
+use example_clients::{Asked, CallItem, take_in};
 use intake::Batched;
 use sequencer::Batch;
 use std::alloc::Global;

@@ -8,8 +8,8 @@ ghost use Rattle.example_serving.specs.Steps.{DrawsOn, HasServed, ServesOn, item
 
 use crate::answering::answer_batch;
 use crate::told::{ServeFault, Told};
-use example_clients::{CallItem, ClientCall};
 use engine::Engine;
+use example_clients::{CallItem, ClientCall};
 use intake::{DrawPass, Intake, MOST_DRAWN};
 use std::alloc::Global;
 use std::sync::Wait;

@@ -10,8 +10,8 @@ ghost use Rattle.example_clients.specs.Logs.{IsShort, histories_from};
 
 use crate::owner::{Owner, answer_to_the_end, attend};
 use crate::told::{ServeFault, Told};
-use example_clients::{CallItem, ClientCall, run_clients};
 use engine::Engine;
+use example_clients::{CallItem, ClientCall, run_clients};
 use intake::{ClientPass, Intake};
 use std::alloc::{AllocError, Global};
 use std::sync::Wait;

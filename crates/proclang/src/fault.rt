@@ -7,30 +7,38 @@ ghost use Rattle.proclang.specs.Faults.{IsFault};
 
 use crate::path::Path;
 use std::alloc::{AllocError, AllocFailed, Global};
-use std::error::Error;
 use std::fmt;
 use std::marker::Model;
+use thiserror::Error;
 use values::NoMemory;
 
 /// The rule that is broken, each with the number that it is reported by.
-#[derive(Clone, Copy, Debug, PartialEq, Eq)]
+#[derive(Clone, Copy, Debug, PartialEq, Eq, Error)]
 pub enum FaultKind {
     /// Not the form that stands there, or a declared name that breaks the rule of names.
+    #[error("not the form that stands there, or a name that breaks the rule of names")]
     Shape = 11,
     /// No table has that name.
+    #[error("no table has that name")]
     UnknownTable = 12,
     /// The table has no column of that name.
+    #[error("the table has no column of that name")]
     UnknownColumn = 13,
     /// No variable of that name is seen.
+    #[error("no variable of that name is seen")]
     UnknownName = 14,
     /// The expression, or the column, has the wrong type.
+    #[error("the expression or the column has the wrong type")]
     TypeMismatch = 15,
     /// The name of a procedure or of a parameter that was used before; a parameter, or the variable of a loop, that is to be
     /// changed; or the name of a loop's variable that is seen already.
+    #[error("the name is used already, or its variable may not be changed")]
     DuplicateName = 16,
     /// An abort code outside 100 to 65535.
+    #[error("the abort code is not from 100 to 65535")]
     AbortCode = 17,
     /// More procedures, parameters, entries, statements, values, levels or bytes of a text than there may be.
+    #[error("more procedures, parameters, entries, statements, values, levels or bytes than there may be")]
     Limit = 18,
 }
 
@@ -67,24 +75,15 @@ impl fmt::Display for Places {
 }
 
 /// The first fault of a document of procedures, or want of memory.
-#[derive(Debug, Drop)]
+#[derive(Debug, Drop, Error)]
 pub enum ProcFault {
     /// The system refused memory.
+    #[error("fault 19")]
     Memory,
     /// The rule of that kind is broken at that place, and all that comes before it keeps its rules.
+    #[error("fault {kind} at {1}", kind = *.0 as u8)]
     At(FaultKind, Places),
 }
-
-impl fmt::Display for ProcFault {
-    fn fmt<W: fmt::Write>(&self, f: &mut fmt::Formatter<W>) -> fmt::Result {
-        match self {
-            ProcFault::Memory => write!(f, "fault 19"),
-            ProcFault::At(kind, places) => write!(f, "fault {} at {places}", *kind as u8),
-        }
-    }
-}
-
-impl Error for ProcFault {}
 
 impl From<AllocError> for ProcFault {
     ghost from_gives = { λ _ e. e ≡ Memory };

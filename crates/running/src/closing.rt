@@ -96,11 +96,7 @@ pub fn finish<E: BatchEngine, K: Sink>(
 
 /// Closes a log after its last batch: runs batches without calls while requests are carried, and writes their reports and then the
 /// end line. The line is the last one read.
-pub(crate) fn close<
-    E: BatchEngine,
-    X: Fn(&mut E, Batch) -> Result<BatchDone, ExecFault>,
-    K: Sink,
->(
+pub(crate) fn close<E: BatchEngine, X: Fn(&mut E, Batch) -> Result<BatchDone, ExecFault>, K: Sink>(
     alloc: Global,
     executor: &X,
     engine: &mut E,

@@ -3,14 +3,16 @@
 ghost use Rattle.std.specs.Prelude.{◌≡◌};
 
 use batch_log::{LogFault, LogFaultKind};
-use std::fmt;
+use thiserror::Error;
 
 /// What ended a run, and at which line of the log.
-#[derive(Clone, Copy, Debug, PartialEq, Eq)]
+#[derive(Clone, Copy, Debug, PartialEq, Eq, Error)]
 pub enum RunFault {
     /// A fault of a line, of a device or of memory, at its line.
+    #[error(transparent)]
     Log(LogFault),
     /// A thread was refused; the line is the last one read.
+    #[error("fault 38 line {line}")]
     Spawn { line: u64 },
 }
 
@@ -20,14 +22,5 @@ impl RunFault {
         ensures { result ≡ RunFault.Log (record { kind = kind; line = line }) }
     {
         RunFault::Log(LogFault { kind, line })
-    }
-}
-
-impl fmt::Display for RunFault {
-    fn fmt<W: fmt::Write>(&self, f: &mut fmt::Formatter<W>) -> fmt::Result {
-        match self {
-            RunFault::Log(fault) => write!(f, "{fault}"),
-            RunFault::Spawn { line } => write!(f, "fault 38 line {line}"),
-        }
     }
 }

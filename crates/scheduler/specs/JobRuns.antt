@@ -28,22 +28,33 @@ pub record DoneOf : Type 0 where
 
 -- the loan's plan locks each row name that the entry may touch, for at least that right
 abbrev pub LocksTouched : EntryParts → Lent → Type 0
-LocksTouched entry loan = (name : RowName) (right : Right) → touches (entry_shape entry) name right ≡ true → locks_row loan.tables loan.plan name right ≡ true
+LocksTouched entry loan =
+    (name : RowName) (right : Right) → touches (entry_shape entry) name right ≡ true
+    → locks_row loan.tables loan.plan name right ≡ true
 
 -- the transaction that a job is of
 abbrev pub transaction_of : JobOf → Transaction
 transaction_of job = record { entry = entry_shape job.entry; plan = job.loan.plan }
 
--- what comes of a job: the job as it was lent, or the same job with its outcome, its loan showing the rows that it leaves
+-- what comes of a job: the job as it was lent, or the same job with its outcome, its loan showing the rows that it
+-- leaves
 abbrev pub ComesOf : JobOf → Option Outcome → JobOf → Type 0
 ComesOf job None back = back ≡ job
-ComesOf job (Some outcome) back = (back ≡ record job { loan = record (job.loan) { rows = back.loan.rows } }) × IsRunOf job.loan.tables (transaction_of job) job.loan.rows (as_reply outcome) back.loan.rows
+ComesOf job (Some outcome) back =
+    (back ≡ record job { loan = record (job.loan) { rows = back.loan.rows } })
+    × IsRunOf job.loan.tables (transaction_of job) job.loan.rows (as_reply outcome) back.loan.rows
 
 abbrev pub IsDoneOf : JobOf → DoneOf → Type 0
 IsDoneOf job done = ComesOf job done.outcome done.job
 
 abbrev pub job_code : Coded JobOf
-job_code = code_by (ℕ × (EntryParts × Lent)) (coded× coded_ℕ (coded× entries.the_row.coded lent_code)) (λ j. (j.no, (j.entry, j.loan))) (λ p. record { no = p.0; entry = p.1.0; loan = p.1.1 }) (λ _. refl)
+job_code = code_by (ℕ × (EntryParts × Lent)) (coded× coded_ℕ (coded× entries.the_row.coded lent_code))
+    (λ j. (j.no, (j.entry, j.loan)))
+    (λ p. record { no = p.0; entry = p.1.0; loan = p.1.1 })
+    (λ _. refl)
 
 abbrev pub done_code : Coded DoneOf
-done_code = code_by (JobOf × Option Outcome) (coded× job_code (coded_option outcomes.the_row.coded)) (λ d. (d.job, d.outcome)) (λ p. record { job = p.0; outcome = p.1 }) (λ _. refl)
+done_code = code_by (JobOf × Option Outcome) (coded× job_code (coded_option outcomes.the_row.coded))
+    (λ d. (d.job, d.outcome))
+    (λ p. record { job = p.0; outcome = p.1 })
+    (λ _. refl)

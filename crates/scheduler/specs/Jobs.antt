@@ -29,7 +29,9 @@ pub record IsRunAt (w : Work) (place : ℕ) (job : JobOf) (outcome : Outcome) : 
 
 -- the job's plan is in conflict with none that is out
 abbrev pub IsApart : Schedule → JobOf → Type 0
-IsApart s job = (place : ℕ) (t : Transaction) → slice_get (log_of s.work) place ≡ Some t → is_out (slice_get (phases_of s) place) ≡ true → ModesClash job.loan.plan t.plan → ⊥
+IsApart s job =
+    (place : ℕ) (t : Transaction) → slice_get (log_of s.work) place ≡ Some t
+    → is_out (slice_get (phases_of s) place) ≡ true → ModesClash job.loan.plan t.plan → ⊥
 
 -- a job that is lent, and what it leaves
 pub record LendsJob (old : Schedule) (job : JobOf) (new : Schedule) : Type 0 where
@@ -55,4 +57,5 @@ pub record ComesBack (s : Schedule) (done : DoneOf) : Type 0 where
 
 -- what comes of a job that was lent can be settled
 abbrev pub LentJobsComeBack : Type 0
-LentJobsComeBack = (old new : Schedule) (job : JobOf) (done : DoneOf) → LendsJob old job new → IsDoneOf job done → ComesBack new done
+LentJobsComeBack =
+    (old new : Schedule) (job : JobOf) (done : DoneOf) → LendsJob old job new → IsDoneOf job done → ComesBack new done

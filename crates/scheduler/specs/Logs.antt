@@ -19,7 +19,8 @@ use Rattle.scheduler_core.specs.Transactions.{Transaction}
 abbrev pub transactions_of : List EntryParts → List Requests → List Transaction
 transactions_of [] plans = []
 transactions_of (entry ∷ entries) [] = []
-transactions_of (entry ∷ entries) (plan ∷ plans) = record { entry = entry_shape entry; plan = plan } ∷ transactions_of entries plans
+transactions_of (entry ∷ entries) (plan ∷ plans) =
+    record { entry = entry_shape entry; plan = plan } ∷ transactions_of entries plans
 
 -- the plan of an entry is the one for its footprint, and for the empty footprint where its declaration faults
 abbrev pub IsPlanOfEntry : ℕ → ℕ → EntryShape → Requests → Type 0
@@ -38,13 +39,15 @@ ArePlansOf threshold arena = Paired (IsPlanOfEntry threshold arena)
 
 -- the plans that are made for entries
 abbrev pub plans_for : ℕ → ℕ → List EntryParts → List Requests
-plans_for threshold arena = map (λ entry. plan_for threshold arena (locked_for (footprint_of (entry_shape entry).footing)))
+plans_for threshold arena =
+    map (λ entry. plan_for threshold arena (locked_for (footprint_of (entry_shape entry).footing)))
 
 -- a plan that serves a footprint: it is sound, it covers what the footprint covers, it is over each tables that the
 -- footprint is over, and it is not larger than the room
 pub record Serves (arena : ℕ) (touched : FootprintOf) (plan : Requests) : Type 0 where
   pub sound : IsWellFormed plan
-  pub covered : (resource : Resource) (right : Right) → covers touched resource right ≡ true → covers_by_requests plan resource right ≡ true
+  pub covered : (resource : Resource) (right : Right) → covers touched resource right ≡ true
+      → covers_by_requests plan resource right ≡ true
   pub over : (tables : List TableShape) → IsCatalogue tables → IsFootprintOf tables touched → IsPlanOver tables plan
   pub size : length plan ≤ arena
 

@@ -40,8 +40,10 @@ IsLeastLendAt s = IsLeastLend s.work.arena s.work.first (log_of s.work) (phases_
 
 -- the answer to an event, and what it leaves
 abbrev pub AnswersAt : Schedule → Event → StepAnswer → Schedule → Type 0
-AnswersAt s event answer left = Answers s.work.arena s.work.first (log_of s.work) (phases_of s) event answer (phases_of left)
+AnswersAt s event answer left =
+    Answers s.work.arena s.work.first (log_of s.work) (phases_of s) event answer (phases_of left)
 
 -- the answers to events, one after the other, and what they leave
 abbrev pub PlaysAt : Schedule → List Event → List StepAnswer → Schedule → Type 0
-PlaysAt s events answers left = Played s.work.arena s.work.first (log_of s.work) (phases_of s) events answers (phases_of left)
+PlaysAt s events answers left =
+    Played s.work.arena s.work.first (log_of s.work) (phases_of s) events answers (phases_of left)

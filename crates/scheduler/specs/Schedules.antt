@@ -21,8 +21,8 @@ use Rattle.scheduler.specs.declared.slot.Slot.TheVariants.{Idle, Lent, Held, Ran
 use Rattle.scheduler.specs.contracts.slot.Slot as slots
 use Rattle.scheduler.specs.Logs.{transactions_of}
 
--- what a scheduler works on: the tables, the room for requests, the number of the first transaction, the entries of the log
--- with their plans, and the rows at the start
+-- what a scheduler works on: the tables, the room for requests, the number of the first transaction, the entries of the
+-- log with their plans, and the rows at the start
 pub record Work : Type 0 where
   pub tables : List TableShape
   pub arena : ℕ
@@ -32,7 +32,14 @@ pub record Work : Type 0 where
   pub start : Database
 
 abbrev pub work_of : List TableShape → ℕ → ℕ → List EntryParts → List Requests → Database → Work
-work_of tables arena first entries plans start = record { tables = tables; arena = arena; first = first; entries = entries; plans = plans; start = start }
+work_of tables arena first entries plans start = record {
+  tables = tables;
+  arena = arena;
+  first = first;
+  entries = entries;
+  plans = plans;
+  start = start;
+}
 
 -- and what there is of each admitted transaction
 pub record Schedule : Type 0 where
@@ -78,10 +85,21 @@ IsChoice arena first log phases (Some event) = enabled arena first log phases ev
 
 abbrev pub work_code : Coded Work
 work_code = code_by (List TableShape × (ℕ × (ℕ × (List EntryParts × (List Requests × Database)))))
-    (coded× catalogue.the_row.coded (coded× coded_ℕ (coded× coded_ℕ (coded× (coded_list entries.the_row.coded) (coded× (coded_list plan_code) rows_code)))))
+    (coded× catalogue.the_row.coded (coded× coded_ℕ (coded× coded_ℕ
+    (coded× (coded_list entries.the_row.coded) (coded× (coded_list plan_code) rows_code)))))
     (λ s. (s.tables, (s.arena, (s.first, (s.entries, (s.plans, s.start))))))
-    (λ p. record { tables = p.0; arena = p.1.0; first = p.1.1.0; entries = p.1.1.1.0; plans = p.1.1.1.1.0; start = p.1.1.1.1.1 })
+    (λ p. record {
+      tables = p.0;
+      arena = p.1.0;
+      first = p.1.1.0;
+      entries = p.1.1.1.0;
+      plans = p.1.1.1.1.0;
+      start = p.1.1.1.1.1;
+    })
     (λ _. refl)
 
 abbrev pub schedule_code : Coded Schedule
-schedule_code = code_by (Work × List Slot) (coded× work_code (coded_list slots.the_row.coded)) (λ s. (s.work, s.slots)) (λ p. record { work = p.0; slots = p.1 }) (λ _. refl)
+schedule_code = code_by (Work × List Slot) (coded× work_code (coded_list slots.the_row.coded))
+    (λ s. (s.work, s.slots))
+    (λ p. record { work = p.0; slots = p.1 })
+    (λ _. refl)

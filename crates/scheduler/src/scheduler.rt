@@ -23,15 +23,19 @@ use scheduler_core::{admitted_and_unsettled_wait, events_by_places, rows_are_ser
 use std::alloc::Global;
 use std::marker::Model;
 use std::snapshot::Snapshot;
+use thiserror::Error;
 use values::NoMemory;
 
 /// Why a transaction was not admitted.
-#[derive(Clone, Copy, Debug, PartialEq, Eq)]
+#[derive(Clone, Copy, Debug, PartialEq, Eq, Error)]
 pub enum AdmitFault {
     /// All transactions are admitted.
+    #[error("all transactions are admitted")]
     AllAdmitted,
     /// There is less room than the next plan has requests.
+    #[error("less room than the next plan has requests")]
     Full,
+    #[error("out of memory")]
     NoMemory,
 }
 
@@ -72,11 +76,14 @@ impl Model for Scheduler {
     } };
 
     ghost invariant = { λ s.
-        IsFitting (work_of s.catalogue s.arena s.first s.entries.items (plans_for s.threshold s.arena s.entries.items) s.start.value.rows)
-        × IsScheduled (work_of s.catalogue s.arena s.first s.entries.items (plans_for s.threshold s.arena s.entries.items) s.start.value.rows)
+        IsFitting (work_of s.catalogue s.arena s.first s.entries.items
+        (plans_for s.threshold s.arena s.entries.items) s.start.value.rows)
+        × IsScheduled (work_of s.catalogue s.arena s.first s.entries.items
+        (plans_for s.threshold s.arena s.entries.items) s.start.value.rows)
         s.slots.items s.store s.locks
         × AreSettledBefore s.slots.items s.settled
-        × HasPlans (work_of s.catalogue s.arena s.first s.entries.items (plans_for s.threshold s.arena s.entries.items) s.start.value.rows)
+        × HasPlans (work_of s.catalogue s.arena s.first s.entries.items
+        (plans_for s.threshold s.arena s.entries.items) s.start.value.rows)
         s.plans s.locks };
 }
 

@@ -12,25 +12,18 @@ use batch_log::LogFault;
 use engine::Settings;
 use requests::Setup;
 use std::alloc::Global;
-use std::fmt;
+use thiserror::Error;
 use values::NoMemory;
 
 /// Why nothing more is taken of a log.
-#[derive(Clone, Copy, Debug, PartialEq, Eq)]
+#[derive(Clone, Copy, Debug, PartialEq, Eq, Error)]
 pub enum SessionFault {
     /// The log has ended.
+    #[error("the log has ended")]
     Over,
     /// The fault of the log, or want of memory, at its line.
+    #[error(transparent)]
     Log(LogFault),
-}
-
-impl fmt::Display for SessionFault {
-    fn fmt<W: fmt::Write>(&self, f: &mut fmt::Formatter<W>) -> fmt::Result {
-        match self {
-            SessionFault::Over => f.write_str("the log has ended"),
-            SessionFault::Log(fault) => write!(f, "{fault}"),
-        }
-    }
 }
 
 /// A run of a log on a setup, on the thread that calls it. The log is fed in pieces of any size, and its report is drained in

@@ -3,8 +3,8 @@
 use crate::logs::three;
 use crate::servers::serve_all;
 use engine::{Engine, Settings};
-use meaning::Outcome;
 use example_serving::Told;
+use meaning::Outcome;
 use setup::read_setup;
 use std::alloc::Global;
 use std::test::Fail;

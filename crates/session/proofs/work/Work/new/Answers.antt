@@ -22,5 +22,5 @@ returns-clause-begun c =
       ended = [];
       limit = ap (λ (place : Place). place.retries) c.new-feed.ensures ∙ retries;
       at = rw (c.new-feed.ensures, retries) (IsAt-start c.args.setup.procs c.args.setup.retries);
-      reported = HasReported-start _ _ _ _ (ap (λ (q : EngineParts). q.procs) e) (ap (λ (q : EngineParts). q.retries) e) (ap (λ (q : EngineParts). q.rows) e) (ap (λ (q : EngineParts). q.next) e) (ap (λ (q : EngineParts). q.carried) e) c.new-2.ensures.batch c.new-2.ensures.said c.new-3.ensures;
+      reported = HasReported-start _ _ _ c.new-3.result (ap (λ (q : EngineParts). q.procs) e) (ap (λ (q : EngineParts). q.retries) e) (ap (λ (q : EngineParts). q.rows) e) (ap (λ (q : EngineParts). q.next) e) (ap (λ (q : EngineParts). q.carried) e) c.new-2.ensures.batch c.new-2.ensures.said c.new-3.ensures;
     }

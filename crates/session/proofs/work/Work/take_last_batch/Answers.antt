@@ -1,4 +1,4 @@
-use Rattle.std.proofs.Common.{◌≡◌, ◌++◌, [], ◌∷◌, append-nil, length, refl, ap, ◌∙◌}
+use Rattle.std.proofs.Common.{◌≡◌, ◌++◌, [], ◌∷◌, append-nil, refl, ap, ◌∙◌}
 use Rattle.requests.specs.ProcLists.{ProcsParts}
 use Rattle.session.proofs.Rooms.{between_after, between_now, due_at}
 use Rattle.session.proofs.Runs.{front-next, front_keeps, on_err, on_ok, reported_next, stopped_in_batch, stopped_reading}

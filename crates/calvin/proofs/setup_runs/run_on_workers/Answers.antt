@@ -1,5 +1,5 @@
 use Rattle.running.proofs.RunEnds.{nothing_run}
-use Rattle.calvin.proofs.setup_runs.run_log_on_workers_telling.Goals as goal
+use Rattle.calvin.proofs.setup_runs.run_on_workers.Goals as goal
 
 pub returns-in_default : goal.returns-in_default
 returns-in_default g c = nothing_run c.at.result _ _ _ _ _ _ _ c.at.ensures
