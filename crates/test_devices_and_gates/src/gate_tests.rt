@@ -47,8 +47,15 @@ fn transactions_pass_the_gate_on_worker_threads(rt: HostRuntime) -> Result<(), F
         for (bodies, is_open) in HANDED_OVER {
             let gate = Meeting::new(is_open, (0, 1), turns);
             let report = run_through(&rt, log, bodies, workers, &gate)?;
-            assert!(rt; report.starts_with(replies.as_bytes()), "{log}");
-            assert_eq!(rt; (gate.jobs(), gate.was_seen()), (2, meet), "{log}");
+            assert!(rt;
+                report.starts_with(replies.as_bytes()),
+                "{workers} {bodies:?}"
+            );
+            assert_eq!(rt;
+                (gate.jobs(), gate.was_seen()),
+                (2, meet),
+                "{workers} {bodies:?}"
+            );
         }
     }
     Ok(())

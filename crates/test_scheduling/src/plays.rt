@@ -138,11 +138,9 @@ pub(crate) fn played(
 #[test]
 fn events_are_made_where_they_are_enabled(rt: HostRuntime) -> Result<(), Fail> {
     for (calls, events, answers, outcomes) in PLAYS {
-        let found = played(rt.alloc(), calls, events)?;
-        assert!(rt;
-            found.0.as_str() == answers && found.1.as_str() == outcomes,
-            "{answers}"
-        );
+        let (found, left) = played(rt.alloc(), calls, events)?;
+        assert_eq!(rt; found.as_str(), answers);
+        assert_eq!(rt; left.as_str(), outcomes);
     }
     Ok(())
 }
