@@ -18,7 +18,7 @@ pub fn engine(alloc: Global, bodies: Bodies, settings: Settings) -> Result<Engin
 
 /// The batch of calls of an engine's procedures.
 pub fn batch_of(alloc: Global, engine: &Engine, calls: &[Call<'_>]) -> Result<Batch, Fail>
-    ensures { IfOk result (λ batch. AreOver (tables_of engine.now) (items_of batch)) }
+    ensures { IfOk result (λ batch. AreOver (tables_of engine.now.core) (items_of batch)) }
 {
     Ok(batch(alloc, engine.procs(), calls)?)
 }

@@ -148,7 +148,7 @@ fn gives<R: Threads + Wait + Sync + AllocGlobal>(
     way: Way<'_>,
     outcomes: &[Outcome],
 ) -> bool
-    requires { AreOver (tables_of engine.old) (items_of batch) }
+    requires { AreOver (tables_of engine.old.core) (items_of batch) }
 {
     let done = match way {
         Way::Alone(choices) => engine.run_alone(rt, rt.alloc(), batch, choices),

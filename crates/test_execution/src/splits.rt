@@ -32,8 +32,8 @@ fn called<R: Wait + AllocGlobal>(
     engine: &mut Engine,
     request: Request,
 ) -> Result<String, Fail>
-    requires { request.proc.tables ≡ tables_of engine.old }
-    ensures { tables_of engine.new ≡ tables_of engine.old }
+    requires { request.proc.tables ≡ tables_of engine.old.core }
+    ensures { tables_of engine.new.core ≡ tables_of engine.old.core }
 {
     let alloc = rt.alloc();
     let mut requests = Vec::new(alloc);
@@ -50,7 +50,7 @@ fn append_two<R: Wait + AllocGlobal>(
     catalogue: &Catalogue,
     outcomes: &mut String,
 ) -> Result<(), Fail>
-    requires { request.proc.tables ≡ tables_of engine.old }
+    requires { request.proc.tables ≡ tables_of engine.old.core }
 {
     let alloc = rt.alloc();
     outcomes.push_str(called(rt, engine, request.clone()?)?.as_str())?;

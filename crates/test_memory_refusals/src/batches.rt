@@ -74,7 +74,7 @@ impl Way<'_> {
         rt: &R,
         engine: &mut Engine,
     ) -> Result<BatchDone, ExecFault>
-        requires { is_busy engine.old ≡ true }
+        requires { is_busy engine.old.core ≡ true }
     {
         match self {
             Way::Workers(then, gate) => then.go_on(rt, engine, gate),
@@ -127,7 +127,7 @@ fn execute_batch<R: Threads + Wait + Sync + AllocGlobal>(
     way: Way<'_>,
     answer: &mut Answer,
 ) -> Option<BatchDone>
-    requires { AreOver (tables_of engine.old) (items_of batch) }
+    requires { AreOver (tables_of engine.old.core) (items_of batch) }
 {
     let alloc = rt.alloc();
     let ended = match way {

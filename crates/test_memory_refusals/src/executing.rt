@@ -78,7 +78,7 @@ impl Then {
         engine: &mut Engine,
         gate: &CountingGate,
     ) -> Result<BatchDone, ExecFault>
-        requires { is_busy engine.old ≡ true }
+        requires { is_busy engine.old.core ≡ true }
     {
         match self {
             Then::Resume => engine.resume(rt, rt.alloc(), gate),

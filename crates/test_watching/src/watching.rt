@@ -142,7 +142,7 @@ fn work<R: Threads + Wait + Sync>(
     batch: Batch,
     gate: &CountingGate,
 ) -> (Engine, bool)
-    requires { AreOver (tables_of engine) (items_of batch) }
+    requires { AreOver (tables_of engine.core) (items_of batch) }
 {
     let mut engine = engine;
     let done = engine.execute(rt, alloc, batch, gate).is_ok();
@@ -151,7 +151,7 @@ fn work<R: Threads + Wait + Sync>(
 
 /// A batch of a thousand payments of 1.
 fn thousand_pays(alloc: Global, engine: &Engine) -> Result<Batch, Fail>
-    ensures { IfOk result (λ batch. AreOver (tables_of engine.now) (items_of batch)) }
+    ensures { IfOk result (λ batch. AreOver (tables_of engine.now.core) (items_of batch)) }
 {
     let mut calls: Vec<Call<'static>> = Vec::new(alloc);
     for _ in 0..1_000 {
@@ -178,14 +178,14 @@ fn read_beside<R: Threads + Wait + Sync>(
     batch: Batch,
     gate: &CountingGate,
 ) -> Result<(bool, Tally), Fail>
-    requires { AreOver (tables_of engine) (items_of batch) }
+    requires { AreOver (tables_of engine.core) (items_of batch) }
 {
     let (one, other) = watchers;
     let (right, (mut engine, done)) = join(
         rt,
         || both_read_on(rt, one, other),
         move || -> (Engine, bool)
-            requires { AreOver (tables_of engine) (items_of batch) }
+            requires { AreOver (tables_of engine.core) (items_of batch) }
         { work(rt, alloc, engine, batch, gate) },
     );
     let late = read_now(rt, &mut engine)?;
