@@ -5,6 +5,6 @@ mod bank_setup;
 mod calls;
 mod outcomes;
 
-pub use bank_setup::bank;
+pub use bank_setup::{Bodies, bank};
 pub use calls::{Call, CallsFault, TWO_PAYS, batch, batch_over, request};
 pub use outcomes::push_outcome;

@@ -76,22 +76,6 @@ fn a_read_that_fails_ends_the_command(rt: HostRuntime) -> Result<(), Fail> {
     Ok(())
 }
 
-#[test]
-fn a_log_may_come_byte_by_byte(rt: HostRuntime) -> Result<(), Fail> {
-    let files = Folder {
-        setup: BANK,
-        report: "",
-        is_full: false,
-    };
-    for tried in EACH {
-        let mut source = Slow::new(TWO_BATCHES.as_bytes(), 0);
-        let out = Narrow::new(rt.alloc(), 1000, false);
-        let left = tried.leaves(&rt, "run bank.json", &files, &mut source, out)?;
-        assert!(rt; left.is(0, TWO_BATCH_REPORT.as_bytes(), b""), "{tried:?}");
-    }
-    Ok(())
-}
-
 /// A command, its setup, its log and the other report; what it writes; how many bytes are written before its log is read on,
 /// and the faults of a write that fails among those and behind them.
 const COMMANDS: [(&str, [&str; 3], &str, usize, [&str; 2]); 5] = [

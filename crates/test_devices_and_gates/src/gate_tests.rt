@@ -1,82 +1,62 @@
-//! The gate of a log's run: who passes it, and who is at it at the same time.
+//! The gate of a log's run: how many jobs pass it, and whether two are at it at the same time.
 
-use crate::test_world::{BANK, Narrow, Slow, TWO_BATCHES};
-use calvin::{Gate, Settings, read_setup, run_text};
+use crate::test_world::{Narrow, Slow, TWO_BATCHES};
+use calvin::{Settings, run_text};
 use std::sync::Wait;
-use std::sync::atomic::{AtomicU64, Ordering};
 use std::test::Fail;
-use std::thread;
 use std::thread::Threads;
+use test_bank::{Bodies, bank};
+use test_engines::{HANDED_OVER, Meeting};
 
-/// Counts who passes, and holds the first until there is a second, for so many turns at most.
-#[derive(Drop)]
-struct Meeting {
-    turns: u32,
-    passed: AtomicU64,
-    met: AtomicU64,
-}
+const READ_AND_INSERT: &str = "[\"call\",\"peek\",[1]]\n[\"call\",\"ins\",[4,7]]\n";
 
-impl Meeting {
-    /// Waits for a second.
-    fn wait(&self) {
-        for _ in 0..self.turns {
-            if self.passed.load(Ordering::SeqCst) > 1 {
-                self.met.fetch_add(1, Ordering::SeqCst);
-                return;
-            }
-            thread::yield_now();
-        }
-    }
-}
-
-impl Gate for Meeting {
-    fn enter(&self, _no: u64) {
-        if self.passed.fetch_add(1, Ordering::SeqCst) == 0 {
-            self.wait();
-        }
-    }
-}
-
-/// The report of the run of a log on so many workers and two lanes, how many passed the gate, and how many of them met another.
-fn run_through_gate<R: Threads + Wait + Sync + AllocGlobal>(
+/// The report of the run of a log on so many workers and two lanes, through a gate.
+fn run_through<R: Threads + Wait + Sync + AllocGlobal>(
     rt: &R,
     log: &str,
+    bodies: Bodies,
     workers: usize,
-    turns: u32,
-) -> Result<(Vec<u8>, u64, u64), Fail> {
+    gate: &Meeting,
+) -> Result<Vec<u8>, Fail> {
     let alloc = rt.alloc();
-    let setup = read_setup(alloc, BANK.as_bytes())?;
+    let setup = bank(alloc, bodies)?;
     let settings = Settings::new(workers, 2, 8, 65_536)?;
-    let gate = Meeting {
-        turns,
-        passed: AtomicU64::new(0),
-        met: AtomicU64::new(0),
-    };
     let mut source = Slow::new(log.as_bytes(), 0);
     let mut out = Narrow::new(alloc, 1000, false);
-    run_text(rt, alloc, setup, settings, &gate, &mut source, &mut out)?;
-    let passed = gate.passed.load(Ordering::SeqCst);
-    let met = gate.met.load(Ordering::SeqCst);
-    Ok((out.taken, passed, met))
+    run_text(rt, alloc, setup, settings, gate, &mut source, &mut out)?;
+    Ok(out.taken)
 }
+
+/// Logs of two calls; workers; for how many turns the first job waits for the second; what the report begins with, and whether the
+/// two meet.
+const RUNS: [(&str, usize, u32, &str, bool); 2] = [
+    (TWO_BATCHES, 1, 0, "0 commit 70\nbatch 1 ", false),
+    (
+        READ_AND_INSERT,
+        2,
+        1_000_000,
+        "0 commit 100\n1 commit\nbatch 1 ",
+        true,
+    ),
+];
 
 /// Each transaction passes once, and on two workers two that don't clash are at the gate at the same time.
 #[test]
 fn transactions_pass_the_gate_on_worker_threads(rt: HostRuntime) -> Result<(), Fail> {
-    let read_and_insert = "[\"call\",\"peek\",[1]]\n[\"call\",\"ins\",[4,7]]\n";
-    for (log, workers, turns, replies, meetings) in [
-        (TWO_BATCHES, 1, 0, "0 commit 70\nbatch 1 ", 0),
-        (
-            read_and_insert,
-            2,
-            1_000_000,
-            "0 commit 100\n1 commit\nbatch 1 ",
-            1,
-        ),
-    ] {
-        let (report, passed, met) = run_through_gate(&rt, log, workers, turns)?;
-        assert!(rt; report.as_slice().starts_with(replies.as_bytes()), "{log}");
-        assert_eq!(rt; (passed, met), (2, meetings), "{log}");
+    for (log, workers, turns, replies, meet) in RUNS {
+        for (bodies, is_open) in HANDED_OVER {
+            let gate = Meeting::new(is_open, (0, 1), turns);
+            let report = run_through(&rt, log, bodies, workers, &gate)?;
+            assert!(rt;
+                report.starts_with(replies.as_bytes()),
+                "{workers} {bodies:?}"
+            );
+            assert_eq!(rt;
+                (gate.jobs(), gate.was_seen()),
+                (2, meet),
+                "{workers} {bodies:?}"
+            );
+        }
     }
     Ok(())
 }

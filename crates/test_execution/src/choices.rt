@@ -4,8 +4,8 @@ use engine::{Engine, Settings};
 use std::alloc::Global;
 use std::sync::Wait;
 use std::test::Fail;
-use test_bank::{Call, TWO_PAYS};
-use test_engines::{batch_of, engine, executed, replies};
+use test_bank::{Bodies, Call, TWO_PAYS};
+use test_engines::{batch_of, engine, replies};
 
 /// How many lists of choices are tried with each setting.
 const SEEDS: u32 = 64;
@@ -35,8 +35,7 @@ fn run_on<R: Wait + AllocGlobal>(
 ) -> Result<String, Fail> {
     let alloc = rt.alloc();
     let batch = batch_of(alloc, engine, calls)?;
-    let done = executed(engine.run_alone(rt, alloc, batch, choices))?;
-    replies(alloc, &done)
+    replies(alloc, engine.run_alone(rt, alloc, batch, choices))
 }
 
 /// What comes of calls by the list of choices of a seed.
@@ -47,7 +46,7 @@ fn run_by<R: Wait + AllocGlobal>(
     seed: u32,
 ) -> Result<String, Fail> {
     let choices = choices(rt.alloc(), seed, 48)?;
-    let mut engine = engine(rt.alloc(), settings)?;
+    let mut engine = engine(rt.alloc(), Bodies::Brief, settings)?;
     run_on(rt, &mut engine, calls, &choices)
 }
 

@@ -1,59 +1,12 @@
-//! Jobs that meet at a gate, or don't.
+//! Jobs that meet at a gate, or don't, and jobs that pass it one after another.
 
-use engine::{Gate, Settings};
-use std::sync::atomic::{AtomicBool, AtomicU64, Ordering};
+use engine::Settings;
+use std::alloc::Global;
+use std::sync::Wait;
 use std::test::Fail;
-use std::thread;
-use test_bank::Call;
-use test_engines::execute;
-
-/// Holds one job until another comes, for so many turns at most, and notes whether it came.
-#[derive(Drop)]
-pub(crate) struct Meeting {
-    held: u64,
-    awaited: u64,
-    turns: u32,
-    came: AtomicBool,
-    seen: AtomicBool,
-}
-
-impl Meeting {
-    pub(crate) fn new(held: u64, awaited: u64, turns: u32) -> Meeting {
-        Meeting {
-            held,
-            awaited,
-            turns,
-            came: AtomicBool::new(false),
-            seen: AtomicBool::new(false),
-        }
-    }
-
-    pub(crate) fn was_seen(&self) -> bool {
-        self.seen.load(Ordering::SeqCst)
-    }
-
-    /// Waits for the other job.
-    fn wait(&self) {
-        for _ in 0..self.turns {
-            if self.came.load(Ordering::SeqCst) {
-                self.seen.store(true, Ordering::SeqCst);
-                return;
-            }
-            thread::yield_now();
-        }
-    }
-}
-
-impl Gate for Meeting {
-    fn enter(&self, no: u64) {
-        if no == self.awaited {
-            self.came.store(true, Ordering::SeqCst);
-        }
-        if no == self.held {
-            self.wait();
-        }
-    }
-}
+use std::thread::Threads;
+use test_bank::{Bodies, Call};
+use test_engines::{CountingGate, HANDED_OVER, Meeting, execute};
 
 /// Calls, how many workers and lanes, whom the first waits for and for how many turns, what comes of the calls, and
 /// whether the two meet.
@@ -115,51 +68,79 @@ const MEETINGS: [Met<'static>; 9] = [
     ),
 ];
 
+/// Whether calls reply and meet as they must, and each is a job, where it is handed over so.
+fn meet<R: Threads + Wait + Sync + AllocGlobal>(
+    rt: &R,
+    (calls, (workers, lanes), (awaited, turns), outcomes, is_seen): Met<'_>,
+    (bodies, is_open): (Bodies, bool),
+) -> Result<bool, Fail> {
+    let gate = Meeting::new(is_open, (0, awaited), turns);
+    let settings = Settings::new(workers, lanes, 64, 65_536)?;
+    let found = execute(rt, bodies, settings, calls, &gate)?;
+    Ok(
+        found.as_str() == outcomes
+            && gate.was_seen() == is_seen
+            && gate.jobs() == calls.len() as u64,
+    )
+}
+
+/// Two jobs are at the gate at the same time, so two threads run jobs. That is so at an open gate, too.
 #[test]
 fn jobs_meet_where_nothing_keeps_them_apart(rt: HostRuntime) -> Result<(), Fail> {
-    for (calls, (workers, lanes), (awaited, turns), outcomes, is_seen) in MEETINGS {
-        let gate = Meeting::new(0, awaited, turns);
-        let settings = Settings::new(workers, lanes, 64, 65_536)?;
-        let found = execute(&rt, settings, calls, &gate)?;
-        assert_eq!(rt; found.as_str(), outcomes);
-        assert_eq!(rt; gate.was_seen(), is_seen, "{workers} {lanes}");
+    for met in MEETINGS {
+        for handed_over in HANDED_OVER {
+            let (workers, lanes) = met.1;
+            assert!(rt;
+                meet(&rt, met, handed_over)?,
+                "{workers} {lanes} {handed_over:?}"
+            );
+        }
     }
     Ok(())
 }
 
-/// Counts who passes, and whether each has the next number.
-#[derive(Drop)]
-struct InOrder {
-    next: AtomicU64,
-    wrong: AtomicU64,
-}
+/// How many payments of 1 go from the first account to the second, each with one that goes back.
+const THERE_AND_BACK: usize = 250;
 
-impl Gate for InOrder {
-    fn enter(&self, no: u64) {
-        if self.next.fetch_add(1, Ordering::Relaxed) != no {
-            self.wrong.fetch_add(1, Ordering::Relaxed);
-        }
+/// The payments, in turns. Both accounts have 100 at first, so 99 are left where one goes, and 100 where one comes back from 101.
+fn payments(alloc: Global) -> Result<(Vec<Call<'static>>, String), Fail> {
+    let mut calls: Vec<Call<'static>> = Vec::new(alloc);
+    for _ in 0..THERE_AND_BACK {
+        calls.push(("pay", &[1, 2, 1]))?;
+        calls.push(("pay", &[2, 1, 1]))?;
     }
+    let outcomes = "commit 99;commit 100;".repeat(alloc, THERE_AND_BACK)?;
+    Ok((calls, outcomes))
 }
 
-/// Each is in conflict with the next, so they pass in the order of the log.
+/// Workers and lanes, bodies, whether the gate is open, and how many of 500 calls are jobs.
+type Handed = ((usize, usize), (Bodies, bool), u64);
+
+/// At an open gate a brief call is a job of nobody, where no other job is out.
+const HANDED: [Handed; 7] = [
+    ((1, 1), (Bodies::Brief, false), 500),
+    ((16, 1), (Bodies::Brief, false), 500),
+    ((16, 64), (Bodies::Brief, false), 500),
+    ((16, 1), (Bodies::Looping, true), 500),
+    ((16, 64), (Bodies::Looping, true), 500),
+    ((1, 1), (Bodies::Brief, true), 0),
+    ((16, 1), (Bodies::Brief, true), 0),
+];
+
+/// Each payment is in conflict with the next, so they pass in the order of the log.
 #[test]
-fn each_transaction_passes_the_gate_once(rt: HostRuntime) -> Result<(), Fail> {
-    let calls: [Call<'_>; 3] = [("peek", &[2]), ("pay", &[2, 1, 60]), ("peek", &[1])];
-    for (workers, lanes) in [(1, 1), (2, 8), (16, 64)] {
-        let gate = InOrder {
-            next: AtomicU64::new(0),
-            wrong: AtomicU64::new(0),
-        };
-        let found = execute(
-            &rt,
-            Settings::new(workers, lanes, 64, 65_536)?,
-            &calls,
-            &gate,
-        )?;
-        assert_eq!(rt; found.as_str(), "commit 100;commit 40;commit 160;");
-        assert_eq!(rt; gate.next.load(Ordering::Relaxed), 3);
-        assert_eq!(rt; gate.wrong.load(Ordering::Relaxed), 0);
+fn each_payment_in_conflict_passes_the_gate_once(rt: HostRuntime) -> Result<(), Fail> {
+    let (calls, outcomes) = payments(rt.alloc())?;
+    for ((workers, lanes), (bodies, is_open), jobs) in HANDED {
+        let gate = CountingGate::new(is_open);
+        let settings = Settings::new(workers, lanes, 64, 65_536)?;
+        let found = execute(&rt, bodies, settings, &calls, &gate)?;
+        assert!(rt; found == outcomes, "{workers} {lanes} {bodies:?} {is_open}");
+        assert_eq!(rt;
+            (gate.jobs(), gate.out_of_order()),
+            (jobs, 0),
+            "{workers} {lanes} {bodies:?} {is_open}"
+        );
     }
     Ok(())
 }

@@ -1,13 +1,14 @@
-//! The engine, by many lists of choices, beside the plain program.
+//! The engine, by many lists of choices and on workers under many settings, beside the plain program.
 
 ghost use Rattle.std.specs.Prelude.{◌≡◌, IfOk};
 ghost use Rattle.std.specs.FinMap as map_of;
 ghost use Rattle.sequencer.specs.Batches.{items_of, AreOver};
+ghost use Rattle.engine.specs.Engines.{tables_of};
 
 use crate::choices::{after, choices};
 use crate::plain::run_serially;
 use catalogue::Catalogue;
-use engine::{Batch, Engine, Settings};
+use engine::{BadSetting, Batch, Engine, Settings};
 use meaning::Outcome;
 use requests::{Procs, Request, Setup};
 use row_store::{RowStore, all_is_free_with_nothing_lent};
@@ -15,8 +16,9 @@ use sequencer::prepare;
 use std::alloc::Global;
 use std::sync::Wait;
 use std::test::Fail;
-use test_bank::{CallsFault, bank, batch_over, request};
-use test_engines::{engine, executed};
+use std::thread::Threads;
+use test_bank::{Bodies, CallsFault, bank, batch_over, request};
+use test_engines::{CountingGate, HANDED_OVER, engine};
 use values::{Key, Row, TableNo};
 use workspace::RowView;
 
@@ -28,6 +30,18 @@ const CALLS: u32 = 40;
 
 /// How many lists of choices are tried with each setting.
 const SEEDS: u32 = 64;
+
+/// How many settings are drawn for workers, beside the least and the greatest.
+const DRAWN_SETTINGS: u32 = 14;
+
+/// How an engine runs batches.
+#[derive(Clone, Copy)]
+enum Way<'a> {
+    /// On one thread, each by a list of choices of events.
+    Alone(&'a [u64]),
+    /// On workers, through a gate.
+    Workers(&'a CountingGate),
+}
 
 /// The call that a number stands for: mostly a payment between the accounts 1, 2 and 4, of which the last may not be
 /// there yet.
@@ -122,25 +136,32 @@ fn plain_run_of_bank(alloc: Global) -> Result<(Vec<Outcome>, RowStore), Fail>
         procs,
         rows,
         retries: _,
-    } = bank(alloc)?;
+    } = bank(alloc, Bodies::Brief)?;
     plain_run(alloc, &catalogue, &procs, rows)
 }
 
-/// Appends the outcomes of one batch by an engine, with these choices of events.
-fn run_batch<R: Wait + AllocGlobal>(
+/// Whether an engine gives these outcomes of a batch.
+fn gives<R: Threads + Wait + Sync + AllocGlobal>(
     rt: &R,
     engine: &mut Engine,
-    number: u32,
-    choices: &[u64],
-    outcomes: &mut Vec<Outcome>,
-) -> Result<(), Fail> {
-    let alloc = rt.alloc();
-    let batch = drawn_batch(alloc, engine.procs(), number)?;
-    let done = executed(engine.run_alone(rt, alloc, batch, choices))?;
-    for reply in done.replies {
-        outcomes.push(reply.outcome)?;
+    batch: Batch,
+    way: Way<'_>,
+    outcomes: &[Outcome],
+) -> bool
+    requires { AreOver (tables_of engine.old.core) (items_of batch) }
+{
+    let done = match way {
+        Way::Alone(choices) => engine.run_alone(rt, rt.alloc(), batch, choices),
+        Way::Workers(gate) => engine.execute(rt, rt.alloc(), batch, gate),
+    };
+    match done {
+        Ok(done) => done
+            .replies
+            .iter()
+            .map(|reply| &reply.outcome)
+            .eq(outcomes.iter()),
+        Err(_) => false,
     }
-    Ok(())
 }
 
 /// Whether the accounts 1 to 4 of an engine are those of a store.
@@ -166,51 +187,42 @@ fn same_accounts(engine: &Engine, store: &RowStore) -> Result<bool, Fail>
     Ok(true)
 }
 
-/// Appends the outcomes of all batches by an engine, with another list of choices for each batch.
-fn run_batches<R: Wait + AllocGlobal>(
+/// Whether an engine gives these outcomes and the accounts of the store.
+fn agrees<R: Threads + Wait + Sync + AllocGlobal>(
     rt: &R,
     engine: &mut Engine,
-    seed: u32,
-    outcomes: &mut Vec<Outcome>,
-) -> Result<(), Fail> {
-    for number in 0..BATCHES {
-        let choices = choices(rt.alloc(), seed.wrapping_add(number), 4 * CALLS)?;
-        run_batch(rt, engine, number, &choices, outcomes)?;
+    way: Way<'_>,
+    outcomes: &[Outcome],
+    store: &RowStore,
+) -> Result<bool, Fail>
+    requires { store.now.lent ≡ map_of.empty }
+{
+    for (number, outcomes) in (0..BATCHES).zip(outcomes.chunks(CALLS as usize)) {
+        let batch = drawn_batch(rt.alloc(), engine.procs(), number)?;
+        if !gives(rt, engine, batch, way, outcomes) {
+            return Ok(false);
+        }
     }
-    Ok(())
+    same_accounts(engine, store)
 }
 
-/// Whether an engine gives these outcomes and the accounts of the store, with the choices of a seed.
-fn agrees<R: Wait + AllocGlobal>(
+/// Whether a new engine with these settings gives these outcomes and the accounts of the store.
+fn agrees_with<R: Threads + Wait + Sync + AllocGlobal>(
     rt: &R,
-    engine: &mut Engine,
-    seed: u32,
-    outcomes: &[Outcome],
-    store: &RowStore,
-) -> Result<bool, Fail>
-    requires { store.now.lent ≡ map_of.empty }
-{
-    let mut found = Vec::new(rt.alloc());
-    run_batches(rt, engine, seed, &mut found)?;
-    Ok(found.as_slice() == outcomes && same_accounts(engine, store)?)
-}
-
-/// Whether a new engine with these settings gives these outcomes and the accounts of the store, with the choices of a seed.
-fn agrees_with<R: Wait + AllocGlobal>(
-    rt: &R,
+    bodies: Bodies,
     settings: Settings,
-    seed: u32,
+    way: Way<'_>,
     outcomes: &[Outcome],
     store: &RowStore,
 ) -> Result<bool, Fail>
     requires { store.now.lent ≡ map_of.empty }
 {
-    let mut engine = engine(rt.alloc(), settings)?;
-    agrees(rt, &mut engine, seed, outcomes, store)
+    let mut engine = engine(rt.alloc(), bodies, settings)?;
+    agrees(rt, &mut engine, way, outcomes, store)
 }
 
-/// Whether an engine with these settings agrees with the plain program by each of many lists of choices.
-fn always_agrees<R: Wait + AllocGlobal>(
+/// Whether engines with these settings agree with the plain program by each of many lists of choices.
+fn always_agrees<R: Threads + Wait + Sync + AllocGlobal>(
     rt: &R,
     settings: Settings,
     outcomes: &[Outcome],
@@ -219,18 +231,52 @@ fn always_agrees<R: Wait + AllocGlobal>(
     requires { store.now.lent ≡ map_of.empty }
 {
     for seed in 0..SEEDS {
-        if !agrees_with(rt, settings, seed, outcomes, store)? {
+        let choices = choices(rt.alloc(), seed, 4 * CALLS)?;
+        let way = Way::Alone(&choices);
+        if !agrees_with(rt, Bodies::Brief, settings, way, outcomes, store)? {
             return Ok(false);
         }
     }
     Ok(true)
 }
 
-/// How many outcomes there are, and a threshold and a room with which an engine doesn't agree with them and with the store.
-type Compared = (usize, Option<(usize, usize)>);
+/// Whether engines with these settings agree with the plain program on workers, and hand over each call as a job.
+fn agrees_on_workers<R: Threads + Wait + Sync + AllocGlobal>(
+    rt: &R,
+    settings: Settings,
+    outcomes: &[Outcome],
+    store: &RowStore,
+) -> Result<bool, Fail>
+    requires { store.now.lent ≡ map_of.empty }
+{
+    for (bodies, is_open) in HANDED_OVER {
+        let gate = CountingGate::new(is_open);
+        let agrees = agrees_with(rt, bodies, settings, Way::Workers(&gate), outcomes, store)?;
+        if !agrees || gate.jobs() != outcomes.len() as u64 {
+            return Ok(false);
+        }
+    }
+    Ok(true)
+}
 
-/// Compares engines with small and large settings.
-fn compared_with<R: Wait + AllocGlobal>(
+/// The settings of a seed: the least, the greatest, or drawn.
+fn drawn_settings(seed: u32) -> Result<Settings, BadSetting> {
+    match seed {
+        0 => Settings::new(1, 1, 0, 1),
+        1 => Settings::new(16, 64, 65_535, 1_048_576),
+        _ => {
+            let number = after(after(seed)) as usize;
+            let (workers, lanes) = (1 + (number >> 4) % 16, 1 + (number >> 9) % 64);
+            Settings::new(workers, lanes, (number >> 16) % 4, 1 + (number >> 20) % 40)
+        }
+    }
+}
+
+/// How many outcomes there are, and the first settings with which an engine doesn't agree with them and with the store.
+type Compared = (usize, Option<Settings>);
+
+/// Compares engines with small and large settings, on one thread.
+fn compared_alone<R: Threads + Wait + Sync + AllocGlobal>(
     rt: &R,
     outcomes: &[Outcome],
     store: &RowStore,
@@ -240,20 +286,38 @@ fn compared_with<R: Wait + AllocGlobal>(
     for (threshold, most) in [(0, 1), (65_535, 1), (0, 1_048_576), (65_535, 1_048_576)] {
         let settings = Settings::new(1, 1, threshold, most)?;
         if !always_agrees(rt, settings, outcomes, store)? {
-            return Ok((outcomes.len(), Some((threshold, most))));
+            return Ok((outcomes.len(), Some(settings)));
         }
     }
     Ok((outcomes.len(), None))
 }
 
-/// Compares engines with the plain program.
-fn compared<R: Wait + AllocGlobal>(rt: &R) -> Result<Compared, Fail> {
+/// Compares engines on workers under many settings.
+fn compared_on_workers<R: Threads + Wait + Sync + AllocGlobal>(
+    rt: &R,
+    outcomes: &[Outcome],
+    store: &RowStore,
+) -> Result<Compared, Fail>
+    requires { store.now.lent ≡ map_of.empty }
+{
+    for seed in 0..2 + DRAWN_SETTINGS {
+        let settings = drawn_settings(seed)?;
+        if !agrees_on_workers(rt, settings, outcomes, store)? {
+            return Ok((outcomes.len(), Some(settings)));
+        }
+    }
+    Ok((outcomes.len(), None))
+}
+
+/// Compares engines with the plain program, on one thread and on workers.
+fn compared<R: Threads + Wait + Sync + AllocGlobal>(rt: &R) -> Result<[Compared; 2], Fail> {
     let (outcomes, store) = plain_run_of_bank(rt.alloc())?;
-    compared_with(rt, &outcomes, &store)
+    let alone = compared_alone(rt, &outcomes, &store)?;
+    Ok([alone, compared_on_workers(rt, &outcomes, &store)?])
 }
 
 #[test]
-fn each_list_of_choices_gives_what_the_plain_program_gives(rt: HostRuntime) -> Result<(), Fail> {
-    assert_eq!(rt; compared(&rt)?, (200, None));
+fn each_run_gives_what_the_plain_program_gives(rt: HostRuntime) -> Result<(), Fail> {
+    assert_eq!(rt; compared(&rt)?, [(200, None), (200, None)]);
     Ok(())
 }

@@ -1,21 +1,12 @@
 //! What calls declare: footprints and the aborts of their faults.
 
 use crate::test_world::entries;
-use footprint::{AbortCode, Footprint, InPart, InTable, Resource};
+use footprint::{Footprint, InPart, InTable, Resource};
 use interp::Footing;
 use proclang_types::Right;
 use sequencer::{Batch, BatchFault};
 use std::alloc::Global;
 use std::test::Fail;
-
-#[test]
-fn codes_are_printed_as_their_numbers(rt: HostRuntime) -> Result<(), Fail> {
-    for (code, number) in [(AbortCode::NoRow, "1"), (AbortCode::Own(65_535), "65535")] {
-        let text = format!(in rt.alloc(); "{code}")?;
-        assert_eq!(rt; text.as_str(), number);
-    }
-    Ok(())
-}
 
 /// Appends a resource by numbers: its table, its partition and its key, as far as it has them.
 fn push_resource(text: &mut String, resource: &Resource) -> Result<(), Fail> {

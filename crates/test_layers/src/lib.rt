@@ -1,5 +1,5 @@
-//! Tests of the layers below the scheduler, by tables: lock modes, footprints, plans, the lock tree, rows, the lines of
-//! reports, and devices.
+//! Tests of the layers below the scheduler, by tables: lock modes, footprints, plans, the lock tree, rows, requests that are tried
+//! again, and devices.
 #![tactic(auto)]
 
 #[cfg(test)]
@@ -14,8 +14,6 @@ mod lock_queues;
 mod plain_locks;
 #[cfg(test)]
 mod plans;
-#[cfg(test)]
-mod report_lines;
 #[cfg(test)]
 mod stored_rows;
 #[cfg(test)]

@@ -1,6 +1,8 @@
 //! What comes of a step.
 
+use calvin::Gate;
 use std::fmt;
+use test_engines::CountingGate;
 
 /// What a step answered.
 #[derive(Clone, Copy, Debug, PartialEq, Eq)]
@@ -17,6 +19,16 @@ impl Answer {
     /// This answer if what it led to is right.
     pub(crate) fn if_right(self, is_right: bool) -> Answer {
         if is_right { self } else { Answer::Wrong }
+    }
+
+    /// This answer, which is right only if each of so many calls has passed the gate once as a job; or none has, where the gate is
+    /// open, since all are brief. Where something was refused, a job may pass it again, and calls may be run without it.
+    pub(crate) fn if_jobs(self, gate: &CountingGate, calls: u64) -> Answer {
+        let jobs = if gate.is_open() { 0 } else { calls };
+        match self {
+            Answer::Right => self.if_right(gate.jobs() == jobs),
+            Answer::Refused | Answer::Wrong => self,
+        }
     }
 }
 

@@ -1,9 +1,9 @@
 //! Logs of several batches, whose setups, texts and reports stand in `data/`: their batches are executed one after another, and
 //! gone on with, and their reports are written.
 
-ghost use Rattle.std.specs.Prelude.{IfSome};
+ghost use Rattle.std.specs.Prelude.{◌≡◌, IfSome, true};
 ghost use Rattle.sequencer.specs.Batches.{items_of, AreOver};
-ghost use Rattle.engine.specs.Engines.{tables_of};
+ghost use Rattle.engine.specs.Engines.{tables_of, is_busy};
 
 use crate::answer::Answer;
 use crate::bank::{batch_in, batch_of};
@@ -11,7 +11,7 @@ use crate::executing::{Then, push_replies};
 use crate::reading::unread;
 use crate::refusal::Refusal;
 use crate::reporting::try_report;
-use calvin::{Batch, BatchDone, Engine, OpenGate, Settings, Setup, read_setup};
+use calvin::{Batch, BatchDone, Engine, ExecFault, Settings, Setup, read_setup};
 use proclang::Procs;
 use report_text::{digest_text, rows_digest};
 use row_store::all_is_free_with_nothing_lent;
@@ -19,6 +19,7 @@ use std::alloc::Global;
 use std::sync::Wait;
 use std::thread::Threads;
 use std::{fs, rt};
+use test_engines::CountingGate;
 
 /// A log whose files stand in `data/`.
 #[derive(Clone, Copy)]
@@ -47,20 +48,37 @@ impl StoredLog {
     }
 }
 
+/// The batches of a log, and how many workers, which threshold and which gate they are run with.
+#[derive(Clone, Copy)]
+pub(crate) struct OnBatches {
+    pub(crate) stored: StoredLog,
+    pub(crate) workers: usize,
+    pub(crate) threshold: usize,
+    /// Whether the gate is open. The calls of the five batches are brief, so each is run in place then; else each is a job.
+    pub(crate) is_open: bool,
+}
+
 /// How batches are executed, and gone on with where memory or a thread was refused.
 #[derive(Clone, Copy)]
-pub(crate) enum Way {
-    /// On the workers of the settings, and then so.
-    Workers(Then),
+enum Way<'g> {
+    /// On the workers of the settings, through a gate, and then so or alone.
+    Workers(Then, &'g CountingGate),
     /// On the thread that calls, also then.
     Alone,
 }
 
-impl Way {
-    fn then(self) -> Then {
+impl Way<'_> {
+    /// Goes on with an unfinished batch.
+    fn go_on<R: Threads + Wait + Sync + AllocGlobal>(
+        self,
+        rt: &R,
+        engine: &mut Engine,
+    ) -> Result<BatchDone, ExecFault>
+        requires { is_busy engine.old.core ≡ true }
+    {
         match self {
-            Way::Workers(then) => then,
-            Way::Alone => Then::ResumeAlone,
+            Way::Workers(then, gate) => then.go_on(rt, engine, gate),
+            Way::Alone => engine.resume_alone(rt, rt.alloc(), &[]),
         }
     }
 }
@@ -106,21 +124,21 @@ fn execute_batch<R: Threads + Wait + Sync + AllocGlobal>(
     rt: &R,
     engine: &mut Engine,
     batch: Batch,
-    way: Way,
+    way: Way<'_>,
     answer: &mut Answer,
 ) -> Option<BatchDone>
-    requires { AreOver (tables_of engine.old) (items_of batch) }
+    requires { AreOver (tables_of engine.old.core) (items_of batch) }
 {
     let alloc = rt.alloc();
     let ended = match way {
-        Way::Workers(_) => engine.execute(rt, alloc, batch, &OpenGate),
+        Way::Workers(_, gate) => engine.execute(rt, alloc, batch, gate),
         Way::Alone => engine.run_alone(rt, alloc, batch, &[]),
     };
     match ended {
         Ok(done) => Some(done),
         Err(_) if engine.is_busy() => {
             *answer = Answer::Refused;
-            way.then().go_on(rt, engine).ok()
+            way.go_on(rt, engine).ok()
         }
         Err(_) => None,
     }
@@ -149,7 +167,7 @@ fn execute_first<R: Threads + Wait + Sync + AllocGlobal>(
     rt: &R,
     engine: &mut Engine,
     log: &str,
-    way: Way,
+    way: Way<'_>,
     answer: &mut Answer,
 ) -> Option<BatchDone> {
     let batch = batch_read(rt.alloc(), engine.procs(), log)?;
@@ -160,7 +178,7 @@ fn execute_first<R: Threads + Wait + Sync + AllocGlobal>(
 fn execute_carried<R: Threads + Wait + Sync + AllocGlobal>(
     rt: &R,
     engine: &mut Engine,
-    way: Way,
+    way: Way<'_>,
     done: &mut Vec<BatchDone>,
     answer: &mut Answer,
 ) -> Option<()> {
@@ -181,7 +199,7 @@ fn execute_each<R: Threads + Wait + Sync + AllocGlobal>(
     rt: &R,
     engine: &mut Engine,
     log: &str,
-    way: Way,
+    way: Way<'_>,
     done: &mut Vec<BatchDone>,
 ) -> Option<Answer> {
     let mut answer = Answer::Right;
@@ -193,17 +211,24 @@ fn execute_each<R: Threads + Wait + Sync + AllocGlobal>(
     Some(answer)
 }
 
-/// An engine on the setup of a log, with so many workers and this threshold.
-fn engine<R: rt::Files + AllocGlobal>(
-    rt: &R,
-    stored: StoredLog,
-    workers: usize,
-    threshold: usize,
-) -> Option<Engine> {
-    let settings = settings(workers, threshold)?;
-    let setup = text(rt, stored, "setup.json")?;
+/// An engine on the setup of a log.
+fn engine<R: rt::Files + AllocGlobal>(rt: &R, on: OnBatches) -> Option<Engine> {
+    let settings = settings(on.workers, on.threshold)?;
+    let setup = text(rt, on.stored, "setup.json")?;
     let setup = read_setup(rt.alloc(), setup.as_bytes()).ok()?;
     Engine::new(rt.alloc(), setup, settings).ok()
+}
+
+/// This answer if the end line of a report says what the calls have replied, and the rows that they left.
+fn if_end(
+    alloc: Global,
+    report: &str,
+    engine: &Engine,
+    done: &[BatchDone],
+    answer: Answer,
+) -> Option<Answer> {
+    let is_end = is_end(alloc, report, engine, done)?;
+    Some(answer.if_right(is_end))
 }
 
 /// An engine executes the batches of a log, which is to be reported so.
@@ -212,31 +237,28 @@ fn execute_log<R: Threads + Wait + Sync + AllocGlobal>(
     refusal: &mut Refusal,
     engine: &mut Engine,
     [log, report]: [&str; 2],
-    way: Way,
+    way: Way<'_>,
 ) -> Option<Answer> {
-    let alloc = rt.alloc();
     // (room for what comes of each batch)
-    let mut done = Vec::with_capacity(alloc, 8).ok()?;
+    let mut done = Vec::with_capacity(rt.alloc(), 8).ok()?;
     refusal.approach();
     let ended = execute_each(rt, engine, log, way, &mut done);
     refusal.pass();
     match ended {
-        Some(answer) => Some(answer.if_right(is_end(alloc, report, engine, &done)?)),
+        Some(answer) => if_end(rt.alloc(), report, engine, &done, answer),
         None => Some(Answer::Wrong),
     }
 }
 
-/// The batches of a log are executed on so many workers, with this threshold.
-pub(crate) fn try_batches<R: Threads + Wait + Sync + rt::Files + AllocGlobal>(
+/// An engine on the setup of a log executes its batches.
+fn try_way<R: Threads + Wait + Sync + rt::Files + AllocGlobal>(
     rt: &R,
     refusal: &mut Refusal,
-    stored: StoredLog,
-    workers: usize,
-    threshold: usize,
-    way: Way,
+    on: OnBatches,
+    way: Way<'_>,
 ) -> Option<Answer> {
-    let (log, report) = (text(rt, stored, "log")?, text(rt, stored, "report")?);
-    let mut engine = engine(rt, stored, workers, threshold)?;
+    let (log, report) = (text(rt, on.stored, "log")?, text(rt, on.stored, "report")?);
+    let mut engine = engine(rt, on)?;
     execute_log(
         rt,
         refusal,
@@ -244,6 +266,27 @@ pub(crate) fn try_batches<R: Threads + Wait + Sync + rt::Files + AllocGlobal>(
         [log.as_str(), report.as_str()],
         way,
     )
+}
+
+/// The batches of a log are executed on workers, and gone on with so.
+pub(crate) fn try_batches<R: Threads + Wait + Sync + rt::Files + AllocGlobal>(
+    rt: &R,
+    refusal: &mut Refusal,
+    on: OnBatches,
+    then: Then,
+) -> Option<Answer> {
+    let gate = CountingGate::new(on.is_open);
+    let answer = try_way(rt, refusal, on, Way::Workers(then, &gate))?;
+    Some(answer.if_jobs(&gate, on.stored.attempts()))
+}
+
+/// The batches of a log are run on one thread.
+pub(crate) fn try_batches_alone<R: Threads + Wait + Sync + rt::Files + AllocGlobal>(
+    rt: &R,
+    refusal: &mut Refusal,
+    on: OnBatches,
+) -> Option<Answer> {
+    try_way(rt, refusal, on, Way::Alone)
 }
 
 /// An engine on a setup that was read executes the batches of its log.
@@ -280,24 +323,23 @@ pub(crate) fn try_setup<R: Threads + Wait + Sync + rt::Files + AllocGlobal>(
     }
 }
 
-/// The report of a log is written, on so many workers, with this threshold.
+/// The report of a log is written.
 pub(crate) fn try_report_of_batches<R: Threads + Wait + Sync + rt::Files + AllocGlobal>(
     rt: &R,
     refusal: &mut Refusal,
-    stored: StoredLog,
-    workers: usize,
-    threshold: usize,
+    on: OnBatches,
 ) -> Option<Answer> {
-    let setup = text(rt, stored, "setup.json")?;
-    let (log, report) = (text(rt, stored, "log")?, text(rt, stored, "report")?);
+    let setup = text(rt, on.stored, "setup.json")?;
+    let (log, report) = (text(rt, on.stored, "log")?, text(rt, on.stored, "report")?);
     let setup = read_setup(rt.alloc(), setup.as_bytes()).ok()?;
-    let settings = settings(workers, threshold)?;
+    let settings = settings(on.workers, on.threshold)?;
     try_report(
         rt,
         refusal,
         setup,
         settings,
         [log.as_str(), report.as_str()],
-        stored.attempts(),
+        on.stored.attempts(),
+        &CountingGate::new(on.is_open),
     )
 }

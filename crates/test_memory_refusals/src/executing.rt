@@ -8,11 +8,12 @@ use crate::bank::{bank, batch};
 use crate::refusal::Refusal;
 use crate::right::is_of_log;
 use crate::texts::CALLS;
-use calvin::{BatchDone, Engine, ExecFault, OpenGate, Reply, Settings, Setup};
+use calvin::{BatchDone, Engine, ExecFault, Reply, Settings, Setup};
 use report_text::push_reply_line;
 use std::alloc::{AllocError, Global};
 use std::sync::Wait;
 use std::thread::Threads;
+use test_engines::CountingGate;
 
 /// An engine on a setup, with so many workers.
 fn engine_on(alloc: Global, setup: Setup, workers: usize) -> Option<Engine> {
@@ -75,14 +76,21 @@ impl Then {
         self,
         rt: &R,
         engine: &mut Engine,
+        gate: &CountingGate,
     ) -> Result<BatchDone, ExecFault>
-        requires { is_busy engine.old ≡ true }
+        requires { is_busy engine.old.core ≡ true }
     {
         match self {
-            Then::Resume => engine.resume(rt, rt.alloc(), &OpenGate),
+            Then::Resume => engine.resume(rt, rt.alloc(), gate),
             Then::ResumeAlone => engine.resume_alone(rt, rt.alloc(), &[]),
         }
     }
+}
+
+/// This answer if the log was run as it was reckoned.
+fn if_run(alloc: Global, engine: &Engine, done: &BatchDone, answer: Answer) -> Option<Answer> {
+    let is_run = is_run(alloc, engine, done)?;
+    Some(answer.if_right(is_run))
 }
 
 /// What comes of an execution that ended so, and is gone on with where memory or a thread was refused.
@@ -91,13 +99,13 @@ fn gone_on_with<R: Threads + Wait + Sync + AllocGlobal>(
     engine: &mut Engine,
     ended: Result<BatchDone, ExecFault>,
     then: Then,
+    gate: &CountingGate,
 ) -> Option<Answer> {
-    let alloc = rt.alloc();
     match ended {
-        Ok(done) => Some(Answer::Right.if_right(is_run(alloc, engine, &done)?)),
+        Ok(done) => if_run(rt.alloc(), engine, &done, Answer::Right),
         Err(ExecFault::NoMemory | ExecFault::Spawn) if engine.is_busy() => {
-            match then.go_on(rt, engine) {
-                Ok(done) => Some(Answer::Refused.if_right(is_run(alloc, engine, &done)?)),
+            match then.go_on(rt, engine, gate) {
+                Ok(done) => if_run(rt.alloc(), engine, &done, Answer::Refused),
                 Err(_) => Some(Answer::Wrong),
             }
         }
@@ -123,6 +131,7 @@ fn run_alone<R: Threads + Wait + Sync + AllocGlobal>(
     engine: &mut Engine,
     count: usize,
     then: Then,
+    gate: &CountingGate,
 ) -> Option<Answer> {
     let alloc = rt.alloc();
     let choices = choices(alloc, count).ok()?;
@@ -130,7 +139,7 @@ fn run_alone<R: Threads + Wait + Sync + AllocGlobal>(
     refusal.approach();
     let ended = engine.run_alone(rt, alloc, batch, &choices);
     refusal.pass();
-    gone_on_with(rt, engine, ended, then)
+    gone_on_with(rt, engine, ended, then, gate)
 }
 
 /// The log on one thread, by so many choices of events.
@@ -141,8 +150,9 @@ pub(crate) fn try_alone<R: Threads + Wait + Sync + AllocGlobal>(
     then: Then,
 ) -> Option<Answer> {
     let alloc = rt.alloc();
+    let gate = CountingGate::new(false);
     let mut engine = engine_on(alloc, bank(alloc)?, 1)?;
-    run_alone(rt, refusal, &mut engine, count, then)
+    run_alone(rt, refusal, &mut engine, count, then, &gate)
 }
 
 /// An engine runs the log on its workers.
@@ -151,16 +161,18 @@ fn execute<R: Threads + Wait + Sync + AllocGlobal>(
     refusal: &mut Refusal,
     engine: &mut Engine,
     then: Then,
+    gate: &CountingGate,
 ) -> Option<Answer> {
     let alloc = rt.alloc();
     let batch = batch(alloc, engine.procs())?;
     refusal.approach();
-    let ended = engine.execute(rt, alloc, batch, &OpenGate);
+    let ended = engine.execute(rt, alloc, batch, gate);
     refusal.pass();
-    gone_on_with(rt, engine, ended, then)
+    let answer = gone_on_with(rt, engine, ended, then, gate)?;
+    Some(answer.if_jobs(gate, CALLS))
 }
 
-/// The log on so many workers.
+/// The log on so many workers, each of its calls as a job.
 pub(crate) fn try_workers<R: Threads + Wait + Sync + AllocGlobal>(
     rt: &R,
     refusal: &mut Refusal,
@@ -168,8 +180,9 @@ pub(crate) fn try_workers<R: Threads + Wait + Sync + AllocGlobal>(
     then: Then,
 ) -> Option<Answer> {
     let alloc = rt.alloc();
+    let gate = CountingGate::new(false);
     let mut engine = engine_on(alloc, bank(alloc)?, workers)?;
-    execute(rt, refusal, &mut engine, then)
+    execute(rt, refusal, &mut engine, then, &gate)
 }
 
 /// An engine runs the log on its workers, and goes on where a thread was refused at first, and once more where memory was refused
@@ -179,16 +192,17 @@ fn resume<R: Threads + Wait + Sync + AllocGlobal>(
     refusal: &mut Refusal,
     engine: &mut Engine,
     then: Then,
+    gate: &CountingGate,
 ) -> Option<Answer> {
     let alloc = rt.alloc();
     let batch = batch(alloc, engine.procs())?;
-    let mut ended = engine.execute(rt, alloc, batch, &OpenGate);
+    let mut ended = engine.execute(rt, alloc, batch, gate);
     if ended.is_err() && engine.is_busy() {
         refusal.approach();
-        ended = then.go_on(rt, engine);
+        ended = then.go_on(rt, engine, gate);
         refusal.pass();
     }
-    gone_on_with(rt, engine, ended, then)
+    gone_on_with(rt, engine, ended, then, gate)
 }
 
 /// The log on two workers, gone on with where a thread was refused at first, and once more where memory was refused then; where
@@ -199,6 +213,7 @@ pub(crate) fn try_resume<R: Threads + Wait + Sync + AllocGlobal>(
     then: Then,
 ) -> Option<Answer> {
     let alloc = rt.alloc();
+    let gate = CountingGate::new(false);
     let mut engine = engine_on(alloc, bank(alloc)?, 2)?;
-    resume(rt, refusal, &mut engine, then)
+    resume(rt, refusal, &mut engine, then, &gate)
 }

@@ -20,130 +20,81 @@ mod sweeping;
 mod texts;
 
 use answer::Answer;
-use batches::{StoredLog, Way};
-use executing::Then;
+use batches::OnBatches;
+use batches::StoredLog::{self, FiveBatches, TriedAgain};
+use executing::Then::{self, Resume, ResumeAlone};
 use refusal::Refusal;
 use std::sync::Wait;
 use std::thread::Threads;
 use std::{env, io, rt};
 
-/// A step on several batches: its log, its workers, its threshold, and how a batch is gone on with; without that, the report is
-/// written.
-type OnBatches = (&'static str, StoredLog, usize, usize, Option<Way>);
+/// What is done in a step on several batches: they are executed, and gone on with so, or the report is written.
+type Task = Option<Then>;
 
-const BATCHES: [OnBatches; 18] = [
+/// The steps on several batches by their names, of which each has the number of workers and the threshold after its first
+/// word: what it begins and ends with, its log, whether the gate is open, and what is done.
+const BATCHES: [(&str, &str, StoredLog, bool, Task); 9] = [
+    ("batches", "", FiveBatches, false, Some(Resume)),
     (
-        "batches_2_0",
-        StoredLog::FiveBatches,
-        2,
-        0,
-        Some(Way::Workers(Then::Resume)),
+        "batches",
+        "then_alone",
+        FiveBatches,
+        false,
+        Some(ResumeAlone),
     ),
+    ("batches", "in_place", FiveBatches, true, Some(Resume)),
     (
-        "batches_2_65535",
-        StoredLog::FiveBatches,
-        2,
-        65_535,
-        Some(Way::Workers(Then::Resume)),
+        "batches",
+        "in_place_then_alone",
+        FiveBatches,
+        true,
+        Some(ResumeAlone),
     ),
+    ("report", "", FiveBatches, false, None),
+    ("report", "in_place", FiveBatches, true, None),
+    ("retries", "", TriedAgain, false, Some(Resume)),
     (
-        "batches_16_0",
-        StoredLog::FiveBatches,
-        16,
-        0,
-        Some(Way::Workers(Then::Resume)),
+        "retries",
+        "then_alone",
+        TriedAgain,
+        false,
+        Some(ResumeAlone),
     ),
-    (
-        "batches_16_65535",
-        StoredLog::FiveBatches,
-        16,
-        65_535,
-        Some(Way::Workers(Then::Resume)),
-    ),
-    (
-        "batches_2_0_then_alone",
-        StoredLog::FiveBatches,
-        2,
-        0,
-        Some(Way::Workers(Then::ResumeAlone)),
-    ),
-    (
-        "batches_2_65535_then_alone",
-        StoredLog::FiveBatches,
-        2,
-        65_535,
-        Some(Way::Workers(Then::ResumeAlone)),
-    ),
-    (
-        "batches_16_0_then_alone",
-        StoredLog::FiveBatches,
-        16,
-        0,
-        Some(Way::Workers(Then::ResumeAlone)),
-    ),
-    (
-        "batches_16_65535_then_alone",
-        StoredLog::FiveBatches,
-        16,
-        65_535,
-        Some(Way::Workers(Then::ResumeAlone)),
-    ),
-    ("report_2_0", StoredLog::FiveBatches, 2, 0, None),
-    ("report_2_65535", StoredLog::FiveBatches, 2, 65_535, None),
-    ("report_16_0", StoredLog::FiveBatches, 16, 0, None),
-    ("report_16_65535", StoredLog::FiveBatches, 16, 65_535, None),
-    (
-        "retries_2_0",
-        StoredLog::TriedAgain,
-        2,
-        0,
-        Some(Way::Workers(Then::Resume)),
-    ),
-    (
-        "retries_16_65535",
-        StoredLog::TriedAgain,
-        16,
-        65_535,
-        Some(Way::Workers(Then::Resume)),
-    ),
-    (
-        "retries_2_0_then_alone",
-        StoredLog::TriedAgain,
-        2,
-        0,
-        Some(Way::Workers(Then::ResumeAlone)),
-    ),
-    (
-        "run_alone_of_retries",
-        StoredLog::TriedAgain,
-        1,
-        0,
-        Some(Way::Alone),
-    ),
-    ("report_2_0_of_retries", StoredLog::TriedAgain, 2, 0, None),
-    (
-        "report_16_65535_of_retries",
-        StoredLog::TriedAgain,
-        16,
-        65_535,
-        None,
-    ),
+    ("report", "of_retries", TriedAgain, false, None),
 ];
 
-/// What comes of the step on several batches with a name; `None` where there is no such step, or what it stands on could not be made.
+/// What comes of the step on several batches with a name; `None` if there is no such step, or if what it is tried on could not
+/// be made.
 fn tried_on_batches<R: Threads + Wait + Sync + rt::Files + AllocGlobal>(
     rt: &R,
     refusal: &mut Refusal,
     step: &str,
 ) -> Option<Answer> {
-    let (_, stored, workers, threshold, way) = *BATCHES
-        .iter()
-        .find(|(name, _, _, _, _)| *name == step)?;
-    match way {
-        Some(way) => batches::try_batches(rt, refusal, stored, workers, threshold, way),
-        None => batches::try_report_of_batches(rt, refusal, stored, workers, threshold),
+    let (first, rest) = step.split_once('_')?;
+    let (workers, rest) = rest.split_once('_')?;
+    let (threshold, last) = rest.split_once('_').unwrap_or((rest, ""));
+    let (_, _, stored, is_open, task) = *BATCHES.iter().find(|(begins, ends, _, _, _)| *begins
+        == first
+        && *ends == last)?;
+    let on = OnBatches {
+        stored,
+        workers: workers.parse::<usize>().ok()?,
+        threshold: threshold.parse::<usize>().ok()?,
+        is_open,
+    };
+    match task {
+        Some(then) => batches::try_batches(rt, refusal, on, then),
+        None => batches::try_report_of_batches(rt, refusal, on),
     }
 }
+
+/// The batches whose stale calls are tried again, on one thread.
+const RETRIES_ALONE: OnBatches = OnBatches {
+    stored: TriedAgain,
+    workers: 1,
+    threshold: 0,
+    is_open: false,
+};
 
 /// What comes of the step with a name; `None` where there is no such step, or what it stands on could not be made.
 fn tried<R: Threads + Wait + Sync + rt::Files + AllocGlobal>(
@@ -162,14 +113,15 @@ fn tried<R: Threads + Wait + Sync + rt::Files + AllocGlobal>(
         "admit" => scheduling::try_admit(alloc, refusal),
         "lend_and_run" => scheduling::try_lend_and_run(alloc, refusal),
         "lend_table" => sweeping::try_lend(alloc, refusal),
-        "run_alone" => executing::try_alone(rt, refusal, 0, Then::Resume),
-        "run_alone_by_choices" => executing::try_alone(rt, refusal, 1_000, Then::ResumeAlone),
-        "execute_1" => executing::try_workers(rt, refusal, 1, Then::Resume),
-        "execute_2" => executing::try_workers(rt, refusal, 2, Then::Resume),
-        "execute_2_then_alone" => executing::try_workers(rt, refusal, 2, Then::ResumeAlone),
-        "resume" => executing::try_resume(rt, refusal, Then::Resume),
-        "resume_alone" => executing::try_resume(rt, refusal, Then::ResumeAlone),
+        "run_alone" => executing::try_alone(rt, refusal, 0, Resume),
+        "run_alone_by_choices" => executing::try_alone(rt, refusal, 1_000, ResumeAlone),
+        "execute_1" => executing::try_workers(rt, refusal, 1, Resume),
+        "execute_2" => executing::try_workers(rt, refusal, 2, Resume),
+        "execute_2_then_alone" => executing::try_workers(rt, refusal, 2, ResumeAlone),
+        "resume" => executing::try_resume(rt, refusal, Resume),
+        "resume_alone" => executing::try_resume(rt, refusal, ResumeAlone),
         "run_text" => reporting::try_text(rt, refusal),
+        "run_alone_of_retries" => batches::try_batches_alone(rt, refusal, RETRIES_ALONE),
         _ => tried_on_batches(rt, refusal, step),
     }
 }

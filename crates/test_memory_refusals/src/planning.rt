@@ -13,15 +13,38 @@ use catalogue::Catalogue;
 use coarsen::Plan;
 use footprint::Footprint;
 use interp::{RowView, recon};
-use proclang::Request;
+use proclang::{Procs, Request};
 use report_text::push_plan;
 use row_store::{RowStore, all_is_free_with_nothing_lent};
 use sequencer::{Entry, prepare};
 use std::alloc::Global;
-use values::{Text, Value};
+use values::{Key, Row, TableNo, Text, Value};
 
-/// The entries of the log's calls and of one whose footprint is found, and the catalogue. Where memory is refused, they are
-/// made again.
+/// The entries of the log's calls and of one whose footprint is found, on these rows. Where memory is refused, they are made again.
+fn entries_on(
+    alloc: Global,
+    refusal: &mut Refusal,
+    catalogue: &Catalogue,
+    procs: &Procs,
+    rows: Vec<(TableNo, Key, Row)>,
+) -> Option<(Answer, Vec<Entry>)>
+    requires { procs.now.tables ≡ catalogue.now }
+{
+    let batch = batch_with(alloc, procs, FOUND_CALL)?;
+    let store = RowStore::new(alloc, catalogue, rows).ok()?;
+    all_is_free_with_nothing_lent();
+    let mut answer = Answer::Right;
+    refusal.approach();
+    let mut made = prepare(alloc, &batch, catalogue, procs, &store);
+    if made.is_err() {
+        answer = Answer::Refused;
+        made = prepare(alloc, &batch, catalogue, procs, &store);
+    }
+    refusal.pass();
+    Some((answer, made.ok()?))
+}
+
+/// The same on the starting rows, and the catalogue.
 fn entries_of_bank(
     alloc: Global,
     refusal: &mut Refusal,
@@ -32,18 +55,8 @@ fn entries_of_bank(
         rows,
         retries: _,
     } = bank(alloc)?;
-    let batch = batch_with(alloc, &procs, FOUND_CALL)?;
-    let store = RowStore::new(alloc, &catalogue, rows).ok()?;
-    all_is_free_with_nothing_lent();
-    let mut answer = Answer::Right;
-    refusal.approach();
-    let mut made = prepare(alloc, &batch, &catalogue, &procs, &store);
-    if made.is_err() {
-        answer = Answer::Refused;
-        made = prepare(alloc, &batch, &catalogue, &procs, &store);
-    }
-    refusal.pass();
-    Some((answer, catalogue, made.ok()?))
+    let (answer, entries) = entries_on(alloc, refusal, &catalogue, &procs, rows)?;
+    Some((answer, catalogue, entries))
 }
 
 /// Appends the plan for the footprint of each entry. Where memory is refused, it is made again.
@@ -86,7 +99,27 @@ fn found_for<V: RowView>(
     Some((Answer::Refused, footprint))
 }
 
-/// The footprint that reconnaissance finds for the call that has its footprint found, on the starting rows.
+/// The footprint that reconnaissance finds for the call that has its footprint found, on these rows.
+fn found_on(
+    alloc: Global,
+    refusal: &mut Refusal,
+    catalogue: &Catalogue,
+    procs: &Procs,
+    rows: Vec<(TableNo, Key, Row)>,
+) -> Option<(Answer, Footprint)>
+    requires { procs.now.tables ≡ catalogue.now }
+{
+    let text = Value::Text(Text::new(alloc, "x").ok()?);
+    let request = Request::new(procs, "renew", vec![in alloc; text].ok()?).ok()?;
+    let store = RowStore::new(alloc, catalogue, rows).ok()?;
+    all_is_free_with_nothing_lent();
+    refusal.approach();
+    let found = found_for(alloc, catalogue, &request, &store);
+    refusal.pass();
+    found
+}
+
+/// The same on the starting rows.
 fn found_of_bank(alloc: Global, refusal: &mut Refusal) -> Option<(Answer, Footprint)> {
     let Setup {
         catalogue,
@@ -94,14 +127,7 @@ fn found_of_bank(alloc: Global, refusal: &mut Refusal) -> Option<(Answer, Footpr
         rows,
         retries: _,
     } = bank(alloc)?;
-    let text = Value::Text(Text::new(alloc, "x").ok()?);
-    let request = Request::new(&procs, "renew", vec![in alloc; text].ok()?).ok()?;
-    let store = RowStore::new(alloc, &catalogue, rows).ok()?;
-    all_is_free_with_nothing_lent();
-    refusal.approach();
-    let found = found_for(alloc, &catalogue, &request, &store);
-    refusal.pass();
-    found
+    found_on(alloc, refusal, &catalogue, &procs, rows)
 }
 
 /// Whether these are the plans of the calls.

@@ -4,13 +4,12 @@ use crate::answer::Answer;
 use crate::bank::{bank, log_text};
 use crate::refusal::Refusal;
 use crate::texts::{CALLS, REPORT};
-use calvin::{
-    LogFault, LogFaultKind, OpenGate, ReadSource, RunFault, Settings, Setup, WriteSink, run_text,
-};
+use calvin::{LogFault, LogFaultKind, ReadSource, RunFault, Settings, Setup, WriteSink, run_text};
 use std::sync::Wait;
 use std::thread::Threads;
+use test_engines::CountingGate;
 
-/// A log of so many calls is run on a setup, and its report is written.
+/// A log of so many calls is run on a setup, through a gate, and its report is written.
 pub(crate) fn try_report<R: Threads + Wait + Sync + AllocGlobal>(
     rt: &R,
     refusal: &mut Refusal,
@@ -18,13 +17,14 @@ pub(crate) fn try_report<R: Threads + Wait + Sync + AllocGlobal>(
     settings: Settings,
     [log, report]: [&str; 2],
     calls: u64,
+    gate: &CountingGate,
 ) -> Option<Answer> {
     let alloc = rt.alloc();
     let mut source = ReadSource::new(log.as_bytes());
     // (room for all of the report, so that a write takes no memory)
     let mut out = WriteSink::new(Vec::with_capacity(alloc, 65_536).ok()?);
     refusal.approach();
-    let ended = run_text(rt, alloc, setup, settings, &OpenGate, &mut source, &mut out);
+    let ended = run_text(rt, alloc, setup, settings, gate, &mut source, &mut out);
     refusal.pass();
     let written = out.into_inner();
     let answer = match ended {
@@ -42,10 +42,11 @@ pub(crate) fn try_report<R: Threads + Wait + Sync + AllocGlobal>(
         ) => Answer::Refused,
         Err(_) => Answer::Wrong,
     };
+    let answer = answer.if_jobs(gate, calls);
     Some(answer.if_right(report.as_bytes().starts_with(&written)))
 }
 
-/// The log is run, as two batches, and its report is written.
+/// The log is run, as two batches, each call as a job, and its report is written.
 pub(crate) fn try_text<R: Threads + Wait + Sync + AllocGlobal>(
     rt: &R,
     refusal: &mut Refusal,
@@ -54,5 +55,14 @@ pub(crate) fn try_text<R: Threads + Wait + Sync + AllocGlobal>(
     let setup = bank(alloc)?;
     let settings = Settings::new(2, 8, 64, 65_536).ok()?;
     let log = log_text(alloc, "[\"cut\"]\n").ok()?;
-    try_report(rt, refusal, setup, settings, [log.as_str(), REPORT], CALLS)
+    let gate = CountingGate::new(false);
+    try_report(
+        rt,
+        refusal,
+        setup,
+        settings,
+        [log.as_str(), REPORT],
+        CALLS,
+        &gate,
+    )
 }

@@ -1,17 +1,47 @@
 //! The scheduler's calls, one by one.
 
+ghost use Rattle.std.specs.Prelude.{◌≡◌, ◌≤◌, IfSome, length};
+ghost use Rattle.std.specs.FinMap as map_of;
+ghost use Rattle.interp.specs.Over.{AreEntriesOver};
+
 use crate::answer::Answer;
 use crate::bank::{bank, batch_in, log_text};
 use crate::refusal::Refusal;
 use crate::right::is_of_log;
 use crate::texts::CALLS;
 use calvin::Setup;
+use catalogue::Catalogue;
+use proclang::Procs;
 use report_text::push_reply_line;
 use row_store::{RowStore, all_is_free_with_nothing_lent};
 use scheduler::{AdmitFault, Scheduler, lent_jobs_come_back, run_job};
-use sequencer::prepare;
+use sequencer::{Entry, prepare};
 use std::alloc::Global;
-use values::NoMemory;
+use values::{Key, NoMemory, Row, TableNo};
+
+/// A store of rows, and the entries of the first batch of a log on it.
+fn prepared(
+    alloc: Global,
+    catalogue: &Catalogue,
+    procs: &Procs,
+    rows: Vec<(TableNo, Key, Row)>,
+    log: &str,
+) -> Option<(RowStore, Vec<Entry>)>
+    requires { procs.now.tables ≡ catalogue.now }
+    ensures tables { IfSome result (λ made. made.0.tables ≡ catalogue.now) }
+    ensures unlent { IfSome result (λ made. made.0.lent ≡ map_of.empty) }
+    ensures over { IfSome result (λ made. AreEntriesOver catalogue.now made.1.items) }
+    ensures few { IfSome result (λ made. length made.1.items ≤ 4096) }
+{
+    let batch = batch_in(alloc, procs, log)?;
+    let store = RowStore::new(alloc, catalogue, rows).ok()?;
+    all_is_free_with_nothing_lent();
+    let entries = prepare(alloc, &batch, catalogue, procs, &store).ok()?;
+    if entries.len() > 4096 {
+        return None;
+    }
+    Some((store, entries))
+}
 
 /// A scheduler of the first batch of a log, with nothing admitted.
 pub(crate) fn scheduler_of(alloc: Global, setup: Setup, log: &str) -> Option<Scheduler> {
@@ -21,13 +51,7 @@ pub(crate) fn scheduler_of(alloc: Global, setup: Setup, log: &str) -> Option<Sch
         rows,
         retries: _,
     } = setup;
-    let batch = batch_in(alloc, &procs, log)?;
-    let store = RowStore::new(alloc, &catalogue, rows).ok()?;
-    all_is_free_with_nothing_lent();
-    let entries = prepare(alloc, &batch, &catalogue, &procs, &store).ok()?;
-    if entries.len() > 4096 {
-        return None;
-    }
+    let (store, entries) = prepared(alloc, &catalogue, &procs, rows, log)?;
     Scheduler::new(alloc, catalogue, store, entries, 0, 64, 65_536).ok()
 }
 

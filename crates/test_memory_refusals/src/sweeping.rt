@@ -60,31 +60,42 @@ fn setup(alloc: Global) -> Option<Setup> {
     })
 }
 
+/// The call's reply line.
+fn reply_line(alloc: Global, scheduler: &Scheduler) -> Option<String> {
+    let mut line = String::new(alloc);
+    push_reply_line(alloc, &mut line, 0, None, scheduler.reply(0)?).ok()?;
+    Some(line)
+}
+
 /// Whether the call is settled as it should be.
 fn is_settled(alloc: Global, scheduler: Scheduler) -> Option<bool> {
     if !scheduler.is_done() {
         return Some(false);
     }
-    let mut line = String::new(alloc);
-    push_reply_line(alloc, &mut line, 0, None, scheduler.reply(0)?).ok()?;
+    let line = reply_line(alloc, &scheduler)?;
     all_is_free_with_nothing_lent();
     let rows = scheduler.into_finished().rows;
     let digest = rows_digest(alloc, rows.catalogue(), &rows).ok()?;
     Some(line.as_str() == REPLY && digest.as_str() == ROWS)
 }
 
-/// The call is lent its table. Where memory is refused, it is lent once more.
-pub(crate) fn try_lend(alloc: Global, refusal: &mut Refusal) -> Option<Answer> {
-    let mut scheduler = scheduler_of(alloc, setup(alloc)?, LOG)?;
+/// The call is admitted and lent its table. Where memory is refused, it is lent once more.
+fn lend(alloc: Global, scheduler: &mut Scheduler, refusal: &mut Refusal) -> Option<Answer> {
     scheduler.admit().ok()?;
     let mut answer = Answer::Right;
-    let mut settled = settle_next(&mut scheduler, refusal);
+    let mut settled = settle_next(scheduler, refusal);
     if settled.is_err() {
         answer = Answer::Refused;
-        settled = settle_next(&mut scheduler, &mut Refusal::elsewhere(alloc));
+        settled = settle_next(scheduler, &mut Refusal::elsewhere(alloc));
     }
-    if settled != Ok(Some(Answer::Right)) {
-        return Some(Answer::Wrong);
+    Some(answer.if_right(settled == Ok(Some(Answer::Right))))
+}
+
+/// The call is lent its table, run and settled.
+pub(crate) fn try_lend(alloc: Global, refusal: &mut Refusal) -> Option<Answer> {
+    let mut scheduler = scheduler_of(alloc, setup(alloc)?, LOG)?;
+    match lend(alloc, &mut scheduler, refusal)? {
+        Answer::Wrong => Some(Answer::Wrong),
+        answer => Some(answer.if_right(is_settled(alloc, scheduler)?)),
     }
-    Some(answer.if_right(is_settled(alloc, scheduler)?))
 }

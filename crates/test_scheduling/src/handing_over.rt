@@ -5,14 +5,13 @@ ghost use Rattle.lanes.specs.Calls.{Claims};
 
 use crate::schedulers::scheduler;
 use lanes::{LaneNo, Lanes, SchedulerSeat, WorkerSeat};
-use scheduler::{Job, run_job};
+use scheduler::{Job, Scheduler, run_job};
 use std::alloc::Global;
 use std::process::Abort;
 use std::test::Fail;
 
-/// A job of this number, which a scheduler lent.
-fn job(alloc: Global, number: u64) -> Result<Job, Fail> {
-    let mut scheduler = scheduler(alloc, &[("peek", &[1])], number, 64)?;
+/// The job of the first transaction of a scheduler.
+fn lent(scheduler: &mut Scheduler) -> Result<Job, Fail> {
     if scheduler.admit().is_err() {
         return Err(Fail::from("memory"));
     }
@@ -22,27 +21,27 @@ fn job(alloc: Global, number: u64) -> Result<Job, Fail> {
     }
 }
 
-/// The job is put into this lane, or it comes back.
-fn assert_put(
+/// A job of this number, which a scheduler lent.
+fn job(alloc: Global, number: u64) -> Result<Job, Fail> {
+    let mut scheduler = scheduler(alloc, &[("peek", &[1])], number, 64)?;
+    lent(&mut scheduler)
+}
+
+/// A job of this number is put into this lane.
+fn put(
     rt: &impl Abort,
+    alloc: Global,
     lanes: &Lanes,
-    scheduler_seat: &mut SchedulerSeat,
-    job: Job,
-    want: Option<LaneNo>,
-) -> Option<Job>
-    requires { scheduler_seat.old.lanes ≡ lanes.now }
-    ensures { scheduler_seat.new.lanes ≡ lanes.now }
+    seat: &mut SchedulerSeat,
+    number: u64,
+    want: LaneNo,
+) -> Result<(), Fail>
+    requires { seat.old.lanes ≡ lanes.now }
+    ensures { seat.new.lanes ≡ lanes.now }
 {
-    match lanes.put(scheduler_seat, job) {
-        Ok(lane) => {
-            assert_eq!(rt; Some(lane), want);
-            None
-        }
-        Err(job) => {
-            assert!(rt; want.is_none());
-            Some(job)
-        }
-    }
+    let job = job(alloc, number)?;
+    assert!(rt; matches!(lanes.put(seat, job), Ok(lane) if lane == want));
+    Ok(())
 }
 
 /// The job of this number is claimed at this lane.
@@ -73,46 +72,6 @@ fn assert_collected(
     }
 }
 
-/// The table of two lanes and two workers.
-fn hand_three_over(
-    rt: &impl Abort,
-    lanes: &Lanes,
-    scheduler_seat: &mut SchedulerSeat,
-    one: &mut WorkerSeat,
-    two: &mut WorkerSeat,
-    jobs: (Job, Job, Job),
-)
-    requires scheduler_seat { scheduler_seat.old.lanes ≡ lanes.now }
-    requires one { one.old.lanes ≡ lanes.now }
-    requires two { two.old.lanes ≡ lanes.now }
-{
-    let (a, b, c) = jobs;
-    assert!(rt; assert_put(rt, lanes, scheduler_seat, a, Some(0)).is_none());
-    assert!(rt; assert_put(rt, lanes, scheduler_seat, b, Some(1)).is_none());
-    let Some(c) = assert_put(rt, lanes, scheduler_seat, c, None) else {
-        panic!(rt; "it comes back")
-    };
-    let _first = claimed(rt, lanes, one, 0, 10);
-    let second = claimed(rt, lanes, two, 1, 11);
-    assert!(rt; lanes.claim(one).is_none());
-    assert_collected(rt, lanes, scheduler_seat, None);
-    lanes.deliver(two, 1, run_job(second));
-    assert_collected(rt, lanes, scheduler_seat, Some((1, 11)));
-    assert_collected(rt, lanes, scheduler_seat, None);
-    assert!(rt; c.no() == 12 && assert_put(rt, lanes, scheduler_seat, c, Some(1)).is_none());
-}
-
-#[test]
-fn two_lanes_and_two_workers(rt: HostRuntime) -> Result<(), Fail> {
-    let alloc = rt.alloc();
-    let (lanes, mut scheduler_seat) = Lanes::new(alloc, 2)?;
-    let mut one = lanes.worker_seat(&mut scheduler_seat)?;
-    let mut two = lanes.worker_seat(&mut scheduler_seat)?;
-    let jobs = (job(alloc, 10)?, job(alloc, 11)?, job(alloc, 12)?);
-    hand_three_over(&rt, &lanes, &mut scheduler_seat, &mut one, &mut two, jobs);
-    Ok(())
-}
-
 /// Two jobs are claimed, and the one that was claimed first is delivered first.
 fn deliver_in_order(
     rt: &impl Abort,
@@ -136,9 +95,8 @@ fn deliver_in_order(
 fn a_worker_delivers_in_any_order(rt: HostRuntime) -> Result<(), Fail> {
     let (lanes, mut scheduler_seat) = Lanes::new(rt.alloc(), 3)?;
     let mut seat = lanes.worker_seat(&mut scheduler_seat)?;
-    let (first, second) = (job(rt.alloc(), 0)?, job(rt.alloc(), 1)?);
-    assert!(rt; assert_put(&rt, &lanes, &mut scheduler_seat, first, Some(0)).is_none());
-    assert!(rt; assert_put(&rt, &lanes, &mut scheduler_seat, second, Some(1)).is_none());
+    put(&rt, rt.alloc(), &lanes, &mut scheduler_seat, 0, 0)?;
+    put(&rt, rt.alloc(), &lanes, &mut scheduler_seat, 1, 1)?;
     deliver_in_order(&rt, &lanes, &mut scheduler_seat, &mut seat);
     Ok(())
 }

@@ -1,7 +1,6 @@
 //! Every order of the events of three transactions, of which each waits for the one before it.
 
-use crate::plays::{play, replies};
-use crate::schedulers::scheduler;
+use crate::plays::played;
 use scheduler::Event;
 use std::alloc::Global;
 use std::test::Fail;
@@ -65,20 +64,12 @@ fn events_in_order(alloc: Global, second: usize, third: usize) -> Result<Vec<Eve
 /// done at a time but to admit the next one, and the next step of the first that is not settled. These are all orders.
 #[test]
 fn every_order_of_counts_around_an_insert_replies_alike(rt: HostRuntime) -> Result<(), Fail> {
-    let alloc = rt.alloc();
     let calls: [Call<'_>; 3] = [("cnt", &[]), ("ins", &[4, 7]), ("cnt", &[])];
     for (second, third) in ADMITTED_BEHIND {
-        let mut scheduler = scheduler(alloc, &calls, 0, 65_536)?;
-        let events = events_in_order(alloc, second, third)?;
-        assert_eq!(rt;
-            play(alloc, &mut scheduler, &events)?.as_str(),
-            "++++++++++++",
-            "{second}, {third}"
-        );
-        assert_eq!(rt;
-            replies(alloc, &scheduler, 3)?.as_str(),
-            "commit 1;commit;commit 2;"
-        );
+        let events = events_in_order(rt.alloc(), second, third)?;
+        let (answers, outcomes) = played(rt.alloc(), &calls, &events)?;
+        assert_eq!(rt; answers.as_str(), "++++++++++++", "{second}, {third}");
+        assert_eq!(rt; outcomes.as_str(), "commit 1;commit;commit 2;");
     }
     Ok(())
 }

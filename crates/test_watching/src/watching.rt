@@ -4,15 +4,14 @@ ghost use Rattle.std.specs.Prelude.{◌≡◌, IfOk};
 ghost use Rattle.sequencer.specs.Batches.{items_of, AreOver};
 ghost use Rattle.engine.specs.Engines.{tables_of};
 
-use engine::{Batch, BatchDone, Engine, ExecFault, Gate, OpenGate, Settings, Tally, Watcher};
-use progress::Progress;
+use engine::{Batch, Engine, Gate, Settings, Tally, Watcher};
 use std::alloc::Global;
 use std::sync::atomic::{AtomicU64, Ordering};
 use std::sync::{Mutex, Wait};
 use std::test::Fail;
 use std::thread::{Threads, join};
-use test_bank::Call;
-use test_engines::{batch_of, engine, executed};
+use test_bank::{Bodies, Call};
+use test_engines::{CountingGate, batch_of, engine};
 
 /// How often a thread watches.
 const LOOKS: u32 = 2_000;
@@ -23,7 +22,10 @@ const PAYS: [Call<'static>; 3] = [
     ("pay", &[1, 2, 500]),
 ];
 
-fn tally(settled: u64, committed: u64, aborted: u64, stale: u64) -> Tally {
+/// The pointer that the second call follows is changed by the first.
+const STALE: [Call<'static>; 2] = [("set", &[1, 3]), ("hop", &[1])];
+
+const fn tally(settled: u64, committed: u64, aborted: u64, stale: u64) -> Tally {
     Tally {
         settled,
         committed,
@@ -32,23 +34,26 @@ fn tally(settled: u64, committed: u64, aborted: u64, stale: u64) -> Tally {
     }
 }
 
-/// The pointer that the second call follows is changed by the first.
-const STALE: [Call<'static>; 2] = [("set", &[1, 3]), ("hop", &[1])];
-
-fn settings() -> Result<Settings, Fail> {
-    Ok(Settings::new(2, 8, 64, 65_536)?)
+/// A new engine on the bank, which hands over each call.
+fn new_engine(alloc: Global, workers: usize) -> Result<Engine, Fail> {
+    let settings = Settings::new(workers, 8, 64, 65_536)?;
+    engine(alloc, Bodies::Looping, settings)
 }
 
-/// Runs calls on an engine.
-fn run_calls<R: Threads + Wait + Sync + AllocGlobal>(
+/// Runs calls on an engine: through a gate on its workers, or without one on the thread that calls. Whether it did.
+fn run_calls<R: Threads + Wait + Sync + AllocGlobal, G: Gate>(
     rt: &R,
     engine: &mut Engine,
     calls: &[Call<'_>],
-    alone: bool,
-) -> Result<(), Fail> {
-    let batch = batch_of(rt.alloc(), engine, calls)?;
-    let _done = executed(run(rt, engine, batch, alone))?;
-    Ok(())
+    gate: Option<&G>,
+) -> Result<bool, Fail> {
+    let alloc = rt.alloc();
+    let batch = batch_of(alloc, engine, calls)?;
+    let ended = match gate {
+        Some(gate) => engine.execute(rt, alloc, batch, gate),
+        None => engine.run_alone(rt, alloc, batch, &[]),
+    };
+    Ok(ended.is_ok())
 }
 
 /// What a new watcher of an engine reads.
@@ -57,66 +62,46 @@ fn read_now<R: Wait>(rt: &R, engine: &mut Engine) -> Result<Tally, Fail> {
     Ok(watcher.watch(rt))
 }
 
-/// What a watcher reads after calls were run on its engine, and what one does that is made then.
-fn read_after<R: Threads + Wait + Sync + AllocGlobal>(
-    rt: &R,
-    engine: &mut Engine,
-    early: &mut Watcher,
-    calls: &[Call<'_>],
-    alone: bool,
-) -> Result<(Tally, Tally), Fail> {
-    run_calls(rt, engine, calls, alone)?;
-    let late = read_now(rt, engine)?;
-    Ok((early.watch(rt), late))
-}
-
-/// The same of a watcher that is made before.
+/// Whether calls were run on an engine, and what a watcher reads that was made before, and one that was made after.
 fn read_with_watcher<R: Threads + Wait + Sync + AllocGlobal>(
     rt: &R,
     engine: &mut Engine,
     calls: &[Call<'_>],
-    alone: bool,
-) -> Result<(Tally, Tally), Fail> {
+    gate: Option<&CountingGate>,
+) -> Result<(bool, Tally, Tally), Fail> {
     let mut early = engine.watcher(rt)?;
-    read_after(rt, engine, &mut early, calls, alone)
+    let is_run = run_calls(rt, engine, calls, gate)?;
+    let late = read_now(rt, engine)?;
+    Ok((is_run, early.watch(rt), late))
 }
 
-/// What a watcher reads that was made before calls were executed on a new engine, and one that was made after.
+/// The same on a new engine.
 fn read_before_and_after<R: Threads + Wait + Sync + AllocGlobal>(
     rt: &R,
     calls: &[Call<'_>],
-    alone: bool,
-) -> Result<(Tally, Tally), Fail> {
-    let settings = settings()?;
-    let mut engine = engine(rt.alloc(), settings)?;
-    read_with_watcher(rt, &mut engine, calls, alone)
+    gate: Option<&CountingGate>,
+) -> Result<(bool, Tally, Tally), Fail> {
+    let mut engine = new_engine(rt.alloc(), 2)?;
+    read_with_watcher(rt, &mut engine, calls, gate)
 }
 
-/// Executes a batch, alone or on worker threads.
-fn run<R: Threads + Wait + Sync + AllocGlobal>(
-    rt: &R,
-    engine: &mut Engine,
-    batch: Batch,
-    alone: bool,
-) -> Result<BatchDone, ExecFault>
-    requires { AreOver (tables_of engine.now) (items_of batch) }
-{
-    if alone {
-        engine.run_alone(rt, rt.alloc(), batch, &[])
-    } else {
-        engine.execute(rt, rt.alloc(), batch, &OpenGate)
-    }
-}
-
-/// Both read the same: this thread has published it.
+/// Both read the same: this thread has published it. On workers each call is a job.
 #[test]
 fn watchers_read_what_was_settled(rt: HostRuntime) -> Result<(), Fail> {
-    let pays = tally(3, 2, 1, 0);
-    assert_eq!(rt; read_before_and_after(&rt, &PAYS, true)?, (pays, pays));
-    assert_eq!(rt; read_before_and_after(&rt, &PAYS, false)?, (pays, pays));
-    let stale = tally(2, 1, 0, 1);
-    assert_eq!(rt; read_before_and_after(&rt, &STALE, true)?, (stale, stale));
-    assert_eq!(rt; read_before_and_after(&rt, &STALE, false)?, (stale, stale));
+    let table: [(&[Call<'_>], Tally); 2] = [
+        (&PAYS, tally(3, 2, 1, 0)),
+        (&STALE, tally(2, 1, 0, 1)),
+    ];
+    for (calls, left) in table {
+        let gate = CountingGate::new(true);
+        for gate in [None, Some(&gate)] {
+            assert_eq!(rt;
+                read_before_and_after(&rt, calls, gate)?,
+                (true, left, left)
+            );
+        }
+        assert_eq!(rt; gate.jobs(), left.settled);
+    }
     Ok(())
 }
 
@@ -155,17 +140,18 @@ fn work<R: Threads + Wait + Sync>(
     alloc: Global,
     engine: Engine,
     batch: Batch,
+    gate: &CountingGate,
 ) -> (Engine, bool)
-    requires { AreOver (tables_of engine) (items_of batch) }
+    requires { AreOver (tables_of engine.core) (items_of batch) }
 {
     let mut engine = engine;
-    let done = engine.execute(rt, alloc, batch, &OpenGate).is_ok();
+    let done = engine.execute(rt, alloc, batch, gate).is_ok();
     (engine, done)
 }
 
 /// A batch of a thousand payments of 1.
 fn thousand_pays(alloc: Global, engine: &Engine) -> Result<Batch, Fail>
-    ensures { IfOk result (λ batch. AreOver (tables_of engine.now) (items_of batch)) }
+    ensures { IfOk result (λ batch. AreOver (tables_of engine.now.core) (items_of batch)) }
 {
     let mut calls: Vec<Call<'static>> = Vec::new(alloc);
     for _ in 0..1_000 {
@@ -190,16 +176,17 @@ fn read_beside<R: Threads + Wait + Sync>(
     engine: Engine,
     watchers: (Watcher, Watcher),
     batch: Batch,
+    gate: &CountingGate,
 ) -> Result<(bool, Tally), Fail>
-    requires { AreOver (tables_of engine) (items_of batch) }
+    requires { AreOver (tables_of engine.core) (items_of batch) }
 {
     let (one, other) = watchers;
     let (right, (mut engine, done)) = join(
         rt,
         || both_read_on(rt, one, other),
         move || -> (Engine, bool)
-            requires { AreOver (tables_of engine) (items_of batch) }
-        { work(rt, alloc, engine, batch) },
+            requires { AreOver (tables_of engine.core) (items_of batch) }
+        { work(rt, alloc, engine, batch, gate) },
     );
     let late = read_now(rt, &mut engine)?;
     Ok((right && done, late))
@@ -209,86 +196,62 @@ fn read_beside<R: Threads + Wait + Sync>(
 fn read_beside_pays<R: Threads + Wait + Sync>(
     rt: &R,
     alloc: Global,
-    engine: Engine,
+    gate: &CountingGate,
 ) -> Result<(bool, Tally), Fail> {
-    let mut engine = engine;
+    let mut engine = new_engine(alloc, 2)?;
     let watchers = two_watchers(rt, &mut engine)?;
     let batch = thousand_pays(alloc, &engine)?;
-    read_beside(rt, alloc, engine, watchers, batch)
+    read_beside(rt, alloc, engine, watchers, batch, gate)
 }
 
 /// Of 100 on the account, 1 goes at a time.
 #[test]
 fn watchers_read_while_the_engine_runs(rt: HostRuntime) -> Result<(), Fail> {
-    let settings = settings()?;
-    let engine = engine(rt.alloc(), settings)?;
-    let read = read_beside_pays(&rt, rt.alloc(), engine)?;
+    let gate = CountingGate::new(true);
+    let read = read_beside_pays(&rt, rt.alloc(), &gate)?;
     assert_eq!(rt; read, (true, tally(1_000, 100, 900, 0)));
+    assert_eq!(rt; gate.jobs(), 1_000);
     Ok(())
 }
 
-/// Counts the jobs that come before all that stand in front of them are told of.
+/// Counts the jobs, and those that come before all that stand in front of them are told of.
 #[derive(Drop)]
 struct Told<'r, R> {
     rt: &'r R,
     watcher: Mutex<Watcher>,
+    jobs: AtomicU64,
     early: AtomicU64,
 }
 
 impl<R: Wait + Sync> Gate for Told<'_, R> {
     fn enter(&self, no: u64) {
+        self.jobs.fetch_add(1, Ordering::SeqCst);
         if self.watcher.lock(self.rt).watch(self.rt).settled < no {
-            self.early.fetch_add(1, Ordering::Relaxed);
+            self.early.fetch_add(1, Ordering::SeqCst);
         }
     }
 }
 
-/// Runs the payments on an engine with a gate.
-fn run_through<R: Threads + Wait + Sync + AllocGlobal, G: Gate>(
-    rt: &R,
-    engine: &mut Engine,
-    gate: &G,
-) -> Result<(), Fail> {
-    let batch = batch_of(rt.alloc(), engine, &PAYS)?;
-    let _done = executed(engine.execute(rt, rt.alloc(), batch, gate))?;
-    Ok(())
-}
-
-/// How many of the payments come too early on an engine.
+/// Whether the payments are run on an engine, how many of them are jobs, and how many of these come too early.
 fn come_early<R: Threads + Wait + Sync + AllocGlobal>(
     rt: &R,
     engine: &mut Engine,
-) -> Result<u64, Fail> {
+) -> Result<(bool, u64, u64), Fail> {
     let gate = Told {
         rt,
         watcher: Mutex::new(engine.watcher(rt)?),
+        jobs: AtomicU64::new(0),
         early: AtomicU64::new(0),
     };
-    run_through(rt, engine, &gate)?;
-    Ok(gate.early.load(Ordering::Relaxed))
+    let is_run = run_calls(rt, engine, &PAYS, Some(&gate))?;
+    let jobs = gate.jobs.load(Ordering::SeqCst);
+    Ok((is_run, jobs, gate.early.load(Ordering::SeqCst)))
 }
 
-/// Over one lane a job is put once the one before it was taken back, settled and told of.
+/// Each payment is in conflict with the one before it, so it is a job once that one was taken back, settled and told of.
 #[test]
 fn each_is_told_of_as_it_is_settled(rt: HostRuntime) -> Result<(), Fail> {
-    let settings = Settings::new(1, 1, 64, 65_536)?;
-    let mut engine = engine(rt.alloc(), settings)?;
-    assert_eq!(rt; come_early(&rt, &mut engine)?, 0);
-    Ok(())
-}
-
-#[test]
-fn another_watcher_is_told_what_the_first_has_seen(rt: HostRuntime) -> Result<(), Fail> {
-    let published = Tally {
-        settled: 2,
-        committed: 1,
-        aborted: 1,
-        stale: 0,
-    };
-    let (progress, mut writer, mut first) = Progress::new(rt.alloc())?;
-    progress.publish(&rt, &mut writer, published);
-    assert_eq!(rt; progress.watch(&rt, &mut first), published);
-    let mut second = progress.another(&mut first);
-    assert_eq!(rt; progress.watch(&rt, &mut second), published);
+    let mut engine = new_engine(rt.alloc(), 1)?;
+    assert_eq!(rt; come_early(&rt, &mut engine)?, (true, 3, 0));
     Ok(())
 }
