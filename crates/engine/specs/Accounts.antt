@@ -9,7 +9,7 @@ use Rattle.engine.specs.Batches.{entries_of}
 use Rattle.engine.specs.declared.fault.ExecFault.{ExecFault}
 use Rattle.engine.specs.declared.fault.ExecFault.TheVariants.{Busy, LogFull, Spawn, NoMemory}
 use Rattle.engine.specs.declared.replies.BatchDone.{BatchDone}
-use Rattle.engine.specs.Engines.{Account, EngineParts, PublishingParts, Unfinished}
+use Rattle.engine.specs.Engines.{Account, PublishingParts, Unfinished}
 use Rattle.engine.specs.Executions.{IsInterruption, KeepsSetting, ResumesTo}
 use Rattle.engine.specs.Replies.{reply_of}
 use Rattle.engine.specs.Tallies.{settled_among, tally_of, together, GoesOn}

@@ -1,4 +1,4 @@
-use Rattle.std.proofs.Common.{rules, sym, ◌∙◌}
+use Rattle.std.proofs.Common.{sym, ◌∙◌}
 use Rattle.engine.specs.declared.stage.Begun.{Begun as BegunOf}
 use Rattle.engine.proofs.Stops.{begun_on}
 use Rattle.engine.proofs.Told.{ended_told, few_entries}
