@@ -18,7 +18,7 @@ use Rattle.running.specs.declared.run_fault.RunFault.{RunFault}
 use Rattle.running.specs.declared.transcript.Transcript.{Transcript}
 use Rattle.running.specs.Batches.{due_text, IsReported}
 use Rattle.running.specs.Hashers.{said_of}
-use Rattle.running.specs.Reported.{lines_of, with_closing, with_drained, HasClosed, HasReported, IsClosing, IsCutShort}
+use Rattle.running.specs.Reported.{lines_of, with_closing, with_drained, HasClosed, HasReported, IsClosing, IsCutAt}
 use Rattle.running.specs.Standings.{standing_of}
 use Rattle.running.specs.Stops.{IsNotOfThread}
 use Rattle.running.specs.Stopped.{at_end, in_closing, standing_behind}
@@ -111,11 +111,9 @@ module _ (procs : ProcsParts) (retries most left n : ℕ) (db : Database) (ran :
   }
 
   -- or a fault stopped it
-  pub HasClosed-cut : (given : Option (List ℕ)) (fault : RunFault) → AppendsFront gave given (due_text engine transcript []) → IsCutShort procs retries db ran sink given fault
+  pub HasClosed-cut : (given : Option (List ℕ)) (fault : RunFault) → AppendsFront gave given (due_text engine transcript []) → IsCutAt in_closing procs retries db ran sink given fault
   HasClosed-cut given fault front = record {
-    stage = in_closing;
     closers = h.closers;
-    all_read = tt;
     ends = refl;
     closed = (
       closing retries left (standing_behind retries db (before ++ [] ∷ [])),
@@ -171,11 +169,13 @@ ended (Err fault) procs retries db ran engine transcript sink gave given h count
   text = tt;
   stop = record {
     stage = at_end;
-    closers = closing retries retries (standing_behind retries db ran);
     all_read = tt;
-    ends = (refl, threadless);
-    closed = refl;
-    written = (gave, h.text_is, front);
+    cut = record {
+      closers = closing retries retries (standing_behind retries db ran);
+      ends = (refl, threadless);
+      closed = refl;
+      written = (gave, h.text_is, front);
+    };
   };
 }
 
@@ -204,11 +204,15 @@ reported_undrained procs retries db ran engine transcript sink gave h =
 
 -- a fault stopped the batches that close the log
 pub IsClosing-cut : (procs : ProcsParts) (retries : ℕ) (db : Database) (ran : List (List Call)) (sink gave : Option (List ℕ)) (fault : RunFault) →
-    IsCutShort procs retries db ran sink (with_drained [] gave) fault → IsClosing procs retries db ran sink gave (Err fault)
+    IsCutAt in_closing procs retries db ran sink (with_drained [] gave) fault → IsClosing procs retries db ran sink gave (Err fault)
 IsClosing-cut procs retries db ran sink gave fault cut = record {
   count = tt;
   text = tt;
-  stop = subst (λ (o : Option (List ℕ)). IsCutShort procs retries db ran sink o fault) (none_drained gave) cut;
+  stop = record {
+    stage = in_closing;
+    all_read = tt;
+    cut = subst (λ (o : Option (List ℕ)). IsCutAt in_closing procs retries db ran sink o fault) (none_drained gave) cut;
+  };
 }
 
 -- ---- a log that is closed

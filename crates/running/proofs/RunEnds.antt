@@ -146,11 +146,13 @@ run_closes (Ok n) procs retries db m total next total2 line engine transcript le
       stop = λ works. tt;
     }
 run_closes (Err e) procs retries db m total next total2 line engine transcript left now last taken gave given came p at f f2 k mid k2 s h end takes em en ec before after moves stops same_f same_k fails begun =
-    let cut = h.stop in
-    run_stops cut.stage e procs retries db left last taken given came at line f f2 k mid k2 stops cut.ends same_f same_k fails begun moves
-    (SoFar-stopped cut.stage false procs retries db m total next total2 line engine transcript cut.closers left now (prepend_known came last) taken gave given p at s before after em en
-    (none_at_end cut.stage total total2 cut.all_read ec) takes
-    (Passes-weaken _ _ now (prepend_known came last) end (λ xs ys e. reads_end cut.stage procs retries m total next total2 xs ys cut.all_read e))
+    let stage = h.stop.stage in
+    let read = h.stop.all_read in
+    let cut = h.stop.cut in
+    run_stops stage e procs retries db left last taken given came at line f f2 k mid k2 stops cut.ends same_f same_k fails begun moves
+    (SoFar-stopped stage false procs retries db m total next total2 line engine transcript cut.closers left now (prepend_known came last) taken gave given p at s before after em en
+    (none_at_end stage total total2 read ec) takes
+    (Passes-weaken _ _ now (prepend_known came last) end (λ xs ys e. reads_end stage procs retries m total next total2 xs ys read e))
     cut.closed cut.written begun)
 
 -- ---- the source of a reader

@@ -1,4 +1,4 @@
--- Of the code: invariants and steps; no promise rests on these words.
+-- Claimed: what contracts promise to a reader rests on these words.
 -- What was reported of batches one after another, and how a log is closed behind them.
 use Rattle.std.specs.Prelude.{◌≡◌, ℕ, ◌≤◌, List, ◌++◌, length, false, Option, Some, None, Result, IfOk, IfErr, OnOk, ⊤}
 use Rattle.std.specs.Io.KnownBytes.{Appends}
@@ -71,23 +71,28 @@ HasReadAll (in_batch calls) = ⊥
 HasReadAll in_closing = ⊤
 HasReadAll at_end = ⊤
 
--- A fault stopped a run that was closing its log behind these batches.
-pub record IsCutShort (procs : ProcsParts) (retries : ℕ) (db : Database) (ran : List (List Call))
+-- A fault stopped a run at this stage of closing its log after these batches.
+pub record IsCutAt (stage : Stage) (procs : ProcsParts) (retries : ℕ) (db : Database) (ran : List (List Call))
     (sink filled : Option (List ℕ)) (fault : RunFault) : Type 0 where
-  pub stage : Stage
   pub closers : List (List Call)
-  pub all_read : HasReadAll stage
   pub ends : IsEndedBy stage false fault
   pub closed : HaveClosed stage retries (standing_behind retries db ran) closers
   pub written : AppendsAndFront sink filled (texts_of procs retries db (ran ++ closers))
       (text_at stage procs retries db (ran ++ closers))
 
--- What comes of running the batches without calls that close a log after these: each was reported, or a fault stopped that.
+-- A fault stopped a run that had read its log and was closing it after these batches.
+pub record IsCutShort (procs : ProcsParts) (retries : ℕ) (db : Database) (ran : List (List Call))
+    (sink filled : Option (List ℕ)) (fault : RunFault) : Type 0 where
+  pub stage : Stage
+  pub all_read : HasReadAll stage
+  pub cut : IsCutAt stage procs retries db ran sink filled fault
+
+-- What comes of running the batches without calls that close a log after these: each was reported, or a fault stopped one of them.
 pub record ReportsClosing (procs : ProcsParts) (retries : ℕ) (db : Database) (ran : List (List Call))
     (engine : EngineParts) (transcript : Transcript) (sink filled : Option (List ℕ)) (result : Result (Unit {0}) RunFault)
     : Type 0 where
   pub reported : OnOk result (HasReported procs retries db (with_closing retries db ran) engine transcript sink filled)
-  pub stop : IfErr result (IsCutShort procs retries db ran sink filled)
+  pub stop : IfErr result (IsCutAt in_closing procs retries db ran sink filled)
 
 -- What comes of closing a log behind these batches: the batches without calls that close it were reported and the end line was
 -- written, or a fault stopped it.

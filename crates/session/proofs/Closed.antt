@@ -4,18 +4,16 @@ use Rattle.std.specs.Io.KnownBytes.{Appends}
 use Rattle.devices.specs.Devices.{AppendsFront}
 use Rattle.requests.specs.Requests.{Call}
 use Rattle.log_feed.specs.Places.{IsWhole}
-use Rattle.report_text.specs.Report.{end_text}
-use Rattle.retries.specs.Standings.{closing, transactions_in}
 use Rattle.running.specs.declared.run_fault.RunFault.{RunFault}
-use Rattle.running.specs.Reported.{with_closing, HasReadAll, IsCutShort}
+use Rattle.running.specs.Reported.{with_closing, IsCutAt}
 use Rattle.running.specs.Reports.{report_of}
 use Rattle.running.specs.Starts.{Start}
-use Rattle.running.specs.Stopped.{at_end, in_batch, in_closing, reading, next_text, standing_behind, text_at, texts_of, AppendsAndFront, HaveClosed, Stage}
+use Rattle.running.specs.Stopped.{in_closing, next_text, texts_of, AppendsAndFront}
 use Rattle.running.proofs.Reported.{texts_next}
 use Rattle.session.specs.Writes.{IsBeginning}
 use Rattle.session.proofs.Growing.{begins_onward}
 use Rattle.session.proofs.Runs.{front_begins}
-use Rattle.session.proofs.Turns.{closing-begins, report-whole}
+use Rattle.session.proofs.Turns.{closing-begins}
 
 -- what was written of two texts, one after the other
 both_begin : (written text next whole : List ℕ) → AppendsAndFront (Some []) (Some written) text next → text ++ next ≡ whole → IsBeginning written whole
@@ -29,22 +27,12 @@ module _ (start : Start) (log written : List ℕ) (ended : List (List Call)) (w 
   abbrev whole : List (List Call)
   whole = with_closing start.retries start.rows ended
 
-  at_stage : (stage : Stage) (closers : List (List Call)) → HasReadAll stage → HaveClosed stage start.retries (standing_behind start.retries start.rows ended) closers →
-      AppendsAndFront (Some []) (Some written) (texts (ended ++ closers)) (text_at stage start.procs start.retries start.rows (ended ++ closers)) →
-      IsBeginning written (report_of start.procs start.retries start.rows log)
-  at_stage reading closers read closed f = absurd read
-  at_stage (in_batch calls) closers read closed f = absurd read
-  at_stage in_closing closers read closed f =
+  pub cut_begins : (fault : RunFault) → IsCutAt in_closing start.procs start.retries start.rows ended (Some []) (Some written) fault → IsBeginning written (report_of start.procs start.retries start.rows log)
+  cut_begins fault h =
+      let closers = h.closers in
+      let closed = h.closed in
       let next = texts_next start.procs start.retries start.rows (ended ++ closers) [] closed.0 in
       let all : whole ≡ (ended ++ closers) ++ [] ∷ closed.0 = ap (λ (batches : List (List Call)). ended ++ batches) closed.1 ∙ sym (append_assoc ended closers ([] ∷ closed.0)) in
-      let begun : IsBeginning written (texts (ended ++ closers) ++ next_text start.procs start.retries start.rows (ended ++ closers) []) = both_begin written _ _ _ f refl in
+      let begun : IsBeginning written (texts (ended ++ closers) ++ next_text start.procs start.retries start.rows (ended ++ closers) []) = both_begin written _ _ _ h.written refl in
       let onward : IsBeginning (texts (ended ++ closers) ++ next_text start.procs start.retries start.rows (ended ++ closers) []) (texts whole) = (next.0, ap texts all ∙ next.1) in
       begins_onward _ _ _ (begins_onward _ _ _ begun onward) (closing-begins start.procs start.retries start.rows log ended w)
-  at_stage at_end closers read closed f =
-      let all : ended ++ closers ≡ whole = ap (λ (batches : List (List Call)). ended ++ batches) (sym closed) in
-      both_begin written (texts (ended ++ closers)) _ _ f
-      (ap (λ (batches : List (List Call)). texts batches ++ end_text false start.procs.tables start.rows (transactions_in start.retries start.rows batches)) all
-      ∙ sym (report-whole start.procs start.retries start.rows log ended w))
-
-  pub cut_begins : (fault : RunFault) → IsCutShort start.procs start.retries start.rows ended (Some []) (Some written) fault → IsBeginning written (report_of start.procs start.retries start.rows log)
-  cut_begins fault h = at_stage h.stage h.closers h.all_read h.closed h.written
