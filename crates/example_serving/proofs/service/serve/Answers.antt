@@ -22,5 +22,5 @@ returns g c =
     let beside = c.serve_beside-clients in
     let served : HasServed first beside.result.1.0 beside.result.1.1 = search rules in
     let sent : map own_history c.in-Ok-clients.clients.items ≡ histories_from 1 c.args.logs.items = search rules in
-    whole_service first beside.result.1.0 _ c.args.logs.items c.serve_left.result.0 c.serve_left.result.1.items beside.result.1.1 c.serve_left.result.2
+    whole_service first beside.result.1.0 _ c.args.logs.items c.serve_left.result.0.core c.serve_left.result.1.items beside.result.1.1 c.serve_left.result.2
     c.in-Ok.ensures.drawer.1 c.new-told.ensures.items served sent c.serve_left.ensures
