@@ -17,7 +17,7 @@ pub(crate) fn executed<R: Threads + Wait + Sync + AllocGlobal>(
     engine: &mut Engine,
     batch: Batch,
 ) -> Option<BatchDone>
-    requires { AreOver (tables_of engine.old) (items_of batch) }
+    requires { AreOver (tables_of engine.old.core) (items_of batch) }
 {
     let alloc = rt.alloc();
     let mut ended = engine.execute(rt, alloc, batch, &OpenGate);
