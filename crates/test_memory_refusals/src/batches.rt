@@ -99,7 +99,7 @@ fn settings(workers: usize, threshold: usize) -> Option<Settings> {
     Settings::new(workers, 8, threshold, 65_536).ok()
 }
 
-/// The first batch of a log. Where memory is refused, it is read again.
+/// The first batch of a log. If allocation fails, it is read again.
 fn batch_read(alloc: Global, procs: &Procs, log: &str) -> Option<Batch>
     ensures { IfSome result (λ batch. AreOver procs.now.tables (items_of batch)) }
 {
@@ -109,7 +109,7 @@ fn batch_read(alloc: Global, procs: &Procs, log: &str) -> Option<Batch>
     }
 }
 
-/// A batch without calls. Where memory is refused, it is made again.
+/// A batch without calls. If allocation fails, it is made again.
 fn no_calls(alloc: Global, procs: &Procs) -> Option<Batch>
     ensures { IfSome result (λ batch. AreOver procs.now.tables (items_of batch)) }
 {

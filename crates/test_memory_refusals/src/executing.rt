@@ -185,7 +185,7 @@ pub(crate) fn try_workers<R: Threads + Wait + Sync + AllocGlobal>(
     execute(rt, refusal, &mut engine, then, &gate)
 }
 
-/// An engine runs the log on its workers, and goes on where a thread was refused at first, and once more where memory was refused
+/// An engine runs the log on its workers, and goes on where a thread was refused at first, and once more if allocation failed
 /// then.
 fn resume<R: Threads + Wait + Sync + AllocGlobal>(
     rt: &R,
@@ -205,7 +205,7 @@ fn resume<R: Threads + Wait + Sync + AllocGlobal>(
     gone_on_with(rt, engine, ended, then, gate)
 }
 
-/// The log on two workers, gone on with where a thread was refused at first, and once more where memory was refused then; where
+/// The log on two workers, gone on with where a thread was refused at first, and once more if allocation failed then; where
 /// no thread was, it is run as usual.
 pub(crate) fn try_resume<R: Threads + Wait + Sync + AllocGlobal>(
     rt: &R,

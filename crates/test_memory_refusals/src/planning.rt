@@ -20,7 +20,7 @@ use sequencer::{Entry, prepare};
 use std::alloc::Global;
 use values::{Key, Row, TableNo, Text, Value};
 
-/// The entries of the log's calls and of one whose footprint is found, on these rows. Where memory is refused, they are made again.
+/// The entries of the log's calls and of one whose footprint is found, on these rows. If allocation fails, they are made again.
 fn entries_on(
     alloc: Global,
     refusal: &mut Refusal,
@@ -59,7 +59,7 @@ fn entries_of_bank(
     Some((answer, catalogue, entries))
 }
 
-/// Appends the plan for the footprint of each entry. Where memory is refused, it is made again.
+/// Appends the plan for the footprint of each entry. If allocation fails, it is made again.
 fn plan_all(alloc: Global, entries: &[Entry], plans: &mut Vec<Plan>) -> Answer {
     let mut answer = Answer::Right;
     for entry in entries {
@@ -81,7 +81,7 @@ fn plan_all(alloc: Global, entries: &[Entry], plans: &mut Vec<Plan>) -> Answer {
     answer
 }
 
-/// The footprint that reconnaissance finds for a request. Where memory is refused, it is found again.
+/// The footprint that reconnaissance finds for a request. If allocation fails, it is found again.
 fn found_for<V: RowView>(
     alloc: Global,
     catalogue: &Catalogue,

@@ -61,7 +61,7 @@ fn scheduler(alloc: Global) -> Option<Scheduler> {
     scheduler_of(alloc, bank(alloc)?, log.as_str())
 }
 
-/// Admits each call of the log. Where memory is refused, it is admitted once more.
+/// Admits each call of the log. If allocation fails, it is admitted once more.
 fn admit_all(scheduler: &mut Scheduler) -> Answer {
     let mut answer = Answer::Right;
     for number in 0..CALLS {
@@ -77,7 +77,7 @@ fn admit_all(scheduler: &mut Scheduler) -> Answer {
     answer
 }
 
-/// Lends its rows to the next call, runs it and settles it; `None` where no call is ready. Where memory is refused, the call
+/// Lends its rows to the next call, runs it and settles it; `None` where no call is ready. If allocation fails, the call
 /// comes next again. The allocation that is refused, if it is looked for, is one that is made where rows are lent.
 pub(crate) fn settle_next(
     scheduler: &mut Scheduler,

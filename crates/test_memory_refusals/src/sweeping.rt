@@ -79,7 +79,7 @@ fn is_settled(alloc: Global, scheduler: Scheduler) -> Option<bool> {
     Some(line.as_str() == REPLY && digest.as_str() == ROWS)
 }
 
-/// The call is admitted and lent its table. Where memory is refused, it is lent once more.
+/// The call is admitted and lent its table. If allocation fails, it is lent once more.
 fn lend(alloc: Global, scheduler: &mut Scheduler, refusal: &mut Refusal) -> Option<Answer> {
     scheduler.admit().ok()?;
     let mut answer = Answer::Right;
