@@ -70,7 +70,7 @@ static inline int calvin_feed(calvin *session, const uint8_t *bytes, size_t leng
     return calvin_c_feed(live, length == 0 ? &none : bytes, length);
 }
 
-/* Ends the log. Calls behind the last cut are executed as a batch, and the end line waits to be drained. The session is live,
+/* Ends the log. Calls after the last cut are executed as a batch, and the end line waits to be drained. The session is live,
  * and nothing more can be fed to it. */
 static inline int calvin_end(calvin *session) {
     calvin_c_session live = {session};

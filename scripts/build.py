@@ -59,7 +59,7 @@ def processors():
 
 
 def build(library, jobs, is_first):
-    """Builds one library with so many jobs, before other checks or behind them, and tells whether it is built and how long it took."""
+    """Builds one library with so many jobs, before other checks or after them, and tells whether it is built and how long it took."""
     begun = time.monotonic()
     if not is_first:
         os.setpriority(os.PRIO_PROCESS, threading.get_native_id(), LATER)

@@ -1,20 +1,23 @@
 #!/usr/bin/env python3
-"""Tries the edits that `rt ci` doesn't, many in one check:
+"""Tries the edits that the prover must refuse, many in one check:
 
     scripts/edits.py together [CRATE ..]  those in crates/NAME/must-fail/together/, as a step of the gate
     scripts/edits.py more [CRATE ..]      those in crates/NAME/must-fail/more/, which it leaves out
+    scripts/edits.py unedited [CRATE ..]  the functions that all of these change, as they are: each must be proved
     scripts/edits.py form                 says only which edits, of the gate and of the others, cannot be made
 
-The prover must refuse each of them. Those that are tried in one check change functions of their own each. The check says of each
-function that goals of it are open, or else that it has no proof since it calls one that has none. So an edit is refused
-where each function that it changes has an open goal of its own. The others are tried in the next check without those,
-and alone at last: then an open goal in one of those functions refuses the edit, and where it changes a definition or a type,
-any in the whole crate.
-The checks are those by which `rt ci` tries an edit, on copies of the crate, so nothing in the checkout changes; but where
-edits change code alone, the functions that they change are checked, with those that these call, and no others, and all of the
-crate only where that refuses nothing. They go on from a copy of the work that the crate's own checks kept; what the crate
-stands on is built first where it isn't. The crates are tried side by side, the last first: they have the dearest proofs. It
-ends with how many were refused and how many not, and with status 1 where an edit isn't refused.
+Those that are tried in one check change functions of their own each. An edit is refused where the check says of each function
+that it changes that a goal of its own is open: at its line in the source, or in the file of its proof. Where an edit changes a
+function that another's calls, the goals of that other are tried in a later check. What isn't refused so is tried alone: then an
+open goal in one of the functions that it changes refuses it, and where it changes a definition or a proof, any in the whole
+crate.
+
+What a function calls is known to its proof by contracts alone. So the copy that is checked assumes of each function that no edit
+changes that it meets its contract, in place of its proof, and the goals of those that are changed are all that is tried.
+`unedited` makes that check without the edits: no function has an open goal then. All checks are made on copies of the crate, from
+nothing; nothing in the checkout changes. What the crate depends on is built first where it isn't. The crates are tried side by
+side, the last first: they have the dearest proofs. It ends with how many were refused and how many not, and with status 1 where
+an edit isn't refused.
 """
 import importlib.machinery
 import importlib.util
@@ -26,11 +29,18 @@ import sys
 import tempfile
 from concurrent.futures import ThreadPoolExecutor
 from functools import cache, cached_property
+from itertools import takewhile
 from pathlib import Path
 
 IMPL = re.compile(r"impl\b(.*)")
-HEAD = re.compile(r"( *)(?:pub(?:\(\w+\))? )?(?:const )?fn (\w+)")
-OPEN = re.compile(r"^fn (\S+): (?:not proved|no proof: expected answers)", re.MULTILINE)
+HEAD = re.compile(r"( *)(?:pub(?:\(\w+\))? )?(?:const )?(?:unsafe )?(?:extern \"C\" )?fn (\w+)")
+TYPE = re.compile(r"^(?:pub(?:\(\w+\))? )?(?:struct|enum|union) (\w+)", re.MULTILINE)
+CYCLE = re.compile(r"#\[cycle\((\w+)\)\]")
+SAID = re.compile(r"^fn (\S+): ", re.MULTILINE)
+OPEN = re.compile(r"^fn (\S+): no proof: expected answers in \S*/\w+/Answers", re.MULTILINE)
+OPEN_AT = re.compile(r"^note: (src/\S+):(\d+):\d+: (?:it is not proved |`search` found no proof )", re.MULTILINE)
+NOT_READ = re.compile(r"^(?:\./)?proofs/(\S+)/(?:Answers|Invariants|Proof)\.antt:\d+:\d+: error: ", re.MULTILINE)
+WAITING = re.compile(r"^fn (\S+): no proof: it calls ", re.MULTILINE)
 VERDICT = re.compile(r"logic=not-proved|only=\d+ proved=\d+$")
 
 
@@ -72,10 +82,27 @@ def functions_of(file, text):
     return functions
 
 
-def open_in(output):
-    """The functions with an open goal of their own; what a closure leaves open is its function's."""
-    names = [re.sub(r"::fn::(\w+)::.*", r"::\1", name) for name in OPEN.findall(output)]
+def attributes_of(text, first):
+    """The lines with the attributes of the function that begins at this line of a text, the last first."""
+    return list(takewhile(lambda line: line.lstrip().startswith("#["), reversed(text.split("\n")[: first - 1])))
+
+
+def named_in(output, said):
+    """The functions of which a check says this; what it says of a closure it says of its function."""
+    names = [re.sub(r"::fn::(\w+)::.*", r"::\1", name) for name in said.findall(output)]
     return {re.sub(r"\+[^:]*", "", "::".join(name.split("::")[-2:])) for name in names}
+
+
+def opened_in(folder, texts, output):
+    """The functions of a crate with these texts of which a check says that a goal of their own is open: by its line in the source, by the
+    file of the proof that doesn't prove it, or by the function's name."""
+    found = named_in(output, OPEN)
+    for file, line in OPEN_AT.findall(output):
+        text = texts.get(file) or Path(folder, file).read_text()
+        # What is said of a whole function is said where its attributes begin.
+        functions = [(first - len(attributes_of(text, first)), last, name) for first, last, name in functions_of(file, text)]
+        found |= {name for first, last, name in functions if first <= int(line) <= last}
+    return found | {"::".join(["lib", *place.split("/")][-2:]) for place in NOT_READ.findall(output)}
 
 
 class Edit:
@@ -83,7 +110,7 @@ class Edit:
 
     def __init__(self, path):
         self.path, self.changes = path, []
-        self.crate = path.parents[1 if path.parent.name == "must-fail" else 2]
+        self.crate = path.parents[2]
         file = old = None
         for line in path.read_text().split("\n"):
             word, _, text = line.partition(": ")
@@ -122,87 +149,157 @@ class Edit:
         return found
 
     def functions(self):
-        """The names of the functions that it changes, `None` where it changes something else, too."""
-        return None if None in self.touched else self.touched
+        """The names of the functions that it changes, where all that it changes is code, and `None` else."""
+        is_code = all(file.startswith("src/") for file, _, _ in self.changes)
+        return self.touched - {None} if is_code else None
 
-    def bodies(self):
-        """The names of the functions that it changes, where all that it changes is code."""
-        return self.touched - {None} if all(file.startswith("src/") for file, _, _ in self.changes) else set()
+    def is_apart(self):
+        """Whether it changes functions alone, so that it can be tried beside others."""
+        return bool(self.functions()) and None not in self.touched
 
 
-def checked(crate, texts, kept, functions):
-    """A check of the crate with these texts, of these functions alone where they are given and each name fits one function."""
+# What stands in the place of a proof that a check is to leave out: that the function meets its contract is assumed.
+ASSUMED = """use Rattle.{crate}.proofs.{statement}.{{statement}}
+
+axiom pub {function}_spec : {{M : Type 1}} → statement M
+"""
+PROOF_FILES = {"Answers.antt", "Invariants.antt", "Proof.antt"}
+
+
+def modules_of(source):
+    """The modules that lead to the items of a file, by its place in `src/`."""
+    return () if source.parts in (("lib.rt",), ("main.rt",)) else source.with_suffix("").parts
+
+
+def proofs_of(crate):
+    """The folders where the proofs of a crate's functions stand, as far as its text says where, each with the names of the functions that
+    are proved there. A method is in the module of its type; a cycle of functions has a folder with a plus before its name."""
+    sources = {path.relative_to(Path(crate.folder, "src")): path.read_text() for path in Path(crate.folder, "src").rglob("*.rt")}
+    homes = {name: source for source, text in sources.items() for name in TYPE.findall(text)}
+    folders = {}
+    for source, text in sources.items():
+        lines = text.split("\n")
+        for first, last, name in functions_of(source, text):
+            owner, _, function = name.partition("::")
+            is_method = lines[first - 1].startswith(" ")
+            here = [it for it, home in homes.items() if home == source and owner.startswith(it)]
+            cycle = CYCLE.search("\n".join(attributes_of(text, first)))
+            may_recur = re.search(rf"\b{function}\(", "\n".join(lines[first:last]))
+            if is_method and owner not in homes and not here or may_recur and not cycle:
+                continue
+            proof = f"+{cycle[1]}" if cycle else function
+            modules = modules_of(homes.get(owner, source) if is_method else source)
+            folders.setdefault(Path("proofs", *modules, *([owner] if is_method else []), proof), set()).add(function)
+    return folders
+
+
+def proofs_beside(crate, functions):
+    """The folders of the proofs of all functions of a crate but these."""
+    names = {name.rpartition("::")[2] for name in functions}
+    folders = proofs_of(crate)
+    for file in Path(crate.folder, "proofs").rglob("*.antt"):
+        if file.name in PROOF_FILES:
+            folders.setdefault(file.parent.relative_to(crate.folder), {file.parent.name.lstrip("+")})
+    return [folder for folder, proved in folders.items() if not proved & names]
+
+
+def checked(crate, texts, flags, left_out):
+    """A check of a copy of the crate with these texts in place of its own, which assumes what the proofs in these folders show."""
     rt = toolchain()
+    with tempfile.TemporaryDirectory(prefix="edit-") as room:
+        for part in rt.rtlib.PARTS:
+            if Path(crate.folder, part).is_dir():
+                shutil.copytree(Path(crate.folder, part), Path(room, part))
+        for folder in left_out:
+            for name in PROOF_FILES:
+                Path(room, folder, name).unlink(missing_ok=True)
+            Path(room, folder).mkdir(parents=True, exist_ok=True)
+            statement = ".".join(folder.parts[1:]) + ("" if folder.name.startswith("+") else ".Statement")
+            proof = ASSUMED.format(crate=crate.name, statement=statement, function=folder.name)
+            Path(room, folder, "Proof.antt").write_text(proof)
+        for path, text in texts.items():
+            Path(room, path).write_text(text)
+        words = [rt.rtlib.RATTLE, "check", *crate.words(["--jobs", "1", *flags], keeps=False)]
+        how = {"stdin": subprocess.DEVNULL, "stdout": subprocess.PIPE, "stderr": subprocess.STDOUT, "errors": "replace"}
+        return subprocess.run([*rt.rtlib.guarded(), *words], cwd=room, **how)
+
+
+def check_of(crate, texts, functions, leaves_out=True):
+    """A check of the crate with these texts. Where functions are given, it is of these alone, if each name fits one function; and it assumes
+    that the others meet their contracts, unless it is told not to leave their proofs out."""
     only = [word for name in sorted(functions or ()) for word in ("--only", name)]
-    ran = rt.checked(crate, texts, ["--jobs", "1", *only], kept)
-    return rt.checked(crate, texts, ["--jobs", "1"], kept) if only and ran.returncode == 2 else ran
+    left_out = proofs_beside(crate, functions) if functions and leaves_out else ()
+    ran = checked(crate, texts, only, left_out)
+    return checked(crate, texts, [], left_out) if only and ran.returncode == 2 else ran
 
 
-def check(crate, texts, kept, functions):
-    """Checks the crate with these texts: whether the prover refuses it, and the functions with an open goal."""
-    rt = toolchain()
-    ran = checked(crate, texts, kept, functions)
+def check(crate, texts, functions, leaves_out=True):
+    """Whether the prover refuses the crate with these texts, the functions with an open goal of their own, and those whose goals it leaves
+    untried until all that they call is proved."""
+    rt, ran = toolchain(), check_of(crate, texts, functions, leaves_out)
     lines = ran.stdout.rstrip("\n").split("\n")
     is_read = not any(rt.unread(line, texts) for line in lines) and not rt.rtlib.STALE.search(ran.stdout)
-    return is_read and ran.returncode == 1 and bool(VERDICT.match(lines[-1])), open_in(ran.stdout)
-
-
-def functions_in(edits):
-    """The functions that the edits change, `None` where one of them changes something else than code, or code but no function."""
-    changed = [edit.bodies() for edit in edits]
-    return set().union(*changed) if all(changed) else None
+    is_refused = is_read and ran.returncode == 1 and bool(VERDICT.match(lines[-1]))
+    return is_refused, opened_in(crate.folder, texts, ran.stdout), named_in(ran.stdout, WAITING)
 
 
 def group_of(edits):
     """Edits that can be made together, each in functions of its own, and the texts with all of them."""
     group, texts, taken = [], {}, set()
     for edit in edits:
-        functions = edit.functions()
-        made = edit.made_on(texts) if functions and not functions & taken else None
+        made = edit.made_on(texts) if not edit.functions() & taken else None
         if made is not None:
-            group, texts, taken = [*group, edit], made, taken | functions
+            group, texts, taken = [*group, edit], made, taken | edit.functions()
     return group, texts
 
 
-def refused_together(crate, edits, kept):
-    """Tries edits of a crate, many in one check, and gives those that are refused so, check by check."""
+def functions_in(edits):
+    return set().union(*(edit.functions() for edit in edits))
+
+
+def refused_together(crate, edits):
+    """Tries edits of a crate that change functions alone, many in one check, and gives those that are refused so. Where one changes a
+    function that another's calls, the other's goals are tried in a later check, without it."""
     left, refused = edits, []
     while left:
         group, texts = group_of(left)
-        is_refused, opened = check(crate, texts, kept, functions_in(group)) if len(group) > 1 else (False, set())
-        done = [edit for edit in group if is_refused and edit.functions() <= opened]
-        refused.append(done)
-        left = [edit for edit in left if edit not in (done or group or left)]
+        is_refused, opened, waiting = check(crate, texts, functions_in(group))
+        told = [edit for edit in group if is_refused and edit.functions() <= opened]
+        refused += told
+        left = [edit for edit in left if edit not in group or told and edit not in told and edit.functions() & waiting]
     return refused
 
 
-def is_refused_alone(crate, edit, kept):
-    bodies = edit.bodies()
-    if bodies:
-        is_refused, opened = check(crate, edit.made_on({}), kept, bodies)
-        if is_refused and bodies & opened:
+def is_refused_alone(crate, edit):
+    """Tries one edit: an open goal in one of the functions that it changes refuses it, and where it changes something else, any in the crate.
+    Where the check that leaves out the proofs of others shows none, it is tried once more with them."""
+    functions = edit.functions()
+    for leaves_out in (True, False) if functions else (False,):
+        is_refused, opened, _ = check(crate, edit.made_on({}), functions, leaves_out)
+        if is_refused and (functions & opened if functions else opened):
             return True
-    return edit.functions() is None and check(crate, edit.made_on({}), kept, None)[0]
+    return False
 
 
 def not_refused(crate, edits):
     """Tries the edits of a crate, and gives back those that aren't refused."""
-    with tempfile.TemporaryDirectory(prefix="edits-") as kept:
-        own = Path(crate.folder, "out", "incremental")
-        if own.is_dir():
-            shutil.copytree(own, kept, dirs_exist_ok=True)
-        refused = refused_together(crate, edits, kept)
-        together, failed = sum(refused, []), []
-        for edit in edits:
-            alone = edit not in together and is_refused_alone(crate, edit, kept)
-            print(f"{edit}: {'refused' if edit in together else 'refused, alone' if alone else 'NOT REFUSED'}", flush=True)
-            failed += [] if alone or edit in together else [edit]
-        # What the checks kept is to be sound: where what they changed isn't proved over it, each edit is tried from nothing, as those
-        # of the first check were.
-        over = [edit for edit in edits if own.is_dir() or edit not in refused[0]]
-        if over and checked(crate, {}, kept, functions_in(over)).returncode:
-            failed = [edit for edit in over if not is_refused_alone(crate, edit, None)]
-        return failed
+    together, failed = refused_together(crate, [edit for edit in edits if edit.is_apart()]), []
+    for edit in edits:
+        alone = edit not in together and is_refused_alone(crate, edit)
+        print(f"{edit}: {'refused' if edit in together else 'refused, alone' if alone else 'NOT REFUSED'}", flush=True)
+        failed += [] if alone or edit in together else [edit]
+    return failed
+
+
+def not_sound(crate, edits):
+    """Checks the functions that edits change without an edit, and gives back the edits of those that have an open goal."""
+    in_functions = [edit for edit in edits if edit.functions()]
+    said = check_of(crate, {}, functions_in(in_functions)).stdout if in_functions else ""
+    sound = named_in(said, SAID) - opened_in(crate.folder, {}, said) - named_in(said, WAITING)
+    failed = [edit for edit in in_functions if not edit.functions() <= sound]
+    for edit in failed:
+        print(f"{edit}: ITS FUNCTION IS NOT PROVED WITHOUT IT", flush=True)
+    return failed
 
 
 def crates_with(edits, names):
@@ -225,22 +322,24 @@ def all_edits(pattern):
 
 
 def main(word, *names):
-    patterns = {"gate": "*/must-fail/*.edit", "together": "*/must-fail/together/*.md", "more": "*/must-fail/more/*.md"}
+    patterns = {"together": "*/must-fail/together/*.md", "more": "*/must-fail/more/*.md"}
     edits = {kind: all_edits(pattern) for kind, pattern in patterns.items()}
     bad = [edit for kind in edits for edit in edits[kind] if edit.made_on({}) is None]
     for edit in bad:
         print(f"{edit}: cannot be made")
     if bad or word == "form":
         return 1 if bad else 0
-    crates = crates_with(edits[word], names)
-    tried = {name: [edit for edit in edits[word] if edit.crate.name == name] for name in crates}
+    tried, attempt = (edits["together"] + edits["more"], not_sound) if word == "unedited" else (edits[word], not_refused)
+    crates = crates_with(tried, names)
+    of_crate = {name: [edit for edit in tried if edit.crate.name == name] for name in crates}
     with ThreadPoolExecutor(len(os.sched_getaffinity(0))) as pool:
-        failed = sum(map(len, pool.map(lambda name: not_refused(crates[name], tried[name]), reversed(crates))))
-    print(f"{sum(map(len, tried.values())) - failed} edits refused, {failed} not")
+        failed = sum(map(len, pool.map(lambda name: attempt(crates[name], of_crate[name]), reversed(crates))))
+    done = sum(map(len, of_crate.values())) - failed
+    print(f"{done} edits of functions that are proved, {failed} not" if word == "unedited" else f"{done} edits refused, {failed} not")
     return 1 if failed else 0
 
 
 if __name__ == "__main__":
-    if sys.argv[1:2] not in (["together"], ["more"], ["form"]):
+    if sys.argv[1:2] not in (["together"], ["more"], ["unedited"], ["form"]):
         sys.exit(__doc__)
     sys.exit(main(*sys.argv[1:]))

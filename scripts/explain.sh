@@ -8,7 +8,7 @@
 set -euo pipefail
 docs=$(cd -- "$(dirname -- "${BASH_SOURCE[0]}")/../docs" && pwd)
 
-# The cells behind the number, in the row of a page's table that begins with it.
+# The cells after the number, in the row of a page's table that begins with it.
 row() {
     sed -n -E "s/^\| (<a id=\"[a-z]*-?$2\"><\/a>)?$2 \| (.*) \|$/\2/p" "$docs/$1" | head -n 1
 }

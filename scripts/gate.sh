@@ -7,7 +7,7 @@
 #   random, each on the program as either compiler makes it,
 # - `scripts/refuse_memory.sh`, which refuses each 40th allocation;
 #
-# and then `scripts/edits.py together`, which tries more edits, many in one check. It says before its last line how much of a
+# and then `scripts/edits.py together`, which tries the edits that must be refused, many in one check. It says before its last line how much of a
 # processor's time it took, and what each crate took of it. The last line counts what `rt ci` and the edits passed, and each other
 # run of a script as one more.
 #
@@ -29,7 +29,7 @@ session=$(ps -o sid= -p $$ | tr -d ' ')
 running_checks() {
     ps -eo sid=,pid=,cputimes=,args= | awk -v session="$session" '
         $1 == session && $4 ~ /\/rattle$/ && ($5 == "build" || $5 == "check") && $6 == "--crate-name" {
-            made = / --test /  ? "tests" : $5 == "build" || / -o / ? "proof" : "edits"
+            made = / --test /  ? "tests" : / --only / ? "edits" : "proof"
             print $2, $3, $7, made
         }'
 }

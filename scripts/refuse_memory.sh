@@ -180,7 +180,7 @@ for step in "${steps[@]}"; do
         }' "$folder/answers" || failed=1
 done
 
-# Each thread of the steps on several batches, and a few behind the last. Where batches are executed one by one, each starts a thread a
+# Each thread of the steps on several batches, and a few after the last. Where batches are executed one by one, each starts a thread a
 # worker; where the report is written, the first does so for all.
 threads_refused() {
     for step in "${steps[@]}"; do

@@ -3,7 +3,7 @@
 
     scripts/second_reader.py SETUP ..       prints of each setup what `calvin check` must
     scripts/second_reader.py --compare      compares: each line of standard input has the bytes of a setup in hexadecimal, and
-                                            behind a space what the program says of it
+                                            after a space what the program says of it
 
 What `check` says is `ok T tables P procedures R rows`, or the first fault. With --compare the lines that it says otherwise are
 printed, and how many there were; it ends with status 1 where there are any, or no lines at all.

@@ -12,8 +12,8 @@
 # few.json        the same with 1,000 rows
 # many.json       the same with 100,000 rows
 # PROCEDURE.log   4,096 calls of `hop`, which follows the ring 10 times, or 64 calls of `walk`, which goes round the ring of 10
-#                 rows in 5,000 steps; behind `found_` with the footprint found, behind `declared_` with these rows declared,
-#                 and behind `idle_` with them declared and no body. one.log is one call of `found_hop`
+#                 rows in 5,000 steps; after `found_` with the footprint found, after `declared_` with these rows declared,
+#                 and after `idle_` with them declared and no body. one.log is one call of `found_hop`
 # fewer.json      1,000 rows in a table of 2 partitions, and the procedures of the logs below
 # more.json       the same with 100,000 rows
 # lock_table.log  4,096 calls that lock the table to be written and do nothing

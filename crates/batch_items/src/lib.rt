@@ -1,4 +1,5 @@
-//! What batches are made of: requests, each with its client and its number among those of the client. Generic in the request.
+//! What batches are made of: requests, each with its client and its number among those of the client. Generic in the
+//! request.
 #![tactic(auto)]
 
 mod batched;

@@ -11,7 +11,7 @@ use Rattle.batch_log.proofs.Batches.{Reads, Reads-none, Reads-step, NextBatch-st
 abbrev Calls : Type 0
 Calls = List requests.Call
 
--- lines that say calls, and more behind them
+-- lines that say calls, and more after them
 record After (whole tail : Lines) (before calls : Calls) (more : List LogLine) : Type 0 where
   rest : Lines
   reads : Reads whole (before ++ calls) (rest ++ tail)
@@ -26,33 +26,33 @@ after_calls whole (line ∷ lines) tail before (c ∷ calls) more r s =
     let then_ = after_calls whole lines tail (before ++ c ∷ []) calls more step (cc) in
     record { rest = then_.rest; reads = rw append_assoc at then_.reads; says = then_.says }
 
--- whole batches, and more behind them
-record Behind (whole tail : Lines) (batches : List Calls) (more : List LogLine) : Type 0 where
+-- whole batches, and more after them
+record IsAfter (whole tail : Lines) (batches : List Calls) (more : List LogLine) : Type 0 where
   rest : Lines
   batches_are : batches_of whole ≡ batches ++ batches_of (rest ++ tail)
   fault_is : first_fault whole ≡ first_fault (rest ++ tail)
   says : Say rest more
 
-behind_cut : (whole tail rest : Lines) (calls : Calls) (batches : List Calls) (more : List LogLine) → Reads whole calls (rest ++ tail) → Say rest (Cut ∷ with_cuts batches ++ more) →
-    ((lines : Lines) → Say lines (with_cuts batches ++ more) → Behind (lines ++ tail) tail batches more) → Behind whole tail (calls ∷ batches) more
-behind_cut whole tail [] calls batches more r s each = absurd cc
-behind_cut whole tail (line ∷ rest) calls batches more r s each =
+after_cut : (whole tail rest : Lines) (calls : Calls) (batches : List Calls) (more : List LogLine) → Reads whole calls (rest ++ tail) → Say rest (Cut ∷ with_cuts batches ++ more) →
+    ((lines : Lines) → Say lines (with_cuts batches ++ more) → IsAfter (lines ++ tail) tail batches more) → IsAfter whole tail (calls ∷ batches) more
+after_cut whole tail [] calls batches more r s each = absurd cc
+after_cut whole tail (line ∷ rest) calls batches more r s each =
     let first : line.1 ≡ Ok Cut = cc in
     let next = NextBatch-step whole (line ∷ rest ++ tail) (rest ++ tail) calls line.0 r (ap (λ said. (line.0, said) ∷ (rest ++ tail)) first) in
-    let behind = each rest (cc) in
+    let later = each rest (cc) in
     record {
-      rest = behind.rest;
-      batches_are = next.batches ∙ ap (λ bs. calls ∷ bs) behind.batches_are;
-      fault_is = next.fault ∙ behind.fault_is;
-      says = behind.says;
+      rest = later.rest;
+      batches_are = next.batches ∙ ap (λ bs. calls ∷ bs) later.batches_are;
+      fault_is = next.fault ∙ later.fault_is;
+      says = later.says;
     }
 
-behind_cuts : (batches : List Calls) (lines tail : Lines) (more : List LogLine) → Say lines (with_cuts batches ++ more) → Behind (lines ++ tail) tail batches more
-behind_cuts [] lines tail more s = record { rest = lines; batches_are = refl; fault_is = refl; says = s }
-behind_cuts (calls ∷ batches) lines tail more s =
+after_cuts : (batches : List Calls) (lines tail : Lines) (more : List LogLine) → Say lines (with_cuts batches ++ more) → IsAfter (lines ++ tail) tail batches more
+after_cuts [] lines tail more s = record { rest = lines; batches_are = refl; fault_is = refl; says = s }
+after_cuts (calls ∷ batches) lines tail more s =
     let said : Say lines (map Call calls ++ (Cut ∷ with_cuts batches ++ more)) = rw append_assoc at s in
     let after = after_calls (lines ++ tail) lines tail [] calls (Cut ∷ with_cuts batches ++ more) (Reads-none (lines ++ tail)) said in
-    behind_cut (lines ++ tail) tail after.rest calls batches more after.reads after.says (λ rest t. behind_cuts batches rest tail more t)
+    after_cut (lines ++ tail) tail after.rest calls batches more after.reads after.says (λ rest t. after_cuts batches rest tail more t)
 
 no_lines : (lines : Lines) → Say lines [] → lines ≡ []
 no_lines [] s = refl
@@ -60,27 +60,27 @@ no_lines (line ∷ lines) s = absurd cc
 
 pub back : BatchesAreReadBack
 back batches lines s =
-    let behind = behind_cuts batches lines [] [] (rw append-nil s) in
-    let none : behind.rest ++ [] ≡ [] = append-nil behind.rest ∙ no_lines behind.rest behind.says in (
-      ap batches_of (sym (append-nil lines)) ∙ behind.batches_are ∙ ap (λ l. batches ++ batches_of l) none ∙ append-nil batches,
-      ap first_fault (sym (append-nil lines)) ∙ behind.fault_is ∙ ap first_fault none,
+    let later = after_cuts batches lines [] [] (rw append-nil s) in
+    let none : later.rest ++ [] ≡ [] = append-nil later.rest ∙ no_lines later.rest later.says in (
+      ap batches_of (sym (append-nil lines)) ∙ later.batches_are ∙ ap (λ l. batches ++ batches_of l) none ∙ append-nil batches,
+      ap first_fault (sym (append-nil lines)) ∙ later.fault_is ∙ ap first_fault none,
     )
 
 pub end : EndIsACut
 end batches calls lines some s =
-    let behind = behind_cuts batches lines [] (map Call calls) s in
-    let after = after_calls (behind.rest ++ []) behind.rest [] [] calls [] (Reads-none (behind.rest ++ [])) (rw append-nil behind.says) in
+    let later = after_cuts batches lines [] (map Call calls) s in
+    let after = after_calls (later.rest ++ []) later.rest [] [] calls [] (Reads-none (later.rest ++ [])) (rw append-nil later.says) in
     let none : after.rest ++ [] ≡ [] = append-nil after.rest ∙ no_lines after.rest after.says in
-    let last = NextBatch-last (behind.rest ++ []) (after.rest ++ []) calls some after.reads none in (
-      ap batches_of (sym (append-nil lines)) ∙ behind.batches_are ∙ ap (λ bs. batches ++ bs) last.batches,
-      ap first_fault (sym (append-nil lines)) ∙ behind.fault_is ∙ last.fault,
+    let last = NextBatch-last (later.rest ++ []) (after.rest ++ []) calls some after.reads none in (
+      ap batches_of (sym (append-nil lines)) ∙ later.batches_are ∙ ap (λ bs. batches ++ bs) last.batches,
+      ap first_fault (sym (append-nil lines)) ∙ later.fault_is ∙ last.fault,
     )
 
 pub fault : FaultIsNoCut
 fault batches calls lines n kind rest s =
     let tail : Lines = (n, Err kind) ∷ rest in
-    let behind = behind_cuts batches lines tail (map Call calls) s in
-    let after = after_calls (behind.rest ++ tail) behind.rest tail [] calls [] (Reads-none (behind.rest ++ tail)) (rw append-nil behind.says) in
+    let later = after_cuts batches lines tail (map Call calls) s in
+    let after = after_calls (later.rest ++ tail) later.rest tail [] calls [] (Reads-none (later.rest ++ tail)) (rw append-nil later.says) in
     let none : after.rest ++ tail ≡ tail = ap (λ l. l ++ tail) (no_lines after.rest after.says) in
-    let first = Fault-step (behind.rest ++ tail) (after.rest ++ tail) rest calls n kind (Err kind) refl after.reads none in
-    (behind.batches_are ∙ ap (λ bs. batches ++ bs) first.batches ∙ append-nil batches, behind.fault_is ∙ first.first)
+    let first = Fault-step (later.rest ++ tail) (after.rest ++ tail) rest calls n kind (Err kind) refl after.reads none in
+    (later.batches_are ∙ ap (λ bs. batches ++ bs) first.batches ∙ append-nil batches, later.fault_is ∙ first.first)

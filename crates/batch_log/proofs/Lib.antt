@@ -3,6 +3,7 @@ pub mod Calls
 pub mod CutLaws
 pub mod Lines
 pub mod Moves
+pub mod Places
 pub mod PlainLines
 pub mod Taken
 pub mod LineLaws

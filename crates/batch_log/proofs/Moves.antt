@@ -14,12 +14,12 @@ length-onto_first : (b : ℕ) (lines : List (List ℕ)) → 0 < length lines →
 length-onto_first b [] h = absurd (omega arith)
 length-onto_first b (line ∷ lines) h = refl
 
-behind_none : (n : ℕ) → n ≡ 0 + n
-behind_none n = omega arith
+after_none : (n : ℕ) → n ≡ 0 + n
+after_none n = omega arith
 
 cut_lines : (b : ℕ) (v : Bool) (lines : List (List ℕ)) → 0 < length lines → length (cond v ([] ∷ lines) (onto_first b lines)) ≡ cond v 1 0 + length lines
 cut_lines b true lines h = omega arith
-cut_lines b false lines h = length-onto_first b lines h ∙ behind_none (length lines)
+cut_lines b false lines h = length-onto_first b lines h ∙ after_none (length lines)
 
 some_lines : (b : ℕ) (rest : List ℕ) → 0 < length (lines_of (b ∷ rest))
 some_lines b rest = elim (is_newline b) as (λ v. 0 < length (cond v ([] ∷ lines_of rest) (onto_first b (lines_of rest)))) [ true ↦ omega arith | false ↦ some_onto b (lines_of rest) ]
@@ -29,10 +29,10 @@ some_lines b rest = elim (is_newline b) as (λ v. 0 < length (cond v ([] ∷ lin
     some_onto x (line ∷ lines) = omega arith
 
 newlines_first : (x : ℕ) (xs : List ℕ) → newlines_in (x ∷ xs) ≡ cond (is_newline x) 1 0 + newlines_in xs
-newlines_first x xs = sum_by-append (λ b. cond (is_newline b) 1 0) (x ∷ []) xs ∙ ap (λ n. n + newlines_in xs) (sym (behind_none (cond (is_newline x) 1 0)))
+newlines_first x xs = sum_by-append (λ b. cond (is_newline b) 1 0) (x ∷ []) xs ∙ ap (λ n. n + newlines_in xs) (sym (after_none (cond (is_newline x) 1 0)))
 
 length-lines_of : (xs : List ℕ) (y : ℕ) (ys : List ℕ) → length (lines_of (xs ++ y ∷ ys)) ≡ newlines_in xs + length (lines_of (y ∷ ys))
-length-lines_of [] y ys = behind_none (length (lines_of (y ∷ ys)))
+length-lines_of [] y ys = after_none (length (lines_of (y ∷ ys)))
 length-lines_of (x ∷ xs) y ys =
     let rest = length-lines_of xs y ys in
     let some : 0 < length (lines_of (xs ++ y ∷ ys)) = rw rest (some_sum (newlines_in xs) (length (lines_of (y ∷ ys))) (some_lines y ys)) in

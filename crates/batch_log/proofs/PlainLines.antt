@@ -13,7 +13,7 @@ use Rattle.serde_json.specs.Read.{number_of, of_json, of_items, read}
 use Rattle.serde_json.specs.View.{items_of}
 use Rattle.values.specs.declared.value.Value.{Value}
 use Rattle.values.specs.declared.value.Value.TheVariants.{Int, Text}
-use Rattle.catalogue.specs.Said.{value_said, values_behind, values_said}
+use Rattle.catalogue.specs.Said.{value_said, values_after, values_said}
 use Rattle.documents.specs.Reading.{◌>>=◌, formed}
 use Rattle.proclang_types.specs.Procedures.{ProcParts}
 use Rattle.requests.specs.Requests as requests
@@ -36,7 +36,7 @@ one_more_value (u ∷ ts) (w ∷ vs) t v all one = (all.0, one_more_value ts vs 
 
 -- ---- a value
 
--- a token is read as a document that says the value, whatever stands behind it
+-- a token is read as a document that says the value, whatever stands after it
 record IsRead (t : Token) (v : Value) : Type 0 where
   written : json.Json
   document : Data
@@ -75,7 +75,7 @@ record AreRead (ts : List Token) (vs : List Value) : Type 0 where
   documents : List Data
   all : (depth : ℕ) (n : ℕ) (rest : List Token) → length ts < n → items (value depth) n (ts ++ Token.end_array ∷ rest) ≡ Some (written, rest)
   are : of_items written ≡ Some (items_of documents)
-  say : (before : List Value) → values_behind before documents ≡ Some (before ++ vs)
+  say : (before : List Value) → values_after before documents ≡ Some (before ++ vs)
 
 list_ends : (depth n : ℕ) (rest : List Token) → 0 < n → items (value depth) n (Token.end_array ∷ rest) ≡ Some (json.no_items, rest)
 unfolding items

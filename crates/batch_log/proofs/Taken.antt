@@ -138,13 +138,13 @@ pub TakesCalls-lost : {retries : ℕ} (procs : List ProcParts) (total calls : �
 TakesCalls-lost {retries = retries} procs total calls failed text mid rest few room s l = elim s.open_end [
   | inl none ↦ ends_with procs total calls failed text mid rest l.0 s (ap (λ x. x ++ mid) none ∙ l.1) l.2 l.3 few room
   | inr none ↦
-      let gone : rest ≡ [] = nothing_behind l.0 rest (sym l.1 ∙ none) in
+      let gone : rest ≡ [] = nothing_after l.0 rest (sym l.1 ∙ none) in
       ends_with procs total calls failed text mid rest s.last s (ap (λ x. s.last ++ x) (none ∙ sym gone)) (no_newline_one s.last s.whole) (λ _. s.whole) few room
 ]
   where
-    nothing_behind : (xs ys : List ℕ) → xs ++ ys ≡ [] → ys ≡ []
-    nothing_behind [] ys e = e
-    nothing_behind (x ∷ xs) ys e = absurd cc
+    nothing_after : (xs ys : List ℕ) → xs ++ ys ≡ [] → ys ≡ []
+    nothing_after [] ys e = e
+    nothing_after (x ∷ xs) ys e = absurd cc
 
 -- with one more line
 pub TakesCalls-line : {retries : ℕ} (procs : List ProcParts) (total calls : ℕ) (line text mid rest : List ℕ) → calls ≤ 4096 → total + calls ≤ most_calls retries →

@@ -8,7 +8,7 @@ use Rattle.batch_log.specs.declared.line.LogLine.TheVariants.{Call, Cut}
 use Rattle.batch_log.specs.Lines.{Lines}
 use Rattle.batch_log.specs.Log.{batches_of, first_fault}
 
--- batches written down, each with a cut behind it
+-- batches written down, each with a cut after it
 abbrev pub with_cuts : List (List requests.Call) → List LogLine
 with_cuts [] = []
 with_cuts (calls ∷ batches) = map Call calls ++ Cut ∷ with_cuts batches
@@ -17,18 +17,21 @@ with_cuts (calls ∷ batches) = map Call calls ++ Cut ∷ with_cuts batches
 abbrev pub Say : Lines → List LogLine → Type 0
 Say lines said = map (λ line. line.1) lines ≡ map Ok said
 
--- batches with a cut behind each are read back
+-- batches with a cut after each are read back
 abbrev pub BatchesAreReadBack : Type 0
 BatchesAreReadBack = (batches : List (List requests.Call)) (lines : Lines) → Say lines (with_cuts batches) →
     (batches_of lines ≡ batches) × (first_fault lines ≡ None)
 
--- calls behind the last cut are a batch, too, where the log ends with them
+-- calls after the last cut are a batch, too, where the log ends with them
 abbrev pub EndIsACut : Type 0
 EndIsACut = (batches : List (List requests.Call)) (calls : List requests.Call) (lines : Lines) → 0 < length calls →
-    Say lines (with_cuts batches ++ map Call calls) → (batches_of lines ≡ batches ++ calls ∷ []) × (first_fault lines ≡ None)
+    Say lines (with_cuts batches ++ map Call calls) → (batches_of lines ≡ batches ++ calls ∷ [])
+    × (first_fault lines ≡ None)
 
--- and are none, where a fault stands behind them, whatever comes after it
+-- and are none, where a fault stands after them, whatever comes after it
 abbrev pub FaultIsNoCut : Type 0
-FaultIsNoCut = (batches : List (List requests.Call)) (calls : List requests.Call) (lines : Lines) (n : ℕ) (kind : LogFaultKind) (after : Lines) →
+FaultIsNoCut = (batches : List (List requests.Call)) (calls : List requests.Call) (lines : Lines) (n : ℕ)
+    (kind : LogFaultKind) (after : Lines) →
     Say lines (with_cuts batches ++ map Call calls) →
-    (batches_of (lines ++ (n, Err kind) ∷ after) ≡ batches) × (first_fault (lines ++ (n, Err kind) ∷ after) ≡ Some (record { kind = kind; line = n }))
+    (batches_of (lines ++ (n, Err kind) ∷ after) ≡ batches)
+    × (first_fault (lines ++ (n, Err kind) ∷ after) ≡ Some (record { kind = kind; line = n }))

@@ -1,9 +1,10 @@
 -- Claimed: what contracts promise to a reader rests on these words.
 -- Faults by their kind.
-use Rattle.std.specs.Prelude.{◌≡◌, ℕ, Option, Some, None, Result, Ok, Err, Bool, true, false, ◌||◌, if◌then◌else◌}
+use Rattle.std.specs.Prelude.{◌≡◌, ℕ, [], Option, Some, None, Result, Ok, Err, IfErr, Bool, true, false, ◌||◌, if◌then◌else◌}
 use Rattle.devices.specs.Lines.{next_number}
-use Rattle.devices.specs.LineReader.{Position}
+use Rattle.devices.specs.LineReader.{came, Position, position_of, source_of}
 use Rattle.devices.specs.declared.line_reader.LineReadFault.{LineReadFault}
+use Rattle.devices.specs.declared.line_reader.LineReader.{LineReader}
 use Rattle.devices.specs.declared.line_reader.LineReadFault.TheVariants as devices
 use Rattle.batch_log.specs.declared.fault.LogFaultKind.{LogFaultKind}
 use Rattle.batch_log.specs.declared.fault.LogFaultKind.TheVariants.{NotJson, Shape, UnknownProc, Args, BatchTooLong, Io, Memory}
@@ -38,8 +39,8 @@ device_fault (devices.Memory line) = record { kind = Memory; line = line }
 
 -- The line of a fault, by where the reader stands: that of the newlines taken, plus 1, for a read that failed, and else
 -- the line last begun, or 0.
-abbrev pub place_of : LogFaultKind → Position → ℕ
-place_of kind p = if is_io kind then next_number p.newlines else p.begun
+abbrev pub line_named : LogFaultKind → Position → ℕ
+line_named kind p = if is_io kind then next_number p.newlines else p.begun
 
 -- the fault that a call ended with
 abbrev pub fault_in : {T : Type 0} → Result T LogFault → Option LogFault
@@ -50,3 +51,11 @@ fault_in (Err e) = Some e
 abbrev pub ends_in_io : {T : Type 0} → Result T LogFault → Bool
 ends_in_io (Ok x) = false
 ends_in_io (Err e) = is_io e.kind
+
+-- What a call to a reader without a fault tells of one: it names its line; where a read failed, every byte that came
+-- was taken; and the source has failed meanwhile only where a read failed.
+pub record TellsFault {S T : Type 0} (failed : S → Bool) (old new : LineReader S) (result : Result T LogFault)
+    : Type 0 where
+  pub place : IfErr result (λ e. e.line ≡ line_named e.kind (position_of new))
+  pub spent : ends_in_io result ≡ true → came new ≡ []
+  pub fails : failed (source_of new) ≡ (failed (source_of old) || ends_in_io result)

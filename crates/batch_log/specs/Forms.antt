@@ -17,11 +17,12 @@ abbrev pub form_view : LineForm → Form
 form_view (forms.Call name values) = call_form name.now (map view values.now)
 form_view forms.Cut = cut_form
 
--- by the head word and what stands behind it
+-- by the head word and what stands after it
 unfoldable pub words_form : List ℕ → List Data → Option Form
 words_form word [] = if bytes_eq word (codes "cut") then Some cut_form else None
 words_form word (name ∷ values ∷ []) =
-    if bytes_eq word (codes "call") then option_and_then (λ n. option_map (call_form n) (elements values)) (as_str name) else None
+    if bytes_eq word (codes "call") then option_and_then (λ n. option_map (call_form n) (elements values)) (as_str name)
+    else None
 words_form word ds = None
 
 abbrev pub items_form : List Data → Option Form

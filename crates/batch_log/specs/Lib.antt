@@ -7,4 +7,7 @@ pub mod Moves
 pub mod Plain
 pub mod Reader
 pub mod Taken
+pub mod Places
+pub mod FeedSteps
+pub mod Feeds
 pub mod LineRules

@@ -56,7 +56,8 @@ are_taken None args = true
 are_taken (Some proc) args = takes proc args
 
 abbrev pub in_call : List ProcParts → List ℕ → List Data → List LogFaultKind
-in_call procs name ds = broken (is_some (proc_named procs name)) UnknownProc ++ broken (are_taken (proc_named procs name) (values_said ds)) Args
+in_call procs name ds = broken (is_some (proc_named procs name)) UnknownProc
+    ++ broken (are_taken (proc_named procs name) (values_said ds)) Args
 
 abbrev pub in_form : List ProcParts → Option Form → List LogFaultKind
 in_form procs None = Shape ∷ []

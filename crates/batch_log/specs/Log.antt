@@ -13,7 +13,8 @@ use Rattle.batch_log.specs.declared.line.LogLine.TheVariants.{Call, Cut}
 
 -- ---- how many calls there may be
 
--- how many calls a log has at most: fewer where a stale request is tried again, so that all attempts have numbers below 2^48
+-- how many calls a log has at most: fewer where a stale request is tried again, so that all attempts have numbers below
+-- 2^48
 abbrev pub most_calls : ℕ → ℕ
 most_calls zero = 2 ^ 48
 most_calls (suc retries) = 2 ^ 46
@@ -22,7 +23,7 @@ most_calls (suc retries) = 2 ^ 46
 abbrev pub is_room : ℕ → ℕ → ℕ → Bool
 is_room retries calls total = nat_lt calls 4096 && nat_lt total (most_calls retries)
 
--- a line behind so many calls of its batch and of the log: a call for which there is no room is a fault
+-- a line after so many calls of its batch and of the log: a call for which there is no room is a fault
 abbrev pub within : ℕ → ℕ → ℕ → Result LogLine LogFaultKind → Result LogLine LogFaultKind
 within retries calls total (Ok (Call call)) = if is_room retries calls total then Ok (Call call) else Err BatchTooLong
 within retries calls total (Ok Cut) = Ok Cut
@@ -40,13 +41,14 @@ total_after total (Ok (Call call)) = total + 1
 total_after total (Ok Cut) = total
 total_after total (Err kind) = total
 
--- the lines by the rule of how many calls there may be, behind so many of the batch and of the log
+-- the lines by the rule of how many calls there may be, after n of the batch and m of the log
 abbrev pub limited : ℕ → ℕ → ℕ → Lines → Lines
 limited retries calls total [] = []
-limited retries calls total (line ∷ rest) = (line.0, within retries calls total line.1) ∷ limited retries (calls_after calls line.1) (total_after total line.1) rest
+limited retries calls total (line ∷ rest) = (line.0, within retries calls total line.1)
+    ∷ limited retries (calls_after calls line.1) (total_after total line.1) rest
 
--- what a log says from a place on where a batch begins, behind so many newlines and calls, where a stale request is tried again so
--- often
+-- what a log says from a place on where a batch begins, after so many newlines and calls, where a stale request is
+-- tried again so often
 abbrev pub log_said : ℕ → List ProcParts → ℕ → ℕ → List ℕ → Lines
 log_said retries procs newlines total text = limited retries 0 total (lines_said procs newlines text)
 

@@ -29,5 +29,7 @@ pub record ListsValues (tokens : List Token) (values : List Value) (rest : List 
 
 -- the tokens of `["call", PROC, [VALUE ..]]` and of `["cut"]`, where each value is one token
 abbrev pub SpellsPlain : List Token → PlainLine → Type 0
-SpellsPlain ts (Call name values) = (rest : List Token) × (ts ≡ Token.begin_array ∷ Token.string (codes "call") ∷ Token.string name.now ∷ Token.begin_array ∷ rest) × ListsValues rest values.items (Token.end_array ∷ [])
+SpellsPlain ts (Call name values) = (rest : List Token)
+    × (ts ≡ Token.begin_array ∷ Token.string (codes "call") ∷ Token.string name.now ∷ Token.begin_array ∷ rest)
+    × ListsValues rest values.items (Token.end_array ∷ [])
 SpellsPlain ts Cut = ts ≡ Token.begin_array ∷ Token.string (codes "cut") ∷ Token.end_array ∷ []

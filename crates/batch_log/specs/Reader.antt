@@ -5,7 +5,12 @@ use Rattle.std.specs.Borrow.{GName}
 use Rattle.devices.specs.LineReader as lines
 use Rattle.devices.specs.LineReader.{Position}
 use Rattle.batch_log.specs.declared.fault.LogFault.{LogFault}
+use Rattle.devices.specs.declared.line_reader.LineReader.{LineReader}
 use Rattle.batch_log.specs.declared.reader.LogReader.{LogReader}
+
+-- the reader of the log's lines
+abbrev pub lines_of : {S : Type 0} → LogReader S → LineReader S
+lines_of r = r.lines
 
 -- the source as it is now
 abbrev pub source_of : {S : Type 0} → LogReader S → S

@@ -3,8 +3,8 @@
 ghost use Rattle.std.specs.Prelude.{◌≡◌, ℕ, ◌+◌, ◌≤◌, ◌^◌, ◌||◌, List, length, true, None, Ok, Err, [], ◌∷◌, IfOk, IfErr, OnOk, IfSome, IsNone};
 ghost use Rattle.std.specs.List.{AllByRecursion};
 ghost use Rattle.devices.specs.Devices.{Passes};
-ghost use Rattle.devices.specs.LineReader.{came, fault_of, line_begun, newlines_taken, position_of, source_name, source_of, unread};
-ghost use Rattle.batch_log.specs.Faults.{ends_in_io, is_io, IsOfLine, place_of};
+ghost use Rattle.devices.specs.LineReader.{fault_of, line_begun, newlines_taken, position_of, source_name, unread};
+ghost use Rattle.batch_log.specs.Faults.{ends_in_io, is_io, IsOfLine, TellsFault};
 ghost use Rattle.batch_log.specs.Lines.{line_said, lines_said, IsOver};
 ghost use Rattle.batch_log.specs.Log.{calls_in, is_room, log_said, most_calls, IsEnd, IsFault, IsNextBatch};
 ghost use Rattle.batch_log.specs.Moves.{Moves};
@@ -54,10 +54,7 @@ fn next_said<S: Source>(
     ensures moves { Moves (unread S.left lines.old) (unread S.left lines.new) (position_of lines.old)
         (position_of lines.new) }
     ensures stays { OnOk result (fault_of lines.new ≡ None) }
-    ensures place { fault_of lines.old ≡ None → IfErr result (λ e. e.line ≡ place_of e.kind (position_of lines.new)) }
-    ensures spent { fault_of lines.old ≡ None → ends_in_io result ≡ true → came lines.new ≡ [] }
-    ensures fails { fault_of lines.old ≡ None →
-        S.failed (source_of lines.new) ≡ (S.failed (source_of lines.old) || ends_in_io result) }
+    ensures tells { fault_of lines.old ≡ None → TellsFault S.failed lines.old lines.new result }
 {
     let line = match lines.next_line(alloc) {
         Ok(Some(line)) => line,
@@ -70,8 +67,8 @@ fn next_said<S: Source>(
     }
 }
 
-/// How many calls a log has at most. All attempts have numbers below 2^48: where stale requests are tried again, at most twice, a
-/// log has fewer calls.
+/// How many calls a log has at most. All attempts have numbers below 2^48: where stale requests are tried again, at
+/// most twice, a log has fewer calls.
 fn most_calls(retries: u8) -> u64
     ensures { result ≡ most_calls retries }
 {
@@ -79,7 +76,7 @@ fn most_calls(retries: u8) -> u64
 }
 
 /// Whether a call may follow so many of its batch and of the log.
-pub fn is_room(retries: u8, calls: usize, total: u64) -> bool
+pub(crate) fn is_room(retries: u8, calls: usize, total: u64) -> bool
     ensures { result ≡ is_room retries calls total }
 {
     calls < 4096 && total < most_calls(retries)
@@ -94,7 +91,7 @@ pub(crate) fn read_batch<S: Source>(
     total: &mut u64,
 ) -> Result<Option<Vec<Request>>, LogFault>
     requires { total.old ≤ most_calls retries }
-    ensures same { source_name lines.new ≡ source_name lines.old }
+    ensures same { (source_name lines.new ≡ source_name lines.old) × OnOk result (fault_of lines.new ≡ None) }
     ensures batch { IfOk result (λ o. IfSome o (λ calls. Passes
         (λ xs ys. IsNextBatch (log_said retries procs.now.procs (newlines_taken lines.old) total.old xs) calls.items
         (log_said retries procs.now.procs (newlines_taken lines.new) total.new ys))
@@ -105,20 +102,14 @@ pub(crate) fn read_batch<S: Source>(
     ensures fault { IfErr result (λ e. IsOfLine e.kind → Passes
         (λ xs ys. IsFault (log_said retries procs.now.procs (newlines_taken lines.old) total.old xs) e)
         (unread S.left lines.old) (unread S.left lines.new)) }
-    ensures tables { IfOk result (λ o.
-        IfSome o (λ calls. AllByRecursion (λ c. c.proc.tables ≡ procs.now.tables) calls.items)) }
-    ensures few { IfOk result (λ o. IfSome o (λ calls. length calls.items ≤ 4096)) }
-    ensures counted { IfOk result (λ o. total.new ≡ total.old + calls_in o) }
-    ensures room { total.new ≤ most_calls retries }
+    ensures calls { IfOk result (λ o. IfSome o (λ calls.
+        AllByRecursion (λ c. c.proc.tables ≡ procs.now.tables) calls.items × (length calls.items ≤ 4096))) }
+    ensures counted { IfOk result (λ o. total.new ≡ total.old + calls_in o) × (total.new ≤ most_calls retries) }
     ensures taken { Passes (TakesCalls retries procs.now.procs total.old (ends_in_io result)) (unread S.left lines.old)
         (unread S.left lines.new) }
     ensures moves { Moves (unread S.left lines.old) (unread S.left lines.new) (position_of lines.old)
         (position_of lines.new) }
-    ensures stays { OnOk result (fault_of lines.new ≡ None) }
-    ensures place { fault_of lines.old ≡ None → IfErr result (λ e. e.line ≡ place_of e.kind (position_of lines.new)) }
-    ensures spent { fault_of lines.old ≡ None → ends_in_io result ≡ true → came lines.new ≡ [] }
-    ensures fails { fault_of lines.old ≡ None →
-        S.failed (source_of lines.new) ≡ (S.failed (source_of lines.old) || ends_in_io result) }
+    ensures tells { fault_of lines.old ≡ None → TellsFault S.failed lines.old lines.new result }
 {
     let mut calls = Vec::new(alloc);
     let mut scratch = Scratch::new(alloc);

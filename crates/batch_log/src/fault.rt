@@ -21,8 +21,8 @@ pub enum LogFaultKind {
     /// The values are not one a parameter, of the parameter's type; a text has at most 64 bytes.
     #[error("the values are not one for each parameter, of the parameter's type")]
     Args = 34,
-    /// The call is the batch's 4,097th, or there are as many before it as a log may have: 2^48, and 2^46 where stale requests are
-    /// tried again.
+    /// The call is the batch's 4,097th, or there are as many before it as a log may have: 2^48, and 2^46 where stale
+    /// requests are tried again.
     #[error("the batch or the log has more calls than it may have")]
     BatchTooLong = 35,
     /// A device failed.

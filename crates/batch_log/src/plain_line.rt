@@ -28,7 +28,7 @@ fn unsigned_integer(numeral: &Numeral<'_>) -> Option<i64>
     numeral.to_i64(false)
 }
 
-/// The integer below 0 of a numeral behind a minus.
+/// The integer below 0 of a numeral after a minus.
 fn negative_integer(numeral: &Numeral<'_>) -> Option<i64>
     ensures { IfSome result (λ n. option_and_then as_i64 (number_from true numeral.now) ≡ Some n) }
 {

@@ -4,7 +4,7 @@ ghost use Rattle.std.specs.Prelude.{◌≡◌, ◌+◌, ◌≤◌, ◌^◌, ◌|
 ghost use Rattle.std.specs.List.{AllByRecursion};
 ghost use Rattle.devices.specs.Devices.{Passes};
 ghost use Rattle.devices.specs.LineReader as line_reader;
-ghost use Rattle.batch_log.specs.Faults.{ends_in_io, fault_in, IsOfLine, place_of};
+ghost use Rattle.batch_log.specs.Faults.{ends_in_io, fault_in, IsOfLine, TellsFault};
 ghost use Rattle.batch_log.specs.Log.{calls_in, IsEnd, IsFault, IsNextBatch, log_said, most_calls};
 ghost use Rattle.batch_log.specs.Moves.{Moves};
 ghost use Rattle.batch_log.specs.Taken.{TakesCalls};
@@ -30,10 +30,10 @@ pub struct LogReader<'a, S> {
 
 impl<'a, S: Source> LogReader<'a, S> {
     ghost use Rattle.std.specs.Prelude.{[]};
-    ghost use Rattle.batch_log.specs.Reader.{calls_read, came, fault_of, line_begun, newlines_taken, position_of, retries_of, source_name, source_of, unread};
+    ghost use Rattle.batch_log.specs.Reader.{calls_read, fault_of, line_begun, lines_of, newlines_taken, position_of, retries_of, source_name, source_of, unread};
 
-    /// A reader that has read nothing, of a log whose stale requests are tried again so often: if at all, then the log may have 2^46
-    /// calls, and else 2^48.
+    /// A reader that has read nothing, of a log whose stale requests are tried again so often: if at all, then the log
+    /// may have 2^46 calls, and else 2^48.
     pub fn new(source: &'a mut S, retries: u8) -> LogReader<'a, S>
         ensures same { source_name result ≡ source.entry.ghost_name }
         ensures source { source_of result ≡ source.old }
@@ -71,45 +71,40 @@ impl<'a, S: Source> LogReader<'a, S> {
     /// The end of a log ends a batch of the calls before it, unless there are none. After a fault
     /// each further call answers the same fault.
     ///
-    /// No byte is taken behind the line that ends the batch or has the fault.
+    /// No byte is taken after the line that ends the batch or has the fault.
     pub fn next_batch(
         &mut self,
         alloc: Global,
         procs: &Procs,
     ) -> Result<Option<Vec<Request>>, LogFault>
-        ensures same { source_name self.new ≡ source_name self.old }
+        ensures same { (source_name self.new ≡ source_name self.old) × (retries_of self.new ≡ retries_of self.old) }
+        // Each call is of these procedures, so it is over their tables.
         ensures batch { IfOk result (λ o. IfSome o (λ calls. Passes
             (λ xs ys. IsNextBatch (log_said (retries_of self.old) procs.now.procs (newlines_taken self.old)
             (calls_read self.old) xs) calls.items
             (log_said (retries_of self.old) procs.now.procs (newlines_taken self.new) (calls_read self.new) ys))
-            (unread S.left self.old) (unread S.left self.new))) }
+            (unread S.left self.old) (unread S.left self.new) ×
+            AllByRecursion (λ c. c.proc.tables ≡ procs.now.tables) calls.items × (length calls.items ≤ 4096))) }
         ensures end { IfOk result (λ o. IsNone o → Passes
-            (λ xs ys. IsEnd (log_said (retries_of self.old) procs.now.procs (newlines_taken self.old) (calls_read self.old) xs) × (ys ≡ []))
+            (λ xs ys. IsEnd (log_said (retries_of self.old) procs.now.procs (newlines_taken self.old)
+            (calls_read self.old) xs) × (ys ≡ []))
             (unread S.left self.old) (unread S.left self.new)) }
-        // Each call is of these procedures, so it is over their tables.
-        ensures tables { IfOk result (λ o.
-            IfSome o (λ calls. AllByRecursion (λ c. c.proc.tables ≡ procs.now.tables) calls.items)) }
-        ensures few { IfOk result (λ o. IfSome o (λ calls. length calls.items ≤ 4096)) }
-        ensures counted { IfOk result (λ o. calls_read self.new ≡ calls_read self.old + calls_in o) }
-        ensures room { calls_read self.new ≤ most_calls (retries_of self.new) }
-        ensures retries { retries_of self.new ≡ retries_of self.old }
+        ensures counted { IfOk result (λ o. calls_read self.new ≡ calls_read self.old + calls_in o) ×
+            (calls_read self.new ≤ most_calls (retries_of self.new)) }
 
         // A fault of a line is the log's first, and no batch is whole before it.
         ensures fault { fault_of self.old ≡ None → IfErr result (λ e. IsOfLine e.kind → Passes
-            (λ xs ys. IsFault (log_said (retries_of self.old) procs.now.procs (newlines_taken self.old) (calls_read self.old) xs) e)
+            (λ xs ys. IsFault (log_said (retries_of self.old) procs.now.procs (newlines_taken self.old)
+            (calls_read self.old) xs) e)
             (unread S.left self.old) (unread S.left self.new)) }
         // Whole lines of calls are taken, and then one more line, or a beginning of it.
-        ensures taken { Passes (TakesCalls (retries_of self.old) procs.now.procs (calls_read self.old) (ends_in_io result))
-            (unread S.left self.old) (unread S.left self.new) }
-        ensures moves { Moves (unread S.left self.old) (unread S.left self.new) (position_of self.old)
-            (position_of self.new) }
-        ensures place { fault_of self.old ≡ None → IfErr result (λ e. e.line ≡ place_of e.kind (position_of self.new)) }
-        // Where a read failed, every byte that came was taken.
-        ensures spent { fault_of self.old ≡ None → ends_in_io result ≡ true → came self.new ≡ [] }
-        ensures stays { fault_of self.new ≡ fault_in result }
-        ensures again { IfSome (fault_of self.old) (λ e. (result ≡ Err e) × (source_of self.new ≡ source_of self.old)) }
-        ensures fails { fault_of self.old ≡ None →
-            S.failed (source_of self.new) ≡ (S.failed (source_of self.old) || ends_in_io result) }
+        ensures taken { Passes
+            (TakesCalls (retries_of self.old) procs.now.procs (calls_read self.old) (ends_in_io result))
+            (unread S.left self.old) (unread S.left self.new) ×
+            Moves (unread S.left self.old) (unread S.left self.new) (position_of self.old) (position_of self.new) }
+        ensures tells { fault_of self.old ≡ None → TellsFault S.failed (lines_of self.old) (lines_of self.new) result }
+        ensures stays { (fault_of self.new ≡ fault_in result) ×
+            IfSome (fault_of self.old) (λ e. (result ≡ Err e) × (source_of self.new ≡ source_of self.old)) }
     {
         if let Some(fault) = self.fault {
             return Err(fault);

@@ -1,7 +1,7 @@
 //! What it costs to hand numbers over from client threads to one owner: through an intake, and through the bare queue.
 //!
-//! Each client hands over COUNT of them, the only argument, and what is printed is how many a second were submitted and drawn,
-//! at best. Without an argument each hands over a thousand, and how many were drawn is printed.
+//! Each client hands over COUNT of them, the only argument, and what is printed is how many a second were submitted and
+//! drawn, at best. Without an argument each hands over a thousand, and how many were drawn is printed.
 #![tactic(auto)]
 
 mod handing;

@@ -7,7 +7,7 @@ use Rattle.setup.specs.declared.fault.SetupFault.{SetupFault}
 use Rattle.requests.specs.declared.setup.Setup.{Setup}
 use Rattle.setup.specs.Faults.{is_memory}
 use Rattle.setup.specs.FirstFault.{BreaksFirst}
-use Rattle.engine.specs.declared.settings.Settings.{Settings}
+use Rattle.dispatcher.specs.declared.settings.Settings.{Settings}
 use Rattle.running.specs.declared.run_fault.RunFault.{RunFault}
 use Rattle.calvin.specs.CommandEnds.{AreLocksAt, AreReplicas, IsAnswered, IsCompared, IsRunAt, IsSetupAt, IsTold, IsWithoutSetup, kept_status, run_status, setup_status}
 use Rattle.calvin.specs.FirstBatches.{IsFirstBatchPlanned}

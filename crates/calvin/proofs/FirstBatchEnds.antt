@@ -16,10 +16,10 @@ use Rattle.sequencer.specs.Batches.{items_from}
 use Rattle.sequencer.specs.Entries.{prepared}
 use Rattle.batch_log.specs.declared.fault.LogFaultKind.TheVariants.{Memory}
 use Rattle.batch_log.specs.declared.fault.LogFault.{LogFault}
-use Rattle.batch_log.specs.Faults.{is_io, IsOfLine, place_of}
+use Rattle.batch_log.specs.Faults.{is_io, IsOfLine, line_named}
 use Rattle.batch_log.specs.Log.{batches_of, first_fault, log_said, IsEnd, IsFault, IsNextBatch}
 use Rattle.batch_log.specs.Moves.{Moves}
-use Rattle.engine.specs.declared.settings.Settings.{Settings}
+use Rattle.dispatcher.specs.declared.settings.Settings.{Settings}
 use Rattle.running.specs.declared.run_fault.RunFault.{RunFault}
 use Rattle.running.specs.declared.run_fault.RunFault.TheVariants as runs
 use Rattle.report_text.specs.Report.{entries_in}
@@ -45,7 +45,7 @@ pub batch_entries : (db : Database) (number : ℕ) (calls : List Call) → map (
 batch_entries db number [] = refl
 batch_entries db number (call ∷ calls) = ap (λ (rest : List EntryShape). prepared db call ∷ rest) (batch_entries db (number + 1) calls)
 
--- the entries of batches, and of those that close a log behind them
+-- the entries of batches, and of those that close a log after them
 abbrev all_of : ℕ → Database → List (List Call) → Option LogFault → List (List EntryShape)
 all_of retries db batches fault = map entries_in (in_turn retries (start_of db) (closed retries (is_some fault) (start_of db) batches))
 
@@ -108,7 +108,7 @@ module _ (procs : ProcsParts) (retries : ℕ) (db : Database) (settings : Settin
 
   -- with a fault of the reader
   pub ends_at_fault : (fault : LogFault) → f2 ≡ (f || is_io fault.kind) → (IsOfLine fault.kind → IfSome left (λ log. first_batch procs retries db log ≡ Err fault)) →
-      fault.line ≡ place_of fault.kind at → (is_io fault.kind ≡ true → came ≡ []) → IsFirstBatchPlanned procs retries db settings (device_with left f) (device_with last f2) (Err (runs.Log fault))
+      fault.line ≡ line_named fault.kind at → (is_io fault.kind ≡ true → came ≡ []) → IsFirstBatchPlanned procs retries db settings (device_with left f) (device_with last f2) (Err (runs.Log fault))
   ends_at_fault fault fails first place spent = record {
     text = tt;
     fault = first;

@@ -7,13 +7,13 @@ use Rattle.coarsen.specs.Laws.{PlansAreExact}
 use Rattle.meaning.specs.Entries.{EntryShape}
 use Rattle.interp.specs.Entries.{EntryParts, entry_shape}
 use Rattle.report_text.specs.PlanTexts.{plan_lines}
-use Rattle.engine.specs.declared.settings.Settings.{Settings}
+use Rattle.dispatcher.specs.declared.settings.Settings.{Settings}
 use Rattle.scheduler.specs.Logs.{IsPlanOfEntry, ArePlansOf}
 use Rattle.calvin.specs.FirstBatches.{IsPlansText, plans_text, PlansHaveOneText}
 
 -- ---- the text as it grows
 
--- whatever plans the entries from a place on have, the text with theirs behind it is that of all entries
+-- whatever plans the entries from a place on have, the text with theirs after it is that of all entries
 abbrev pub GoesOn : List TableShape → Settings → List EntryParts → ℕ → List ℕ → Type 0
 GoesOn tables settings entries place text =
     (rest : List Requests) → ArePlansOf settings.threshold settings.arena (map entry_shape (drop place entries)) rest

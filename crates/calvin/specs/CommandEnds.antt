@@ -20,7 +20,7 @@ use Rattle.command_line.specs.CommandLine.{IsAskedFor}
 use Rattle.command_line.specs.declared.line.Command.{Command}
 use Rattle.command_line.specs.declared.line.Command.TheVariants.{Run, Locks, Replicas, Check}
 use Rattle.command_line.specs.declared.line.Line.{Line}
-use Rattle.engine.specs.declared.settings.Settings.{Settings}
+use Rattle.dispatcher.specs.declared.settings.Settings.{Settings}
 use Rattle.running.specs.declared.run_fault.RunFault.{RunFault}
 use Rattle.running.specs.declared.run_fault.RunFault.TheVariants as runs
 use Rattle.calvin.specs.Comparisons.{IsFirstDifference}
@@ -85,7 +85,8 @@ pub record IsRunAt (alone : Bool) (holds : Holding) (source spent sink filled : 
 -- Without a setup nothing is read of the log, and nothing is written.
 abbrev pub IsRunCommand : Bool → Holding → Device → Device → Device → Device → ℕ → Type 0
 IsRunCommand alone holds source spent sink filled status =
-    (IsWithoutSetup holds status × (spent ≡ source) × (filled ≡ sink)) ⊎ IsRunAt alone holds source spent sink filled status
+    (IsWithoutSetup holds status × (spent ≡ source) × (filled ≡ sink))
+    ⊎ IsRunAt alone holds source spent sink filled status
 
 -- ---- the command `replicas`
 
@@ -98,7 +99,8 @@ abbrev pub answer_status : Option ℕ → ℕ
 answer_status None = 0
 answer_status (Some place) = 5
 
--- A text was written and the command ended as it should; or its write failed; or memory was refused, and nothing was written.
+-- A text was written and the command ended as it should; or its write failed; or memory was refused, and nothing was
+-- written.
 abbrev pub IsWritten : List ℕ → Device → Device → ℕ → ℕ → Type 0
 IsWritten text sink filled done status =
     ((status ≡ done) × Appends sink.bytes filled.bytes text)
@@ -112,7 +114,8 @@ kept_status full fault = if full && is_of_device fault then 3 else fault_status 
 -- the first difference of a report and another was written
 abbrev pub IsAnswered : List ℕ → List ℕ → Device → Device → ℕ → Type 0
 IsAnswered report other sink filled status =
-    (difference : Option ℕ) × IsFirstDifference difference report other × IsWritten (answer_text difference) sink filled (answer_status difference) status
+    (difference : Option ℕ) × IsFirstDifference difference report other
+    × IsWritten (answer_text difference) sink filled (answer_status difference) status
 
 -- after a fault nothing is compared
 abbrev pub IsCompared : Result ℕ RunFault → Bool → List ℕ → List ℕ → Device → Device → ℕ → Type 0
@@ -129,21 +132,28 @@ pub record AreReplicas (holds holds_other : Holding) (source spent sink filled :
   -- what was kept of the report, and whether memory was refused for it
   pub report : List ℕ
   pub is_full : Bool
-  pub run : IsRunOfLog (start_in setup) source spent (record { bytes = Some []; failed = false }) (record { bytes = Some report; failed = is_full }) result
-  pub whole : OnOk result (IfSome source.bytes (λ log. report ≡ report_of setup.procs setup.retries (with_rows map_of.empty setup.rows.items) log))
+  pub run : IsRunOfLog (start_in setup) source spent (record { bytes = Some []; failed = false })
+      (record { bytes = Some report; failed = is_full }) result
+  pub whole : OnOk result
+      (IfSome source.bytes
+      (λ log. report ≡ report_of setup.procs setup.retries (with_rows map_of.empty setup.rows.items) log))
   pub ends : IsCompared result is_full report other sink filled status
 
--- The other report is read first, and then the setup. Without either nothing is read of the log, and nothing is written.
+-- The other report is read first, and then the setup. Without either nothing is read of the log, and nothing is
+-- written.
 abbrev pub IsReplicasCommand : Holding → Holding → Device → Device → Device → Device → ℕ → Type 0
 IsReplicasCommand holds holds_other source spent sink filled status =
-    ((((status ≡ 4) × holds_other None) ⊎ ((status ≡ 3) ⊎ ((other : List ℕ) × holds_other (Some other) × IsWithoutSetup holds status))) × (spent ≡ source) × (filled ≡ sink))
+    ((((status ≡ 4) × holds_other None)
+    ⊎ ((status ≡ 3) ⊎ ((other : List ℕ) × holds_other (Some other) × IsWithoutSetup holds status))) × (spent ≡ source)
+    × (filled ≡ sink))
     ⊎ AreReplicas holds holds_other source spent sink filled status
 
 -- ---- the command `check`
 
 -- the line that says how many tables, procedures and rows there are
 unfoldable pub counts_text : ℕ → ℕ → ℕ → List ℕ
-counts_text tables procedures rows = codes "ok " ++ decimal tables ++ codes " tables " ++ decimal procedures ++ codes " procedures " ++ decimal rows ++ codes " rows\n"
+counts_text tables procedures rows = codes "ok " ++ decimal tables ++ codes " tables " ++ decimal procedures
+    ++ codes " procedures " ++ decimal rows ++ codes " rows\n"
 
 -- how many a setup has
 abbrev pub check_text : Setup → List ℕ
@@ -152,7 +162,8 @@ check_text setup = counts_text (length setup.catalogue) (length setup.procs.proc
 -- Without a setup nothing is written; with one, how much it has.
 abbrev pub IsCheckCommand : Holding → Device → Device → ℕ → Type 0
 IsCheckCommand holds sink filled status =
-    (IsWithoutSetup holds status × (filled ≡ sink)) ⊎ ((setup : Setup) × IsSetupAt holds setup × IsWritten (check_text setup) sink filled 0 status)
+    (IsWithoutSetup holds status × (filled ≡ sink))
+    ⊎ ((setup : Setup) × IsSetupAt holds setup × IsWritten (check_text setup) sink filled 0 status)
 
 -- ---- the command `locks`
 
@@ -162,17 +173,20 @@ IsTold (Ok text) sink filled status = IsWritten (string_bytes text) sink filled 
 IsTold (Err fault) sink filled status = (status ≡ fault_status fault) × (filled ≡ sink)
 
 -- The plans of the log's first batch were made on the setup at a path, and their text was written.
-pub record AreLocksAt (holds : Holding) (settings : Settings) (source spent sink filled : Device) (status : ℕ) : Type 0 where
+pub record AreLocksAt (holds : Holding) (settings : Settings) (source spent sink filled : Device) (status : ℕ) : Type
+    0 where
   pub setup : Setup
   pub is_setup : IsSetupAt holds setup
   pub result : Result (String Global) RunFault
-  pub planned : IsFirstBatchPlanned setup.procs setup.retries (with_rows map_of.empty setup.rows.items) settings source spent result
+  pub planned : IsFirstBatchPlanned setup.procs setup.retries (with_rows map_of.empty setup.rows.items) settings source
+      spent result
   pub ends : IsTold result sink filled status
 
 -- Without a setup nothing is read of the log, and nothing is written.
 abbrev pub IsLocksCommand : Holding → Settings → Device → Device → Device → Device → ℕ → Type 0
 IsLocksCommand holds settings source spent sink filled status =
-    (IsWithoutSetup holds status × (spent ≡ source) × (filled ≡ sink)) ⊎ AreLocksAt holds settings source spent sink filled status
+    (IsWithoutSetup holds status × (spent ≡ source) × (filled ≡ sink))
+    ⊎ AreLocksAt holds settings source spent sink filled status
 
 -- ---- which command
 
@@ -196,19 +210,23 @@ abbrev pub IfCheck : Command → (List ℕ → Type 0) → Type 0
 IfCheck (Check setup) P = P (string_bytes setup)
 IfCheck command P = ⊤
 
--- What comes of a command line, by its command: `run` writes the report of the log on the setup at its path, and `replicas`
--- compares that report with the text at another; `locks` writes the plans of the log's first batch; `check` writes how much the
--- setup has, and reads nothing of the log.
-pub record Does (holds : List ℕ → Option (List ℕ) → Type 0) (line : Line) (source spent sink filled : Device) (status : ℕ) : Type 0 where
+-- What comes of a command line, by its command: `run` writes the report of the log on the setup at its path, and
+-- `replicas` compares that report with the text at another; `locks` writes the plans of the log's first batch; `check`
+-- writes how much the setup has, and reads nothing of the log.
+pub record Does (holds : List ℕ → Option (List ℕ) → Type 0) (line : Line) (source spent sink filled : Device)
+    (status : ℕ) : Type 0 where
   pub run : IfRun line.command (λ alone path. IsRunCommand alone (holds path) source spent sink filled status)
   pub locks : IfLocks line.command (λ path. IsLocksCommand (holds path) line.settings source spent sink filled status)
-  pub replicas : IfReplicas line.command (λ path report. IsReplicasCommand (holds path) (holds report) source spent sink filled status)
+  pub replicas : IfReplicas line.command
+      (λ path report. IsReplicasCommand (holds path) (holds report) source spent sink filled status)
   pub check : IfCheck line.command (λ path. IsCheckCommand (holds path) sink filled status)
   pub unread : IfCheck line.command (λ path. spent ≡ source)
 
--- What comes of the words behind the program's name: they ask for a line, which is done; or they ask for none, or memory was
--- refused, and nothing is read of the log, and nothing is written.
-abbrev pub IsProgram : (List ℕ → Option (List ℕ) → Type 0) → List (List ℕ) → Device → Device → Device → Device → ℕ → Type 0
+-- What comes of the words after the program's name: they ask for a line, which is done; or they ask for none, or
+-- memory was refused, and nothing is read of the log, and nothing is written.
+abbrev pub IsProgram : (List ℕ → Option (List ℕ) → Type 0) → List (List ℕ) → Device → Device → Device → Device → ℕ
+    → Type 0
 IsProgram holds words source spent sink filled status =
     ((line : Line) × IsAskedFor words line × Does holds line source spent sink filled status)
-    ⊎ ((((status ≡ 2) × ((line : Line) → ¬ (IsAskedFor words line))) ⊎ (status ≡ 3)) × (spent ≡ source) × (filled ≡ sink))
+    ⊎ ((((status ≡ 2) × ((line : Line) → ¬ (IsAskedFor words line))) ⊎ (status ≡ 3)) × (spent ≡ source)
+    × (filled ≡ sink))

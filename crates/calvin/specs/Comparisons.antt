@@ -15,4 +15,5 @@ is_full kept = kept.is_full
 abbrev pub IsFirstDifference : Option ℕ → List ℕ → List ℕ → Type 0
 IsFirstDifference None text other = text ≡ other
 IsFirstDifference (Some place) text other =
-    (take place text ≡ take place other) × (place ≤ length text) × (place ≤ length other) × (slice_get text place ≡ slice_get other place → ⊥)
+    (take place text ≡ take place other) × (place ≤ length text) × (place ≤ length other)
+    × (slice_get text place ≡ slice_get other place → ⊥)

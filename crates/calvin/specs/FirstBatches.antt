@@ -12,7 +12,7 @@ use Rattle.scheduler.specs.Logs.{ArePlansOf}
 use Rattle.batch_log.specs.declared.fault.LogFault.{LogFault}
 use Rattle.report_text.specs.PlanTexts.{plan_lines}
 use Rattle.report_text.specs.Report.{entries_in}
-use Rattle.engine.specs.declared.settings.Settings.{Settings}
+use Rattle.dispatcher.specs.declared.settings.Settings.{Settings}
 use Rattle.running.specs.declared.run_fault.RunFault.{RunFault}
 use Rattle.running.specs.Reports.{batches_in, fault_in}
 use Rattle.running.specs.Runs.{Device}
@@ -26,7 +26,8 @@ plans_text tables number [] = []
 plans_text tables number (plan ∷ plans) = plan_lines tables number plan ++ plans_text tables (number + 1) plans
 
 -- the text of the plans of entries, which are numbered from 0
-pub record IsPlansText (tables : List TableShape) (settings : Settings) (entries : List EntryShape) (text : List ℕ) : Type 0 where
+pub record IsPlansText (tables : List TableShape) (settings : Settings) (entries : List EntryShape)
+    (text : List ℕ) : Type 0 where
   pub plans : List Requests
   pub of_entries : ArePlansOf settings.threshold settings.arena entries plans
   pub lines : text ≡ plans_text tables 0 plans
@@ -47,16 +48,22 @@ first_of [] None = Ok []
 
 -- the entries of a log's first batch, on procedures and starting rows
 abbrev pub first_batch : ProcsParts → ℕ → Database → List ℕ → Result (List EntryShape) LogFault
-first_batch procs retries db log = first_of (map entries_in (batches_in procs retries db log)) (fault_in procs retries log)
+first_batch procs retries db log =
+    first_of (map entries_in (batches_in procs retries db log)) (fault_in procs retries log)
 
--- The plans of the first batch of the log that a source has left, on procedures and starting rows: the source before and after, and the plans'
--- text or a fault.
-pub record IsFirstBatchPlanned (procs : ProcsParts) (retries : ℕ) (db : Database) (settings : Settings) (source spent : Device) (result : Result (String Global) RunFault) : Type 0 where
+-- The plans of the first batch of the log that a source has left, on procedures and starting rows: the source before
+-- and after, and the plans' text or a fault.
+pub record IsFirstBatchPlanned (procs : ProcsParts) (retries : ℕ) (db : Database) (settings : Settings)
+    (source spent : Device) (result : Result (String Global) RunFault) : Type 0 where
   -- The text is that of the first batch.
-  pub text : IfOk result (λ text. IfSome source.bytes (λ log. IsOkAnd (first_batch procs retries db log) (λ entries. IsPlansText procs.tables settings entries (string_bytes text))))
+  pub text : IfOk result (λ text. IfSome source.bytes
+      (λ log. IsOkAnd (first_batch procs retries db log)
+      (λ entries. IsPlansText procs.tables settings entries (string_bytes text))))
   -- A fault of a line is the log's first, and comes before the first batch ends.
-  pub fault : IfErr result (λ e. IfOfLine e (λ fault. IfSome source.bytes (λ log. first_batch procs retries db log ≡ Err fault)))
-  -- The fault of a device comes exactly where the source has failed meanwhile. No thread is refused. Each fault names its line.
+  pub fault : IfErr result
+      (λ e. IfOfLine e (λ fault. IfSome source.bytes (λ log. first_batch procs retries db log ≡ Err fault)))
+  -- The fault of a device comes exactly where the source has failed meanwhile. No thread is refused. Each fault names
+  -- its line.
   pub device : spent.failed ≡ (source.failed || ends_in_io result)
   pub threadless : IsNotOfThread result
   pub line : source.failed ≡ false → IfErr result (λ e. IfOfMachine e (IsLineOf spent.failed source.bytes spent.bytes))

@@ -9,7 +9,8 @@ use Rattle.calvin.specs.declared.telling.Lines.TheVariants.{Below, Over}
 -- how many are settled, and how they ended
 abbrev pub tally_text : Tally → List ℕ
 tally_text tally =
-    decimal tally.settled ++ codes " settled, " ++ decimal tally.committed ++ codes " committed, " ++ decimal tally.aborted ++ codes " aborted, " ++ decimal tally.stale ++ codes " stale"
+    decimal tally.settled ++ codes " settled, " ++ decimal tally.committed ++ codes " committed, "
+    ++ decimal tally.aborted ++ codes " aborted, " ++ decimal tally.stale ++ codes " stale"
 
 -- A line that goes over the one before begins with a carriage return.
 abbrev pub before : Lines → List ℕ
@@ -17,10 +18,10 @@ before Below = []
 before Over = codes "\r"
 
 -- Of the lines that go over each other, the last one alone ends with a newline. Others each end with one.
-abbrev pub behind : Lines → Bool → List ℕ
-behind Over false = []
-behind Over true = codes "\n"
-behind Below is_last = codes "\n"
+abbrev pub line_ending : Lines → Bool → List ℕ
+line_ending Over false = []
+line_ending Over true = codes "\n"
+line_ending Below is_last = codes "\n"
 
 abbrev pub line_text : Lines → Bool → Tally → List ℕ
-line_text lines is_last tally = before lines ++ tally_text tally ++ behind lines is_last
+line_text lines is_last tally = before lines ++ tally_text tally ++ line_ending lines is_last

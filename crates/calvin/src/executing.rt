@@ -86,12 +86,12 @@ pub(crate) fn run_log_in_pool<R: Threads + Wait + Sync, G: Gate, S: Source, K: S
     }
 }
 
-/// Runs the log that a source gives on a setup, on worker threads, and writes its report into a sink: for each batch a reply
-/// line a call and a batch line, and then the end line. The answer is the number of transactions.
+/// Runs the log that a source gives on a setup, on worker threads, and writes its report into a sink: for each batch a
+/// reply line a call and a batch line, and then the end line. The answer is the number of transactions.
 ///
-/// A batch is read whole before it runs, and its report is written after it ended. A fault ends the run: one of a line of
-/// the log (31 to 35), a failed device (36), want of memory (37), or a refused thread (38). What was written then is a
-/// beginning of the report.
+/// A batch is read whole before it runs, and its report is written after it ended. A fault ends the run: one of a line
+/// of the log (31 to 35), a failed device (36), want of memory (37), or a refused thread (38). What was written then is
+/// a beginning of the report.
 pub fn run_text<R: Threads + Wait + Sync, G: Gate, S: Source, K: Sink>(
     rt: &R,
     alloc: Global,

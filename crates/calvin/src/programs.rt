@@ -14,9 +14,9 @@ use std::alloc::Global;
 use std::sync::Wait;
 use std::thread::Threads;
 
-/// Reads a command line from the words behind the program's name, does what it asks for, and gives the exit status: those of
-/// `command`; 2 where the words are no command line that is served, with a text for the user on `err`; 3 where memory was
-/// refused meanwhile.
+/// Reads a command line from the words after the program's name, does what it asks for, and gives the exit status:
+/// those of `command`; 2 where the words are no command line that is served, with a text for the user on `err`; 3 where
+/// memory was refused meanwhile.
 pub fn program<R: Threads + Wait + Sync, F: Files, S: Source, K: Sink, E: Sink + Send>(
     rt: &R,
     alloc: Global,

@@ -1,4 +1,5 @@
-//! Running the log on a setup, on one thread or on worker threads, and telling meanwhile on standard error how far it is.
+//! Running the log on a setup, on one thread or on worker threads, and telling meanwhile on standard error how far it
+//! is.
 
 ghost use Rattle.std.specs.Prelude.{◌≡◌, IfErr, false, true};
 ghost use Rattle.sequencer.specs.Batches.{items_of, AreOver};
@@ -20,7 +21,8 @@ use std::cell::RefCell;
 use std::sync::Wait;
 use std::thread::{Threads, join_mut};
 
-/// Runs a log on an engine that has run none, on one thread. Where it is asked for lines, one goes to `err` at the end of each batch.
+/// Runs a log on an engine that has run none, on one thread. Where it is asked for lines, one goes to `err` at the end
+/// of each batch.
 fn run_telling<R: Wait, S: Source, K: Sink, E: Sink>(
     rt: &R,
     alloc: Global,
@@ -50,8 +52,8 @@ fn run_telling<R: Wait, S: Source, K: Sink, E: Sink>(
     run_log_on(rt, alloc, &executor, engine, source, sink)
 }
 
-/// Runs the log that a source gives on a setup, on one thread, and writes its report into a sink. Where it is asked for lines, one goes
-/// to `err` at the end of each batch.
+/// Runs the log that a source gives on a setup, on one thread, and writes its report into a sink. Where it is asked for
+/// lines, one goes to `err` at the end of each batch.
 fn run_alone<R: Wait, S: Source, K: Sink, E: Sink>(
     rt: &R,
     alloc: Global,
@@ -97,8 +99,8 @@ fn run_to_end<R: Threads + Wait + Sync, S: Source, K: Sink>(
     ended
 }
 
-/// Runs a log on an engine that has run none, on worker threads, while a thread of its own writes lines to `err`. Where that
-/// thread is refused, the last line is written when the run has ended.
+/// Runs a log on an engine that has run none, on worker threads, while a thread of its own writes lines to `err`. Where
+/// that thread is refused, the last line is written when the run has ended.
 fn run_beside_teller<R: Threads + Wait + Sync, S: Source, K: Sink, E: Sink + Send>(
     rt: &R,
     alloc: Global,
@@ -128,8 +130,8 @@ fn run_beside_teller<R: Threads + Wait + Sync, S: Source, K: Sink, E: Sink + Sen
     ended
 }
 
-/// Runs the log that a source gives on a setup, on worker threads, and writes its report into a sink. Where it is asked for lines, one
-/// goes to `err` about twice a second meanwhile, and one at the end.
+/// Runs the log that a source gives on a setup, on worker threads, and writes its report into a sink. Where it is asked
+/// for lines, one goes to `err` about twice a second meanwhile, and one at the end.
 fn run_on_workers<R: Threads + Wait + Sync, S: Source, K: Sink, E: Sink + Send>(
     rt: &R,
     alloc: Global,

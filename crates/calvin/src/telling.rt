@@ -3,7 +3,7 @@
 ghost use Rattle.std.specs.Prelude.{◌≡◌, ◌++◌, true, false, IfOk, OnOk, None, Some, string_bytes};
 ghost use Rattle.devices.specs.Devices.{AppendsFront};
 ghost use Rattle.calvin.specs.declared.telling.Lines.TheVariants.{Below, Over};
-ghost use Rattle.calvin.specs.ProgressLines.{before, behind, line_text, tally_text};
+ghost use Rattle.calvin.specs.ProgressLines.{before, line_ending, line_text, tally_text};
 
 use batch_log::{Sink, write_all};
 use engine::{Engine, Tally, Watcher};
@@ -48,9 +48,9 @@ fn before(lines: Lines) -> &'static str
     }
 }
 
-/// What stands behind the words of a line, which may be the last one.
-fn behind(lines: Lines, is_last: bool) -> &'static str
-    ensures { result.now ≡ behind lines is_last }
+/// What stands after the words of a line, which may be the last one.
+fn line_ending(lines: Lines, is_last: bool) -> &'static str
+    ensures { result.now ≡ line_ending lines is_last }
 {
     match (lines, is_last) {
         (Lines::Over, false) => "",
@@ -81,7 +81,7 @@ fn line_text(alloc: Global, lines: Lines, tally: Tally, is_last: bool) -> Result
     let mut text = String::new(alloc);
     text.push_str(before(lines))?;
     push_tally(&mut text, tally)?;
-    text.push_str(behind(lines, is_last))?;
+    text.push_str(line_ending(lines, is_last))?;
     Ok(text)
 }
 

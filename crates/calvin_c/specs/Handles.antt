@@ -10,4 +10,5 @@ use Rattle.session.specs.contracts.session.Session as session
 
 -- a session lies there, in a block that may be freed
 abbrev pub live : Ptr → Fml
-live p = fex Global (λ (a : Global). fex Session (λ (x : Session). box_owns (ghosts.dealloc_token a) session.the_row p x))
+live p =
+    fex Global (λ (a : Global). fex Session (λ (x : Session). box_owns (ghosts.dealloc_token a) session.the_row p x))

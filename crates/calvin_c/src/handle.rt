@@ -14,8 +14,8 @@ pub struct Opaque {
     unused: u8,
 }
 
-/// A pointer that `calvin_c_open` gave and that `calvin_c_close` has not taken. Whoever passes one passes the session that lies
-/// there, and has it back when the call returns, but for `calvin_c_close`.
+/// A pointer that `calvin_c_open` gave and that `calvin_c_close` has not taken. Whoever passes one passes the session
+/// that lies there, and has it back when the call returns, but for `calvin_c_close`.
 #[repr(C)]
 pub struct Handle {
     at: *mut Opaque,

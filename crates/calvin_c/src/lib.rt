@@ -14,9 +14,9 @@ use session::SessionFault;
 use status::{DONE, session_status};
 use std::alloc::Global;
 
-/// Opens a session on the setup that a JSON text says. 0: its pointer is in `out`, and `calvin_c_close` wants it back. 1: the text
-/// breaks a rule, and the fault's line stands in the first `written` bytes of `message`. 2: a setting is outside its range. 3: memory
-/// was refused.
+/// Opens a session on the setup that a JSON text says. 0: its pointer is in `out`, and `calvin_c_close` wants it back.
+/// 1: the text breaks a rule, and the fault's line stands in the first `written` bytes of `message`. 2: a setting is
+/// outside its range. 3: memory was refused.
 #[unsafe(no_mangle)]
 pub extern "C" fn calvin_c_open(
     alloc: Global,
@@ -46,8 +46,8 @@ pub extern "C" fn calvin_c_open(
     }
 }
 
-/// Feeds the next bytes of the log. 0: they were taken, and each batch whose cut was among them is executed, and its report waits.
-/// 1: the log has a fault. 2: the log has ended. 3: memory was refused.
+/// Feeds the next bytes of the log. 0: they were taken, and each batch whose cut was among them is executed, and its
+/// report waits. 1: the log has a fault. 2: the log has ended. 3: memory was refused.
 #[unsafe(no_mangle)]
 pub extern "C" fn calvin_c_feed(alloc: Global, handle: Handle, bytes: &[u8]) -> i32 {
     let mut session = handle.into_box(alloc);
@@ -59,7 +59,7 @@ pub extern "C" fn calvin_c_feed(alloc: Global, handle: Handle, bytes: &[u8]) -> 
     }
 }
 
-/// Ends the log. 0: calls behind the last cut are executed, and the end line waits. Else as `calvin_c_feed`.
+/// Ends the log. 0: calls after the last cut are executed, and the end line waits. Else as `calvin_c_feed`.
 #[unsafe(no_mangle)]
 pub extern "C" fn calvin_c_end(alloc: Global, handle: Handle) -> i32 {
     let mut session = handle.into_box(alloc);

@@ -11,7 +11,7 @@ use Rattle.documents.proofs.Json.{list_of-items_of}
 use Rattle.documents.proofs.Steps.{and_then_ok, map_ok}
 use Rattle.documents.proofs.Said.{string_said, elements_said, elements_again, two_said, three_said, text_number_list_said, text_number_list_again}
 use Rattle.values.specs.declared.value.ColType.{ColType}
-use Rattle.catalogue.specs.Reading.{type_of_word, column_form, SplitForm, counted, bounded, integers, behind_word, split_form, table_form, version_form, catalogue_form}
+use Rattle.catalogue.specs.Reading.{type_of_word, column_form, SplitForm, counted, bounded, integers, after_word, split_form, table_form, version_form, catalogue_form}
 
 some_is : {A : Type 0} (x y : A) → Some x ≡ Some y → x ≡ y
 some_is x y e = cc
@@ -40,7 +40,7 @@ column_again name word kind e = rw e refl
 
 -- ---- splits
 
--- a number, or numbers behind the word where there are bounds
+-- a number, or numbers after the word where there are bounds
 abbrev pub SplitSaid : Bool → Data → SplitForm → Type 0
 SplitSaid has_bounds d (counted z) = integer d ≡ Some z
 SplitSaid has_bounds d (bounded zs) = (has_bounds ≡ true) × (numbers : List Data)
@@ -53,19 +53,19 @@ word_said word o zs e = by (bytes_eq word (codes "bounds")) refl
     by true p = ((bytes_eq-Decides word (codes "bounds")).0 p, rw p at e)
     by false p = absurd (let h = rw p at e in cc)
 
-behind_said : (ds : List Data) (zs : List ℤ) → behind_word ds ≡ Some zs → (numbers : List Data) × (ds ≡ string (codes "bounds") ∷ numbers) × (integers numbers ≡ Some zs)
-behind_said [] zs e = absurd cc
-behind_said (d ∷ ds) zs e =
+after_word_said : (ds : List Data) (zs : List ℤ) → after_word ds ≡ Some zs → (numbers : List Data) × (ds ≡ string (codes "bounds") ∷ numbers) × (integers numbers ≡ Some zs)
+after_word_said [] zs e = absurd cc
+after_word_said (d ∷ ds) zs e =
     let a = and_then_ok _ (as_str d) zs e in
     let b = word_said a.0 (integers ds) zs a.2 in
     (ds, ap (λ (first : Data). first ∷ ds) (string_said d a.0 a.1 ∙ ap (λ (s : List ℕ). string s) b.0), b.1)
 
-bounds_said : (has_bounds : Bool) (d : Data) (form : SplitForm) → (if has_bounds then option_map bounded (option_and_then behind_word (elements d)) else None) ≡ Some form → SplitSaid has_bounds d form
+bounds_said : (has_bounds : Bool) (d : Data) (form : SplitForm) → (if has_bounds then option_map bounded (option_and_then after_word (elements d)) else None) ≡ Some form → SplitSaid has_bounds d form
 bounds_said false d form e = absurd cc
 bounds_said true d form e =
-    let a = map_ok bounded (option_and_then behind_word (elements d)) form e in
-    let b = and_then_ok behind_word (elements d) a.0 a.1 in
-    let c = behind_said b.0 a.0 b.2 in
+    let a = map_ok bounded (option_and_then after_word (elements d)) form e in
+    let b = and_then_ok after_word (elements d) a.0 a.1 in
+    let c = after_word_said b.0 a.0 b.2 in
     subst (SplitSaid true d) a.2 (refl, c.0, elements_said d b.0 b.1 ∙ ap (λ (ds : List Data). array (items_of ds)) c.1, c.2)
 
 pub split_said : (has_bounds : Bool) (d : Data) (form : SplitForm) → split_form has_bounds d ≡ Some form → SplitSaid has_bounds d form
@@ -82,7 +82,7 @@ counted_again has_bounds d z e = rw (e, split_form) refl
 
 pub bounded_again : (numbers : List Data) (zs : List ℤ) → integers numbers ≡ Some zs → split_form true (array (items_of (string (codes "bounds") ∷ numbers))) ≡ Some (bounded zs)
 unfolding split_form
-bounded_again numbers zs e = ap (option_map bounded) (ap (option_and_then behind_word) (elements_again (string (codes "bounds") ∷ numbers)) ∙ e)
+bounded_again numbers zs e = ap (option_map bounded) (ap (option_and_then after_word) (elements_again (string (codes "bounds") ∷ numbers)) ∙ e)
 
 -- ---- tables
 

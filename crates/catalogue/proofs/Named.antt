@@ -1,4 +1,4 @@
--- Things that are read one behind the other, each with a name that none before it has.
+-- Things that are read one after another, each with a name that none before it has.
 use Rattle.std.proofs.Common.{◌≡◌, ℕ, Bool, true, false, ◌||◌, List, [], ◌∷◌, ◌++◌, length, map, Result, Ok, refl, sym, ap, ◌∙◌, subst, append_assoc, suc}
 use Rattle.std.specs.Str.{bytes_eq}
 use Rattle.std.specs.List.{AllByRecursion, IsDistinct}
@@ -22,7 +22,7 @@ neither true b e = absurd cc
 neither false b e = (refl, e)
 
 module _ {X : Type 0} (name_of : X → List ℕ) where
-  -- a new name behind the others
+  -- a new name after the others
   unlike_push : (n : List ℕ) (xs : List X) (x : X) → AllByRecursion (λ y. bytes_eq n y ≡ false) (map name_of xs) → bytes_eq n (name_of x) ≡ false → AllByRecursion (λ y. bytes_eq n y ≡ false) (map name_of (xs ++ x ∷ []))
   unlike_push n [] x h e = (e, tt)
   unlike_push n (y ∷ xs) x h e = (h.0, unlike_push n xs x h.1 e)

@@ -1,4 +1,4 @@
--- One more behind those that keep a rule.
+-- One more after those that keep a rule.
 use Rattle.std.proofs.Common.{List, [], ◌∷◌, ◌++◌}
 use Rattle.std.specs.List.{AllByRecursion}
 

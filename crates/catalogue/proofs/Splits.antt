@@ -10,7 +10,7 @@ use Rattle.catalogue.specs.Rules.{AreRising}
 abbrev pub passed : ℕ → List ℕ → ℕ
 passed k bounds = count_by (λ bound. nat_le bound k) bounds
 
--- all before a place are passed, and none behind those that are left from there on
+-- all before a place are passed, and none after those that are left from there on
 pub record IsBetween (bs : List ℕ) (key before left : ℕ) : Type 0 where
   pub within : before + left ≤ length bs
   pub all : (k : ℕ) → k < before → nat_le (slice_index bs k) key ≡ true

@@ -1,5 +1,5 @@
 -- Of the code: invariants and steps; no promise rests on these words.
--- Versions, the forms of splits that were read, and bounds one behind the other.
+-- Versions, the forms of splits that were read, and bounds one after another.
 use Rattle.std.specs.Prelude.{ℕ, Bool, true, false, ◌<◌, ◌^◌, List, [], ◌∷◌, ◌++◌, map, Option, Some, option_map, Result, Ok, ⊤}
 use Rattle.std.specs.List.{AllByRecursion}
 use Rattle.serde_json.specs.Data.{Data}
@@ -33,12 +33,12 @@ with_split_said form = (form.0, Some form.1, form.2)
 abbrev pub bound_said : ℕ → Data → Result ℕ CatalogueFault
 bound_said least d = formed Shape (integer d) >>= bound_at least
 
--- the bounds that documents say, behind those before them, each above the one before it and the first above a least one
-abbrev pub bounds_behind : List ℕ → ℕ → List Data → Result (List ℕ) CatalogueFault
-bounds_behind before least [] = Ok before
-bounds_behind before least (d ∷ ds) = do
+-- the bounds that documents say, after those before them, each above the one before it and the first above a least one
+abbrev pub bounds_after : List ℕ → ℕ → List Data → Result (List ℕ) CatalogueFault
+bounds_after before least [] = Ok before
+bounds_after before least (d ∷ ds) = do
   bound ← bound_said least d
-  bounds_behind (before ++ bound ∷ []) bound ds
+  bounds_after (before ++ bound ∷ []) bound ds
 
 -- each bound is a key: it is less than 2^63
 abbrev pub IsSigned : SplitShape → Type 0

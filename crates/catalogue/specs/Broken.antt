@@ -1,5 +1,6 @@
 -- Claimed: what contracts promise to a reader rests on these words.
--- The faults of a catalogue's document, in the order in which its rules are looked at: the first is the one that is answered, and there is none where no rule is broken. No rule here hangs on what reading does.
+-- The faults of a catalogue's document, in the order in which its rules are looked at: the first is the one that is
+-- answered, and there is none where no rule is broken. No rule here depends on what reading does.
 use Rattle.std.specs.Prelude.{ℕ, ℤ, pos, negsuc, List, [], ◌∷◌, ◌++◌, length, Option, Some, None, option_map, Bool, true, false, int_lt, ◌&&◌, not, nat_lt, nat_le, ◌==◌}
 use Rattle.std.specs.Str.{bytes_eq}
 use Rattle.std.specs.List.{list_any}
@@ -18,7 +19,7 @@ is_among name names = list_any (λ other. bytes_eq name other) names
 abbrev pub name_of_column : Data → Option (List ℕ)
 name_of_column d = option_map (λ (f : List ℕ × ColType). f.0) (column_form d)
 
--- behind columns of these names
+-- after columns of these names
 abbrev pub in_column_form : List (List ℕ) → Option (List ℕ × ColType) → List CatalogueFault
 in_column_form names None = Shape ∷ []
 in_column_form names (Some f) = broken (is_name f.0) BadName ++ broken (not (is_among f.0 names)) DuplicateName
@@ -44,7 +45,7 @@ in_split (bounded zs) = broken (nat_le (length zs) 1023) Limit ++ broken (are_ri
 abbrev pub name_of_table : Bool → Data → Option (List ℕ)
 name_of_table has_bounds d = option_map (λ (f : List ℕ × SplitForm × List Data). f.0) (table_form has_bounds d)
 
--- behind tables of these names
+-- after tables of these names
 abbrev pub in_table_form : List (List ℕ) → Option (List ℕ × SplitForm × List Data) → List CatalogueFault
 in_table_form names None = Shape ∷ []
 in_table_form names (Some f) =

@@ -14,7 +14,8 @@ is_end_of tables table key = option_map (λ t. is_end_with t.split key) (slice_g
 
 -- the partitions of a table of P partitions have the numbers 0 to P - 1
 abbrev pub partition_numbered : List TableShape → ℕ → ℤ → Option ℕ
-partition_numbered tables table (pos n) = option_and_then (λ t. if nat_lt n (partitions t.split) then Some n else None) (slice_get tables table)
+partition_numbered tables table (pos n) =
+    option_and_then (λ t. if nat_lt n (partitions t.split) then Some n else None) (slice_get tables table)
 partition_numbered tables table (negsuc n) = None
 
 -- the place of the table with a name

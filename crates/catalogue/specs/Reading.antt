@@ -46,16 +46,16 @@ abbrev pub integers : List Data → Option (List ℤ)
 integers [] = Some []
 integers (d ∷ ds) = option_and_then (λ z. option_map (λ zs. z ∷ zs) (integers ds)) (integer d)
 
--- the numbers behind the word
-abbrev pub behind_word : List Data → Option (List ℤ)
-behind_word [] = None
-behind_word (d ∷ ds) = option_and_then (λ word. if bytes_eq word (codes "bounds") then integers ds else None) (as_str d)
+-- the numbers after the word
+abbrev pub after_word : List Data → Option (List ℤ)
+after_word [] = None
+after_word (d ∷ ds) = option_and_then (λ word. if bytes_eq word (codes "bounds") then integers ds else None) (as_str d)
 
 -- a number, or, in version 2, bounds
 unfoldable pub split_form : Bool → Data → Option SplitForm
 split_form has_bounds d = elim (integer d) [
   | Some z ↦ Some (counted z)
-  | None ↦ if has_bounds then option_map bounded (option_and_then behind_word (elements d)) else None
+  | None ↦ if has_bounds then option_map bounded (option_and_then after_word (elements d)) else None
 ]
 
 -- a name, a split, and columns
@@ -78,7 +78,8 @@ version_form (negsuc n) = None
 unfoldable pub catalogue_form : Data → Option (Bool × List Data)
 catalogue_form d =
     option_and_then (λ (f : List ℕ × ℤ × List Data).
-    if bytes_eq f.0 (codes "catalogue") then option_map (λ (has_bounds : Bool). (has_bounds, f.2)) (version_form f.1) else None)
+    if bytes_eq f.0 (codes "catalogue") then option_map (λ (has_bounds : Bool). (has_bounds, f.2)) (version_form f.1)
+    else None)
     (text_number_list d)
 
 -- ---- the first fault
@@ -93,7 +94,7 @@ is_column = is_used (λ c. c.name)
 abbrev pub is_table : List ℕ → List TableShape → Bool
 is_table = is_used (λ t. t.name)
 
--- a column, behind those before it
+-- a column, after those before it
 unfoldable pub column_at : List ColumnShape → Data → Result ColumnShape CatalogueFault
 column_at before d = do
   form ← formed Shape (column_form d)
@@ -145,7 +146,7 @@ body_at form columns = do
   columns ← columns_at [] columns
   Ok (record { split = split; columns = columns })
 
--- a table, behind those before it
+-- a table, after those before it
 unfoldable pub table_at : Bool → List TableShape → Data → Result TableShape CatalogueFault
 table_at has_bounds before d = do
   form ← formed Shape (table_form has_bounds d)

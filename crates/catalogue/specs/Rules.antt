@@ -12,7 +12,7 @@ use Rattle.catalogue.specs.Reading.{type_of_word}
 
 -- ---- the rules
 
--- at least one and no more than so many, each with a name, and no two of one name
+-- at least one and no more than a most, each with a name, and no two of one name
 pub record AreNamed {X : Type 0} (name_of : X → List ℕ) (most : ℕ) (xs : List X) : Type 0 where
   pub some : 1 ≤ length xs
   pub few : length xs ≤ most
@@ -55,7 +55,8 @@ Says one ds xs = ⊥
 
 -- ["bal", "int"]
 abbrev pub SaysColumn : Data → ColumnShape → Type 0
-SaysColumn d c = (word : List ℕ) × (d ≡ array (items_of (string c.name ∷ string word ∷ []))) × (type_of_word word ≡ Some c.kind)
+SaysColumn d c =
+    (word : List ℕ) × (d ≡ array (items_of (string c.name ∷ string word ∷ []))) × (type_of_word word ≡ Some c.kind)
 
 abbrev pub SaysNumber : Data → ℕ → Type 0
 SaysNumber d n = integer d ≡ Some (pos n)
@@ -87,4 +88,5 @@ SaysCatalogue d ts = (number : Data) × (tables : List Data)
 
 -- a document says one catalogue, and no other
 abbrev pub OneCatalogueIsSaid : Type 0
-OneCatalogueIsSaid = (d : Data) (ts us : List TableShape) → SaysCatalogue d ts → IsCatalogue ts → SaysCatalogue d us → IsCatalogue us → ts ≡ us
+OneCatalogueIsSaid = (d : Data) (ts us : List TableShape) → SaysCatalogue d ts → IsCatalogue ts → SaysCatalogue d us
+    → IsCatalogue us → ts ≡ us

@@ -19,10 +19,10 @@ value_said (boolean b) = None
 value_said (array ds) = None
 value_said (object ms) = None
 
--- the values that documents say, behind those before them, where each says one
-abbrev pub values_behind : List Value → List Data → Option (List Value)
-values_behind before [] = Some before
-values_behind before (d ∷ ds) = option_and_then (λ v. values_behind (before ++ v ∷ []) ds) (value_said d)
+-- the values that documents say, after those before them, where each says one
+abbrev pub values_after : List Value → List Data → Option (List Value)
+values_after before [] = Some before
+values_after before (d ∷ ds) = option_and_then (λ v. values_after (before ++ v ∷ []) ds) (value_said d)
 
 abbrev pub values_said : List Data → Option (List Value)
-values_said ds = values_behind [] ds
+values_said ds = values_after [] ds

@@ -1,5 +1,6 @@
 -- Claimed: what contracts promise to a reader rests on these words.
--- A catalogue as its readers see it: tables in declared order, each with its columns in order, and how its keys are split over partitions.
+-- A catalogue as its readers see it: tables in declared order, each with its columns in order, and how its keys are
+-- split over partitions.
 use Rattle.std.specs.Prelude.{ℕ, ◌+◌, ◌%◌, Bool, false, ◌==◌, nat_le, count_by, List, length, map, String, string_bytes}
 use Rattle.std.specs.List.{list_any}
 use Rattle.std.specs.declared.alloc.Global.{Global}
@@ -12,7 +13,7 @@ pub record ColumnShape : Type 0 where
   pub name : List ℕ
   pub kind : ColType
 
--- how keys are split over partitions: over so many of them by the remainder, or at bounds
+-- how keys are split over partitions: over a number of them by the remainder, or at bounds
 pub data SplitShape : Type 0 where
   by_remainder : ℕ → SplitShape
   at_bounds : List ℕ → SplitShape
@@ -22,13 +23,14 @@ abbrev pub partitions : SplitShape → ℕ
 partitions (by_remainder count) = count
 partitions (at_bounds bounds) = length bounds + 1
 
--- the partition with a key: of P partitions by the remainder, key k is in partition k mod P; at bounds, the number of the
--- partition is how many bounds are at most the key
+-- the partition with a key: of P partitions by the remainder, key k is in partition k mod P; at bounds, the number of
+-- the partition is how many bounds are at most the key
 abbrev pub part_with : SplitShape → ℕ → ℕ
 part_with (by_remainder count) key = key % count
 part_with (at_bounds bounds) key = count_by (λ bound. nat_le bound key) bounds
 
--- whether a partition ends with a key: the next number is a bound. By the remainder, and from the last bound on, none ends
+-- whether a partition ends with a key: the next number is a bound. By the remainder, and from the last bound on, none
+-- ends
 abbrev pub is_end_with : SplitShape → ℕ → Bool
 is_end_with (by_remainder count) key = false
 is_end_with (at_bounds bounds) key = list_any (λ bound. bound == key + 1) bounds
@@ -49,7 +51,8 @@ split_shape (splits.Remainder count) = by_remainder count
 split_shape (splits.Bounds bounds) = at_bounds bounds.items
 
 abbrev pub table_shape : String Global × Table → TableShape
-table_shape t = record { name = string_bytes t.0; split = split_shape t.1.split; columns = columns_shape t.1.columns.entries }
+table_shape t =
+    record { name = string_bytes t.0; split = split_shape t.1.split; columns = columns_shape t.1.columns.entries }
 
 abbrev pub tables_shape : List (String Global × Table) → List TableShape
 tables_shape ts = map table_shape ts

@@ -152,8 +152,9 @@ impl Catalogue {
         split_at(&self.tables, table).partitions()
     }
 
-    /// The partition of a table that has a key: of a table of P partitions by the remainder, key k is in partition k mod P; of
-    /// a table that is split at bounds, the number of the partition is how many bounds are at most the key. It takes no memory.
+    /// The partition of a table that has a key: of a table of P partitions by the remainder, key k is in partition k
+    /// mod P; of a table that is split at bounds, the number of the partition is how many bounds are at most the key.
+    /// It takes no memory.
     pub fn part_of(&self, table: TableNo, key: Key) -> u32
         requires { table < length self.now }
         ensures { Some result ≡ partition_of self.now table key }
@@ -161,8 +162,8 @@ impl Catalogue {
         split_at(&self.tables, table).part_of(key)
     }
 
-    /// Whether a partition of a table ends with a key because the next key is a bound. So it is false of every key by the
-    /// remainder, and of each one from the last bound on, the greatest key too. It takes no memory.
+    /// Whether a partition of a table ends with a key because the next key is a bound. So it is false of every key by
+    /// the remainder, and of each one from the last bound on, the greatest key too. It takes no memory.
     pub fn ends_partition(&self, table: TableNo, key: Key) -> bool
         requires { table < length self.now }
         ensures { Some result ≡ is_end_of self.now table key }
@@ -183,8 +184,8 @@ impl Catalogue {
         Some(number as u32)
     }
 
-    /// Whether another catalogue has the same tables in the same order: names and columns are the same, and how keys are split
-    /// may differ. It takes no memory.
+    /// Whether another catalogue has the same tables in the same order: names and columns are the same, and how keys
+    /// are split may differ. It takes no memory.
     pub fn has_same_schema(&self, other: &Catalogue) -> bool
         ensures { IsTrue result ↔ HaveSameSchema self.now other.now }
     {
@@ -257,7 +258,8 @@ fn columns_take(columns: &IndexMap<String, ColType>, values: &[values::Value]) -
 fn split_at(tables: &IndexMap<String, Table>, table: TableNo) -> &Split
     requires sound { IsSound (tables_shape tables.now.entries) }
     requires there { table < length (tables_shape tables.now.entries) }
-    ensures split { option_map (λ t. t.split) (slice_get (tables_shape tables.now.entries) table) ≡ Some (split_shape result.now) }
+    ensures split { option_map (λ t. t.split) (slice_get (tables_shape tables.now.entries) table)
+        ≡ Some (split_shape result.now) }
     ensures sound { IsSplit (split_shape result.now) }
 {
     &table_at(tables, table).split

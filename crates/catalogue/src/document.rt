@@ -3,7 +3,7 @@
 ghost use Rattle.std.specs.Prelude.{◌≡◌, Some, option_map, option_and_then, is_some, map};
 ghost use Rattle.serde_json.specs.View.{view};
 ghost use Rattle.documents.specs.Json.{elements};
-ghost use Rattle.catalogue.specs.Reading.{type_of_word, column_form, integers, behind_word, split_form, table_form, version_form, catalogue_form};
+ghost use Rattle.catalogue.specs.Reading.{type_of_word, column_form, integers, after_word, split_form, table_form, version_form, catalogue_form};
 ghost use Rattle.catalogue.specs.Bounds.{has_bounds, form_said, with_split_said};
 
 use crate::split_form::SplitForm;
@@ -57,10 +57,10 @@ fn are_integers(documents: &[Value]) -> bool
     true
 }
 
-/// The documents of whole numbers behind the word.
+/// The documents of whole numbers after the word.
 fn bounds_form(value: &Value) -> Option<&[Value]>
     ensures { option_map (λ s. integers (map view s.now)) result
-        ≡ option_map (λ numbers. Some numbers) (option_and_then behind_word (elements (view value.now))) }
+        ≡ option_map (λ numbers. Some numbers) (option_and_then after_word (elements (view value.now))) }
 {
     let (word, numbers) = elements(value)?.split_first()?;
     if word.as_str()? == "bounds" && are_integers(numbers) {

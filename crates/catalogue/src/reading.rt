@@ -6,7 +6,7 @@ ghost use Rattle.serde_json.specs.View.{view};
 ghost use Rattle.documents.specs.Reading.{Reads};
 ghost use Rattle.catalogue.specs.Shapes.{column_shape, columns_shape, split_shape, table_shape, tables_shape};
 ghost use Rattle.catalogue.specs.Reading.{is_memory, is_column, is_table, column_at, columns_at, partitions_at, SplitForm as SaidSplit, split_at, body_at, body_shape, table_at, tables_at, catalogue_at};
-ghost use Rattle.catalogue.specs.Bounds.{has_bounds, form_said, bound_said, bounds_behind, IsSigned};
+ghost use Rattle.catalogue.specs.Bounds.{has_bounds, form_said, bound_said, bounds_after, IsSigned};
 ghost use Rattle.catalogue.specs.declared.fault.CatalogueFault.TheVariants.{Memory};
 
 use crate::document::{catalogue_form, column_form, table_form};
@@ -99,7 +99,7 @@ fn read_bound(before: Key, document: &Value) -> Result<Key, CatalogueFault>
 
 #[tactic(auto, using(crate::proofs::Pushed::all_pushed))]
 fn read_bounds(alloc: Global, documents: &[Value]) -> Result<Vec<Key>, CatalogueFault>
-    ensures exact { Reads is_memory (λ v. v.items) result (bounds_behind [] 0 (map view documents.now)) }
+    ensures exact { Reads is_memory (λ v. v.items) result (bounds_after [] 0 (map view documents.now)) }
     ensures signed { IfOk result (λ v. AllByRecursion (λ bound. bound < 2 ^ 63) v.items) }
 {
     let mut bounds = Vec::with_capacity(alloc, documents.len())?;
@@ -200,7 +200,8 @@ fn read_tables(
     version: Version,
     values: &[Value],
 ) -> Result<IndexMap<String, Table>, CatalogueFault>
-    ensures exact { Reads is_memory (λ m. tables_shape m.entries) result (tables_at (has_bounds version) [] (map view values.now)) }
+    ensures exact { Reads is_memory (λ m. tables_shape m.entries) result
+        (tables_at (has_bounds version) [] (map view values.now)) }
     ensures signed { IfOk result (λ m. AllByRecursion (λ t. IsSigned t.split) (tables_shape m.entries)) }
 {
     let mut tables = IndexMap::new(alloc);

@@ -17,8 +17,8 @@ fn read_text(alloc: Global, text: &str) -> Result<Option<Value>, NoMemory>
     Ok(Some(Value::Text(Text::new(alloc, text)?)))
 }
 
-/// The value that a document says: a number in the signed 64-bit range an Int, a text of at most 64 bytes a Text. `None`
-/// of any other document.
+/// The value that a document says: a number in the signed 64-bit range an Int, a text of at most 64 bytes a Text.
+/// `None` of any other document.
 pub fn read_value(alloc: Global, document: &Json) -> Result<Option<Value>, NoMemory>
     ensures { IfOk result (λ value. value ≡ value_said (view document.now)) }
 {

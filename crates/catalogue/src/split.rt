@@ -9,10 +9,10 @@ use values::Key;
 /// How a table's keys are split over its partitions.
 #[derive(Drop)]
 pub(crate) enum Split {
-    /// Over so many partitions, 1 to 1,024, by the remainder of the key.
+    /// Over a number of partitions, 1 to 1,024, by the remainder of the key.
     Remainder(u32),
-    /// At these bounds, at most 1,023 of them, each above 0 and above the one before. Below the first bound is partition 0, and
-    /// each bound is the least key of the next partition.
+    /// At these bounds, at most 1,023 of them, each above 0 and above the one before. Below the first bound is
+    /// partition 0, and each bound is the least key of the next partition.
     Bounds(Vec<Key>),
 }
 
@@ -57,8 +57,9 @@ impl Split {
 
 /// How many bounds are at most a number, where they ascend.
 ///
-/// Three bounds quarter what is left, and how many of them are at most the number says in which quarter to go on. That is a sum and
-/// no branch: keys come in any order, so a processor would guess half of the branches wrong, which takes longer than the search.
+/// Three bounds quarter what is left, and how many of them are at most the number says in which quarter to go on. That
+/// is a sum and no branch: keys come in any order, so a processor would guess half of the branches wrong, which takes
+/// longer than the search.
 fn bounds_passed(bounds: &[Key], number: u64) -> usize
     requires { AreRising 0 bounds.now }
     ensures { result ≡ count_by (λ bound. nat_le bound number) bounds.now }

@@ -1,4 +1,5 @@
-//! The program `calvin`: hands the library the words behind its name, the files of the machine, and the standard streams.
+//! The program `calvin`: hands the library the words after its name, the files of the machine, and the standard
+//! streams.
 #![tactic(auto)]
 
 ghost use Rattle.std.specs.Prelude.{⊤};

@@ -26,7 +26,7 @@ use Rattle.coarsen.specs.Coarsening.{is_needed, needed, lifted, coarsened, child
 use Rattle.coarsen.proofs.Tree.{both, and}
 use Rattle.coarsen.proofs.Greatest.{some_greatest, first_or_later, first_test, second_test}
 use Rattle.coarsen.proofs.Parents.{depth}
-use Rattle.coarsen.proofs.Entries.{behind, right_on-entries}
+use Rattle.coarsen.proofs.Entries.{less_than_member, right_on-entries}
 use Rattle.coarsen.proofs.Counts.{count_within}
 use Rattle.coarsen.proofs.Covered.{covered_above, some_rank}
 use Rattle.coarsen.proofs.CoarseningLaws.{drops_covered, same_entry}
@@ -42,35 +42,35 @@ by_first m n o h = elim (nat_cmp m n) as (λ v. nat_cmp m n ≡ v → ordering_t
   | Greater ↦ λ is t. absurd (cc)
 ] refl h
 
--- what is over a resource doesn't come behind it
-not_behind_in_part : (a b : InPart) → holds_in_part a b ≡ true → in_part.ghosts.cmp b a ≡ Less → ⊥
-not_behind_in_part WholePart WholePart h l = absurd (cc)
-not_behind_in_part WholePart (Row y) h l = absurd (cc)
-not_behind_in_part (Row x) WholePart h l = absurd (cc)
-not_behind_in_part (Row x) (Row y) h l = let less = ranked y x Less (sym l) in let e : x ≡ y = grind (arith, nat_tests) in absurd (omega (arith, less, e))
+-- what is over a resource doesn't come after it
+holder_not_after_in_part : (a b : InPart) → holds_in_part a b ≡ true → in_part.ghosts.cmp b a ≡ Less → ⊥
+holder_not_after_in_part WholePart WholePart h l = absurd (cc)
+holder_not_after_in_part WholePart (Row y) h l = absurd (cc)
+holder_not_after_in_part (Row x) WholePart h l = absurd (cc)
+holder_not_after_in_part (Row x) (Row y) h l = let less = ranked y x Less (sym l) in let e : x ≡ y = grind (arith, nat_tests) in absurd (omega (arith, less, e))
 
-not_behind_in_table : (a b : InTable) → holds_in_table a b ≡ true → in_table.ghosts.cmp b a ≡ Less → ⊥
-not_behind_in_table WholeTable WholeTable h l = absurd (cc)
-not_behind_in_table WholeTable (Part q b) h l = absurd (cc)
-not_behind_in_table (Part p a) WholeTable h l = absurd (cc)
-not_behind_in_table (Part p a) (Part q b) h l =
+holder_not_after_in_table : (a b : InTable) → holds_in_table a b ≡ true → in_table.ghosts.cmp b a ≡ Less → ⊥
+holder_not_after_in_table WholeTable WholeTable h l = absurd (cc)
+holder_not_after_in_table WholeTable (Part q b) h l = absurd (cc)
+holder_not_after_in_table (Part p a) WholeTable h l = absurd (cc)
+holder_not_after_in_table (Part p a) (Part q b) h l =
     let x = both (p == q) (holds_in_part a b) h in
     let e : p ≡ q = grind (arith, nat_tests) in
     elim (by_first q p (in_part.ghosts.cmp b a) l) [
       | inl less ↦ absurd (omega (arith, less, e))
-      | inr k ↦ not_behind_in_part a b x.1 k.1
+      | inr k ↦ holder_not_after_in_part a b x.1 k.1
     ]
 
-not_behind : (a b : Resource) → holds a b ≡ true → resource_cmp b a ≡ Less → ⊥
-not_behind Db Db h l = absurd (cc)
-not_behind Db (Table u b) h l = absurd (cc)
-not_behind (Table t a) Db h l = absurd (cc)
-not_behind (Table t a) (Table u b) h l =
+holder_not_after : (a b : Resource) → holds a b ≡ true → resource_cmp b a ≡ Less → ⊥
+holder_not_after Db Db h l = absurd (cc)
+holder_not_after Db (Table u b) h l = absurd (cc)
+holder_not_after (Table t a) Db h l = absurd (cc)
+holder_not_after (Table t a) (Table u b) h l =
     let x = both (t == u) (holds_in_table a b) h in
     let e : t ≡ u = grind (arith, nat_tests) in
     elim (by_first u t (in_table.ghosts.cmp b a) l) [
       | inl less ↦ absurd (omega (arith, less, e))
-      | inr k ↦ not_behind_in_table a b x.1 k.1
+      | inr k ↦ holder_not_after_in_table a b x.1 k.1
     ]
 
 -- what comes between a resource and one under it is under it
@@ -136,7 +136,7 @@ off : (b : Bool) → not b ≡ true → b ≡ true → ⊥
 off true h k = absurd (cc)
 off false h k = absurd (cc)
 
--- then an entry is over none of those behind it
+-- then an entry is over none of those after it
 over_none : (r : Resource) (es : List (Resource × Right)) (e : Resource × Right) → T (below_all resource_cmp r es) → T (is_sorted resource_cmp es) → apart (Some r) es ≡ true
     → Contains es e → holds r e.0 ≡ true → ⊥
 over_none r [] e b s h k t = absurd (let l = k.1 in omega (arith, l))
@@ -145,8 +145,8 @@ over_none r (x ∷ es) e b s h k t =
     elim (first_or_later x es e k) [
       | inl same ↦ off (holds r x.0) free (ap (λ (y : Resource × Right). holds r y.0) same ∙ t)
       | inr l ↦ off (holds r x.0) free (between r x.0 e.0 t
-          (behind r (x ∷ es) x b (0, omega arith, refl))
-          (behind x.0 es e (first_test (below_all resource_cmp x.0 es) (is_sorted resource_cmp es) s) l))
+          (less_than_member r (x ∷ es) x b (0, omega arith, refl))
+          (less_than_member x.0 es e (first_test (below_all resource_cmp x.0 es) (is_sorted resource_cmp es) s) l))
     ]
 
 -- and over no other at all
@@ -163,7 +163,7 @@ apart_all last (x ∷ es) d e s h i j t =
         | inr l ↦ absurd (over_none x.0 es e below sorted rest l (ap (λ (y : Resource × Right). holds y.0 e.0) first ∙ t))
       ]
       | inr k ↦ elim (first_or_later x es e j) [
-        | inl same ↦ absurd (not_behind d.0 e.0 t (ap (λ (y : Resource × Right). resource_cmp y.0 d.0) (sym same) ∙ behind x.0 es d below k))
+        | inl same ↦ absurd (holder_not_after d.0 e.0 t (ap (λ (y : Resource × Right). resource_cmp y.0 d.0) (sym same) ∙ less_than_member x.0 es d below k))
         | inr l ↦ apart_all (Some x.0) es d e sorted rest k l t
       ]
     ]

@@ -13,7 +13,7 @@ use Rattle.coarsen.specs.Subtrees.{is_same, right_on}
 use Rattle.coarsen.specs.Coarsening.{parent_at, is_parent, children}
 use Rattle.coarsen.proofs.Tree.{same_resource}
 use Rattle.coarsen.proofs.Greatest.{some_greatest, first_or_later, later, second_test, first_test}
-use Rattle.coarsen.proofs.Entries.{nothing, entries-empty, right_on-entries, get_member, behind}
+use Rattle.coarsen.proofs.Entries.{nothing, entries-empty, right_on-entries, get_member, less_than_member}
 use Rattle.coarsen.proofs.Covered.{some_rank}
 use Rattle.coarsen.proofs.Merging.{not_itself}
 
@@ -61,7 +61,7 @@ at_most p (e ∷ es) ds s h = elim (p e.0) as (λ v. p e.0 ≡ v → length (con
       let m = at_most p es r.0 (second_test (below_all resource_cmp e.0 es) (is_sorted resource_cmp es) s) (λ x k u.
       let y = h x (later e es x k) u in
       elim (r.2 y.0 y.1) [
-        | inl same ↦ absurd (not_itself e.0 x.0 (behind e.0 es x (first_test (below_all resource_cmp e.0 es) (is_sorted resource_cmp es) s) k)
+        | inl same ↦ absurd (not_itself e.0 x.0 (less_than_member e.0 es x (first_test (below_all resource_cmp e.0 es) (is_sorted resource_cmp es) s) k)
             (sym d.2 ∙ ap (λ (z : Resource × Right). z.0) (sym same) ∙ y.2))
         | inr q ↦ (y.0, q, y.2)
       ]) in

@@ -80,11 +80,11 @@ greatest_map test f (e ∷ es) = ap (λ n. max (cond (test (f e.0)) (rank_of e.1
 
 -- ---- members
 
-pub behind : (r : Resource) (es : List (Resource × Right)) (d : Resource × Right) → T (below_all resource_cmp r es) → Contains es d → resource_cmp r d.0 ≡ Less
-behind r [] d h k = absurd (let l = k.1 in omega (arith, l))
-behind r (e ∷ es) d h k = elim (first_or_later e es d k) [
+pub less_than_member : (r : Resource) (es : List (Resource × Right)) (d : Resource × Right) → T (below_all resource_cmp r es) → Contains es d → resource_cmp r d.0 ≡ Less
+less_than_member r [] d h k = absurd (let l = k.1 in omega (arith, l))
+less_than_member r (e ∷ es) d h k = elim (first_or_later e es d k) [
   | inl same ↦ ap (resource_cmp r) (ap (λ (y : Resource × Right). y.0) (sym same)) ∙ less (resource_cmp r e.0) (first_test (is_lt (resource_cmp r e.0)) (below_all resource_cmp r es) h)
-  | inr l ↦ behind r es d (second_test (is_lt (resource_cmp r e.0)) (below_all resource_cmp r es) h) l
+  | inr l ↦ less_than_member r es d (second_test (is_lt (resource_cmp r e.0)) (below_all resource_cmp r es) h) l
 ]
 
 member_found : (es : List (Resource × Right)) (d : Resource × Right) → T (is_sorted resource_cmp es) → Contains es d → find resource_cmp d.0 es ≡ Some d.1
@@ -93,7 +93,7 @@ member_found (e ∷ es) d s k = elim (first_or_later e es d k) [
   | inl same ↦ ap (λ (y : Resource × Right). cond (is_eq (resource_cmp d.0 y.0)) (Some y.1) (find resource_cmp d.0 es)) same
       ∙ ap (λ o. cond (is_eq o) (Some d.1) (find resource_cmp d.0 es)) (tied_itself resources_total d.0)
   | inr l ↦
-      let before = behind e.0 es d (first_test (below_all resource_cmp e.0 es) (is_sorted resource_cmp es) s) l in
+      let before = less_than_member e.0 es d (first_test (below_all resource_cmp e.0 es) (is_sorted resource_cmp es) s) l in
       let after : resource_cmp d.0 e.0 ≡ Greater = resources_total.antisymm d.0 e.0 ∙ ap ordering_reverse before in
       ap (λ o. cond (is_eq o) (Some e.1) (find resource_cmp d.0 es)) after ∙ member_found es d (second_test (below_all resource_cmp e.0 es) (is_sorted resource_cmp es) s) l
 ]

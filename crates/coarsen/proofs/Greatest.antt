@@ -94,13 +94,13 @@ module _ {X : Type 0} (f : X → ℕ) where
   pub greatest_mono : (test more : Resource → Bool) (es : List (Resource × X)) → ((r : Resource) → test r ≡ true → more r ≡ true) → greatest f test es ≤ greatest f more es
   greatest_mono test more es h = greatest_least test es _ (λ e k t. has_greatest more es e k (h e.0 t))
 
-  -- what stands in order behind a resource isn't it
-  none_behind : (r : Resource) (es : List (Resource × X)) → T (below_all resource_cmp r es) → greatest f (is_same r) es ≡ 0
-  none_behind r [] h = refl
-  none_behind r (e ∷ es) h =
+  -- what stands in order after a resource isn't it
+  none_after : (r : Resource) (es : List (Resource × X)) → T (below_all resource_cmp r es) → greatest f (is_same r) es ≡ 0
+  none_after r [] h = refl
+  none_after r (e ∷ es) h =
       let other : is_same r e.0 ≡ false = sym (ties_same r e.0) ∙ ap is_eq (less (resource_cmp r e.0) (first_test (is_lt (resource_cmp r e.0)) (below_all resource_cmp r es) h)) in
       let here : cond (is_same r e.0) (f e.1) 0 ≡ 0 = ap (λ b. cond b (f e.1) 0) other in
-      let rest = none_behind r es (second_test (is_lt (resource_cmp r e.0)) (below_all resource_cmp r es) h) in
+      let rest = none_after r es (second_test (is_lt (resource_cmp r e.0)) (below_all resource_cmp r es) h) in
       omega (arith, here, rest)
 
   -- what is found at a resource, in a list in order
@@ -112,7 +112,7 @@ module _ {X : Type 0} (f : X → ℕ) where
       elim (is_eq (resource_cmp r e.0)) as (λ v. is_eq (resource_cmp r e.0) ≡ v → number_or_none f (cond v (Some e.1) (find resource_cmp r es)) ≡ greatest f (is_same r) (e ∷ es)) [
         | true ↦ λ is.
             let on : is_same r e.0 ≡ true = sym (ties_same r e.0) ∙ is in
-            let none : greatest f (is_same r) es ≡ 0 = ap (λ q. greatest f (is_same q) es) (same_resource r e.0 on) ∙ none_behind e.0 es below in
+            let none : greatest f (is_same r) es ≡ 0 = ap (λ q. greatest f (is_same q) es) (same_resource r e.0 on) ∙ none_after e.0 es below in
             let here : cond (is_same r e.0) (f e.1) 0 ≡ f e.1 = ap (λ b. cond b (f e.1) 0) on in
             omega (arith, none, here)
         | false ↦ λ is.

@@ -67,9 +67,9 @@ all_keys P (e ∷ es) x h k = elim (contains_cases e es x k) [
 ]
 
 -- the first request is before the others
-pub behind : (s rest : Requests) (e x : Resource × Mode) → s ≡ e ∷ rest → IsStrictlySortedBy resource_cmp (keys_of s) → Contains rest x → resource_cmp e.0 x.0 ≡ Less
+pub less_than_later : (s rest : Requests) (e x : Resource × Mode) → s ≡ e ∷ rest → IsStrictlySortedBy resource_cmp (keys_of s) → Contains rest x → resource_cmp e.0 x.0 ≡ Less
 unfolding IsStrictlySortedBy
-behind s rest e x is o k =
+less_than_later s rest e x is o k =
     let p = subst (λ (q : Requests). IsStrictlySortedBy resource_cmp (keys_of q)) is o in
     all_keys (λ y. resource_cmp e.0 y ≡ Less) rest x p.0 k
 
@@ -88,7 +88,7 @@ past_first s t rest more e f is it o less (r, m, n, i, j, h) =
           let at : e.0 ≡ r = ap (λ (y : Resource × Mode). y.0) same in
           elim (contains_cases f more (r, n) (subst (λ l. Contains l (r, n)) it j)) [
             | inl there ↦ absurd (not_itself e.0 f.0 less (at ∙ sym (ap (λ (y : Resource × Mode). y.0) there)))
-            | inr k ↦ absurd (not_itself e.0 r (resources_total.trans e.0 f.0 r less (behind t more f (r, n) it o k)) at)
+            | inr k ↦ absurd (not_itself e.0 r (resources_total.trans e.0 f.0 r less (less_than_later t more f (r, n) it o k)) at)
           ]
     ]
 
@@ -110,11 +110,11 @@ past_both s t rest more e f is it o p equal fine (r, m, n, i, j, h) =
             | inl there ↦
                 let w : true ≡ false = sym fine ∙ ap (λ (y : Resource × Mode). are_compatible y.1 f.1) same ∙ ap (λ (y : Resource × Mode). are_compatible m y.1) there ∙ h in
                 absurd (cc)
-            | inr k ↦ absurd (not_itself f.0 r (behind t more f (r, n) it p k) (sym one ∙ at))
+            | inr k ↦ absurd (not_itself f.0 r (less_than_later t more f (r, n) it p k) (sym one ∙ at))
           ]
       | inr k ↦
           elim (contains_cases f more (r, n) (subst (λ l. Contains l (r, n)) it j)) [
-            | inl there ↦ absurd (not_itself e.0 r (behind s rest e (r, m) is o k) (one ∙ ap (λ (y : Resource × Mode). y.0) there))
+            | inl there ↦ absurd (not_itself e.0 r (less_than_later s rest e (r, m) is o k) (one ∙ ap (λ (y : Resource × Mode). y.0) there))
             | inr l ↦ (r, m, n, k, l, h)
           ]
     ]

@@ -13,7 +13,7 @@ use Rattle.modes.specs.declared.mode.Mode.{Mode}
 use Rattle.coarsen.specs.Subtrees.{Requests, greatest}
 use Rattle.coarsen.specs.Requests.{IsAt, IsGapFor}
 use Rattle.coarsen.proofs.Greatest.{raise, max_on}
-use Rattle.coarsen.proofs.Merging.{ordered_tail, behind}
+use Rattle.coarsen.proofs.Merging.{ordered_tail, less_than_later}
 
 at_tail : (e : Resource × Mode) (es : Requests) (r : Resource) (i : ℕ) → IsAt (e ∷ es) r (suc i) → IsAt es r i
 at_tail e es r i at = record { in_range = (let l = at.in_range in omega (arith, l)); on = at.on }
@@ -76,23 +76,23 @@ gap_tail : (e : Resource × Mode) (es : Requests) (r : Resource) (i : ℕ) → I
 gap_tail e es r i gap = record {
   in_range = (let l = gap.in_range in omega (arith, l));
   before = λ j d l. gap.before (suc j) d (omega (arith, l));
-  behind = λ j d l m. gap.behind (suc j) d (omega (arith, l)) (omega (arith, m));
+  after = λ j d l m. gap.after (suc j) d (omega (arith, l)) (omega (arith, m));
 }
 
 -- a request is put into the gap for it
 pub sorted-inserted : (es : Requests) (i : ℕ) (r : Resource) (v : Mode) → IsGapFor es r i → IsStrictlySortedBy resource_cmp (keys_of es) → IsStrictlySortedBy resource_cmp (keys_of (insert es i (r, v)))
 unfolding IsStrictlySortedBy
-sorted-inserted es zero r v gap o = (all_by_place (λ q. resource_cmp r q ≡ Less) es (λ j d l. after (get_or es j d).0 r (gap.behind j d (omega arith) l)), o)
+sorted-inserted es zero r v gap o = (all_by_place (λ q. resource_cmp r q ≡ Less) es (λ j d l. after (get_or es j d).0 r (gap.after j d (omega arith) l)), o)
 sorted-inserted [] (suc i) r v gap o = absurd (let l = gap.in_range in omega (arith, l))
 sorted-inserted (e ∷ es) (suc i) r v gap o =
     (all_inserted (λ q. resource_cmp e.0 q ≡ Less) es i r v o.0 (gap.before 0 e (omega arith)), sorted-inserted es i r v (gap_tail e es r i gap) o.1)
 
 -- ---- the place
 
--- what stands later in the list comes behind
+-- what stands later in the list comes after
 rising : (es : Requests) (d : Resource × Mode) (i j : ℕ) → IsStrictlySortedBy resource_cmp (keys_of es) → i < j → j < length es → resource_cmp (get_or es i d).0 (get_or es j d).0 ≡ Less
 rising [] d i j o l m = absurd (omega (arith, m))
-rising (e ∷ es) d zero (suc j) o l m = behind (e ∷ es) es e (get_or es j d) refl o (j, omega (arith, m), get_or_default es j _ d (omega (arith, m)))
+rising (e ∷ es) d zero (suc j) o l m = less_than_later (e ∷ es) es e (get_or es j d) refl o (j, omega (arith, m), get_or_default es j _ d (omega (arith, m)))
 rising (e ∷ es) d (suc i) (suc j) o l m = rising es d i j (ordered_tail (e ∷ es) es e refl o) (omega (arith, l)) (omega (arith, m))
 rising (e ∷ es) d i zero o l m = absurd (omega (arith, l))
 
@@ -114,7 +114,7 @@ at_end es o r n last len is less = record {
         let same : j ≡ length es - 1 = omega (arith, l, m, len) in
         ap (λ k. resource_cmp (get_or es k d).0 r) same ∙ ap (λ (e : Resource × Mode). resource_cmp e.0 r) (sym (is d)) ∙ less
   ];
-  behind = λ j d l m. absurd (omega (arith, l, m, len));
+  after = λ j d l m. absurd (omega (arith, l, m, len));
 }
 
 rises : (x y : Ordering) → (y ≡ Less → x ≡ Less) → (y ≡ Equal → x ≡ Less) → ordering_index x ≤ ordering_index y
@@ -147,6 +147,6 @@ placed es o r (Err at) in_range parted = record {
   absent = record {
     in_range = in_range;
     before = λ j d l. (parted (comparisons_rise es o r)).0 j d (omega arith) l;
-    behind = λ j d l m. (parted (comparisons_rise es o r)).1 j d l m;
+    after = λ j d l m. (parted (comparisons_rise es o r)).1 j d l m;
   };
 }

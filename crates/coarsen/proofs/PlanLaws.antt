@@ -16,7 +16,7 @@ use Rattle.footprint.proofs.Resources.{resources_total}
 use Rattle.coarsen.proofs.Tree.{same_resource, is_same_itself}
 use Rattle.coarsen.proofs.Greatest.{has_greatest, some_greatest, greatest_least, first_or_later, later}
 use Rattle.coarsen.proofs.Planning.{subtree_some}
-use Rattle.coarsen.proofs.Merging.{behind, ordered_tail, not_itself, conflict_turned}
+use Rattle.coarsen.proofs.Merging.{less_than_later, ordered_tail, not_itself, conflict_turned}
 use Rattle.coarsen.proofs.Clashing.{clash_either}
 
 -- a mode is its pair of rights
@@ -55,10 +55,10 @@ one_request (e ∷ es) a b o i j t =
     elim (first_or_later e es a i) [
       | inl x ↦ elim (first_or_later e es b j) [
         | inl y ↦ sym y ∙ x
-        | inr l ↦ absurd (not_itself e.0 b.0 (behind (e ∷ es) es e b refl o l) (ap (λ (q : Resource × Mode). q.0) x ∙ at))
+        | inr l ↦ absurd (not_itself e.0 b.0 (less_than_later (e ∷ es) es e b refl o l) (ap (λ (q : Resource × Mode). q.0) x ∙ at))
       ]
       | inr k ↦ elim (first_or_later e es b j) [
-        | inl y ↦ absurd (not_itself e.0 a.0 (behind (e ∷ es) es e a refl o k) (ap (λ (q : Resource × Mode). q.0) y ∙ sym at))
+        | inl y ↦ absurd (not_itself e.0 a.0 (less_than_later (e ∷ es) es e a refl o k) (ap (λ (q : Resource × Mode). q.0) y ∙ sym at))
         | inr l ↦ one_request es a b (ordered_tail (e ∷ es) es e refl o) k l t
       ]
     ]
@@ -90,8 +90,8 @@ before e d es ds o p i j = elim (first_or_later d ds e i) [
   | inr k ↦ elim (first_or_later e es d j) [
     | inl same ↦ same
     | inr l ↦
-        let x = behind (d ∷ ds) ds d e refl p k in
-        let y = behind (e ∷ es) es e d refl o l in
+        let x = less_than_later (d ∷ ds) ds d e refl p k in
+        let y = less_than_later (e ∷ es) es e d refl o l in
         absurd (not_itself e.0 e.0 (resources_total.trans e.0 d.0 e.0 y x) refl)
   ]
 ]
@@ -106,11 +106,11 @@ one_list (e ∷ es) (d ∷ ds) o p f g =
     let same = before e d es ds o p (f e (0, omega arith, refl)) (g d (0, omega arith, refl)) in
     let rest = one_list es ds (ordered_tail (e ∷ es) es e refl o) (ordered_tail (d ∷ ds) ds d refl p)
     (λ x k. elim (first_or_later d ds x (f x (later e es x k))) [
-      | inl at ↦ absurd (not_itself e.0 x.0 (behind (e ∷ es) es e x refl o k) (ap (λ (q : Resource × Mode). q.0) (same ∙ at)))
+      | inl at ↦ absurd (not_itself e.0 x.0 (less_than_later (e ∷ es) es e x refl o k) (ap (λ (q : Resource × Mode). q.0) (same ∙ at)))
       | inr l ↦ l
     ])
     (λ x k. elim (first_or_later e es x (g x (later d ds x k))) [
-      | inl at ↦ absurd (not_itself d.0 x.0 (behind (d ∷ ds) ds d x refl p k) (ap (λ (q : Resource × Mode). q.0) (sym same ∙ at)))
+      | inl at ↦ absurd (not_itself d.0 x.0 (less_than_later (d ∷ ds) ds d x refl p k) (ap (λ (q : Resource × Mode). q.0) (sym same ∙ at)))
       | inr l ↦ l
     ]) in
     ap (λ q. q ∷ es) same ∙ ap (λ qs. d ∷ qs) rest

@@ -148,9 +148,9 @@ all_request : (P : Resource → Type 0) (r : Resource) (m : Mode) (es : Requests
 all_request P r m [] all one = (one, all)
 all_request P r m (e ∷ es) all one = put_all P (resource_cmp r e.0) r m e es (request r m es) all one (all_request P r m es all.1 one)
 
-further : (r q : Resource) → resource_cmp r q ≡ Less → (ks : List Resource) → AllByRecursion (λ k. resource_cmp q k ≡ Less) ks → AllByRecursion (λ k. resource_cmp r k ≡ Less) ks
-further r q is [] all = tt
-further r q is (k ∷ ks) all = (resources_total.trans r q k is all.0, further r q is ks all.1)
+less_than_all : (r q : Resource) → resource_cmp r q ≡ Less → (ks : List Resource) → AllByRecursion (λ k. resource_cmp q k ≡ Less) ks → AllByRecursion (λ k. resource_cmp r k ≡ Less) ks
+less_than_all r q is [] all = tt
+less_than_all r q is (k ∷ ks) all = (resources_total.trans r q k is all.0, less_than_all r q is ks all.1)
 
 after : (a b : Resource) → resource_cmp a b ≡ Greater → resource_cmp b a ≡ Less
 after a b h = resources_total.antisymm b a ∙ ap ordering_reverse h
@@ -159,7 +159,7 @@ put_sorted : (o : Ordering) (r : Resource) (m : Mode) (e : Resource × Mode) (es
     → IsStrictlySortedBy resource_cmp (keys_of (e ∷ es)) → IsStrictlySortedBy resource_cmp (keys_of (request r m es))
     → IsStrictlySortedBy resource_cmp (keys_of (at_head o r m e es (request r m es)))
 unfolding IsStrictlySortedBy
-put_sorted Less r m e es is o h = ((is, further r e.0 is (keys_of es) o.0), o)
+put_sorted Less r m e es is o h = ((is, less_than_all r e.0 is (keys_of es) o.0), o)
 put_sorted Equal r m e es is o h = o
 put_sorted Greater r m e es is o h = (all_request (λ q. resource_cmp e.0 q ≡ Less) r m es o.0 (after r e.0 is), h)
 
@@ -239,8 +239,8 @@ module _ (k c : ℕ) (f : FootprintOf) where
   abbrev full : Requests
   full = plan_of (coarsened k f)
 
-  fits : length full ≤ c → plan_for k c f ≡ full
-  fits l = let t : nat_le (length full) c ≡ true = grind (arith, nat_tests, l) in ap (λ b. cond b full (plan_of (on_database (coarsened k f)))) t
+  plan_within : length full ≤ c → plan_for k c f ≡ full
+  plan_within l = let t : nat_le (length full) c ≡ true = grind (arith, nat_tests, l) in ap (λ b. cond b full (plan_of (on_database (coarsened k f)))) t
 
   too_long : c < length full → plan_for k c f ≡ plan_of (on_database (coarsened k f))
   too_long l = let t : nat_le (length full) c ≡ false = grind (arith, nat_tests, l) in ap (λ b. cond b full (plan_of (on_database (coarsened k f)))) t
@@ -249,7 +249,7 @@ module _ (k c : ℕ) (f : FootprintOf) where
   made_is_for = record {
     full = full;
     full_is = plan_is (coarsened k f);
-    within = λ l. fits l;
+    within = λ l. plan_within l;
     past = λ l. subst (IsPlanOf (on_database (coarsened k f))) (sym (too_long l)) (plan_is (on_database (coarsened k f)));
   }
 
@@ -259,7 +259,7 @@ module _ (k c : ℕ) (f : FootprintOf) where
       let long : length is.full ≡ length full = ap length same in
       elim (cases_lt c (length full)) [
         | inl less ↦ plans_exact.one (on_database (coarsened k f)) plan _ (is.past (omega (arith, less, long))) (plan_is (on_database (coarsened k f))) ∙ sym (too_long less)
-        | inr more ↦ is.within (omega (arith, more, long)) ∙ same ∙ sym (fits more)
+        | inr more ↦ is.within (omega (arith, more, long)) ∙ same ∙ sym (plan_within more)
       ]
 
   for_one : (plan : Requests) → plan ≡ plan_for k c f → IsPlanFor k c f plan

@@ -43,15 +43,18 @@ is_parent (Some found) parent = is_same found parent
 abbrev pub children : Level → FootprintOf → Resource → ℕ
 children level footprint parent = length (filter (λ e. is_parent (parent_at level e.0) parent) (entries footprint))
 
--- steps 2 and 3: where a resource has more than k entries of the level as its children, they are replaced by one entry on
--- the resource, with the greatest right of them and of its own entry. So each of these entries goes to its parent, and of
--- the rights that come together the greatest counts
+-- steps 2 and 3: where a resource has more than k entries of the level as its children, they are replaced by one entry
+-- on the resource, with the greatest right of them and of its own entry. So each of these entries goes to its parent,
+-- and of the rights that come together the greatest counts
 abbrev pub place : Option Resource → (Resource → ℕ) → ℕ → Resource → Resource
 place None counts k resource = resource
 place (Some parent) counts k resource = if nat_lt k (counts parent) then parent else resource
 
 abbrev pub lifted : Level → ℕ → FootprintOf → FootprintOf
-lifted level k footprint = gathered (map {B = Resource × Right} (λ (e : Resource × Right). (place (parent_at level e.0) (children level footprint) k e.0, e.1)) (entries footprint))
+lifted level k footprint = gathered
+    (map {B = Resource × Right}
+    (λ (e : Resource × Right). (place (parent_at level e.0) (children level footprint) k e.0, e.1))
+    (entries footprint))
 
 -- steps 1 to 4
 abbrev pub coarsened : ℕ → FootprintOf → FootprintOf

@@ -15,15 +15,15 @@ use Rattle.modes.specs.Modes.{own, subtree}
 use Rattle.coarsen.specs.Subtrees.{Requests, holds, right_on, right_under, own_on, subtree_on}
 use Rattle.coarsen.specs.Coarsening.{coarsened, on_database}
 
--- a request for each resource whose subtree has an entry: its own right is that of the resource's entry, its subtree right
--- the greatest right in the subtree. Requests stand in tree order, and each resource stands once
+-- a request for each resource whose subtree has an entry: its own right is that of the resource's entry, its subtree
+-- right the greatest right in the subtree. Requests stand in tree order, and each resource stands once
 pub record IsPlanOf (footprint : FootprintOf) (requests : Requests) : Type 0 where
   pub ordered : IsStrictlySortedBy resource_cmp (keys_of requests)
   pub owns : (resource : Resource) → own_on requests resource ≡ right_on footprint resource
   pub subtrees : (resource : Resource) → subtree_on requests resource ≡ right_under footprint resource
 
--- the plan for a footprint, with threshold k and at most c requests: the plan of the footprint after the steps 1 to 4, and
--- if that has more than c requests, the plan with one entry on the database
+-- the plan for a footprint, with threshold k and at most c requests: the plan of the footprint after the steps 1 to 4,
+-- and if that has more than c requests, the plan with one entry on the database
 pub record IsPlanFor (k c : ℕ) (footprint : FootprintOf) (requests : Requests) : Type 0 where
   pub full : Requests
   pub full_is : IsPlanOf (coarsened k footprint) full
@@ -47,7 +47,8 @@ KeepsProtocol requests =
     (above resource : Resource) (mode : Mode) → holds above resource ≡ true → Contains requests (resource, mode)
     → (found : Mode) × Contains requests (above, found) × (serves found mode ≡ true)
 
--- each request has one in its subtree whose own right is at least its subtree right, so that it asks for nothing in vain
+-- each request has one in its subtree whose own right is at least its subtree right, so
+-- that it asks for nothing in vain
 abbrev pub IsBacked : Requests → Type 0
 IsBacked requests =
     (e : Resource × Mode) → Contains requests e

@@ -17,9 +17,10 @@ pub record IsAt (requests : Requests) (resource : Resource) (place : ℕ) : Type
   pub in_range : place < length requests
   pub on : (d : Resource × Mode) → (slice_index_or requests place d).0 ≡ resource
 
--- a request on the resource would go to a place: what is before it comes before the resource in tree order, what is from it on
--- behind the resource
+-- a request on the resource would go to a place: what is before it comes before the resource in tree order, what is
+-- from it on after the resource
 pub record IsGapFor (requests : Requests) (resource : Resource) (place : ℕ) : Type 0 where
   pub in_range : place ≤ length requests
   pub before : (j : ℕ) (d : Resource × Mode) → j < place → resource_cmp (slice_index_or requests j d).0 resource ≡ Less
-  pub behind : (j : ℕ) (d : Resource × Mode) → place ≤ j → j < length requests → resource_cmp (slice_index_or requests j d).0 resource ≡ Greater
+  pub after : (j : ℕ) (d : Resource × Mode) → place ≤ j → j < length requests
+      → resource_cmp (slice_index_or requests j d).0 resource ≡ Greater

@@ -61,6 +61,7 @@ subtree_on requests resource = greatest subtree (is_same resource) requests
 abbrev pub own_over : Requests → Resource → ℕ
 own_over requests resource = greatest own (λ over. holds over resource) requests
 
--- the requests cover a right on a resource if the resource or an ancestor has a request whose own right is at least that
+-- the requests cover a right on a resource if the resource or an ancestor has a request
+-- whose own right is at least that
 abbrev pub covers_by_requests : Requests → Resource → Right → Bool
 covers_by_requests requests resource right = nat_le (rank_of right) (own_over requests resource)

@@ -1,6 +1,7 @@
 -- Claimed: what contracts promise to a reader rests on these words.
--- The one plan for a footprint, as a list that is put together: its laws say that it is the plan that `IsPlanFor` describes, and
--- that there is no other. (Intentions on ancestors: Gray and others, 1975 and 1976; the coarsening is this project's own.)
+-- The one plan for a footprint, as a list that is put together: its laws say that it is the plan that `IsPlanFor`
+-- describes, and that there is no other. (Intentions on ancestors: Gray and others, 1975 and 1976; the coarsening is
+-- this project's own.)
 use Rattle.std.specs.Prelude.{ℕ, max, nat_le, if◌then◌else◌, ◌==◌, List, [], ◌∷◌, length}
 use Rattle.std.specs.declared.cmp.Ordering.{Ordering}
 use Rattle.std.specs.declared.cmp.Ordering.TheVariants.{Less, Equal, Greater}
@@ -21,7 +22,9 @@ use Rattle.coarsen.specs.Coarsening.{coarsened, on_database}
 
 -- the mode with these rights, on the resource itself and in its subtree
 abbrev pub mode_of : ℕ → ℕ → Mode
-mode_of on under = if on == 2 then Exclusive else (if on == 1 then (if under == 2 then SharedIntentionExclusive else Shared) else (if under == 2 then IntentionExclusive else IntentionShared))
+mode_of on under = if on == 2 then Exclusive
+    else (if on == 1 then (if under == 2 then SharedIntentionExclusive else Shared)
+    else (if under == 2 then IntentionExclusive else IntentionShared))
 
 -- the mode with the greater of each of the rights of two modes
 abbrev pub joined : Mode → Mode → Mode
@@ -36,8 +39,8 @@ abbrev pub whole : Right → Mode
 whole Read = Shared
 whole Write = Exclusive
 
--- a mode is joined to the request on a resource, which is put in tree order where there is none; the request at the head is before
--- the resource, on it or behind it
+-- a mode is joined to the request on a resource, which is put in tree order where there is none; the request at the
+-- head is before the resource, on it or after it
 abbrev pub at_head : Ordering → Resource → Mode → Resource × Mode → Requests → Requests → Requests
 at_head Less resource mode e es rest = (resource, mode) ∷ e ∷ es
 at_head Equal resource mode e es rest = (e.0, joined e.1 mode) ∷ es
@@ -75,4 +78,5 @@ plan_of footprint = requests_for (entries footprint)
 -- the plan for a footprint, with threshold k and at most c requests
 abbrev pub plan_for : ℕ → ℕ → FootprintOf → Requests
 plan_for k c footprint =
-    if nat_le (length (plan_of (coarsened k footprint))) c then plan_of (coarsened k footprint) else plan_of (on_database (coarsened k footprint))
+    if nat_le (length (plan_of (coarsened k footprint))) c then plan_of (coarsened k footprint)
+    else plan_of (on_database (coarsened k footprint))

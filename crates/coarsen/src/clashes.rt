@@ -14,8 +14,8 @@ use footprint::Resource;
 use modes::{Mode, compatible};
 use std::cmp::Ordering;
 
-/// Whether two lists of requests in tree order have requests on some resource whose modes are not compatible. Both lists
-/// are gone through once, side by side.
+/// Whether two lists of requests in tree order have requests on some resource whose modes are not compatible. Both
+/// lists are gone through once, side by side.
 fn conflict(first: &[(Resource, Mode)], second: &[(Resource, Mode)]) -> bool
     requires first { IsStrictlySortedBy resource_cmp (keys_of first.now) }
     requires second { IsStrictlySortedBy resource_cmp (keys_of second.now) }
@@ -42,8 +42,8 @@ fn conflict(first: &[(Resource, Mode)], second: &[(Resource, Mode)]) -> bool
     false
 }
 
-/// Whether two plans cover some row name, whether or not such a row is there, with rights that clash. For plans over one
-/// catalogue that is the same as two requests on some resource whose modes are not compatible.
+/// Whether two plans cover some row name, whether or not such a row is there, with rights that clash. For plans over
+/// one catalogue that is the same as two requests on some resource whose modes are not compatible.
 pub fn clash(first: &Plan, second: &Plan) -> bool
     ensures requests { (result ≡ true) ↔ ModesClash first.now second.now }
     ensures rows { (tables : List TableShape) → IsCatalogue tables → IsPlanOver tables first.now →

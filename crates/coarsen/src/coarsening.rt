@@ -77,8 +77,8 @@ fn lifted(
     Ok(new)
 }
 
-/// Whether it is seen at a glance that no entry stands under another. In tree order what stands under an entry comes right
-/// behind it, so each entry is compared with the next one alone.
+/// Whether it is seen at a glance that no entry stands under another. In tree order what stands under an entry comes
+/// right after it, so each entry is compared with the next one alone.
 fn stand_apart(footprint: &Footprint) -> bool
     ensures { result ≡ true → needed footprint.now ≡ footprint.now }
 {
@@ -94,8 +94,8 @@ fn stand_apart(footprint: &Footprint) -> bool
     true
 }
 
-/// Whether it is seen at a glance that coarsening leaves a footprint as it is: no entry stands under another, and there are
-/// at most the threshold of entries in all.
+/// Whether it is seen at a glance that coarsening leaves a footprint as it is: no entry stands under another, and there
+/// are at most the threshold of entries in all.
 fn is_coarse(footprint: &Footprint, threshold: usize) -> bool
     ensures { result ≡ true → coarsened threshold footprint.now ≡ footprint.now }
 {
@@ -144,8 +144,9 @@ fn lifted_or_same(
     Ok(Some(new))
 }
 
-/// The footprint with few entries: none that an ancestor's covers, and at most the threshold of rows of a partition and of
-/// partitions of a table. `None` where that is seen to be the footprint itself: a step that changes nothing makes nothing.
+/// The footprint with few entries: none that an ancestor's covers, and at most the threshold of rows of a partition and
+/// of partitions of a table. `None` where that is seen to be the footprint itself: a step that changes nothing makes
+/// nothing.
 pub(crate) fn coarsened(
     alloc: Global,
     footprint: &Footprint,

@@ -19,8 +19,8 @@ use std::alloc::Global;
 use std::marker::Model;
 use values::NoMemory;
 
-/// A plan: the lock requests of a transaction. They stand in tree order, each resource stands once, each request has one
-/// on each ancestor whose mode serves it, and none asks for rights in a subtree where the plan asks for none.
+/// A plan: the lock requests of a transaction. They stand in tree order, each resource stands once, each request has
+/// one on each ancestor whose mode serves it, and none asks for rights in a subtree where the plan asks for none.
 #[derive(Drop)]
 pub struct Plan {
     requests: Vec<(Resource, Mode)>,
@@ -39,8 +39,8 @@ impl Model for Plan {
 
 impl Plan {
     /// The plan for a footprint. The footprint is coarsened first: entries that an ancestor's entry covers are dropped,
-    /// more than `threshold` rows of a partition become one entry on the partition, more than `threshold` partitions of a
-    /// table one entry on the table, and if the plan has more than `arena` requests it becomes one on the database.
+    /// more than `threshold` rows of a partition become one entry on the partition, more than `threshold` partitions of
+    /// a table one entry on the table, and if the plan has more than `arena` requests it becomes one on the database.
     pub fn new(
         alloc: Global,
         footprint: &Footprint,

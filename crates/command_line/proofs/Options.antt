@@ -8,10 +8,10 @@ use Rattle.clap.specs.Words.{ReadsOne, Row, Text, first_of, first_value, one_of,
 use Rattle.clap.specs.declared.parser.matches.Found.{Found}
 use Rattle.clap.proofs.WalkLemmas.{first_value-rows, one_text-rows}
 use Rattle.command_line.specs.CommandLine.{AreSettings, IsCommand, IsFlag, IsNumber}
-use Rattle.engine.specs.Ranges.{AreInRange}
+use Rattle.dispatcher.specs.Ranges.{AreInRange}
 use Rattle.command_line.specs.declared.line.Command.{Command}
 use Rattle.command_line.specs.declared.line.Command.TheVariants.{Check, Locks, Replicas, Run}
-use Rattle.engine.specs.declared.settings.Settings.{Settings}
+use Rattle.dispatcher.specs.declared.settings.Settings.{Settings}
 
 -- what reading a number from a text gives
 abbrev Gives : List ℕ → Result ℕ ParseIntError → Type 0

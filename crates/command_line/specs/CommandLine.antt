@@ -8,7 +8,7 @@ use Rattle.command_line.specs.declared.line.Command.TheVariants.{Check, Locks, R
 use Rattle.command_line.specs.declared.line.Line.{Line}
 use Rattle.command_line.specs.declared.line.LineFault.{LineFault}
 use Rattle.command_line.specs.declared.line.LineFault.TheVariants.{NoMemory, Refused}
-use Rattle.engine.specs.declared.settings.Settings.{Settings}
+use Rattle.dispatcher.specs.declared.settings.Settings.{Settings}
 use Rattle.command_line.specs.Words.{calvin_app}
 
 -- the argument is this number in decimal
@@ -55,7 +55,8 @@ abbrev pub IsCommand : Text → List Row → Command → Type 0
 IsCommand name rows (Run alone progress setup) = IsRun name rows alone progress (string_bytes setup)
 IsCommand name rows (Locks setup) = IsLocks name rows (string_bytes setup)
 IsCommand name rows (Check setup) = IsCheck name rows (string_bytes setup)
-IsCommand name rows (Replicas progress setup report) = IsReplicas name rows progress (string_bytes setup) (string_bytes report)
+IsCommand name rows (Replicas progress setup report) =
+    IsReplicas name rows progress (string_bytes setup) (string_bytes report)
 
 -- what the name and the arguments of a command ask for
 pub record Asks (name : Text) (rows : List Row) (line : Line) : Type 0 where

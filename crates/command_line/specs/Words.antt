@@ -24,7 +24,7 @@ flag_rule name = record (new_rule name) { long = Some name; action = Some SetTru
 abbrev pub word_rule : Text → Rule
 word_rule name = record (new_rule name) { action = Some Set; value_names = 1; required = true }
 
--- `[--workers N] [--lanes N] [--coarsen N] [--arena N]`, behind the other arguments of a command
+-- `[--workers N] [--lanes N] [--coarsen N] [--arena N]`, after the other arguments of a command
 abbrev pub with_settings : App → App
 with_settings app =
     with_rule (with_rule (with_rule (with_rule app
@@ -57,7 +57,7 @@ unfoldable pub check_app : App
 check_app = with_settings (with_rule (new_app (codes "check"))
     (word_rule (codes "setup")))
 
--- the commands, of which one must be named; the words begin behind the program's name
+-- the commands, of which one must be named; the words begin after the program's name
 unfoldable pub calvin_app : App
 calvin_app = with_subcommand (with_subcommand (with_subcommand (with_subcommand (on_top (λ s. record s {
   no_binary_name = true;

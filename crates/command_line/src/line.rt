@@ -6,18 +6,19 @@ ghost use Rattle.command_line.specs.CommandLine.{AreSettings, AsksFor, IsAskedFo
 ghost use Rattle.command_line.specs.declared.line.Command.{Command};
 ghost use Rattle.command_line.specs.declared.line.Line.{Line};
 ghost use Rattle.command_line.specs.declared.line.LineFault.TheVariants.{NoMemory};
-ghost use Rattle.engine.specs.declared.settings.Settings.{Settings};
+ghost use Rattle.dispatcher.specs.declared.settings.Settings.{Settings};
 
 use crate::parser::calvin_command;
 use clap::error::ErrorKind;
 use clap::{ArgMatches, Error};
-use engine::Settings;
+use dispatcher::Settings;
 use std::alloc::{AllocError, Global};
 
 /// What the program is asked to do.
 #[derive(Debug, Drop, PartialEq, Eq)]
 pub enum Command {
-    /// Run the log on the setup at this path, with `alone` on one thread. With `progress` standard error tells how far it is.
+    /// Run the log on the setup at this path, with `alone` on one thread. With `progress` standard error tells how far
+    /// it is.
     Run {
         alone: bool,
         progress: bool,
@@ -31,8 +32,8 @@ pub enum Command {
     Check {
         setup: String,
     },
-    /// Run the log on the setup at this path, and compare the report with the file at that one. With `progress` standard
-    /// error tells how far it is.
+    /// Run the log on the setup at this path, and compare the report with the file at that one. With `progress`
+    /// standard error tells how far it is.
     Replicas {
         progress: bool,
         setup: String,

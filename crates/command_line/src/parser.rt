@@ -266,7 +266,8 @@ fn replicas_command<'a>(alloc: Global) -> Result<Command<'a>, AllocError>
 
 /// The program's name, what it is for, and its version.
 fn described<'a>(alloc: Global) -> Result<Command<'a>, AllocError>
-    ensures app { IfOk result (λ r. app_of r ≡ on_top (λ s. record s { has_version = true }) (new_app (codes "calvin"))) }
+    ensures app { IfOk result
+        (λ r. app_of r ≡ on_top (λ s. record s { has_version = true }) (new_app (codes "calvin"))) }
     ensures local { IfOk result (λ r. (fields_of r).has_globals ≡ false) }
 {
     let command = Command::new(alloc, "calvin").bin_name("calvin")?;

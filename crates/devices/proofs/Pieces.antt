@@ -61,7 +61,7 @@ whole_front items s e k h w = ap has_newline (sym (front_range items s e k h)) �
 pub ended_piece : (items : List ℕ) (s e k : ℕ) (line grown : List ℕ) → s + k < e → e ≤ length items → has_newline (take k (slice_range items s e)) ≡ false →
     (k < length (slice_range items s e) → get_or (slice_range items s e) k 0 ≡ newline) → grown ≡ line ++ slice_range items s (s + k) →
     TakesPiece true (slice_range items s e) (slice_range items (s + k + 1) e) line grown
-ended_piece items s e k line grown h in_bounds whole here behind =
+ended_piece items s e k line grown h in_bounds whole here grown_is =
     let le : s + k ≤ e = omega arith in
     let lt : k < length (slice_range items s e) = omega (arith, length-range items s e (omega arith) in_bounds) in
     let byte : get_or items (s + k) 0 ≡ newline = sym (at_range items s e k h) ∙ here lt in
@@ -71,13 +71,13 @@ ended_piece items s e k line grown h in_bounds whole here behind =
       taken = range_parts items s e k le
           ∙ ap (λ l. slice_range items s (s + k) ++ l) (range_first items (s + k) e h in_bounds ∙ ap (λ b. b ∷ slice_range items (s + k + 1) e) byte)
           ∙ sym (append_assoc (slice_range items s (s + k)) (newline ∷ []) (slice_range items (s + k + 1) e));
-      behind = behind;
+      after = grown_is;
       all = λ no. cc;
     }
 
 pub open_piece : (items : List ℕ) (s e k : ℕ) (line grown : List ℕ) → s < e → s + k ≡ e → e ≤ length items → has_newline (take k (slice_range items s e)) ≡ false →
     grown ≡ line ++ slice_range items s (s + k) → TakesPiece false (slice_range items s e) (slice_range items (s + k) e) line grown
-open_piece items s e k line grown h end in_bounds whole behind =
+open_piece items s e k line grown h end in_bounds whole grown_is =
     let le : s + k ≤ e = omega arith in
     let front = whole_front items s e k le whole in
     let same : slice_range items s (s + k) ≡ slice_range items s e = ap (λ n. slice_range items s n) end in
@@ -85,7 +85,7 @@ open_piece items s e k line grown h end in_bounds whole behind =
       piece = slice_range items s (s + k);
       whole = front;
       taken = range_parts items s e k le ∙ ap (λ l. l ++ slice_range items (s + k) e) (sym (append-nil (slice_range items s (s + k))));
-      behind = behind;
+      after = grown_is;
       all = λ _. (ap has_newline (sym same) ∙ front, omega (arith, length-range items s (s + k) (omega arith) (omega arith)));
     }
 
@@ -98,7 +98,7 @@ lost_piece items s e k h whole some = record {
   some = some;
 }
 
--- ---- pieces behind one another
+-- ---- pieces after one another
 
 -- what the answer says of the end
 pub piece_as : (ends now : Bool) (old new line grown : List ℕ) → ends ≡ now → TakesPiece ends old new line grown → TakesPiece now old new line grown
@@ -122,11 +122,11 @@ pub grown_taken : (ends : Bool) (a m left now : Option (List ℕ)) (old new line
     TakesPiece ends old new line grown → Consumes a (prepend_known new now) (grown ++ piece_end ends)
 grown_taken ends a m left now old new line grown first kept same t =
     let P : List ℕ → Type 0 = λ l. Consumes a (prepend_known new now) l in
-    let e : line ++ (t.piece ++ piece_end ends) ≡ grown ++ piece_end ends = sym (append_assoc line t.piece (piece_end ends)) ∙ ap (λ l. l ++ piece_end ends) (sym t.behind) in
+    let e : line ++ (t.piece ++ piece_end ends) ≡ grown ++ piece_end ends = sym (append_assoc line t.piece (piece_end ends)) ∙ ap (λ l. l ++ piece_end ends) (sym t.after) in
     subst P e (more_taken a m left now old new line (t.piece ++ piece_end ends) first kept same t.taken)
 
 pub grown_whole : (ends : Bool) (old new line grown : List ℕ) → has_newline line ≡ false → TakesPiece ends old new line grown → has_newline grown ≡ false
-grown_whole ends old new line grown h t = ap has_newline t.behind ∙ has_newline-append line t.piece h t.whole
+grown_whole ends old new line grown h t = ap has_newline t.after ∙ has_newline-append line t.piece h t.whole
 
 pub grown_longer : (old new line grown : List ℕ) → TakesPiece false old new line grown → length line < length grown
-grown_longer old new line grown t = omega (arith, (t.all refl).1, length-append line t.piece, ap length t.behind)
+grown_longer old new line grown t = omega (arith, (t.all refl).1, length-append line t.piece, ap length t.after)

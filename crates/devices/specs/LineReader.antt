@@ -1,6 +1,6 @@
 -- Claimed: what contracts promise to a reader rests on these words.
 -- What a clause sees of a reader of lines.
-use Rattle.std.specs.Prelude.{◌≡◌, ℕ, ◌+◌, ◌<◌, ◌⊎◌, List, [], ◌∷◌, ◌++◌, length, slice_range, Option, Some, None, Result, Ok, Err, Bool, true, false}
+use Rattle.std.specs.Prelude.{◌≡◌, ℕ, ◌+◌, ◌<◌, ◌⊎◌, List, [], ◌∷◌, ◌++◌, length, slice_range, Option, Some, None, Result, Ok, Err, Bool, true, false, ◌||◌, IfErr}
 use Rattle.std.specs.Borrow.{GName}
 use Rattle.std.specs.Io.KnownBytes.{prepend_known, Consumes, IsAtEnd}
 use Rattle.devices.specs.Lines.{has_newline, line_number, lines_of, newline, newlines_in}
@@ -82,3 +82,11 @@ is_io (Err (Memory line)) = false
 abbrev pub fault_in : {T : Type 0} → Result T LineReadFault → Option LineReadFault
 fault_in (Ok value) = None
 fault_in (Err fault) = Some fault
+
+-- What a call to a reader without a fault tells of one: it names the line at which the reader is; where a read failed,
+-- every byte that came was taken; and the source has failed meanwhile only where a read failed.
+pub record TellsFault {S T : Type 0} (failed : S → Bool) (old new : LineReader S) (result : Result T LineReadFault)
+    : Type 0 where
+  pub place : IfErr result (λ fault. IsFaultAt fault (position_of new))
+  pub spent : is_io result ≡ true → came new ≡ []
+  pub fails : failed (source_of new) ≡ (failed (source_of old) || is_io result)

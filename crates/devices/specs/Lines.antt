@@ -28,7 +28,7 @@ abbrev pub lines_of : List ℕ → List (List ℕ)
 lines_of [] = []
 lines_of (b ∷ rest) = if is_newline b then [] ∷ lines_of rest else onto_first b (lines_of rest)
 
--- the lines, each with a newline behind it
+-- the lines, each with a newline after it
 abbrev pub joined : List (List ℕ) → List ℕ
 joined lines = flat_map (λ line. line ++ newline ∷ []) lines
 
@@ -41,7 +41,7 @@ line_number n = min n (2 ^ 64 - 1)
 abbrev pub next_number : ℕ → ℕ
 next_number n = line_number (n + 1)
 
--- the lines, each with its number, behind a line of number n
+-- the lines, each with its number, after a line of number n
 abbrev pub numbered : ℕ → List (List ℕ) → List (ℕ × List ℕ)
 numbered n [] = []
 numbered n (line ∷ lines) = (next_number n, line) ∷ numbered (next_number n) lines
@@ -58,7 +58,8 @@ LinesHaveNoNewline = (text : List ℕ) → All (λ line. has_newline line ≡ fa
 
 -- whole lines that are joined are read back
 abbrev pub JoinedAreReadBack : Type 0
-JoinedAreReadBack = (lines : List (List ℕ)) → All (λ line. has_newline line ≡ false) lines → lines_of (joined lines) ≡ lines
+JoinedAreReadBack =
+    (lines : List (List ℕ)) → All (λ line. has_newline line ≡ false) lines → lines_of (joined lines) ≡ lines
 
 -- the lines of a text, joined, are the text, but for a newline that it may lack at its end
 abbrev pub LinesLoseNothing : Type 0

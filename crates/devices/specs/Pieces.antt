@@ -8,12 +8,12 @@ abbrev pub piece_end : Bool → List ℕ
 piece_end true = newline ∷ []
 piece_end false = []
 
--- a piece without a newline is taken, with its end, and goes behind a line
+-- a piece without a newline is taken, with its end, and goes after a line
 pub record TakesPiece (ends : Bool) (old new line grown : List ℕ) : Type 0 where
   pub piece : List ℕ
   pub whole : has_newline piece ≡ false
   pub taken : old ≡ (piece ++ piece_end ends) ++ new
-  pub behind : grown ≡ line ++ piece
+  pub after : grown ≡ line ++ piece
   pub all : ends ≡ false → (has_newline old ≡ false) × (0 < length piece)
 
 -- a piece without a newline is taken, and is lost

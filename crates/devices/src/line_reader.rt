@@ -57,7 +57,7 @@ fn line_end(bytes: &[u8]) -> usize
     bytes.len()
 }
 
-/// Puts a piece behind the bytes of a line.
+/// Puts a piece after the bytes of a line.
 fn push_piece(line: &mut Vec<u8>, piece: &[u8]) -> Result<(), AllocError>
     ensures ok { OnOk result (line.new.items ≡ line.old.items ++ piece.now) }
     ensures some { OnErr result (0 < length piece.now) }
@@ -73,7 +73,7 @@ fn push_piece(line: &mut Vec<u8>, piece: &[u8]) -> Result<(), AllocError>
 }
 
 impl<'a, S: Source> LineReader<'a, S> {
-    ghost use Rattle.devices.specs.LineReader.{came, fault_in, fault_of, IsFaultAt, is_io, line_begun, LosesLine, newlines_taken, position_of, source_name, source_of, Takes, TakesLine, unread};
+    ghost use Rattle.devices.specs.LineReader.{came, fault_in, fault_of, IsFaultAt, is_io, line_begun, LosesLine, newlines_taken, position_of, source_name, source_of, Takes, TakesLine, TellsFault, unread};
 
     /// A reader that has read nothing.
     pub fn new(source: &'a mut S) -> LineReader<'a, S>
@@ -139,7 +139,7 @@ impl<'a, S: Source> LineReader<'a, S> {
     }
 
     // Takes what came of a line of that number: the bytes before the newline and then the newline,
-    // or all that came. The bytes go behind those of the line, and are lost where memory is
+    // or all that came. The bytes go after those of the line, and are lost where memory is
     // refused. Answers whether the line ends.
     fn take_piece(&mut self, number: u64, line: &mut Vec<u8>) -> Result<bool, AllocError>
         requires { self.old.start < self.old.end }
@@ -148,7 +148,8 @@ impl<'a, S: Source> LineReader<'a, S> {
         ensures stays { self.new.fault ≡ self.old.fault }
         ensures begun { self.new.begun ≡ number }
         ensures newlines { self.new.newlines ≡ (if says_end result then number else self.old.newlines) }
-        ensures piece { IfOk result (λ ends. TakesPiece ends (came self.old) (came self.new) line.old.items line.new.items) }
+        ensures piece { IfOk result
+            (λ ends. TakesPiece ends (came self.old) (came self.new) line.old.items line.new.items) }
         ensures lost { OnErr result (LosesPiece (came self.old) (came self.new)) }
     {
         self.begun = number;
@@ -181,10 +182,8 @@ impl<'a, S: Source> LineReader<'a, S> {
         ensures at_end { IfOk result (λ o. IsNone o → position_of self.new ≡ position_of self.old) }
         ensures lost { OnErr result (LosesLine (unread S.left self.old) (unread S.left self.new)
             (position_of self.old) (position_of self.new)) }
-        ensures place { IfErr result (λ fault. IsFaultAt fault (position_of self.new)) }
+        ensures tells { TellsFault S.failed self.old self.new result }
         ensures late { has_newline (came self.old) ≡ true → source_of self.new ≡ source_of self.old }
-        ensures spent { is_io result ≡ true → came self.new ≡ [] }
-        ensures fails { S.failed (source_of self.new) ≡ (S.failed (source_of self.old) || is_io result) }
     {
         let number = self.newlines.saturating_add(1);
         let mut line = Vec::new(alloc);
@@ -210,32 +209,25 @@ impl<'a, S: Source> LineReader<'a, S> {
     /// answers the same fault.
     pub fn next_line(&mut self, alloc: Global) -> Result<Option<Vec<u8>>, LineReadFault>
         ensures same { source_name self.new ≡ source_name self.old }
-        ensures line { IfOk result (λ o.
-            IfSome o (λ line. TakesLine (unread S.left self.old) (unread S.left self.new) (position_of self.old)
-            (position_of self.new) line.items)) }
-        ensures numbered { IfOk result (λ o. IfSome o (λ line. Passes
-            (λ xs ys. numbered_lines (newlines_taken self.old) xs ≡ (line_begun self.new, line.items)
-            ∷ numbered_lines (newlines_taken self.new) ys)
-            (unread S.left self.old) (unread S.left self.new))) }
+        ensures line { IfOk result (λ o. IfSome o (λ line.
+            TakesLine (unread S.left self.old) (unread S.left self.new) (position_of self.old)
+            (position_of self.new) line.items ×
+            Passes (λ xs ys. numbered_lines (newlines_taken self.old) xs ≡ (line_begun self.new, line.items)
+            ∷ numbered_lines (newlines_taken self.new) ys) (unread S.left self.old) (unread S.left self.new))) }
         ensures end { IfOk result (λ o. IsNone o →
-            Passes (λ xs ys. (xs ≡ []) × (ys ≡ [])) (unread S.left self.old) (unread S.left self.new)) }
-        ensures at_end { IfOk result (λ o. IsNone o → position_of self.new ≡ position_of self.old) }
+            Passes (λ xs ys. (xs ≡ []) × (ys ≡ [])) (unread S.left self.old) (unread S.left self.new) ×
+            (position_of self.new ≡ position_of self.old)) }
 
         // A call that ends with a fault loses the beginning of a line, and each later call answers that fault.
         ensures lost { OnErr result (LosesLine (unread S.left self.old) (unread S.left self.new)
             (position_of self.old) (position_of self.new)) }
-        ensures place { fault_of self.old ≡ None → IfErr result (λ fault. IsFaultAt fault (position_of self.new)) }
+        ensures tells { fault_of self.old ≡ None → TellsFault S.failed self.old self.new result }
         ensures stays { fault_of self.new ≡ fault_in result }
         ensures again { IfSome (fault_of self.old) (λ fault. (result ≡ Err fault) ×
             (source_of self.new ≡ source_of self.old)) }
 
         // Where a whole line has come, no read is made.
         ensures late { has_newline (came self.old) ≡ true → source_of self.new ≡ source_of self.old }
-
-        // Where a read failed, every byte that came was taken.
-        ensures spent { fault_of self.old ≡ None → is_io result ≡ true → came self.new ≡ [] }
-        ensures fails { fault_of self.old ≡ None →
-            S.failed (source_of self.new) ≡ (S.failed (source_of self.old) || is_io result) }
     {
         if let Some(fault) = self.fault {
             return Err(fault);

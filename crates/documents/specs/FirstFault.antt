@@ -9,7 +9,7 @@ abbrev pub broken : {F : Type 0} → Bool → F → List F
 broken true fault = []
 broken false fault = fault ∷ []
 
--- those of each document in turn, behind the names that the ones before it give
+-- those of each document in turn, after the names that the ones before it give
 abbrev pub in_each : {N F : Type 0} → (Data → Option N) → (List N → Data → List F) → List N → List Data → List F
 in_each named one names [] = []
 in_each named one names (d ∷ ds) = one names d ++ in_each named one (names ++ option_to_list (named d)) ds

@@ -17,7 +17,7 @@ elements d = option_map list_of (as_array d)
 abbrev pub integer : Data → Option ℤ
 integer d = option_and_then as_i64 (as_number d)
 
--- lists of so many elements
+-- lists of a given length
 abbrev pub two : List Data → Option (Data × Data)
 two (a ∷ b ∷ []) = Some (a, b)
 two ds = None
@@ -53,7 +53,7 @@ abbrev pub is_one : ℤ → Bool
 is_one (pos n) = n == 1
 is_one (negsuc n) = false
 
--- the list behind a head word and the version 1
+-- the list after a head word and the version 1
 unfoldable pub versioned_list : List ℕ → Data → Option (List Data)
 versioned_list word d =
     option_and_then (λ (f : List ℕ × ℤ × List Data). if bytes_eq f.0 word && is_one f.1 then Some f.2 else None)

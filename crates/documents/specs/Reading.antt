@@ -24,7 +24,7 @@ abbrev pub rule : {F : Type 0} → Bool → F → Result ⊤ F
 rule true fault = Ok tt
 rule false fault = Err fault
 
--- one after the other, each behind those before it
+-- one after another, each with those before it
 abbrev pub each_at : {X F : Type 0} → (List X → Data → Result X F) → List X → List Data → Result (List X) F
 each_at one before [] = Ok before
 each_at one before (d ∷ ds) = do

@@ -1,4 +1,4 @@
-//! Arrays, and arrays of so many elements.
+//! Arrays, and arrays of a given length.
 
 ghost use Rattle.std.specs.Prelude.{◌≡◌, option_map, option_and_then, map};
 ghost use Rattle.serde_json.specs.View.{view};
@@ -63,7 +63,8 @@ pub fn five(value: &Value) -> Option<(&Value, &Value, &Value, &Value, &Value)>
 
 /// The elements of an array of six.
 pub fn six(value: &Value) -> Option<(&Value, &Value, &Value, &Value, &Value, &Value)>
-    ensures { option_map (λ p. (view p.0.now, view p.1.now, view p.2.now, view p.3.now, view p.4.now, view p.5.now)) result
+    ensures { option_map (λ p. (view p.0.now, view p.1.now, view p.2.now, view p.3.now, view p.4.now, view p.5.now))
+        result
         ≡ option_and_then six (elements (view value.now)) }
 {
     match elements(value)? {

@@ -8,18 +8,20 @@ use Rattle.sequencer.specs.declared.attempts.Carried.{Carried}
 use Rattle.meaning.specs.Entries.{Reply}
 use Rattle.sequencer.specs.Attempts.{carried_on, is_left, left_of, Attempt, AreCarriedOver, Numbered}
 use Rattle.sequencer.proofs.Carryings.{left_next}
-use Rattle.engine.specs.Accounts.{Shows, settled_of}
+use Rattle.dispatcher.specs.Listeners.{CountsReplies}
+use Rattle.engine.specs.Accounts.{settled_of}
 use Rattle.engine.specs.Batches.{over_tables}
-use Rattle.engine.specs.Engines.{Account, EngineParts}
-use Rattle.engine.specs.Stages.{IsTold}
+use Rattle.progress.specs.Accounts.{Account}
+use Rattle.engine.specs.Engines.{EngineParts}
+use Rattle.engine.specs.Stages.{IsToldSettled}
 
 -- what is settled is as before
 pub told_anew : (old new : EngineParts) (account : Option Account) → new.next ≡ old.next
-    → settled_of new.unfinished new.rows ≡ settled_of old.unfinished old.rows → IsTold old account → IsTold new account
+    → settled_of new.unfinished new.rows ≡ settled_of old.unfinished old.rows → IsToldSettled old account → IsToldSettled new account
 told_anew old new None next same told = absurd told
 told_anew old new (Some account) next same told = record {
   ended = told.ended ∙ sym next;
-  shows = subst (Shows account) (sym same) told.shows;
+  shows = subst (CountsReplies account) (sym same) told.shows;
 }
 
 -- over other tables

@@ -8,13 +8,9 @@ use Rattle.meaning.specs.Outcomes.{as_reply}
 use Rattle.meaning.specs.Serial.{serial_replies}
 use Rattle.sequencer.specs.Attempts.{Attempt}
 use Rattle.sequencer.specs.Entries.{prepared}
+use Rattle.dispatcher.proofs.Told.{replies_each}
 use Rattle.engine.specs.Batches.{entries_of}
 use Rattle.engine.specs.Replies.{reply_of, sent_of, sent_from, first_attempt, settled, Sent}
-
--- each entry has a reply
-pub replies_each : (entries : List EntryShape) (db : Database) → length (serial_replies entries db) ≡ length entries
-replies_each [] db = refl
-replies_each (e ∷ es) db = let rest = replies_each es (meaning e db).1 in cc
 
 pub settled_sent : (n : ℕ) (attempts : List Attempt) (outcomes : List Outcome) → length outcomes ≡ length attempts → map sent_of (settled n attempts outcomes) ≡ sent_from n attempts
 settled_sent n [] [] h = refl

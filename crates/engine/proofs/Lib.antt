@@ -1,15 +1,5 @@
-pub mod Facts
-pub mod Rests
 pub mod Ends
-pub mod Counting
-pub mod Onward
 pub mod Told
 pub mod Shown
-pub mod Steps
-pub mod InLanes
-pub mod EmptyLanes
 pub mod Stops
 pub mod Carried
-pub mod Sent
-pub mod Worked
-pub mod Straight

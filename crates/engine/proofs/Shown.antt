@@ -8,14 +8,17 @@ use Rattle.values.specs.Database.{Database}
 use Rattle.engine.specs.declared.replies.BatchDone.{BatchDone}
 use Rattle.sequencer.specs.Attempts.{Attempt}
 use Rattle.engine.specs.declared.fault.ExecFault.{ExecFault}
-use Rattle.engine.specs.Engines.{Account, EngineParts, Unfinished}
+use Rattle.progress.specs.Accounts.{Account}
+use Rattle.engine.specs.Engines.{EngineParts, Unfinished}
 use Rattle.engine.specs.Executions.{IsExecutionOf, ResumesTo}
 use Rattle.engine.specs.Replies.{reply_of, sent_of, sent_from}
-use Rattle.engine.specs.Tallies.{tally_of, together}
-use Rattle.engine.specs.Listeners.{HearsOn, published_until}
-use Rattle.engine.specs.Accounts.{Shows, settled_of}
-use Rattle.engine.specs.Stages.{HasHeard, IsShown, IsTold, KnowsEnd, account_in}
-use Rattle.engine.proofs.Counting.{together_none}
+use Rattle.dispatcher.specs.Tallies.{tally_of, together}
+use Rattle.dispatcher.specs.Listeners.{HearsOn}
+use Rattle.engine.specs.Stages.{published_until}
+use Rattle.dispatcher.specs.Listeners.{CountsReplies}
+use Rattle.engine.specs.Accounts.{settled_of}
+use Rattle.engine.specs.Stages.{HasHeard, IsShown, IsToldSettled, KnowsEnd, account_in}
+use Rattle.dispatcher.proofs.Counting.{together_none}
 
 module _ (next : ℕ) (done : BatchDone) (old now : Account) (told : old.ended.settled ≡ next)
     (onward : HearsOn (Some old) (Some now)) (knows : KnowsEnd done (Some now)) where
@@ -37,8 +40,8 @@ module _ (next : ℕ) (done : BatchDone) (old now : Account) (told : old.ended.s
       }
 
 -- what the watchers are told
-pub told_shows : (engine : EngineParts) (account : Option Account) → IsTold engine account
-    → Shows (account_in account) (settled_of engine.unfinished engine.rows)
+pub told_shows : (engine : EngineParts) (account : Option Account) → IsToldSettled engine account
+    → CountsReplies (account_in account) (settled_of engine.unfinished engine.rows)
 told_shows engine None told = absurd told
 told_shows engine (Some account) told = told.shows
 

@@ -4,18 +4,19 @@ use Rattle.catalogue.specs.Shapes.{TableShape}
 use Rattle.interp.specs.Entries.{entry_shape}
 use Rattle.scheduler.specs.Schedules.{Schedule, Work, phases_of}
 use Rattle.sequencer.specs.Attempts.{attempts_in}
-use Rattle.engine.specs.declared.refusal.Refusal.{Refusal}
-use Rattle.engine.specs.declared.refusal.Refusal.TheVariants.{Thread, Memory}
+use Rattle.dispatcher.specs.declared.refusal.Refusal.{Refusal}
+use Rattle.dispatcher.specs.declared.refusal.Refusal.TheVariants.{Thread, Memory}
 use Rattle.engine.specs.declared.stage.Begun.{Begun as BegunOf}
 use Rattle.engine.specs.declared.stage.Stage.{Stage}
 use Rattle.engine.specs.declared.stage.Stage.TheVariants.{Begun}
 use Rattle.engine.specs.declared.ending.Ended.{Ended}
 use Rattle.engine.specs.declared.working.Interruption.{Interruption}
 use Rattle.engine.specs.Batches.{entries_of}
-use Rattle.engine.specs.Engines.{Unfinished, NoneIsOut, StaysSettled}
+use Rattle.engine.specs.Engines.{Unfinished}
+use Rattle.dispatcher.specs.Runs.{NoneIsOut, StaysSettled}
 use Rattle.engine.specs.Executions.{WaitsIn}
 use Rattle.engine.specs.Stages.{IsBegun, IsInterruptedStage, refusal_in, rows_in, unfinished_in, unfinished_of}
-use Rattle.engine.proofs.EmptyLanes.{none_kept}
+use Rattle.dispatcher.proofs.EmptyLanes.{none_kept}
 
 by_thread : (ran : Result (Unit {0}) Refusal) → refusal_in ran ≡ Thread → ran ≡ Err Thread
 by_thread (Ok done) e = absurd cc

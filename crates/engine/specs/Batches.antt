@@ -16,13 +16,14 @@ use Rattle.engine.specs.Engines.{EngineParts}
 abbrev pub entries_of : Database → List Attempt → List EntryShape
 entries_of db attempts = map (prepared db) (map (λ attempt. attempt.request) attempts)
 
--- the attempts of a batch that an engine takes: what is carried stands at its head
+-- the attempts of a batch that an engine takes: what is carried comes first
 abbrev pub next_attempts : EngineParts → Batch → List Attempt
 next_attempts engine batch = attempts_of engine.carried (items_of batch)
 
 -- a carried request over other tables
 abbrev pub over_tables : List TableShape → Carried → Carried
-over_tables tables one = record one { request = record one.request { proc = record one.request.proc { tables = tables } } }
+over_tables tables one =
+    record one { request = record one.request { proc = record one.request.proc { tables = tables } } }
 
 -- an engine whose tables, those of its procedures and of the requests that are carried, are others with the same schema
 abbrev pub moved_over : List TableShape → EngineParts → EngineParts

@@ -1,13 +1,13 @@
 -- Claimed: what contracts promise to a reader rests on these words.
 -- An engine as contracts see it.
-use Rattle.std.specs.Prelude.{◌≡◌, ℕ, List, Bool, Option, is_some, true, false, refl, slice_get}
+use Rattle.std.specs.Prelude.{ℕ, List, Bool, Option, is_some, refl}
 use Rattle.std.specs.Coded.{Coded, code_by, coded×, coded_ℕ, coded_list, coded_option}
 use Rattle.catalogue.specs.Shapes.{TableShape}
 use Rattle.values.specs.Database.{Database}
 use Rattle.requests.specs.ProcLists.{ProcsParts}
 use Rattle.requests.specs.contracts.procs.Procs as procs
-use Rattle.engine.specs.declared.settings.Settings.{Settings}
-use Rattle.engine.specs.contracts.settings.Settings as settings
+use Rattle.dispatcher.specs.declared.settings.Settings.{Settings}
+use Rattle.dispatcher.specs.contracts.settings.Settings as settings
 use Rattle.requests.specs.Requests.{Call}
 use Rattle.requests.specs.contracts.request.Request as requests
 use Rattle.sequencer.specs.Attempts.{Attempt, Earlier}
@@ -16,29 +16,17 @@ use Rattle.sequencer.specs.contracts.attempts.Carried as carried
 use Rattle.row_store.specs.Stock.{rows_code}
 use Rattle.scheduler_core.specs.declared.phase.Phase.{Phase}
 use Rattle.scheduler_core.specs.contracts.phase.Phase as phase
-use Rattle.scheduler_core.specs.Phases.{is_out, is_settled}
-use Rattle.atomic_table.specs.Seated.{TableId, table_id_coded}
-use Rattle.progress.specs.declared.tally.Tally.{Tally}
-use Rattle.progress.specs.contracts.tally.Tally as tally
+use Rattle.progress.specs.Accounts.{Account, account_code}
 
 -- the attempts of a batch that is unfinished, and how far those of its transactions are that were admitted
 pub record Unfinished : Type 0 where
   pub attempts : List Attempt
   pub phases : List Phase
 
--- where tallies are published
-abbrev pub Place : Type 0
-Place = Option TableId
-
--- the tally with which the last batch ended, the list of all tallies that were published, and where it is published
-pub record Account : Type 0 where
-  pub ended : Tally
-  pub published : List Tally
-  pub place : Place
-
--- An engine: the procedures, the settings, how often a stale request is tried again, the number of the next transaction, the
--- database that the batches which ended have left, the requests that are carried to the next batch, and the batch that is
--- unfinished. While a batch is unfinished the carried requests are among its attempts, and none is carried beside them.
+-- An engine: the procedures, the settings, how often a stale request is tried again, the number of the next
+-- transaction, the database that the batches which ended have left, the requests that are carried to the next batch,
+-- and the batch that is unfinished. While a batch is unfinished the carried requests are among its attempts, and none
+-- is carried beside them.
 pub record EngineParts : Type 0 where
   pub procs : ProcsParts
   pub settings : Settings
@@ -60,15 +48,6 @@ tables_of engine = engine.procs.tables
 abbrev pub is_busy : EngineParts → Bool
 is_busy engine = is_some engine.unfinished
 
--- no job is out
-abbrev pub NoneIsOut : List Phase → Type 0
-NoneIsOut phases = (place : ℕ) → is_out (slice_get phases place) ≡ false
-
--- what is settled stays settled
-abbrev pub StaysSettled : List Phase → List Phase → Type 0
-StaysSettled old new =
-    (place : ℕ) → is_settled (slice_get old place) ≡ true → is_settled (slice_get new place) ≡ true
-
 abbrev pub earlier_code : Coded Earlier
 earlier_code =
     code_by (ℕ × ℕ) (coded× coded_ℕ coded_ℕ)
@@ -89,14 +68,6 @@ unfinished_code =
     code_by (List Attempt × List Phase) (coded× (coded_list attempt_code) (coded_list phase.the_row.coded))
     (λ u. (u.attempts, u.phases))
     (λ p. record { attempts = p.0; phases = p.1 })
-    (λ _. refl)
-
-abbrev pub account_code : Coded Account
-account_code =
-    code_by (Tally × (List Tally × Place))
-    (coded× tally.the_row.coded (coded× (coded_list tally.the_row.coded) (coded_option table_id_coded)))
-    (λ a. (a.ended, (a.published, a.place)))
-    (λ p. record { ended = p.0; published = p.1.0; place = p.1.1 })
     (λ _. refl)
 
 abbrev pub engine_code : Coded EngineParts
@@ -123,16 +94,4 @@ publishing_code =
     code_by (EngineParts × Account) (coded× engine_code account_code)
     (λ e. (e.core, e.account))
     (λ p. record { core = p.0; account = p.1 })
-    (λ _. refl)
-
--- the beginning of a published list, and where that is published: what a watcher knows
-pub record Watched : Type 0 where
-  pub seen : List Tally
-  pub place : Place
-
-abbrev pub watched_code : Coded Watched
-watched_code =
-    code_by (List Tally × Place) (coded× (coded_list tally.the_row.coded) (coded_option table_id_coded))
-    (λ w. (w.seen, w.place))
-    (λ p. record { seen = p.0; place = p.1 })
     (λ _. refl)

@@ -6,11 +6,12 @@ use Rattle.sequencer.specs.declared.batch.Batch.{Batch}
 use Rattle.sequencer.specs.Attempts.{Attempt, left_of}
 use Rattle.engine.specs.declared.fault.ExecFault.{ExecFault}
 use Rattle.engine.specs.declared.fault.ExecFault.TheVariants.{Busy, LogFull, Spawn, NoMemory}
-use Rattle.engine.specs.declared.refusal.Refusal.{Refusal}
-use Rattle.engine.specs.declared.refusal.Refusal.TheVariants.{Thread, Memory}
+use Rattle.dispatcher.specs.declared.refusal.Refusal.{Refusal}
+use Rattle.dispatcher.specs.declared.refusal.Refusal.TheVariants.{Thread, Memory}
 use Rattle.engine.specs.declared.replies.BatchDone.{BatchDone}
 use Rattle.engine.specs.Batches.{entries_of, next_attempts}
-use Rattle.engine.specs.Engines.{EngineParts, Unfinished, is_busy, NoneIsOut, StaysSettled}
+use Rattle.engine.specs.Engines.{EngineParts, Unfinished, is_busy}
+use Rattle.dispatcher.specs.Runs.{NoneIsOut, StaysSettled}
 use Rattle.engine.specs.Replies.{reply_of, sent_of, sent_from}
 
 -- procedures, with their tables, settings, and how often a stale request is tried again are as they were
@@ -19,8 +20,8 @@ pub record KeepsSetting (old new : EngineParts) : Type 0 where
   pub settings : new.settings ≡ old.settings
   pub retries : new.retries ≡ old.retries
 
--- a batch of these attempts was run: their entries one by one on the rows before it give the replies, and leave the rows; and of
--- those that were stale the requests are carried on that had few enough attempts before
+-- a batch of these attempts was run: their entries one by one on the rows before it give the replies, and leave the
+-- rows; and of those that were stale the requests are carried on that had few enough attempts before
 pub record IsExecutionOf (old new : EngineParts) (attempts : List Attempt) (run : BatchDone) : Type 0 where
   pub first : run.first ≡ old.next
   pub sent : map sent_of run.replies.items ≡ sent_from old.next attempts
@@ -46,23 +47,23 @@ WaitsIn None new = ⊥
 WaitsIn (Some old) None = ⊥
 WaitsIn (Some old) (Some new) = Waits old new
 
--- what an engine keeps while it holds a batch: that batch has no numbers yet, the rows are those before it, and nothing is carried
--- beside it
+-- what an engine keeps while it holds a batch: that batch has no numbers yet, the rows are those before it, and nothing
+-- is carried beside it
 pub record Holds (old new : EngineParts) : Type 0 where
   pub next : new.next ≡ old.next
   pub rows : new.rows ≡ old.rows
   pub carried : new.carried ≡ []
 
--- A batch was not run to its end, and the engine holds it with all that was carried to it. Where a thread was refused, nothing of it
--- has run in this call, and if allocation failed, not all of it.
+-- A batch was not run to its end, and the engine holds it with all that was carried to it. Where a thread was refused,
+-- nothing of it has run in this call, and if allocation failed, not all of it.
 abbrev pub IsInterruption : EngineParts → Option Unfinished → EngineParts → ExecFault → Type 0
 IsInterruption old unfinished new (Busy back) = ⊥
 IsInterruption old unfinished new (LogFull back) = ⊥
 IsInterruption old unfinished new Spawn = (new.unfinished ≡ unfinished) × Holds old new
 IsInterruption old unfinished new NoMemory = WaitsIn unfinished new.unfinished × Holds old new
 
--- The batch was not run: it comes back from a busy engine, and where the log would have more than 2^48 transactions, and
--- nothing is changed; or it was taken and interrupted.
+-- The batch was not run: it comes back from a busy engine, and where the log would have more than 2^48 transactions,
+-- and nothing is changed; or it was taken and interrupted.
 abbrev pub IsRefusal : EngineParts → EngineParts → Batch → ExecFault → Type 0
 IsRefusal old new batch (Busy back) = (back ≡ batch) × (is_busy old ≡ true) × (new ≡ old)
 IsRefusal old new batch (LogFull back) =
@@ -88,6 +89,6 @@ ResumesTo old new None done = ⊥
 ResumesTo old new (Some unfinished) done = IsExecutionOf old new unfinished.attempts done
 
 -- what is answered where the system refused something
-abbrev pub fault_of : Refusal → ExecFault
-fault_of Thread = Spawn
-fault_of Memory = NoMemory
+abbrev pub fault_from : Refusal → ExecFault
+fault_from Thread = Spawn
+fault_from Memory = NoMemory

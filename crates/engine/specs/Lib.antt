@@ -1,11 +1,6 @@
-pub mod Ranges
 pub mod Engines
 pub mod Batches
 pub mod Replies
-pub mod Tallies
 pub mod Accounts
 pub mod Executions
-pub mod Listeners
 pub mod Stages
-pub mod HandedOut
-pub mod Workers

@@ -15,8 +15,8 @@ reply_of reply = as_reply reply.outcome
 abbrev pub first_attempt : Attempt → Option ℕ
 first_attempt attempt = option_map (λ earlier. earlier.first) attempt.before
 
--- whom a reply is for: a transaction's number, its client, the request's number among those of the client, and the number of the
--- request's first attempt, where this is a later one
+-- whom a reply is for: a transaction's number, its client, the request's number among those of the client, and the
+-- number of the request's first attempt, where this is a later one
 pub record Sent : Type 0 where
   pub transaction : ℕ
   pub client : ℕ
@@ -30,11 +30,18 @@ sent_of reply = record { transaction = reply.no; client = reply.client; number =
 abbrev pub sent_from : ℕ → List Attempt → List Sent
 sent_from transaction [] = []
 sent_from transaction (attempt ∷ attempts) =
-    record { transaction = transaction; client = attempt.client; number = attempt.number; of = first_attempt attempt } ∷ sent_from (transaction + 1) attempts
+    record { transaction = transaction; client = attempt.client; number = attempt.number; of = first_attempt attempt }
+    ∷ sent_from (transaction + 1) attempts
 
 -- each attempt with its outcome
 abbrev pub settled : ℕ → List Attempt → List Outcome → List Reply
 settled transaction attempts [] = []
 settled transaction [] (outcome ∷ outcomes) = []
 settled transaction (attempt ∷ attempts) (outcome ∷ outcomes) =
-    record { no = transaction; client = attempt.client; number = attempt.number; of = first_attempt attempt; outcome = outcome } ∷ settled (transaction + 1) attempts outcomes
+    record {
+      no = transaction;
+      client = attempt.client;
+      number = attempt.number;
+      of = first_attempt attempt;
+      outcome = outcome;
+    } ∷ settled (transaction + 1) attempts outcomes

@@ -6,14 +6,15 @@ ghost use Rattle.interp.specs.Entries.{entry_shape};
 ghost use Rattle.scheduler.specs.Logs.{ArePlansOf};
 ghost use Rattle.engine.specs.Stages.{IsFree, IsBatchFrom, IsScheduleOf};
 
-use crate::settings::Settings;
+use dispatcher::Settings;
 use requests::Procs;
 use row_store::{RowStore, all_is_free_with_nothing_lent};
 use scheduler::Scheduler;
 use sequencer::{Attempts, prepare_attempts};
 use std::alloc::Global;
 
-/// A scheduler of the entries of a batch's attempts on these rows, with nothing admitted. Where memory is refused, the rows come back.
+/// A scheduler of the entries of a batch's attempts on these rows, with nothing admitted. If allocation fails, the rows
+/// come back.
 pub(crate) fn begin(
     alloc: Global,
     procs: &Procs,
@@ -33,6 +34,7 @@ pub(crate) fn begin(
     ensures room { IfOk result (λ scheduler. scheduler.work.arena ≡ settings.arena) }
     ensures back { IfErr result (λ back. back ≡ store) }
 {
+    // proof: every row of the store is free.
     all_is_free_with_nothing_lent();
     let Ok(catalogue) = store.catalogue().clone() else {
         return Err(store);

@@ -1,6 +1,6 @@
 //! What an engine runs every batch with.
 
-use crate::settings::Settings;
+use dispatcher::Settings;
 use requests::Procs;
 
 /// What an engine runs every batch with.

@@ -21,8 +21,8 @@ pub(crate) struct Ended {
     pub done: BatchDone,
 }
 
-/// The end of a batch whose transactions are all settled. All memory is taken before anything ends: where it is refused, the batch comes
-/// back as it is. For the requests that are tried again none is taken where none is.
+/// The end of a batch whose transactions are all settled. All memory is taken before anything ends: if allocation
+/// fails, the batch comes back as it is. For the requests that are tried again none is taken where none is.
 pub(crate) fn end(alloc: Global, first: u64, retries: u8, begun: Begun) -> Result<Ended, Begun>
     requires done { is_done (log_of begun.scheduler.work) (phases_of begun.scheduler) ≡ true }
     requires begun { IsBegun begun.scheduler.work.tables first begun }

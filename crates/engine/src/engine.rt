@@ -4,21 +4,18 @@ ghost use Rattle.std.specs.Prelude.{◌≡◌, [], ◌∷◌, ◌+◌, ◌<◌, 
 ghost use Rattle.std.specs.FinMap as map_of;
 ghost use Rattle.row_store.specs.Stock.{with_rows};
 ghost use Rattle.sequencer.specs.Batches.{items_of, AreOver};
-ghost use Rattle.progress.specs.Tallies.{opening};
+ghost use Rattle.progress.specs.Tallies.{zero_tally};
 ghost use Rattle.engine.specs.Accounts.{Publishes, ShowsSettled};
 ghost use Rattle.engine.specs.Batches.{next_attempts};
 ghost use Rattle.engine.specs.Engines.{tables_of, is_busy};
 ghost use Rattle.engine.specs.Executions.{IsExecutionOf, IsRefusal, IsInterruption, KeepsSetting, ResumesTo, IsBack, taken};
 
 use crate::fault::ExecFault;
-use crate::gate::Gate;
 use crate::pooled::resume_at;
-use crate::publisher::Publisher;
 use crate::quiet::QuietEngine;
 use crate::replies::BatchDone;
-use crate::settings::Settings;
-use crate::watcher::Watcher;
-use crate::workplace::Workplace;
+use dispatcher::{Gate, Settings, Workplace};
+use progress::{Publisher, Watcher};
 use requests::{Procs, Setup};
 use row_store::RowStore;
 use sequencer::Batch;
@@ -28,7 +25,8 @@ use std::sync::Wait;
 use std::thread::Threads;
 use values::NoMemory;
 
-/// Executes batches of calls, one after another, on the rows of a database, and publishes how many transactions are settled.
+/// Executes batches of calls, one after another, on the rows of a database, and publishes how many transactions are
+/// settled.
 #[derive(Drop)]
 pub struct Engine {
     pub(crate) core: QuietEngine,
@@ -38,7 +36,7 @@ pub struct Engine {
 
 impl Model for Engine {
     ghost use Rattle.engine.specs.Engines.{PublishingParts, publishing_code};
-    ghost use Rattle.engine.specs.Stages.{account_in, IsTold};
+    ghost use Rattle.engine.specs.Stages.{account_in, IsToldSettled};
 
     ghost Value = { PublishingParts };
 
@@ -46,7 +44,7 @@ impl Model for Engine {
 
     ghost view = { λ e. record { core = e.core; account = account_in e.publisher } };
 
-    ghost invariant = { λ e. IsTold e.core e.publisher };
+    ghost invariant = { λ e. IsToldSettled e.core e.publisher };
 }
 
 impl Engine {
@@ -64,7 +62,7 @@ impl Engine {
                 carried = [];
                 unfinished = None;
               };
-              account = record engine.account { ended = opening; published = opening ∷ [] };
+              account = record engine.account { ended = zero_tally; published = zero_tally ∷ [] };
             }) }
     {
         let core = QuietEngine::new(alloc, setup, settings)?;
@@ -113,8 +111,8 @@ impl Engine {
         self.core.settings()
     }
 
-    /// How many requests are carried to the next batch; 0 while a batch is unfinished, which has them among its attempts. It takes no
-    /// memory.
+    /// How many requests are carried to the next batch; 0 while a batch is unfinished, which has them among its
+    /// attempts. It takes no memory.
     pub fn carried(&self) -> usize
         ensures same { result ≡ length self.now.core.carried }
         // Each of them was a transaction.
@@ -132,12 +130,12 @@ impl Engine {
         self.core.retries()
     }
 
-    /// Runs a batch on worker threads, over lanes; a job that is the only one out may be run on the calling thread. Who runs a job passes
-    /// the gate once for it, before.
+    /// Runs a batch on worker threads, over lanes; a job that is the only one out may be run on the calling thread. Who
+    /// runs a job passes the gate once for it, before.
     ///
-    /// The carried requests stand before the batch's calls, and an empty batch runs them alone. The replies are those of their entries one
-    /// by one on the rows before it, and the rows afterwards are theirs. A stale request that was tried few enough times is carried to
-    /// the next batch.
+    /// The carried requests stand before the batch's calls, and an empty batch runs them alone. The replies are those
+    /// of their entries one by one on the rows before it, and the rows afterwards are theirs. A stale request that was
+    /// tried few enough times is carried to the next batch.
     pub fn execute<R: Threads + Wait + Sync, G: Gate>(
         &mut self,
         rt: &R,
@@ -153,8 +151,8 @@ impl Engine {
         ensures full { is_busy self.old.core ≡ false →
             2 ^ 48 < self.old.core.next + length (next_attempts self.old.core batch) →
             result ≡ Err (ExecFault.LogFull batch) }
-        // No other batch comes back. Where a thread is refused nothing has run. Where a thread is refused or allocation fails the
-        // engine holds the batch, and no job of it is out.
+        // No other batch comes back. Where a thread is refused nothing has run. Where a thread is refused or allocation
+        // fails the engine holds the batch, and no job of it is out.
         ensures refused { IfErr result (IsRefusal self.old.core self.new.core batch) }
         ensures published { Publishes self.old self.new result }
     {
@@ -172,10 +170,12 @@ impl Engine {
         requires { is_busy self.old.core ≡ true }
         ensures same { KeepsSetting self.old.core self.new.core }
         ensures done { IfOk result (ResumesTo self.old.core self.new.core self.old.core.unfinished) }
-        // Where a thread is refused or allocation fails again, no job is out, and what was settled before stays settled.
+        // Where a thread is refused or allocation fails again, no job is out, and what was settled before stays
+        // settled.
         ensures refused { IfErr result (IsInterruption self.old.core self.old.core.unfinished self.new.core) }
         ensures published { Publishes self.old self.new result }
     {
+        // proof: no job of the unfinished batch is out.
         self.core.observe();
         match Workplace::new(alloc, self.settings()) {
             Ok((place, head)) => resume_at(rt, alloc, self, &place, head, gate),
@@ -203,7 +203,8 @@ impl Engine {
         self.core.take(batch)
     }
 
-    /// A watcher that was told all that was published. A thread may take it, and watch while the engine runs. This may wait.
+    /// A watcher that was told all that was published. A thread may take it, and watch while the engine runs. This may
+    /// wait.
     pub fn watcher<R: Wait>(&mut self, rt: &R) -> Result<Watcher, NoMemory>
         ensures kept { self.new ≡ self.old }
         ensures told { IfOk result (λ watcher. watcher ≡ record {
@@ -215,6 +216,6 @@ impl Engine {
         let Some(publisher) = &mut self.publisher else {
             unreachable!()
         };
-        publisher.watcher(rt)
+        Ok(publisher.watcher(rt)?)
     }
 }

@@ -2,7 +2,7 @@
 
 ghost use Rattle.std.specs.Prelude.{◌≡◌};
 
-use crate::refusal::Refusal;
+use dispatcher::Refusal;
 use sequencer::Batch;
 use std::fmt;
 use thiserror::Error;
@@ -37,9 +37,9 @@ impl fmt::Debug for ExecFault {
 }
 
 impl From<Refusal> for ExecFault {
-    ghost use Rattle.engine.specs.Executions.{fault_of};
+    ghost use Rattle.engine.specs.Executions.{fault_from};
 
-    ghost from_gives = { λ refusal given. given ≡ fault_of refusal };
+    ghost from_gives = { λ refusal given. given ≡ fault_from refusal };
 
     fn from(refusal: Refusal) -> ExecFault {
         match refusal {

@@ -9,11 +9,9 @@ ghost use Rattle.engine.specs.Executions.{IsExecutionOf, IsRefusal, IsInterrupti
 
 use crate::engine::Engine;
 use crate::fault::ExecFault;
-use crate::gate::Gate;
-use crate::listener::Publishing;
-use crate::pool::WorkerPool;
+use crate::publishing::Publishing;
 use crate::replies::BatchDone;
-use crate::workplace::{HeadSeat, Workplace};
+use dispatcher::{Gate, HeadSeat, WorkerPool, Workplace};
 use sequencer::Batch;
 use std::alloc::Global;
 use std::sync::Wait;
@@ -25,7 +23,8 @@ fn take_back<T>(reference: &mut T)
     ensures { reference.new ≡ reference.old }
 {}
 
-/// Goes on with the unfinished batch on workers that are started at a workplace, and joined at the end. This is its seat.
+/// Goes on with the unfinished batch on workers that are started at a workplace, and joined at the end. This is its
+/// seat.
 pub(crate) fn resume_at<'a, R: Threads + Wait + Sync, G: Gate>(
     rt: &R,
     alloc: Global,
@@ -56,8 +55,8 @@ pub(crate) fn resume_at<'a, R: Threads + Wait + Sync, G: Gate>(
 }
 
 impl Engine {
-    /// Runs a batch as `execute` does, on the workers of a pool, which stay there for the next one. How many workers and lanes there
-    /// are is the workplace's matter; the threshold and the room for lock requests are the engine's.
+    /// Runs a batch as `execute` does, on the workers of a pool, which stay there for the next one. How many workers
+    /// and lanes there are is the workplace's matter; the threshold and the room for lock requests are the engine's.
     pub fn execute_in<'s, E, R: Wait + Sync, G: Gate>(
         &mut self,
         alloc: Global,
@@ -71,8 +70,8 @@ impl Engine {
         ensures full { is_busy self.old.core ≡ false →
             2 ^ 48 < self.old.core.next + length (next_attempts self.old.core batch) →
             result ≡ Err (ExecFault.LogFull batch) }
-        // Where a thread is refused nothing has run. Where a thread is refused or allocation fails the engine holds the batch, and no
-        // job of it is out.
+        // Where a thread is refused nothing has run. Where a thread is refused or allocation fails the engine holds the
+        // batch, and no job of it is out.
         ensures refused { IfErr result (IsRefusal self.old.core self.new.core batch) }
         ensures published { Publishes self.old self.new result }
     {
@@ -96,7 +95,7 @@ impl Engine {
             unreachable!()
         };
         let mut listener = Publishing {
-            rt: pool.rt,
+            rt: pool.runtime(),
             publisher,
         };
         let ended = self.core.resume_in(alloc, &mut listener, pool);

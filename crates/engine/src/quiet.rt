@@ -4,18 +4,15 @@ ghost use Rattle.std.specs.Prelude.{◌≡◌, ◌+◌, ◌<◌, ◌≤◌, ◌^
 ghost use Rattle.std.specs.FinMap as map_of;
 ghost use Rattle.row_store.specs.Stock.{with_rows};
 ghost use Rattle.sequencer.specs.Batches.{items_of, AreOver};
-ghost use Rattle.engine.specs.Listeners.{HearsOn};
+ghost use Rattle.dispatcher.specs.Listeners.{HearsOn};
 ghost use Rattle.engine.specs.Stages.{IsHeard, HasHeard};
 
 use crate::configuration::Configuration;
 use crate::fault::ExecFault;
-use crate::gate::Gate;
-use crate::listener::{Listener, Silence};
-use crate::pool::WorkerPool;
 use crate::replies::BatchDone;
-use crate::settings::Settings;
 use crate::stage::Stage;
 use crate::working::{conclude, work_alone, work_in_pool};
+use dispatcher::{Gate, Listener, Settings, Silence, WorkerPool};
 use requests::{Procs, Setup};
 use row_store::RowStore;
 use sequencer::{Attempts, Batch};
@@ -27,8 +24,8 @@ use values::NoMemory;
 /// The most transactions that a log has.
 const MOST_TRANSACTIONS: u64 = 1 << 48;
 
-/// Executes batches of calls, one after another, on the rows of a database, on the thread that calls it, as `Engine::run_alone` does.
-/// It publishes nothing and has no watchers, and so it never waits.
+/// Executes batches of calls, one after another, on the rows of a database, on the thread that calls it, as
+/// `Engine::run_alone` does. It publishes nothing and has no watchers, and so it never waits.
 #[derive(Drop)]
 pub struct QuietEngine {
     pub(crate) configuration: Configuration,
@@ -41,7 +38,7 @@ pub struct QuietEngine {
 impl Model for QuietEngine {
     ghost use Rattle.std.specs.Prelude.{◌≤◌};
     ghost use Rattle.engine.specs.Engines.{EngineParts, engine_code};
-    ghost use Rattle.engine.specs.Stages.{carried_in, unfinished_in, rows_in, IsInOrder};
+    ghost use Rattle.engine.specs.Stages.{carried_in, unfinished_in, rows_in, IsSoundStage};
 
     ghost Value = { EngineParts };
 
@@ -58,10 +55,10 @@ impl Model for QuietEngine {
     } };
 
     ghost invariant = { λ e.
-        IsInOrder e.configuration.procs.tables e.next e.stage × (e.configuration.retries ≤ 2) };
+        IsSoundStage e.configuration.procs.tables e.next e.stage × (e.configuration.retries ≤ 2) };
 }
 
-/// Whether a log of so many transactions has room for what is carried and a batch's own calls.
+/// Whether a log of that many transactions has room for what is carried and a batch's own calls.
 fn has_room(transactions: u64, carried: usize, own: usize) -> bool
     requires { transactions ≤ 2 ^ 48 }
     ensures { IsTrue result ↔ (transactions + (carried + own) ≤ 2 ^ 48) }
@@ -148,8 +145,8 @@ impl QuietEngine {
         self.configuration.settings
     }
 
-    /// How many requests are carried to the next batch; 0 while a batch is unfinished, which has them among its attempts. It takes no
-    /// memory.
+    /// How many requests are carried to the next batch; 0 while a batch is unfinished, which has them among its
+    /// attempts. It takes no memory.
     pub fn carried(&self) -> usize
         ensures same { result ≡ length self.now.carried }
         // Each of them was a transaction.
@@ -217,8 +214,8 @@ impl QuietEngine {
         Ok(())
     }
 
-    /// Goes on with the unfinished batch on this thread, by these choices of events, and gives the replies of the whole batch. The
-    /// listener hears of each transaction as it is settled; this waits only where the listener does.
+    /// Goes on with the unfinished batch on this thread, by these choices of events, and gives the replies of the whole
+    /// batch. The listener hears of each transaction as it is settled; this waits only where the listener does.
     pub(crate) fn resume_alone<L: Listener>(
         &mut self,
         alloc: Global,
@@ -248,8 +245,8 @@ impl QuietEngine {
         conclude(&mut self.next, &mut self.stage, ended)
     }
 
-    /// Goes on with the unfinished batch on the workers of a pool, and gives the replies of the whole batch. The listener hears of each
-    /// transaction as it is settled.
+    /// Goes on with the unfinished batch on the workers of a pool, and gives the replies of the whole batch. The
+    /// listener hears of each transaction as it is settled.
     pub(crate) fn resume_in<'s, E, R: Wait + Sync, G: Gate, L: Listener>(
         &mut self,
         alloc: Global,
@@ -271,9 +268,9 @@ impl QuietEngine {
         conclude(&mut self.next, &mut self.stage, ended)
     }
 
-    /// Runs a batch. The carried requests stand before its calls, and an empty batch runs them alone. The replies are those of their
-    /// entries one by one on the rows before the batch, and the rows afterwards are theirs. A stale request that was tried few
-    /// enough times is carried to the next batch.
+    /// Runs a batch. The carried requests stand before its calls, and an empty batch runs them alone. The replies are
+    /// those of their entries one by one on the rows before the batch, and the rows afterwards are theirs. A stale
+    /// request that was tried few enough times is carried to the next batch.
     pub fn execute(&mut self, alloc: Global, batch: Batch) -> Result<BatchDone, ExecFault>
         requires { AreOver (tables_of self.old) (items_of batch) }
         ensures same { KeepsSetting self.old self.new }

@@ -91,12 +91,13 @@ impl QuietEngine {
 }
 
 impl Engine {
-    /// Splits the tables anew, as a catalogue says that has the same tables and columns in the same order. The rows, the
-    /// settings, the number of the next transaction and what watchers are told stay as they are; the engine's tables, those of
-    /// its procedures and of the carried requests too, are the new catalogue's from then on. An `Err` changes nothing. Each row is
-    /// visited once and shared.
+    /// Splits the tables anew, as a catalogue says that has the same tables and columns in the same order. The rows,
+    /// the settings, the number of the next transaction and what watchers are told stay as they are; the engine's
+    /// tables, those of its procedures and of the carried requests too, are the new catalogue's from then on. An `Err`
+    /// changes nothing. Each row is visited once and shared.
     ///
-    /// A request that was made before, and isn't carried, is over the old tables; `Request::over` brings it over to the new ones.
+    /// A request that was made before, and isn't carried, is over the old tables; `Request::over` brings it over to the
+    /// new ones.
     pub fn repartition(&mut self, alloc: Global, catalogue: &Catalogue) -> Result<(), RepartFault>
         ensures done { OnOk result (self.new ≡ record self.old { core = moved_over catalogue.now self.old.core }) }
         ensures same { OnOk result (HaveSameSchema (tables_of self.old.core) catalogue.now) }

@@ -33,7 +33,7 @@ pub struct BatchDone {
     pub replies: Vec<Reply>,
 }
 
-/// How many requests so many attempts may leave to be tried again.
+/// How many requests a number of attempts may leave to be tried again.
 pub(crate) fn most_left(attempts: usize, retries: u8) -> usize
     ensures some { 0 < retries → result ≡ attempts }
     ensures none { retries ≡ 0 → result ≡ 0 }
@@ -41,8 +41,8 @@ pub(crate) fn most_left(attempts: usize, retries: u8) -> usize
     if retries == 0 { 0 } else { attempts }
 }
 
-/// The replies to a batch's attempts, numbered from a first one, with an outcome for each, and the requests that are tried again.
-/// They find room in the two lists, which are empty: no memory is taken.
+/// The replies to a batch's attempts, numbered from a first one, with an outcome for each, and the requests that are
+/// tried again. They find room in the two lists, which are empty: no memory is taken.
 pub(crate) fn fill(
     replies: Vec<Reply>,
     left: Vec<Carried>,

@@ -9,16 +9,16 @@ ghost use Rattle.engine.specs.Executions.{IsExecutionOf, IsRefusal, IsInterrupti
 
 use crate::engine::Engine;
 use crate::fault::ExecFault;
-use crate::listener::Publishing;
+use crate::publishing::Publishing;
 use crate::replies::BatchDone;
 use sequencer::Batch;
 use std::alloc::Global;
 use std::sync::Wait;
 
 impl Engine {
-    /// Runs a batch on one thread, without a gate: each step makes the event that `choose` gives for the next choice, and after the
-    /// last the next step of the least transaction, with few admitted after it. It starts no thread. It may wait, since it publishes
-    /// how many are settled.
+    /// Runs a batch on one thread, without a gate: each step makes the event that `choose` gives for the next choice,
+    /// and after the last the next step of the least transaction, with few admitted after it. It starts no thread. It
+    /// may wait, since it publishes how many are settled.
     pub fn run_alone<R: Wait>(
         &mut self,
         rt: &R,
@@ -41,8 +41,8 @@ impl Engine {
         self.resume_alone(rt, alloc, choices)
     }
 
-    /// Goes on with the unfinished batch on one thread, by these choices of events, and gives the replies of the whole batch. It starts
-    /// no thread. It may wait, since it publishes how many are settled.
+    /// Goes on with the unfinished batch on one thread, by these choices of events, and gives the replies of the whole
+    /// batch. It starts no thread. It may wait, since it publishes how many are settled.
     pub fn resume_alone<R: Wait>(
         &mut self,
         rt: &R,

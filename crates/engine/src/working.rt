@@ -4,21 +4,17 @@ ghost use Rattle.std.specs.Prelude.{◌≡◌, ◌+◌, ◌≤◌, ◌^◌, leng
 ghost use Rattle.scheduler_core.specs.Phases.{is_done};
 ghost use Rattle.scheduler.specs.Schedules.{log_of, phases_of};
 ghost use Rattle.sequencer.specs.Attempts.{attempts_in};
-ghost use Rattle.engine.specs.Executions.{fault_of};
-ghost use Rattle.engine.specs.Stages.{Fits, EndsBatch, IsBegun, IsEndOf, IsInterruptedStage, rows_in, unfinished_in, unfinished_of, Knows, KnowsEnd, refusal_in};
-ghost use Rattle.engine.specs.Listeners.{HearsOn};
+ghost use Rattle.engine.specs.Executions.{fault_from};
+ghost use Rattle.engine.specs.Stages.{FitsStage, EndsUnfinished, IsBegun, IsEndOf, IsInterruptedStage, rows_in, unfinished_in, unfinished_of, KnowsSettled, KnowsEnd, refusal_in};
+ghost use Rattle.dispatcher.specs.Listeners.{HearsOn};
 
-use crate::alone::run_left;
 use crate::beginning::begin;
 use crate::configuration::Configuration;
 use crate::ending::{Ended, end};
 use crate::fault::ExecFault;
-use crate::gate::Gate;
-use crate::listener::Listener;
-use crate::pool::WorkerPool;
-use crate::refusal::Refusal;
 use crate::replies::BatchDone;
 use crate::stage::{Begun, Stage};
+use dispatcher::{Gate, Listener, Refusal, WorkerPool, run_left};
 use std::alloc::Global;
 use std::sync::Wait;
 
@@ -40,15 +36,15 @@ fn no_memory(stage: Stage) -> Interruption
     }
 }
 
-/// An unfinished batch with the scheduler of its entries, which is made where nothing of it has begun. If allocation fails, the stage
-/// comes back.
+/// An unfinished batch with the scheduler of its entries, which is made where nothing of it has begun. If allocation
+/// fails, the stage comes back.
 fn begun(
     alloc: Global,
     configuration: &Configuration,
     first: u64,
     stage: Stage,
 ) -> Result<Begun, Stage>
-    requires fits { Fits configuration.now.procs.tables first stage }
+    requires fits { FitsStage configuration.now.procs.tables first stage }
     requires busy { is_some (unfinished_in (Some stage)) ≡ true }
     ensures begun { IfOk result (IsBegun configuration.now.procs.tables first) }
     ensures start { IfOk result (λ begun. begun.scheduler.work.start ≡ rows_in (Some stage)) }
@@ -105,8 +101,8 @@ fn end_run(
     }
 }
 
-/// Works at an unfinished batch on one thread, by these choices of events. If allocation fails, the stage that it has then
-/// comes back. The listener hears of each transaction as it is settled; this waits only where the listener does.
+/// Works at an unfinished batch on one thread, by these choices of events. If allocation fails, the stage that it has
+/// then comes back. The listener hears of each transaction as it is settled; this waits only where the listener does.
 pub(crate) fn work_alone<L: Listener>(
     alloc: Global,
     configuration: &Configuration,
@@ -115,15 +111,15 @@ pub(crate) fn work_alone<L: Listener>(
     listener: &mut L,
     choices: &[u64],
 ) -> Result<Ended, Interruption>
-    requires fits { Fits configuration.now.procs.tables first stage }
+    requires fits { FitsStage configuration.now.procs.tables first stage }
     requires busy { is_some (unfinished_in (Some stage)) ≡ true }
-    requires told { Knows first stage (L.account listener.old) }
-    ensures ended { IfOk result (EndsBatch configuration.now.procs.tables first configuration.now.retries
+    requires told { KnowsSettled first stage (L.account listener.old) }
+    ensures ended { IfOk result (EndsUnfinished configuration.now.procs.tables first configuration.now.retries
         (unfinished_in (Some stage)) (rows_in (Some stage))) }
     ensures stop { IfErr result (IsInterruptedStage configuration.now.procs.tables first stage) }
     ensures threadless { IfErr result (λ stop. stop.refusal ≡ Refusal.Memory) }
     ensures told_end { IfOk result (λ ended. KnowsEnd ended.done (L.account listener.new)) }
-    ensures told_stop { IfErr result (λ stop. Knows first stop.stage (L.account listener.new)) }
+    ensures told_stop { IfErr result (λ stop. KnowsSettled first stop.stage (L.account listener.new)) }
     ensures onward { HearsOn (L.account listener.old) (L.account listener.new) }
 {
     let mut begun = match begun(alloc, configuration, first, stage) {
@@ -138,8 +134,8 @@ pub(crate) fn work_alone<L: Listener>(
     end_run(alloc, first, configuration.retries, begun, ran)
 }
 
-/// Works at an unfinished batch on the workers of a pool. Where the system refuses memory or a thread, the stage that it has then comes
-/// back. The listener hears of each transaction as it is settled.
+/// Works at an unfinished batch on the workers of a pool. Where the system refuses memory or a thread, the stage that
+/// it has then comes back. The listener hears of each transaction as it is settled.
 pub(crate) fn work_in_pool<'s, E, R: Wait + Sync, G: Gate, L: Listener>(
     alloc: Global,
     configuration: &Configuration,
@@ -148,14 +144,14 @@ pub(crate) fn work_in_pool<'s, E, R: Wait + Sync, G: Gate, L: Listener>(
     listener: &mut L,
     pool: &mut WorkerPool<'s, E, R, G>,
 ) -> Result<Ended, Interruption>
-    requires fits { Fits configuration.now.procs.tables first stage }
+    requires fits { FitsStage configuration.now.procs.tables first stage }
     requires busy { is_some (unfinished_in (Some stage)) ≡ true }
-    requires told { Knows first stage (L.account listener.old) }
-    ensures ended { IfOk result (EndsBatch configuration.now.procs.tables first configuration.now.retries
+    requires told { KnowsSettled first stage (L.account listener.old) }
+    ensures ended { IfOk result (EndsUnfinished configuration.now.procs.tables first configuration.now.retries
         (unfinished_in (Some stage)) (rows_in (Some stage))) }
     ensures stop { IfErr result (IsInterruptedStage configuration.now.procs.tables first stage) }
     ensures told_end { IfOk result (λ ended. KnowsEnd ended.done (L.account listener.new)) }
-    ensures told_stop { IfErr result (λ stop. Knows first stop.stage (L.account listener.new)) }
+    ensures told_stop { IfErr result (λ stop. KnowsSettled first stop.stage (L.account listener.new)) }
     ensures onward { HearsOn (L.account listener.old) (L.account listener.new) }
 {
     let mut begun = match begun(alloc, configuration, first, stage) {
@@ -167,8 +163,8 @@ pub(crate) fn work_in_pool<'s, E, R: Wait + Sync, G: Gate, L: Listener>(
     end_run(alloc, first, configuration.retries, begun, ran)
 }
 
-/// Ends a batch: takes over the rows and the requests that it left, and counts its transactions; or keeps the stage at which it was
-/// interrupted.
+/// Ends a batch: takes over the rows and the requests that it left, and counts its transactions; or keeps the stage at
+/// which it was interrupted.
 pub(crate) fn conclude(
     next: &mut u64,
     stage: &mut Option<Stage>,
@@ -180,7 +176,7 @@ pub(crate) fn conclude(
     ensures done { IfOk ended (λ ended. result ≡ Ok ended.done) }
     ensures same { IfErr ended (λ stop. next.new ≡ next.old) }
     ensures interrupted { IfErr ended (λ stop. stage.new ≡ Some stop.stage) }
-    ensures fault { IfErr ended (λ stop. result ≡ Err (fault_of stop.refusal)) }
+    ensures fault { IfErr ended (λ stop. result ≡ Err (fault_from stop.refusal)) }
 {
     match ended {
         Ok(Ended { store, left, done }) => {

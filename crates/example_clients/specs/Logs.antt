@@ -10,8 +10,8 @@ abbrev pub ClientLog : Type 0
 ClientLog = Vec ClientCall Global
 
 -- its calls can all be numbered
-abbrev pub IsShort : ClientLog → Type 0
-IsShort log = length log.items ≤ 2 ^ 48
+abbrev pub IsShortLog : ClientLog → Type 0
+IsShortLog log = length log.items ≤ 2 ^ 48
 
 -- the histories of clients that have submitted their logs, and are numbered from a first one
 abbrev pub histories_from : ℕ → List ClientLog → List (History ClientCall)

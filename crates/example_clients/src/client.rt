@@ -2,7 +2,7 @@
 
 ghost use Rattle.std.specs.Prelude.{◌≡◌, []};
 ghost use Rattle.intake.specs.Passes.{IsClientOf, sent_by};
-ghost use Rattle.example_clients.specs.Logs.{IsShort};
+ghost use Rattle.example_clients.specs.Logs.{IsShortLog};
 
 use crate::call::ClientCall;
 use intake::{ClientPass, Intake};
@@ -15,5 +15,5 @@ pub struct Client<'a> {
     pub log: Vec<ClientCall>,
     ghost own: { IsClientOf intake.now pass },
     ghost fresh: { sent_by pass ≡ [] },
-    ghost short: { IsShort log },
+    ghost short: { IsShortLog log },
 }

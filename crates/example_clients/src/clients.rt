@@ -3,7 +3,7 @@
 ghost use Rattle.std.specs.Prelude.{◌≡◌, ◌<◌, ◌≤◌, ◌^◌, ◌++◌, ◌∷◌, [], length, map, vec_len, IfOk};
 ghost use Rattle.std.specs.List.{AllByRecursion};
 ghost use Rattle.intake.specs.Passes.{IsClientOf, AreClientsOf, AreNewClients, own_history, sent_by, client_of};
-ghost use Rattle.example_clients.specs.Logs.{histories_from, IsShort};
+ghost use Rattle.example_clients.specs.Logs.{histories_from, IsShortLog};
 ghost use Rattle.example_clients.specs.Clients.{AreAtTheirLogs};
 
 use crate::call::ClientCall;
@@ -60,7 +60,7 @@ fn clients_of<'a>(
 ) -> Result<Vec<Client<'a>>, AllocError>
     requires few { vec_len logs ≤ 4 }
     requires passes { (vec_len passes ≡ vec_len logs) × AreNewClients intake.now (vec_len logs) passes.items }
-    requires short { AllByRecursion IsShort logs.items }
+    requires short { AllByRecursion IsShortLog logs.items }
     ensures { IfOk result (λ clients. AreAtTheirLogs intake.now 1 clients.items logs.items) }
 {
     let mut clients = Vec::with_capacity(alloc, logs.len())?;
@@ -84,7 +84,7 @@ pub fn run_clients<R: Threads + Wait + Sync>(
 ) -> Result<Vec<ClientPass<ClientCall>>, AllocError>
     requires few { vec_len logs ≤ 4 }
     requires passes { (vec_len passes ≡ vec_len logs) × AreNewClients intake.now (vec_len logs) passes.items }
-    requires short { AllByRecursion IsShort logs.items }
+    requires short { AllByRecursion IsShortLog logs.items }
     ensures clients { IfOk result (λ passes. AreClientsOf intake.now passes.items) }
     ensures sent { IfOk result (λ passes. map own_history passes.items ≡ histories_from 1 logs.items) }
 {

@@ -1,5 +1,5 @@
-//! Calls that clients send by the names of procedures: each client submits them from a thread of its own, and of what is drawn
-//! procedures make requests.
+//! Calls that clients send by the names of procedures: each client submits them from a thread of its own, and of what
+//! is drawn procedures make requests.
 #![tactic(auto)]
 
 mod call;

@@ -10,8 +10,8 @@ use std::thread::Threads;
 /// How often a batch is gone on with before the program gives up.
 const TRIES: usize = 10;
 
-/// Executes a batch, and goes on with it where memory or a thread was refused. `None` where that didn't end well: then the engine
-/// holds the batch, or has not taken it.
+/// Executes a batch, and goes on with it where memory or a thread was refused. `None` where that didn't end well: then
+/// the engine holds the batch, or has not taken it.
 pub(crate) fn executed<R: Threads + Wait + Sync + AllocGlobal>(
     rt: &R,
     engine: &mut Engine,

@@ -1,5 +1,5 @@
-//! A program around the engine: it reads a setup, executes calls that it makes itself, goes on where memory or a thread is refused,
-//! and reads a row by its key.
+//! A program around the engine: it reads a setup, executes calls that it makes itself, goes on where memory or a thread
+//! is refused, and reads a row by its key.
 #![tactic(auto)]
 
 mod calls;

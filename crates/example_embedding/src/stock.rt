@@ -13,6 +13,7 @@ pub(crate) fn left_of(engine: &Engine, item: i64) -> Option<i64> {
     let rows = engine.rows();
     let table = rows.catalogue().table("item")?;
     let key = Key::new(item)?;
+    // proof: every row of the store is free.
     all_is_free_with_nothing_lent();
     match rows.row(table, key)?.get(1)? {
         Value::Int(left) => Some(*left),

@@ -9,7 +9,7 @@ use Rattle.engine.specs.Replies.{Sent, reply_of, sent_of, sent_from}
 use Rattle.example_serving.specs.Serving.{Said, said_again}
 use Rattle.example_serving.specs.Steps.{said_by}
 
--- what stands first behind others stands at their end, and the rest is behind it
+-- what is carried comes first, and the rest comes after it
 place_is : (k : ℕ) (replies : List Reply) (reply : Reply) (rest : List Reply) → k < length replies → reply ∷ rest ≡ drop k replies → get_or replies k reply ≡ reply
 place_is k replies reply rest within is =
     let there : reply ∷ rest ≡ get_or replies k reply ∷ drop (k + 1) replies = is ∙ drop_more replies k reply within in
@@ -29,16 +29,16 @@ said_more k replies reply rest before told within is so_far =
     ∙ ap (λ l. before ++ l) (sym (ap (map said_by) taken ∙ map-append said_by (take k replies) (reply ∷ [])))
 
 -- the first replies are for those whose requests were carried
-pub again_said : (carried : List Carried) (behind : List Attempt) (number : ℕ) (replies : List Reply) → map sent_of replies ≡ sent_from number (map again carried ++ behind)
+pub again_said : (carried : List Carried) (own_ones : List Attempt) (number : ℕ) (replies : List Reply) → map sent_of replies ≡ sent_from number (map again carried ++ own_ones)
     → map said_by (take (length carried) replies) ≡ said_again carried (map reply_of replies)
-again_said [] behind number replies same = refl
-again_said (one ∷ others) behind number [] same = absurd (cc)
-again_said (one ∷ others) behind number (reply ∷ replies) same =
+again_said [] own_ones number replies same = refl
+again_said (one ∷ others) own_ones number [] same = absurd (cc)
+again_said (one ∷ others) own_ones number (reply ∷ replies) same =
     let first : Sent = record { transaction = number; client = one.client; number = one.number; of = Some one.first } in
-    let cut : sent_of reply ∷ map sent_of replies ≡ first ∷ sent_from (number + 1) (map again others ++ behind) = same in
+    let cut : sent_of reply ∷ map sent_of replies ≡ first ∷ sent_from (number + 1) (map again others ++ own_ones) = same in
     let here : sent_of reply ≡ first = cc in
-    let rest : map sent_of replies ≡ sent_from (number + 1) (map again others ++ behind) = cc in
-    λ i. record { client = (here i).client; number = (here i).number; answer = Ok (reply_of reply) } ∷ again_said others behind (number + 1) replies rest i
+    let rest : map sent_of replies ≡ sent_from (number + 1) (map again others ++ own_ones) = cc in
+    λ i. record { client = (here i).client; number = (here i).number; answer = Ok (reply_of reply) } ∷ again_said others own_ones (number + 1) replies rest i
 
 sent_count : (number : ℕ) (attempts : List Attempt) → length (sent_from number attempts) ≡ length attempts
 sent_count number [] = refl

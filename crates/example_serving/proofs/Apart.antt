@@ -3,7 +3,7 @@ use Rattle.std.proofs.Common.{◌≡◌, ◌≢◌, ℕ, ◌+◌, ◌==◌, not,
 use Rattle.std.proofs.lemmas.Bool.Decides.{eqb_tells}
 use Rattle.std.proofs.lemmas.Bool.{ne_eqb}
 use Rattle.example_serving.specs.declared.told.Told.{Told}
-use Rattle.example_serving.specs.Serving.{Said, said_of, said_to_client, said_to_others, AreToClients}
+use Rattle.example_serving.specs.Serving.{Said, said_in, said_to_client, said_to_others, AreToClients}
 
 filter-keeps : (p : Said → Bool) (x : Said) (xs : List Said) → p x ≡ true → filter p (x ∷ xs) ≡ x ∷ filter p xs
 filter-keeps p x xs e = rw e refl
@@ -30,7 +30,7 @@ others_keep client other apart (x ∷ xs) =
     (eqb_tells x.client other)
 
 -- one client's list more
-pub lists_more : (client : ℕ) (lists : List (Vec Told Global)) (list : Vec Told Global) (all : List Said) → AreToClients client lists all → map said_of list.items ≡ said_to_client (client + length lists) all
+pub lists_more : (client : ℕ) (lists : List (Vec Told Global)) (list : Vec Told Global) (all : List Said) → AreToClients client lists all → map said_in list.items ≡ said_to_client (client + length lists) all
     → AreToClients client (lists ++ list ∷ []) all
 lists_more client [] list all h is = (is ∙ ap (λ k. said_to_client k all) (omega arith), tt)
 lists_more client (l ∷ ls) list all h is = (h.0, lists_more (client + 1) ls list all h.1 (is ∙ ap (λ k. said_to_client k all) (omega arith)))

@@ -19,9 +19,10 @@ use Rattle.example_clients.specs.Calls.{CallItem, requests_of, asked_of}
 use Rattle.example_serving.specs.declared.told.Told.{Told}
 use Rattle.example_serving.specs.declared.told.ServeFault.{ServeFault}
 use Rattle.example_serving.specs.declared.told.ServeFault.TheVariants.{LogFull, Spawn, NoMemory}
-use Rattle.example_serving.specs.Serving.{said_of, said_again, answers_to, attempts_at, replies_at}
-use Rattle.example_serving.specs.Services.{Served, Answers, EndsSo, IsOfFirst, IsTooLong, standing_of, carried_beside}
-use Rattle.example_serving.specs.Steps.{Holds, IsStopped, AnswersAll, ServesOn, said_by}
+use Rattle.example_serving.specs.Serving.{said_in, said_again, answers_to, attempts_for, replies_for}
+use Rattle.example_serving.specs.Services.{Served, AnswersBatches, EndsSo, IsOfFirst, IsTooLong, carried_beside}
+use Rattle.running.specs.Standings.{standing_of}
+use Rattle.example_serving.specs.Steps.{HoldsBatch, IsStopped, AnswersAll, ServesOn, said_by}
 use Rattle.example_serving.proofs.Answered.{none_answered, same_answered, one_answered}
 use Rattle.example_serving.proofs.Again.{again_said}
 use Rattle.example_serving.proofs.Served.{held_so, none_served, one_served}
@@ -34,20 +35,20 @@ err_is (Err x) fault h = ap (λ (f : ServeFault). Err f) h
 -- ---- a batch that was not executed
 
 -- the attempts of a batch of these calls
-attempts_so : (calls : List CallItem) (batch : Batch) (old : EngineParts) → items_of batch ≡ requests_of old.procs calls → next_attempts old batch ≡ attempts_at old.procs (standing_of old) calls
+attempts_so : (calls : List CallItem) (batch : Batch) (old : EngineParts) → items_of batch ≡ requests_of old.procs calls → next_attempts old batch ≡ attempts_for old.procs (standing_of old) calls
 attempts_so calls batch old same = ap (λ (l : List RequestItem). attempts_of old.carried l) same
 
 -- a batch of all these calls is one of the first of them
-of_all : (procs : ProcsParts) (s : Standing) (calls : List CallItem) (attempts : List Attempt) (held : Option Unfinished) → attempts ≡ attempts_at procs s calls
+of_all : (procs : ProcsParts) (s : Standing) (calls : List CallItem) (attempts : List Attempt) (held : Option Unfinished) → attempts ≡ attempts_for procs s calls
     → IsSomeAnd held (λ u. u.attempts ≡ attempts) → IsSomeAnd held (IsOfFirst procs s calls)
 of_all procs s calls attempts None same h = h
 of_all procs s calls attempts (Some u) same h = record { first = calls; others = []; begins = sym (append-nil calls); attempts = h ∙ same }
 
-held_ends : (calls : List CallItem) (batch : Batch) (old new : EngineParts) → items_of batch ≡ requests_of old.procs calls → KeepsSetting old new → Holds old new (next_attempts old batch)
+held_ends : (calls : List CallItem) (batch : Batch) (old new : EngineParts) → items_of batch ≡ requests_of old.procs calls → KeepsSetting old new → HoldsBatch old new (next_attempts old batch)
     → IsSomeAnd new.unfinished (IsOfFirst new.procs (standing_of old) calls)
 held_ends calls batch old new same kept h =
     of_all new.procs (standing_of old) calls (next_attempts old batch) new.unfinished
-    (attempts_so calls batch old same ∙ ap (λ (p : ProcsParts). attempts_at p (standing_of old) calls) (sym kept.procs)) h.held
+    (attempts_so calls batch old same ∙ ap (λ (p : ProcsParts). attempts_for p (standing_of old) calls) (sym kept.procs)) h.held
 
 -- what is so where a batch was not executed
 stopped_ends : (calls : List CallItem) (batch : Batch) (fault : ServeFault) (old new : EngineParts) → items_of batch ≡ requests_of old.procs calls → KeepsSetting old new → is_busy old ≡ false
@@ -70,11 +71,11 @@ beside_held : (attempts : List Attempt) (held : Option Unfinished) (carried : Li
 beside_held attempts None carried h = absurd h
 beside_held attempts (Some u) carried h = refl
 
-held_answers : (attempts : List Attempt) (old new : EngineParts) (told : List Told) → KeepsSetting old new → Holds old new attempts → Answers [] old new told told
+held_answers : (attempts : List Attempt) (old new : EngineParts) (told : List Told) → KeepsSetting old new → HoldsBatch old new attempts → AnswersBatches [] old new told told
 held_answers attempts old new told kept h = none_answered old new told told kept h.next h.rows (h.carried ∙ sym (beside_held attempts new.unfinished old.carried h.held)) refl
 
-stopped_answers : (batch : Batch) (fault : ServeFault) (old new : EngineParts) (told : List Told) → KeepsSetting old new → is_busy old ≡ false → IsStopped old new batch fault → Answers [] old new told told
-stopped_answers batch LogFull old new told kept idle h = subst (λ (e : EngineParts). Answers [] old e told told) (sym h.1) (same_answered old told told idle refl)
+stopped_answers : (batch : Batch) (fault : ServeFault) (old new : EngineParts) (told : List Told) → KeepsSetting old new → is_busy old ≡ false → IsStopped old new batch fault → AnswersBatches [] old new told told
+stopped_answers batch LogFull old new told kept idle h = subst (λ (e : EngineParts). AnswersBatches [] old e told told) (sym h.1) (same_answered old told told idle refl)
 stopped_answers batch Spawn old new told kept idle h = held_answers (next_attempts old batch) old new told kept h
 stopped_answers batch NoMemory old new told kept idle h = held_answers (next_attempts old batch) old new told kept h
 
@@ -89,15 +90,15 @@ stopped_served calls batch fault ended old new before after is same kept idle h 
 
 pub executed_served : (calls : List CallItem) (batch : Batch) (done : BatchDone) (carried : ℕ) (asked : List Asked) (old new : EngineParts) (before mid after : List Told) → items_of batch ≡ requests_of old.procs calls
     → carried ≡ length old.carried → asked ≡ asked_of old.procs calls → KeepsSetting old new → IsExecutionOf old new (next_attempts old batch) done → mid ≡ before
-    → map said_of after ≡ map said_of mid ++ (map said_by (take carried done.replies.items) ++ answers_to asked (map reply_of (drop carried done.replies.items)))
+    → map said_in after ≡ map said_in mid ++ (map said_by (take carried done.replies.items) ++ answers_to asked (map reply_of (drop carried done.replies.items)))
     → AnswersAll calls old new before after
 executed_served calls batch done carried asked old new before mid after same count asks kept run none told =
-    let attempts : next_attempts old batch ≡ attempts_at old.procs (standing_of old) calls = attempts_so calls batch old same in
-    let replies : map reply_of done.replies.items ≡ replies_at old.procs (standing_of old) calls = run.replies ∙ ap (λ (l : List Attempt). serial_replies (entries_of old.rows l) old.rows) attempts in
+    let attempts : next_attempts old batch ≡ attempts_for old.procs (standing_of old) calls = attempts_so calls batch old same in
+    let replies : map reply_of done.replies.items ≡ replies_for old.procs (standing_of old) calls = run.replies ∙ ap (λ (l : List Attempt). serial_replies (entries_of old.rows l) old.rows) attempts in
     let idle : is_busy new ≡ false = ap (λ (held : Option Unfinished). is_some held) run.idle in
-    let first : map said_by (take carried done.replies.items) ≡ said_again old.carried (replies_at old.procs (standing_of old) calls) =
+    let first : map said_by (take carried done.replies.items) ≡ said_again old.carried (replies_for old.procs (standing_of old) calls) =
     ap (λ k. map said_by (take k done.replies.items)) count ∙ again_said old.carried (map own (items_of batch)) old.next done.replies.items run.sent ∙ ap (λ l. said_again old.carried l) replies in
-    let behind : map reply_of (drop carried done.replies.items) ≡ drop (length old.carried) (replies_at old.procs (standing_of old) calls) =
+    let after_those : map reply_of (drop carried done.replies.items) ≡ drop (length old.carried) (replies_for old.procs (standing_of old) calls) =
     ap (λ k. map reply_of (drop k done.replies.items)) count ∙ sym (drop-map reply_of (length old.carried) done.replies.items) ∙ ap (λ (l : List meant.Reply). drop (length old.carried) l) replies in
     one_served calls old new before after
     (one_answered calls old new before after kept
@@ -105,5 +106,5 @@ executed_served calls batch done carried asked old new before mid after same cou
     (run.rows ∙ ap (λ (l : List Attempt). serial_end (entries_of old.rows l) old.rows) attempts)
     (run.carried ∙ ap (λ (l : List Attempt). left_of old.retries old.next l (serial_replies (entries_of old.rows l) old.rows)) attempts)
     idle
-    (told ∙ (λ i. map said_of (none i) ++ (first i ++ answers_to (asks i) (behind i)))))
+    (told ∙ (λ i. map said_in (none i) ++ (first i ++ answers_to (asks i) (after_those i)))))
     idle

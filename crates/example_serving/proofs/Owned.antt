@@ -14,9 +14,9 @@ use Rattle.example_serving.specs.declared.told.Told.{Told}
 use Rattle.example_serving.specs.declared.told.ServeFault.{ServeFault}
 use Rattle.example_serving.specs.declared.told.ServeFault.TheVariants.{NoMemory}
 use Rattle.example_serving.specs.declared.owner.Owner.{Owner}
-use Rattle.example_serving.specs.Serving.{said_of}
-use Rattle.example_serving.specs.Services.{Served, Serves, IsService, calls_in}
-use Rattle.example_serving.specs.Steps.{DrawsOn, HasServed, AnswersAll, ServesOn, GoesOn, IsServedToTheEnd, items_in}
+use Rattle.example_serving.specs.Serving.{said_in}
+use Rattle.example_serving.specs.Services.{Served, AnswersFirstPart, IsService, calls_of_batches}
+use Rattle.example_serving.specs.Steps.{DrawsOn, HasServed, AnswersAll, ServesOn, ServesRest, IsServedToTheEnd, items_in}
 use Rattle.example_serving.proofs.Answered.{same_answered}
 use Rattle.example_serving.proofs.Served.{holds_none, none_served, nothing_served, then_on, then_served, more_dropped, refused_besides, refused_then}
 
@@ -38,12 +38,12 @@ then_away old mid pass fault h k = record {
   serves = more_dropped h.drawn k.0 fault old.engine.core mid.engine.core old.told.items mid.told.items h.serves;
 }
 
--- the batch that was refused, behind calls that were all answered
+-- the batch that was refused, after calls that were all answered
 pub left_stopped : (whole first b rest : List CallItem) (fault : ServeFault) (ended : Served) (old mid new : EngineParts) (before between after : List Told) → whole ≡ first ++ (b ++ rest) → ended ≡ Err fault
-    → AnswersAll first old mid before between → Serves b (Err fault) mid new between after → ServesOn whole ended old new before after
+    → AnswersAll first old mid before between → AnswersFirstPart b (Err fault) mid new between after → ServesOn whole ended old new before after
 left_stopped whole first b rest fault ended old mid new before between after list is h k =
     subst (λ (r : Served). ServesOn whole r old new before after) (sym is)
-    (subst (λ (l : List CallItem). Serves l (Err fault) old new before after) (append_assoc first b rest ∙ sym list)
+    (subst (λ (l : List CallItem). AnswersFirstPart l (Err fault) old new before after) (append_assoc first b rest ∙ sym list)
     (more_dropped (first ++ b) rest fault old new before after (then_served first b (Err fault) old mid new before between after h k)))
 
 -- a batch without calls
@@ -52,25 +52,25 @@ none_so b old new before after none h = subst (λ (l : List CallItem). AnswersAl
 
 -- ... that was refused
 pub stopped_so : (b : List CallItem) (fault : ServeFault) (ended : Served) (old mid new : EngineParts) (before between after : List Told) → b ≡ [] → ended ≡ Err fault
-    → AnswersAll [] old mid before between → Serves b (Err fault) mid new between after → Serves [] ended old new before after
+    → AnswersAll [] old mid before between → AnswersFirstPart b (Err fault) mid new between after → AnswersFirstPart [] ended old new before after
 stopped_so b fault ended old mid new before between after none is h k =
-    subst (λ (r : Served). Serves [] r old new before after) (sym is)
-    (then_served [] [] (Err fault) old mid new before between after h (subst (λ (l : List CallItem). Serves l (Err fault) mid new between after) none k))
+    subst (λ (r : Served). AnswersFirstPart [] r old new before after) (sym is)
+    (then_served [] [] (Err fault) old mid new before between after h (subst (λ (l : List CallItem). AnswersFirstPart l (Err fault) mid new between after) none k))
 
 pub ok_so : {A E : Type 0} (P : Type 0) (r : Result A E) → is_err r ≡ false → OnOk r P → P
 ok_so P (Ok a) fine h = h
 ok_so P (Err e) fine h = absurd (cc)
 
-calls_are : (ls : List (Vec CallItem Global)) → all_items (λ (b : Vec CallItem Global). b.items) ls ≡ calls_in (items_in ls)
+calls_are : (ls : List (Vec CallItem Global)) → all_items (λ (b : Vec CallItem Global). b.items) ls ≡ calls_of_batches (items_in ls)
 calls_are [] = refl
 calls_are (b ∷ bs) = ap (λ l. b.items ++ l) (calls_are bs)
 
 -- what was drawn in the end stands in a list
-pub drawn_so : (into more : List (Vec CallItem Global)) (new old : List CallItem) → into ≡ more → new ≡ old ++ all_items (λ (b : Vec CallItem Global). b.items) more → new ≡ old ++ calls_in (items_in into)
-drawn_so into more new old same is = is ∙ ap (λ l. old ++ l) (calls_are more ∙ ap (λ l. calls_in (items_in l)) (sym same))
+pub drawn_so : (into more : List (Vec CallItem Global)) (new old : List CallItem) → into ≡ more → new ≡ old ++ all_items (λ (b : Vec CallItem Global). b.items) more → new ≡ old ++ calls_of_batches (items_in into)
+drawn_so into more new old same is = is ∙ ap (λ l. old ++ l) (calls_are more ∙ ap (λ l. calls_of_batches (items_in l)) (sym same))
 
 pub ended_so : (old : Owner) (served : Served) (hs : List (History ClientCall)) (new : EngineParts) (told : List Told) (ended : Served) (drawn now : List CallItem) → now ≡ drawn_by old.pass ++ drawn → IsNumbered now
-    → (ended ≢ Err NoMemory → HasAll now hs) → GoesOn served drawn ended old.engine.core new old.told.items told → IsServedToTheEnd old served hs new told ended
+    → (ended ≢ Err NoMemory → HasAll now hs) → ServesRest served drawn ended old.engine.core new old.told.items told → IsServedToTheEnd old served hs new told ended
 ended_so old served hs new told ended drawn now list numbered all on = record {
   drawn = drawn;
   numbered = subst IsNumbered list numbered;
@@ -79,20 +79,20 @@ ended_so old served hs new told ended drawn now list numbered all on = record {
 }
 
 -- what was left is not answered for want of memory
-pub left_refused : (served : Served) (drawn : List CallItem) (engine : EngineParts) (told : List Told) → OnOk served (is_busy engine ≡ false) → GoesOn served drawn (Err NoMemory) engine engine told told
+pub left_refused : (served : Served) (drawn : List CallItem) (engine : EngineParts) (told : List Told) → OnOk served (is_busy engine ≡ false) → ServesRest served drawn (Err NoMemory) engine engine told told
 left_refused (Ok done) drawn engine told idle =
     none_served drawn (Err NoMemory) engine engine told told (same_answered engine told told idle refl) (holds_none engine.procs _ drawn engine.unfinished idle)
 left_refused (Err fault) drawn engine told idle = (refl, refl, inr refl)
 
 goes_on_so : (served : Served) (d e : List CallItem) (ended : Served) (old mid new : EngineParts) (before between after : List Told)
-    → ServesOn d served old mid before between → GoesOn served e ended mid new between after → Serves (d ++ e) ended old new before after
+    → ServesOn d served old mid before between → ServesRest served e ended mid new between after → AnswersFirstPart (d ++ e) ended old new before after
 goes_on_so (Ok done) d e ended old mid new before between after h k = then_served d e ended old mid new before between after h k
 goes_on_so (Err fault) d e ended old mid new before between after h k =
-    let stopped : Serves (d ++ e) (Err fault) old new before after =
-    subst (λ (x : EngineParts). Serves (d ++ e) (Err fault) old x before after) (sym k.0)
-    (subst (λ (t : List Told). Serves (d ++ e) (Err fault) old mid before t) (sym k.1) (more_dropped d e fault old mid before between h)) in
-    ⊎_elim (λ (same : ended ≡ Err fault). subst (λ (r : Served). Serves (d ++ e) r old new before after) (sym same) stopped)
-    (λ (refused : ended ≡ Err NoMemory). subst (λ (r : Served). Serves (d ++ e) r old new before after) (sym refused) (refused_besides (d ++ e) (Err fault) old new before after stopped)) k.2
+    let stopped : AnswersFirstPart (d ++ e) (Err fault) old new before after =
+    subst (λ (x : EngineParts). AnswersFirstPart (d ++ e) (Err fault) old x before after) (sym k.0)
+    (subst (λ (t : List Told). AnswersFirstPart (d ++ e) (Err fault) old mid before t) (sym k.1) (more_dropped d e fault old mid before between h)) in
+    ⊎_elim (λ (same : ended ≡ Err fault). subst (λ (r : Served). AnswersFirstPart (d ++ e) r old new before after) (sym same) stopped)
+    (λ (refused : ended ≡ Err NoMemory). subst (λ (r : Served). AnswersFirstPart (d ++ e) r old new before after) (sym refused) (refused_besides (d ++ e) (Err fault) old new before after stopped)) k.2
 
 -- before anything was drawn memory was refused
 pub no_service : (engine : EngineParts) (logs : List ClientLog) (told : List Told) → told ≡ [] → is_busy engine ≡ false → IsService engine logs engine told (Err NoMemory)
@@ -100,7 +100,7 @@ no_service engine logs told none idle = record {
   drawn = [];
   numbered = λ client. ([], refl);
   whole = λ not. absurd (not refl);
-  serves = none_served [] (Err NoMemory) engine engine [] told (same_answered engine [] told idle (ap (λ l. map said_of l) none)) (holds_none engine.procs _ [] engine.unfinished idle);
+  serves = none_served [] (Err NoMemory) engine engine [] told (same_answered engine [] told idle (ap (λ l. map said_in l) none)) (holds_none engine.procs _ [] engine.unfinished idle);
 }
 
 -- the passes of the clients did not come back for want of memory

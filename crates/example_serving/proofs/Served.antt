@@ -8,9 +8,10 @@ use Rattle.example_clients.specs.Calls.{CallItem}
 use Rattle.example_serving.specs.declared.told.Told.{Told}
 use Rattle.example_serving.specs.declared.told.ServeFault.{ServeFault}
 use Rattle.example_serving.specs.declared.told.ServeFault.TheVariants.{LogFull, Spawn, NoMemory}
-use Rattle.example_serving.specs.Services.{Served, Answers, EndsSo, IsOfFirst, IsTooLong, Serves, calls_in, standing_of}
+use Rattle.example_serving.specs.Services.{Served, AnswersBatches, EndsSo, IsOfFirst, IsTooLong, AnswersFirstPart, calls_of_batches}
+use Rattle.running.specs.Standings.{standing_of}
 use Rattle.example_serving.specs.Steps.{AnswersAll, ServesOn}
-use Rattle.example_serving.proofs.Answered.{calls_append, same_answered, behind_both, then_answered}
+use Rattle.example_serving.proofs.Answered.{calls_append, same_answered, after_both, then_answered}
 
 -- an engine that is not busy holds nothing
 pub holds_none : (procs : ProcsParts) (s : Standing) (calls : List CallItem) (held : Option Unfinished) → is_some held ≡ false → IfSome held (IsOfFirst procs s calls)
@@ -60,8 +61,8 @@ ends_refused (Err Spawn) s engine left h = held_so engine.procs s left engine.un
 ends_refused (Err NoMemory) s engine left h = h
 
 -- calls of which none was answered
-pub none_served : (drawn : List CallItem) (ended : Served) (old new : EngineParts) (before after : List Told) → Answers [] old new before after → EndsSo ended (standing_of old) new drawn
-    → Serves drawn ended old new before after
+pub none_served : (drawn : List CallItem) (ended : Served) (old new : EngineParts) (before after : List Told) → AnswersBatches [] old new before after → EndsSo ended (standing_of old) new drawn
+    → AnswersFirstPart drawn ended old new before after
 none_served drawn ended old new before after answers ends = record { batches = []; left = drawn; cut = refl; answers = answers; ends = ends }
 
 -- no calls
@@ -69,7 +70,7 @@ pub nothing_served : (engine : EngineParts) (told : List Told) → is_busy engin
 nothing_served engine told idle = record { batches = []; cut = refl; answers = same_answered engine told told idle refl; idle = idle }
 
 -- calls that were answered as one batch
-pub one_served : (b : List CallItem) (old new : EngineParts) (before after : List Told) → Answers (b ∷ []) old new before after → is_busy new ≡ false → AnswersAll b old new before after
+pub one_served : (b : List CallItem) (old new : EngineParts) (before after : List Told) → AnswersBatches (b ∷ []) old new before after → is_busy new ≡ false → AnswersAll b old new before after
 one_served b old new before after answers idle = record { batches = b ∷ []; cut = sym (append-nil b); answers = answers; idle = idle }
 
 -- calls that were all answered, and then further calls that were
@@ -77,21 +78,21 @@ pub then_all : (d e : List CallItem) (old mid new : EngineParts) (before between
     → AnswersAll d old mid before between → AnswersAll e mid new between after → AnswersAll (d ++ e) old new before after
 then_all d e old mid new before between after h k = record {
   batches = h.batches ++ k.batches;
-  cut = ap (λ l. l ++ e) h.cut ∙ ap (λ l. calls_in h.batches ++ l) k.cut ∙ sym (calls_append h.batches k.batches);
+  cut = ap (λ l. l ++ e) h.cut ∙ ap (λ l. calls_of_batches h.batches ++ l) k.cut ∙ sym (calls_append h.batches k.batches);
   answers = then_answered h.batches k.batches old mid new before between after h.answers h.idle k.answers;
   idle = k.idle;
 }
 
 -- ... and then further calls
 pub then_served : (d e : List CallItem) (ended : Served) (old mid new : EngineParts) (before between after : List Told)
-    → AnswersAll d old mid before between → Serves e ended mid new between after → Serves (d ++ e) ended old new before after
+    → AnswersAll d old mid before between → AnswersFirstPart e ended mid new between after → AnswersFirstPart (d ++ e) ended old new before after
 then_served d e ended old mid new before between after h k = record {
   batches = h.batches ++ k.batches;
   left = k.left;
-  cut = ap (λ l. l ++ e) h.cut ∙ ap (λ l. calls_in h.batches ++ l) k.cut ∙ sym (append_assoc (calls_in h.batches) (calls_in k.batches) k.left)
+  cut = ap (λ l. l ++ e) h.cut ∙ ap (λ l. calls_of_batches h.batches ++ l) k.cut ∙ sym (append_assoc (calls_of_batches h.batches) (calls_of_batches k.batches) k.left)
       ∙ ap (λ l. l ++ k.left) (sym (calls_append h.batches k.batches));
   answers = then_answered h.batches k.batches old mid new before between after h.answers h.idle k.answers;
-  ends = subst (λ (s : Standing). EndsSo ended s new k.left) (behind_both h.batches k.batches old mid before between h.answers h.idle) k.ends;
+  ends = subst (λ (s : Standing). EndsSo ended s new k.left) (after_both h.batches k.batches old mid before between h.answers h.idle) k.ends;
 }
 
 pub then_on : (d e : List CallItem) (ended : Served) (old mid new : EngineParts) (before between after : List Told)
@@ -100,34 +101,34 @@ then_on d e (Ok done) old mid new before between after h k = then_all d e old mi
 then_on d e (Err fault) old mid new before between after h k = then_served d e (Err fault) old mid new before between after h k
 
 -- calls that were all answered, and nothing is carried
-pub all_served : (d : List CallItem) (old new : EngineParts) (before after : List Told) → AnswersAll d old new before after → new.carried ≡ [] → Serves d (Ok tt) old new before after
+pub all_served : (d : List CallItem) (old new : EngineParts) (before after : List Told) → AnswersAll d old new before after → new.carried ≡ [] → AnswersFirstPart d (Ok tt) old new before after
 all_served d old new before after h none = record {
   batches = h.batches;
   left = [];
-  cut = h.cut ∙ sym (append-nil (calls_in h.batches));
+  cut = h.cut ∙ sym (append-nil (calls_of_batches h.batches));
   answers = h.answers;
   ends = (refl, h.idle, none);
 }
 
 -- and then calls that were dropped
-pub more_dropped : (d more : List CallItem) (fault : ServeFault) (old new : EngineParts) (before after : List Told) → Serves d (Err fault) old new before after → Serves (d ++ more) (Err fault) old new before after
+pub more_dropped : (d more : List CallItem) (fault : ServeFault) (old new : EngineParts) (before after : List Told) → AnswersFirstPart d (Err fault) old new before after → AnswersFirstPart (d ++ more) (Err fault) old new before after
 more_dropped d more fault old new before after h = record {
   batches = h.batches;
   left = h.left ++ more;
-  cut = ap (λ l. l ++ more) h.cut ∙ append_assoc (calls_in h.batches) h.left more;
+  cut = ap (λ l. l ++ more) h.cut ∙ append_assoc (calls_of_batches h.batches) h.left more;
   answers = h.answers;
   ends = ends_more fault _ new h.left more h.ends;
 }
 
 -- and where memory was refused besides
-pub refused_besides : (d : List CallItem) (ended : Served) (old new : EngineParts) (before after : List Told) → Serves d ended old new before after → Serves d (Err NoMemory) old new before after
+pub refused_besides : (d : List CallItem) (ended : Served) (old new : EngineParts) (before after : List Told) → AnswersFirstPart d ended old new before after → AnswersFirstPart d (Err NoMemory) old new before after
 refused_besides d ended old new before after h = record { batches = h.batches; left = h.left; cut = h.cut; answers = h.answers; ends = ends_refused ended _ new h.left h.ends }
 
-pub refused_then : (d : List CallItem) (ended : Served) (old new : EngineParts) (before after : List Told) → ServesOn d ended old new before after → Serves d (Err NoMemory) old new before after
+pub refused_then : (d : List CallItem) (ended : Served) (old new : EngineParts) (before after : List Told) → ServesOn d ended old new before after → AnswersFirstPart d (Err NoMemory) old new before after
 refused_then d (Ok done) old new before after h = record {
   batches = h.batches;
   left = [];
-  cut = h.cut ∙ sym (append-nil (calls_in h.batches));
+  cut = h.cut ∙ sym (append-nil (calls_of_batches h.batches));
   answers = h.answers;
   ends = holds_none new.procs _ [] new.unfinished h.idle;
 }

@@ -4,6 +4,7 @@ use Rattle.std.specs.Prelude.{◌≡◌, ◌≢◌, ◌+◌, ◌<◌, ◌^◌, L
 use Rattle.requests.specs.ProcLists.{ProcsParts}
 use Rattle.sequencer.specs.declared.attempts.Carried.{Carried}
 use Rattle.retries.specs.Standings.{Standing}
+use Rattle.running.specs.Standings.{standing_of}
 use Rattle.intake.specs.Histories.{HasAll, IsNumbered}
 use Rattle.engine.specs.Engines.{EngineParts, Unfinished, is_busy}
 use Rattle.engine.specs.Executions.{KeepsSetting}
@@ -12,57 +13,56 @@ use Rattle.example_clients.specs.Logs.{ClientLog, histories_from}
 use Rattle.example_serving.specs.declared.told.Told.{Told}
 use Rattle.example_serving.specs.declared.told.ServeFault.{ServeFault}
 use Rattle.example_serving.specs.declared.told.ServeFault.TheVariants.{LogFull, Spawn, NoMemory}
-use Rattle.example_serving.specs.Serving.{said_of, attempts_at, all_said, all_end}
+use Rattle.example_serving.specs.Serving.{said_in, attempts_for, all_said, all_end}
 
 -- that all was answered, or why not
 abbrev pub Served : Type 0
 Served = Result (Unit {0}) ServeFault
 
 -- the calls of batches, one batch after another
-abbrev pub calls_in : List (List CallItem) → List CallItem
-calls_in [] = []
-calls_in (b ∷ bs) = b ++ calls_in bs
+abbrev pub calls_of_batches : List (List CallItem) → List CallItem
+calls_of_batches [] = []
+calls_of_batches (b ∷ bs) = b ++ calls_of_batches bs
 
--- where the log of an engine is
-abbrev pub standing_of : EngineParts → Standing
-standing_of engine = record { next = engine.next; rows = engine.rows; carried = engine.carried }
-
--- where it is behind batches of calls
-abbrev pub standing_behind : EngineParts → List (List CallItem) → Standing
-standing_behind engine batches = all_end engine.retries engine.procs (standing_of engine) batches
+-- where the log of an engine is after batches of calls
+abbrev pub standing_after : EngineParts → List (List CallItem) → Standing
+standing_after engine batches = all_end engine.retries engine.procs (standing_of engine) batches
 
 -- what is carried beside a batch: nothing where one is unfinished, since it has all that was carried among its attempts
 abbrev pub carried_beside : Option Unfinished → List Carried → List Carried
 carried_beside None carried = carried
 carried_beside (Some unfinished) carried = []
 
--- Batches of calls were answered, of which some may have no calls: what was told in between is what their serial run answers where
--- the engine's log was, and the log is where that leaves it. Each attempt of a request is a transaction
-pub record Answers (batches : List (List CallItem)) (old new : EngineParts) (before after : List Told) : Type 0 where
+-- Batches of calls were answered, of which some may have no calls: what was told in between is what their serial run
+-- answers where the engine's log was, and the log is where that leaves it. Each attempt of a request is a transaction
+pub record AnswersBatches (batches : List (List CallItem)) (old new : EngineParts) (before after : List Told)
+    : Type 0 where
   pub same : KeepsSetting old new
-  pub next : new.next ≡ (standing_behind old batches).next
-  pub rows : new.rows ≡ (standing_behind old batches).rows
-  pub carried : new.carried ≡ carried_beside new.unfinished (standing_behind old batches).carried
-  pub told : map said_of after ≡ map said_of before ++ all_said old.retries old.procs (standing_of old) batches
+  pub next : new.next ≡ (standing_after old batches).next
+  pub rows : new.rows ≡ (standing_after old batches).rows
+  pub carried : new.carried ≡ carried_beside new.unfinished (standing_after old batches).carried
+  pub told : map said_in after ≡ map said_in before ++ all_said old.retries old.procs (standing_of old) batches
 
 -- an unfinished batch has as its attempts what was carried, and the requests of calls with which this list begins
-pub record IsOfFirst (procs : ProcsParts) (s : Standing) (calls : List CallItem) (unfinished : Unfinished) : Type 0 where
+pub record IsOfFirst (procs : ProcsParts) (s : Standing) (calls : List CallItem) (unfinished : Unfinished)
+    : Type 0 where
   pub first : List CallItem
   pub others : List CallItem
   pub begins : calls ≡ first ++ others
-  pub attempts : unfinished.attempts ≡ attempts_at procs s first
+  pub attempts : unfinished.attempts ≡ attempts_for procs s first
 
--- with what is carried and the requests of calls with which this list begins the log would have more than 2^48 transactions
+-- with what is carried and the requests of calls with which this list begins the log would have more than 2^48
+-- transactions
 pub record IsTooLong (procs : ProcsParts) (s : Standing) (calls : List CallItem) : Type 0 where
   pub first : List CallItem
   pub others : List CallItem
   pub begins : calls ≡ first ++ others
-  pub long : 2 ^ 48 < s.next + length (attempts_at procs s first)
+  pub long : 2 ^ 48 < s.next + length (attempts_for procs s first)
 
--- What is so in the end of the engine, whose log is there, and of the calls that were drawn and not answered. After `Ok` there are
--- none, and nothing is carried. Where the engine's log would be too long, it holds no batch. Where a thread was refused, it holds the
--- batch that comes next; where memory was refused, that batch or none. Where all calls were answered, the batch that comes next has
--- what is carried alone
+-- What is so in the end of the engine, whose log is there, and of the calls that were drawn and not answered. After
+-- `Ok` there are none, and nothing is carried. Where the engine's log would be too long, it holds no batch. Where a
+-- thread was refused, it holds the batch that comes next; where memory was refused, that batch or none. Where all calls
+-- were answered, the batch that comes next has what is carried alone
 abbrev pub EndsSo : Served → Standing → EngineParts → List CallItem → Type 0
 EndsSo (Ok done) s engine left = (left ≡ []) × (is_busy engine ≡ false) × (engine.carried ≡ [])
 EndsSo (Err LogFull) s engine left = (is_busy engine ≡ false) × IsTooLong engine.procs s left
@@ -70,17 +70,19 @@ EndsSo (Err Spawn) s engine left = IsSomeAnd engine.unfinished (IsOfFirst engine
 EndsSo (Err NoMemory) s engine left = IfSome engine.unfinished (IsOfFirst engine.procs s left)
 
 -- Of calls that were drawn a first part, cut in batches, was answered, each batch whole. The others were not
-pub record Serves (drawn : List CallItem) (ended : Served) (old new : EngineParts) (before after : List Told) : Type 0 where
+pub record AnswersFirstPart (drawn : List CallItem) (ended : Served) (old new : EngineParts) (before after : List Told)
+    : Type 0 where
   pub batches : List (List CallItem)
   pub left : List CallItem
-  pub cut : drawn ≡ calls_in batches ++ left
-  pub answers : Answers batches old new before after
-  pub ends : EndsSo ended (standing_behind old batches) new left
+  pub cut : drawn ≡ calls_of_batches batches ++ left
+  pub answers : AnswersBatches batches old new before after
+  pub ends : EndsSo ended (standing_after old batches) new left
 
--- There is one list of calls, which the owner drew. Each client's are numbered 0, 1, 2 and so on in it, in order and each once.
--- Unless memory was refused, each client's part of it is that client's log. The list was served
-pub record IsService (old : EngineParts) (logs : List ClientLog) (new : EngineParts) (told : List Told) (ended : Served) : Type 0 where
+-- There is one list of calls, which the owner drew. Each client's are numbered 0, 1, 2 and so on in it, in order and
+-- each once. Unless memory was refused, each client's part of it is that client's log. The list was served
+pub record IsService (old : EngineParts) (logs : List ClientLog) (new : EngineParts) (told : List Told)
+    (ended : Served) : Type 0 where
   pub drawn : List CallItem
   pub numbered : IsNumbered drawn
   pub whole : ended ≢ Err NoMemory → HasAll drawn (histories_from 1 logs)
-  pub serves : Serves drawn ended old new [] told
+  pub serves : AnswersFirstPart drawn ended old new [] told

@@ -26,8 +26,8 @@ abbrev pub reply_in : Result Outcome RequestFault → Result Reply RequestFault
 reply_in (Ok outcome) = Ok (as_reply outcome)
 reply_in (Err fault) = Err fault
 
-abbrev pub said_of : Told → Said
-said_of told = record { client = told.client; number = told.number; answer = reply_in told.answer }
+abbrev pub said_in : Told → Said
+said_in told = record { client = told.client; number = told.number; answer = reply_in told.answer }
 
 abbrev pub said : Asked → Result Reply RequestFault → Said
 said asked answer = record { client = asked.client; number = asked.number; answer = answer }
@@ -46,27 +46,30 @@ answers_to (x ∷ xs) replies = said_to x x.refused (answers_to xs) replies
 abbrev pub said_again : List Carried → List Reply → List Said
 said_again [] replies = []
 said_again (one ∷ others) [] = []
-said_again (one ∷ others) (reply ∷ replies) = record { client = one.client; number = one.number; answer = Ok reply } ∷ said_again others replies
+said_again (one ∷ others) (reply ∷ replies) =
+    record { client = one.client; number = one.number; answer = Ok reply } ∷ said_again others replies
 
 -- the attempts of a batch of calls: what is carried stands before the requests that procedures make of the calls
-abbrev pub attempts_at : ProcsParts → Standing → List CallItem → List Attempt
-attempts_at procs s items = attempts_of s.carried (requests_of procs items)
+abbrev pub attempts_for : ProcsParts → Standing → List CallItem → List Attempt
+attempts_for procs s items = attempts_of s.carried (requests_of procs items)
 
 -- the replies of a batch of calls: those of the serial run of its attempts
-abbrev pub replies_at : ProcsParts → Standing → List CallItem → List Reply
-replies_at procs s items = serial_replies (entries_of s.rows (attempts_at procs s items)) s.rows
+abbrev pub replies_for : ProcsParts → Standing → List CallItem → List Reply
+replies_for procs s items = serial_replies (entries_of s.rows (attempts_for procs s items)) s.rows
 
--- what is said where a batch of calls is answered: the first replies go to those whose requests were carried, and what is behind
--- them to those who asked
+-- what is said where a batch of calls is answered: the first replies go to those whose requests were carried, and the
+-- others to those who asked
 abbrev pub batch_said : ProcsParts → Standing → List CallItem → List Said
-batch_said procs s items = said_again s.carried (replies_at procs s items) ++ answers_to (asked_of procs items) (drop (length s.carried) (replies_at procs s items))
+batch_said procs s items = said_again s.carried (replies_for procs s items)
+    ++ answers_to (asked_of procs items) (drop (length s.carried) (replies_for procs s items))
 
--- what a batch of calls leaves: each attempt has a number, the rows are those of the serial run, and stale requests are carried on
+-- what a batch of calls leaves: each attempt has a number, the rows are those of the serial run, and stale requests are
+-- carried on
 abbrev pub batch_end : ℕ → ProcsParts → Standing → List CallItem → Standing
 batch_end retries procs s items = record {
-  next = s.next + length (attempts_at procs s items);
-  rows = serial_end (entries_of s.rows (attempts_at procs s items)) s.rows;
-  carried = left_of retries s.next (attempts_at procs s items) (replies_at procs s items);
+  next = s.next + length (attempts_for procs s items);
+  rows = serial_end (entries_of s.rows (attempts_for procs s items)) s.rows;
+  carried = left_of retries s.next (attempts_for procs s items) (replies_for procs s items);
 }
 
 -- the same of batches, each where the one before it has left the log
@@ -88,4 +91,5 @@ said_to_others client all = filter (λ s. not (s.client == client)) all
 -- each list has what was said to its client, in its order; the clients are numbered from a first one
 abbrev pub AreToClients : ℕ → List (Vec Told Global) → List Said → Type 0
 AreToClients client [] all = ⊤
-AreToClients client (list ∷ lists) all = (map said_of list.items ≡ said_to_client client all) × AreToClients (client + 1) lists all
+AreToClients client (list ∷ lists) all =
+    (map said_in list.items ≡ said_to_client client all) × AreToClients (client + 1) lists all

@@ -19,14 +19,15 @@ use Rattle.example_serving.specs.declared.told.ServeFault.{ServeFault}
 use Rattle.example_serving.specs.declared.told.ServeFault.TheVariants.{LogFull, Spawn, NoMemory}
 use Rattle.example_serving.specs.declared.owner.Owner.{Owner}
 use Rattle.example_serving.specs.Serving.{Said}
-use Rattle.example_serving.specs.Services.{Served, Answers, Serves, calls_in}
+use Rattle.example_serving.specs.Services.{Served, AnswersBatches, AnswersFirstPart, calls_of_batches}
 
 -- what a reply says to the client whose request it is for
 abbrev pub said_by : Reply → Said
 said_by reply = record { client = reply.client; number = reply.number; answer = Ok (reply_of reply) }
 
--- an engine holds a batch of these attempts and carries nothing beside it, and its rows and its count are those before it
-pub record Holds (old new : EngineParts) (attempts : List Attempt) : Type 0 where
+-- an engine holds a batch of these attempts and carries nothing beside it, and its rows and its count are those before
+-- it
+pub record HoldsBatch (old new : EngineParts) (attempts : List Attempt) : Type 0 where
   pub held : IsSomeAnd new.unfinished (λ unfinished. unfinished.attempts ≡ attempts)
   pub rows : new.rows ≡ old.rows
   pub next : new.next ≡ old.next
@@ -35,8 +36,8 @@ pub record Holds (old new : EngineParts) (attempts : List Attempt) : Type 0 wher
 -- why a batch was not executed, and what the engine is then
 abbrev pub IsStopped : EngineParts → EngineParts → Batch → ServeFault → Type 0
 IsStopped old new batch LogFull = (2 ^ 48 < old.next + length (next_attempts old batch)) × (new ≡ old)
-IsStopped old new batch Spawn = Holds old new (next_attempts old batch)
-IsStopped old new batch NoMemory = Holds old new (next_attempts old batch)
+IsStopped old new batch Spawn = HoldsBatch old new (next_attempts old batch)
+IsStopped old new batch NoMemory = HoldsBatch old new (next_attempts old batch)
 
 -- the calls of batches as lists
 abbrev pub items_in : List (Vec CallItem Global) → List (List CallItem)
@@ -49,14 +50,14 @@ DrawsOn old new = (more : List CallItem) × (drawn_by new ≡ drawn_by old ++ mo
 -- calls were all answered, and no batch is unfinished; requests may be carried
 pub record AnswersAll (drawn : List CallItem) (old new : EngineParts) (before after : List Told) : Type 0 where
   pub batches : List (List CallItem)
-  pub cut : drawn ≡ calls_in batches
-  pub answers : Answers batches old new before after
+  pub cut : drawn ≡ calls_of_batches batches
+  pub answers : AnswersBatches batches old new before after
   pub idle : is_busy new ≡ false
 
 -- calls were all answered, and further ones may be; or something was refused
 abbrev pub ServesOn : List CallItem → Served → EngineParts → EngineParts → List Told → List Told → Type 0
 ServesOn drawn (Ok done) old new before after = AnswersAll drawn old new before after
-ServesOn drawn (Err fault) old new before after = Serves drawn (Err fault) old new before after
+ServesOn drawn (Err fault) old new before after = AnswersFirstPart drawn (Err fault) old new before after
 
 -- what the owner has drawn in between was served
 pub record HasServed (old new : Owner) (ended : Served) : Type 0 where
@@ -65,13 +66,15 @@ pub record HasServed (old new : Owner) (ended : Served) : Type 0 where
   pub serves : ServesOn drawn ended old.engine.core new.engine.core old.told.items new.told.items
 
 -- further calls are served, and then what is carried, or nothing is done any more
-abbrev pub GoesOn : Served → List CallItem → Served → EngineParts → EngineParts → List Told → List Told → Type 0
-GoesOn (Ok done) drawn ended old new before after = Serves drawn ended old new before after
-GoesOn (Err fault) drawn ended old new before after = (new ≡ old) × (after ≡ before) × ((ended ≡ Err fault) ⊎ (ended ≡ Err NoMemory))
+abbrev pub ServesRest : Served → List CallItem → Served → EngineParts → EngineParts → List Told → List Told → Type 0
+ServesRest (Ok done) drawn ended old new before after = AnswersFirstPart drawn ended old new before after
+ServesRest (Err fault) drawn ended old new before after =
+    (new ≡ old) × (after ≡ before) × ((ended ≡ Err fault) ⊎ (ended ≡ Err NoMemory))
 
 -- and then what the clients had left was drawn
-pub record IsServedToTheEnd (old : Owner) (served : Served) (clients : List (History ClientCall)) (new : EngineParts) (told : List Told) (ended : Served) : Type 0 where
+pub record IsServedToTheEnd (old : Owner) (served : Served) (clients : List (History ClientCall)) (new : EngineParts)
+    (told : List Told) (ended : Served) : Type 0 where
   pub drawn : List CallItem
   pub numbered : IsNumbered (drawn_by old.pass ++ drawn)
   pub all : ended ≢ Err NoMemory → HasAll (drawn_by old.pass ++ drawn) clients
-  pub goes_on : GoesOn served drawn ended old.engine.core new old.told.items told
+  pub goes_on : ServesRest served drawn ended old.engine.core new old.told.items told

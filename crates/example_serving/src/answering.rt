@@ -7,7 +7,7 @@ ghost use Rattle.engine.specs.Engines.{tables_of, is_busy};
 ghost use Rattle.engine.specs.Batches.{next_attempts};
 ghost use Rattle.engine.specs.Executions.{IsExecutionOf, KeepsSetting};
 ghost use Rattle.engine.specs.Replies.{reply_of};
-ghost use Rattle.example_serving.specs.Serving.{said_of, answers_to};
+ghost use Rattle.example_serving.specs.Serving.{said_in, answers_to};
 ghost use Rattle.example_serving.specs.Steps.{IsStopped, ServesOn, said_by};
 
 use crate::told::{ServeFault, Told};
@@ -20,12 +20,12 @@ use std::sync::Wait;
 use std::thread::Threads;
 use std::vec::IntoIter;
 
-/// Answers so many replies again, each to the client whose request it is for. The answers find room in the list.
+/// Answers the first replies, each to the client whose request it is for. The answers find room in the list.
 fn answer_again(told: &mut Vec<Told>, carried: usize, replies: &mut IntoIter<Reply>)
     requires room { vec_len told.old + carried ≤ vec_capacity told.old }
     requires each { carried ≤ length (into_iter_items replies.old) }
-    ensures told { map said_of told.new.items
-        ≡ map said_of told.old.items ++ map said_by (take carried (into_iter_items replies.old)) }
+    ensures told { map said_in told.new.items
+        ≡ map said_in told.old.items ++ map said_by (take carried (into_iter_items replies.old)) }
     ensures replies { into_iter_items replies.new ≡ drop carried (into_iter_items replies.old) }
     ensures count { vec_len told.new ≡ vec_len told.old + carried }
     ensures room { vec_capacity told.new ≡ vec_capacity told.old }
@@ -48,13 +48,13 @@ fn answer_again(told: &mut Vec<Told>, carried: usize, replies: &mut IntoIter<Rep
     }
 }
 
-/// Answers the first replies, so many, to the clients whose requests were carried, and then those who asked: why a call is no request,
-/// and to the others the further replies, one after another. The answers find room in the list.
+/// Gives the first replies to the clients whose requests were carried, and then answers those who asked: why a call is
+/// no request, and to the others the further replies, one after another. The answers find room in the list.
 fn answer(told: &mut Vec<Told>, carried: usize, asked: Vec<Asked>, replies: Vec<Reply>)
     requires room { vec_len told.old + (carried + vec_len asked) ≤ vec_capacity told.old }
     requires each { carried ≤ length replies.items }
-    ensures { map said_of told.new.items ≡ map said_of told.old.items
-        ++ (map said_by (take carried replies.items) ++ answers_to asked.items (map reply_of (drop carried replies.items))) }
+    ensures { map said_in told.new.items ≡ map said_in told.old.items ++ (map said_by (take carried replies.items)
+        ++ answers_to asked.items (map reply_of (drop carried replies.items))) }
 {
     let mut replies = replies.into_iter();
     answer_again(told, carried, &mut replies);
@@ -101,8 +101,8 @@ fn execute<R: Threads + Wait + Sync>(
     }
 }
 
-/// Executes drawn calls as a batch on workers, and answers the requests that were carried to it, and then the calls. Room for the
-/// answers is made first, so the batch is answered whole or not at all.
+/// Executes drawn calls as a batch on workers, and answers the requests that were carried to it, and then the calls.
+/// Room for the answers is made first, so the batch is answered whole or not at all.
 pub(crate) fn answer_batch<R: Threads + Wait + Sync>(
     rt: &R,
     alloc: Global,

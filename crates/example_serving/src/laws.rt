@@ -8,9 +8,9 @@ ghost use Rattle.retries.specs.Standings.{Standing};
 ghost use Rattle.example_clients.specs.Calls.{CallItem, requests_of, asked_of};
 ghost use Rattle.example_serving.specs.Serving.{answers_to, batch_said, batch_end, all_end};
 
-/// Where no request is tried again, and none is carried, none is carried behind any batches. Where none is carried, a batch of calls
-/// is answered what the serial run of their requests answers on the rows before it, it leaves the rows that this leaves, and each
-/// request is one transaction.
+/// Where no request is tried again, and none is carried, none is carried after any batches. Where none is carried, a
+/// batch of calls is answered what the serial run of their requests answers on the rows before it, it leaves the rows
+/// that this leaves, and each request is one transaction.
 pub fn nothing_is_said_again_without_retries()
     ensures carried { (procs : ProcsParts) (s : Standing) (batches : List (List CallItem)) → s.carried ≡ [] →
         (all_end 0 procs s batches).carried ≡ [] }

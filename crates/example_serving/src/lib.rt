@@ -1,5 +1,5 @@
-//! A server in small: clients in threads of their own submit calls, and one owner draws them, executes them on workers and
-//! answers each client.
+//! A server in small: clients in threads of their own submit calls, and one owner draws them, executes them on workers
+//! and answers each client.
 #![tactic(auto)]
 
 mod answering;

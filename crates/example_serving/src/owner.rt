@@ -3,7 +3,7 @@
 ghost use Rattle.std.specs.Prelude.{◌≡◌, [], false, OnOk};
 ghost use Rattle.intake.specs.Passes.{IsDrawerOf, held_by};
 ghost use Rattle.engine.specs.Engines.{is_busy};
-ghost use Rattle.example_serving.specs.Services.{Serves, calls_in};
+ghost use Rattle.example_serving.specs.Services.{AnswersFirstPart, calls_of_batches};
 ghost use Rattle.example_serving.specs.Steps.{DrawsOn, HasServed, ServesOn, items_in};
 
 use crate::answering::answer_batch;
@@ -65,8 +65,8 @@ fn turn_away<R: Wait>(
     }
 }
 
-/// Serves the clients until they have ended. What they left is in the intake. Where something is refused, the clients are turned
-/// away from then on.
+/// Serves the clients until they have ended. What they left is in the intake. Where something is refused, the clients
+/// are turned away from then on.
 pub(crate) fn attend<R: Threads + Wait + Sync>(
     rt: &R,
     alloc: Global,
@@ -101,7 +101,8 @@ fn answer_left<R: Threads + Wait + Sync>(
     left: Vec<Vec<CallItem>>,
 ) -> Result<(), ServeFault>
     requires { is_busy engine.old.core ≡ false }
-    ensures { ServesOn (calls_in (items_in left.items)) result engine.old.core engine.new.core told.old.items told.new.items }
+    ensures { ServesOn (calls_of_batches (items_in left.items)) result engine.old.core engine.new.core told.old.items
+        told.new.items }
 {
     for items in left {
         answer_batch(rt, alloc, engine, told, items)?;
@@ -109,7 +110,8 @@ fn answer_left<R: Threads + Wait + Sync>(
     Ok(())
 }
 
-/// Executes batches without calls, and answers the requests that were carried to them, until none is carried or one is refused.
+/// Executes batches without calls, and answers the requests that were carried to them, until none is carried or one is
+/// refused.
 fn answer_carried<R: Threads + Wait + Sync>(
     rt: &R,
     alloc: Global,
@@ -117,7 +119,7 @@ fn answer_carried<R: Threads + Wait + Sync>(
     told: &mut Vec<Told>,
 ) -> Result<(), ServeFault>
     requires { is_busy engine.old.core ≡ false }
-    ensures { Serves [] result engine.old.core engine.new.core told.old.items told.new.items }
+    ensures { AnswersFirstPart [] result engine.old.core engine.new.core told.old.items told.new.items }
 {
     for _ in rt.forever() {
         if engine.carried() == 0 {
@@ -128,7 +130,8 @@ fn answer_carried<R: Threads + Wait + Sync>(
     Ok(())
 }
 
-/// Executes and answers batches that were drawn, and then what is carried, until nothing is, up to the first batch that is refused.
+/// Executes and answers batches that were drawn, and then what is carried, until nothing is, up to the first batch that
+/// is refused.
 pub(crate) fn answer_to_the_end<R: Threads + Wait + Sync>(
     rt: &R,
     alloc: Global,
@@ -137,7 +140,8 @@ pub(crate) fn answer_to_the_end<R: Threads + Wait + Sync>(
     left: Vec<Vec<CallItem>>,
 ) -> Result<(), ServeFault>
     requires { is_busy engine.old.core ≡ false }
-    ensures { Serves (calls_in (items_in left.items)) result engine.old.core engine.new.core told.old.items told.new.items }
+    ensures { AnswersFirstPart (calls_of_batches (items_in left.items)) result engine.old.core engine.new.core
+        told.old.items told.new.items }
 {
     answer_left(rt, alloc, engine, told, left)?;
     answer_carried(rt, alloc, engine, told)

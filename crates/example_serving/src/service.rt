@@ -6,7 +6,7 @@ ghost use Rattle.intake.specs.Passes.{IsDrawerOf, AreClientsOf, AreNewClients, h
 ghost use Rattle.engine.specs.Engines.{is_busy};
 ghost use Rattle.example_serving.specs.Services.{IsService};
 ghost use Rattle.example_serving.specs.Steps.{HasServed, IsServedToTheEnd};
-ghost use Rattle.example_clients.specs.Logs.{IsShort, histories_from};
+ghost use Rattle.example_clients.specs.Logs.{IsShortLog, histories_from};
 
 use crate::owner::{Owner, answer_to_the_end, attend};
 use crate::told::{ServeFault, Told};
@@ -32,7 +32,7 @@ fn serve_beside<R: Threads + Wait + Sync>(
 ) -> (Ended, (Owner, Result<(), ServeFault>))
     requires few { vec_len logs ≤ 4 }
     requires passes { (vec_len passes ≡ vec_len logs) × AreNewClients intake.now (vec_len logs) passes.items }
-    requires short { AllByRecursion IsShort logs.items }
+    requires short { AllByRecursion IsShortLog logs.items }
     requires pass { IsDrawerOf intake.now owner.pass }
     requires idle { is_busy owner.engine.core ≡ false }
     ensures clients { IfOk result.0 (λ passes. AreClientsOf intake.now passes.items) }
@@ -46,7 +46,7 @@ fn serve_beside<R: Threads + Wait + Sync>(
         rt,
         move || -> Ended
             requires { (vec_len logs ≤ 4) × (vec_len passes ≡ vec_len logs) ×
-                AreNewClients intake.now (vec_len logs) passes.items × AllByRecursion IsShort logs.items }
+                AreNewClients intake.now (vec_len logs) passes.items × AllByRecursion IsShortLog logs.items }
             ensures clients { IfOk result (λ passes. AreClientsOf intake.entry.now passes.items) }
             ensures sent { IfOk result (λ passes. map own_history passes.items ≡ histories_from 1 logs.items) }
         {
@@ -62,7 +62,8 @@ fn serve_beside<R: Threads + Wait + Sync>(
     )
 }
 
-/// Draws what the clients left in the intake, and where nothing was refused before answers it, and what is carried then.
+/// Draws what the clients left in the intake, and where nothing was refused before answers it, and what is carried
+/// then.
 fn serve_left<R: Threads + Wait + Sync>(
     rt: &R,
     alloc: Global,
@@ -93,22 +94,24 @@ fn serve_left<R: Threads + Wait + Sync>(
     (engine, told, served)
 }
 
-/// Serves up to four clients on an engine. Each client submits the calls of its log in their order, in a thread of its own, to an
-/// intake of that capacity. The owner draws them, executes them on the engine's workers and answers them, until all clients have
-/// ended and nothing is left. Then it executes batches without calls while requests are carried, and answers these. It may wait.
+/// Serves up to four clients on an engine. Each client submits the calls of its log in their order, in a thread of its
+/// own, to an intake of that capacity. The owner draws them, executes them on the engine's workers and answers them,
+/// until all clients have ended and nothing is left. Then it executes batches without calls while requests are carried,
+/// and answers these. It may wait.
 ///
-/// The engine, what was told and whether all was answered come back. There is one list of calls: those that the owner drew. In it
-/// each client's are numbered from 0 in order, each once, and unless memory was refused they are that client's log. A first part of
-/// the list was answered, batch by batch, each batch whole; batches without calls may stand among these. What was told, in that
-/// order, is what the serial run of these batches answers where the engine's log was, and its rows, its next number and what it
-/// carries are those that this run leaves. Of each batch the requests that were carried to it come first, each told under the client
-/// and number that it came with, and then the calls. So a client is told what came of each attempt of its requests, and that it was
-/// stale, where it was. A call that is no request is answered so, and changes nothing.
+/// The engine, what was told and whether all was answered come back. There is one list of calls: those that the owner
+/// drew. In it each client's are numbered from 0 in order, each once, and unless memory was refused they are that
+/// client's log. A first part of the list was answered, batch by batch, each batch whole; batches without calls may
+/// stand among these. What was told, in that order, is what the serial run of these batches answers where the engine's
+/// log was, and its rows, its next number and what it carries are those that this run leaves. Of each batch the
+/// requests that were carried to it come first, each told under the client and number that it came with, and then the
+/// calls. So a client is told what came of each attempt of its requests, and that it was stale, where it was. A call
+/// that is no request is answered so, and changes nothing.
 ///
-/// After `Ok` the first part is all of the list, the engine holds no batch, and nothing is carried. Where something is refused, the
-/// clients still come to the end of their logs, and their further calls are dropped. A batch that the engine then holds has what was
-/// carried, and behind it requests of the calls that come next in the list, if any are left; `resume` runs it. An engine that holds
-/// none carries what the answered batches have left.
+/// After `Ok` the first part is all of the list, the engine holds no batch, and nothing is carried. Where something is
+/// refused, the clients still come to the end of their logs, and their further calls are dropped. A batch that the
+/// engine then holds has what was carried, and after it requests of the calls that come next in the list, if any are
+/// left; `resume` runs it. An engine that holds none carries what the answered batches have left.
 pub fn serve<R: Threads + Wait + Sync>(
     rt: &R,
     alloc: Global,
@@ -118,7 +121,7 @@ pub fn serve<R: Threads + Wait + Sync>(
 ) -> (Engine, Vec<Told>, Result<(), ServeFault>)
     requires clients { (0 < vec_len logs) × (vec_len logs ≤ 4) }
     requires capacity { 0 < capacity }
-    requires short { AllByRecursion IsShort logs.items }
+    requires short { AllByRecursion IsShortLog logs.items }
     requires idle { is_busy engine.core ≡ false }
     ensures { IsService engine.core logs.items result.0.core result.1.items result.2 }
 {

@@ -24,15 +24,15 @@ pub struct Told {
 /// Why a server has stopped.
 #[derive(Clone, Copy, Debug, PartialEq, Eq, Error)]
 pub enum ServeFault {
-    /// With what is carried and the next batch the engine's log would have more than 2^48 transactions. The engine holds no batch, and
-    /// carries what it did.
+    /// With what is carried and the next batch the engine's log would have more than 2^48 transactions. The engine
+    /// holds no batch, and carries what it did.
     #[error("the log is full")]
     LogFull,
     /// A thread was refused. The engine holds the next batch with what was carried to it, and nothing of it has run.
     #[error("no thread")]
     Spawn,
-    /// The system refused memory. The engine holds the next batch with what was carried to it; or it holds none, and carries what it
-    /// did.
+    /// The system refused memory. The engine holds the next batch with what was carried to it; or it holds none, and
+    /// carries what it did.
     #[error("out of memory")]
     NoMemory,
 }

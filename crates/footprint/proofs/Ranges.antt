@@ -40,16 +40,16 @@ at_place (suc n) (suc k) first =
 le_test : (a b : ℤ) → a ≤ℤ b → int_le a b ≡ true
 le_test a b h = grind (arith, ints, h)
 
-fits : (low k : ℕ) (high : ℤ) → nat_lt k (keys_up_to low high) ≡ int_le (pos (low + k)) high
-fits low k (pos high) = both_ways _ _
+below_count_is_at_most : (low k : ℕ) (high : ℤ) → nat_lt k (keys_up_to low high) ≡ int_le (pos (low + k)) high
+below_count_is_at_most low k (pos high) = both_ways _ _
     (λ t. let l = ltb-true k (suc high - low) t in le_test (pos (low + k)) (pos high) (omega (arith, ints, l)))
     (λ t. let l = le-true (pos (low + k)) (pos high) t in lt-ltb k (suc high - low) (omega (arith, ints, l)))
-fits low k (negsuc high) = both_ways _ _
+below_count_is_at_most low k (negsuc high) = both_ways _ _
     (λ t. absurd (let l = ltb-true k 0 t in omega (arith, l)))
     (λ t. absurd (let l = le-true (pos (low + k)) (negsuc high) t in omega (arith, ints, l)))
 
 pub keys_at : (low k : ℕ) (high : ℤ) → slice_get (keys_between low high) k ≡ (if int_le (pos (low + k)) high then Some (low + k) else None)
-keys_at low k high = at_place (keys_up_to low high) k low ∙ ap (λ (b : Bool). if b then Some (low + k) else None) (fits low k high)
+keys_at low k high = at_place (keys_up_to low high) k low ∙ ap (λ (b : Bool). if b then Some (low + k) else None) (below_count_is_at_most low k high)
 
 -- ---- from the first on
 

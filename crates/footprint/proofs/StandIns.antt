@@ -14,7 +14,7 @@ use Rattle.values.specs.Rows.{type_of}
 use Rattle.values.specs.Keys.{key_of}
 use Rattle.catalogue.specs.Places.{partition_numbered}
 use Rattle.proclang_types.specs.declared.right.Right.{Right}
-use Rattle.proclang_types.specs.Syntax.{IntSyntax, number, variable, binary, count_rows, sum_column, EntrySyntax, row_entry, rows_entry, part_entry, table_entry, db_entry, FootprintSyntax, declared_by, found_by_recon, entries_of, ProcSyntax}
+use Rattle.proclang_types.specs.Syntax.{IntSyntax, number, variable, binary, count_rows, sum_column, EntrySyntax, row_entry, rows_entry, part_entry, table_entry, db_entry, FootprintSyntax, declared_by, found_by_recon, declared_entries, ProcSyntax}
 use Rattle.proclang_types.specs.Typing.{IntFits, AsksNoRows, EntryFits, FootprintFits, kinds_of, ProcFits}
 use Rattle.footprint.specs.declared.abort_code.AbortCode.{AbortCode}
 use Rattle.footprint.specs.declared.abort_code.AbortCode.TheVariants.{BadKey, BadPart, TooLong}
@@ -32,12 +32,12 @@ same_number (Some (values.Int z)) x y e = refl
 same_number (Some (values.Text s)) x y e = absurd (cc)
 
 -- what goes on alike from each value comes to the same
-behind : {B : Type 0} (r : Result ⊤ AbortCode) (f h : Result B AbortCode) → f ≡ h → (r >>= λ u. f) ≡ (r >>= λ u. h)
-behind (Ok u) f h same = same
-behind (Err code) f h same = refl
+bind_same : {B : Type 0} (r : Result ⊤ AbortCode) (f h : Result B AbortCode) → f ≡ h → (r >>= λ u. f) ≡ (r >>= λ u. h)
+bind_same (Ok u) f h same = same
+bind_same (Err code) f h same = refl
 
 alike : {A B : Type 0} (g : Result A AbortCode) (r : A → Result ⊤ AbortCode) (f h : A → Result B AbortCode) → ((x : A) → f x ≡ h x) → (g >>= λ x. r x >>= λ u. f x) ≡ (g >>= λ x. r x >>= λ u. h x)
-alike (Ok x) r f h same = behind (r x) (f x) (h x) (same x)
+alike (Ok x) r f h same = bind_same (r x) (f x) (h x) (same x)
 alike (Err code) r f h same = refl
 
 module _ (other : ℤ) (kinds : List ColType) (arguments : List Value) (args : map type_of arguments ≡ kinds) where
@@ -70,10 +70,10 @@ module _ (other : ℤ) (kinds : List ColType) (arguments : List Value) (args : m
       ap (λ (r : Result (List (Resource × Right)) AbortCode). r >>= λ grants. rule (nat_le (count + length grants) 65536) TooLong >>= λ u. with_entries other tables arguments (count + length grants) (with_rights footprint grants) entries) (same_grants tables entry fits.0)
       ∙ alike (grants_of (pos 0) tables arguments entry) (λ grants. rule (nat_le (count + length grants) 65536) TooLong) _ _ (λ grants. same_entries tables (count + length grants) (with_rights footprint grants) entries fits.1)
 
-fits_each : (tables : List TableShape) (kinds : List ColType) (footprint : FootprintSyntax) → FootprintFits tables kinds footprint → AllByRecursion (EntryFits tables kinds) (entries_of footprint)
+fits_each : (tables : List TableShape) (kinds : List ColType) (footprint : FootprintSyntax) → FootprintFits tables kinds footprint → AllByRecursion (EntryFits tables kinds) (declared_entries footprint)
 fits_each tables kinds (declared_by entries) fits = fits
 fits_each tables kinds found_by_recon fits = tt
 
 pub never_shows : (tables : List TableShape) (proc : ProcSyntax) (arguments : List Value) (other : ℤ) → ProcFits tables proc → map type_of arguments ≡ kinds_of proc.params
-    → declared_with other tables arguments (entries_of proc.footprint) ≡ declared_footprint tables arguments (entries_of proc.footprint)
-never_shows tables proc arguments other fits args = same_entries other (kinds_of proc.params) arguments args tables 0 empty (entries_of proc.footprint) (fits_each tables (kinds_of proc.params) proc.footprint fits.footprint)
+    → declared_with other tables arguments (declared_entries proc.footprint) ≡ declared_footprint tables arguments (declared_entries proc.footprint)
+never_shows tables proc arguments other fits args = same_entries other (kinds_of proc.params) arguments args tables 0 empty (declared_entries proc.footprint) (fits_each tables (kinds_of proc.params) proc.footprint fits.footprint)

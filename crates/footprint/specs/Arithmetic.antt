@@ -29,8 +29,8 @@ result_of Multiply x y = in_range (x *ℤ y)
 result_of Divide x y = divided y (in_range (int_div x y))
 result_of Remainder x y = divided y (in_range (int_div x y) >>= λ quotient. Ok (int_rem x y))
 
--- A quotient that is rounded towards 0, and what it leaves: together they make up the first operand, what is left is less than the
--- divisor, signs aside, and it is 0 or has the sign of the first operand.
+-- A quotient that is rounded towards 0, and what it leaves: together they make up the first operand, what is left is
+-- less than the divisor, signs aside, and it is 0 or has the sign of the first operand.
 pub record IsDivision (x y quotient rest : ℤ) : Type 0 where
   pub whole : (quotient *ℤ y) +ℤ rest ≡ x
   pub less : unsigned_abs rest < unsigned_abs y

@@ -26,8 +26,8 @@ number_or other (Some (values.Int z)) = z
 number_or other (Some (values.Text s)) = other
 number_or other None = other
 
--- An expression over the parameters, from left to right. The other number stands for a count or a sum too, of which there is none in
--- an entry that fits.
+-- An expression over the parameters, from left to right. The other number stands for a count or a sum too, of which
+-- there is none in an entry that fits.
 abbrev pub declared_number : ℤ → List Value → IntSyntax → Result ℤ AbortCode
 declared_number other arguments (number z) = Ok z
 declared_number other arguments (variable place) = Ok (number_or other (slice_get arguments place))
@@ -38,7 +38,7 @@ declared_number other arguments (binary op a b) = do
 declared_number other arguments (count_rows table part) = Ok other
 declared_number other arguments (sum_column table part column) = Ok other
 
--- so many keys, each one more than the one before it, from one on
+-- n keys, each one more than the one before it, from one on
 abbrev pub keys_from : ℕ → ℕ → List ℕ
 keys_from zero first = []
 keys_from (suc count) first = first ∷ keys_from count (suc first)
@@ -54,10 +54,12 @@ keys_between low high = keys_from (keys_up_to low high) low
 
 -- a right on the name of the row with each of the keys
 abbrev pub on_rows : List TableShape → Right → ℕ → List ℕ → List (Resource × Right)
-on_rows tables right table keys = map {B = Resource × Right} (λ key. (row_resource tables (record { table = table; key = key }), right)) keys
+on_rows tables right table keys =
+    map {B = Resource × Right} (λ key. (row_resource tables (record { table = table; key = key }), right)) keys
 
--- What an entry adds: resources, and a right on each. All its expressions are evaluated before a key or a partition's number is
--- tested. A negative key, or least key, is a bad key, and a number that is no partition of the table a bad partition.
+-- What an entry adds: resources, and a right on each. All its expressions are evaluated before a key or a partition's
+-- number is tested. A negative key, or least key, is a bad key, and a number that is no partition of the table a bad
+-- partition.
 abbrev pub grants_of : ℤ → List TableShape → List Value → EntrySyntax → Result (List (Resource × Right)) AbortCode
 grants_of other tables arguments (row_entry right table key) = do
   z ← declared_number other arguments key
@@ -75,16 +77,18 @@ grants_of other tables arguments (part_entry right table part) = do
 grants_of other tables arguments (table_entry right table) = Ok ((Table table WholeTable, right) ∷ [])
 grants_of other tables arguments (db_entry right) = Ok ((Db, right) ∷ [])
 
--- entry by entry: repeats count, and at most 65,536 resources may be added. Of two rights on a resource the greater counts
-abbrev pub with_entries : ℤ → List TableShape → List Value → ℕ → FootprintOf → List EntrySyntax → Result FootprintOf AbortCode
+-- entry by entry: repeats count, and at most 65,536 resources may be added. Of two rights on a resource the greater
+-- counts
+abbrev pub with_entries : ℤ → List TableShape → List Value → ℕ → FootprintOf → List EntrySyntax
+    → Result FootprintOf AbortCode
 with_entries other tables arguments count footprint [] = Ok footprint
 with_entries other tables arguments count footprint (entry ∷ entries) = do
   grants ← grants_of other tables arguments entry
   _ ← rule (nat_le (count + length grants) 65536) TooLong
   with_entries other tables arguments (count + length grants) (with_rights footprint grants) entries
 
--- the footprint that entries declare, where another number stands for a parameter that is not there or is a text, for a count and
--- for a sum
+-- the footprint that entries declare, where another number stands for a parameter that is not there or is a text, for a
+-- count and for a sum
 abbrev pub declared_with : ℤ → List TableShape → List Value → List EntrySyntax → Result FootprintOf AbortCode
 declared_with other tables arguments entries = with_entries other tables arguments 0 empty entries
 

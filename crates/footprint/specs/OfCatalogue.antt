@@ -19,7 +19,8 @@ IsRowName tables name = (name.table < length tables) × (name.key < 2 ^ 63)
 abbrev pub IsResourceOf : List TableShape → Resource → Type 0
 IsResourceOf tables Db = ⊤
 IsResourceOf tables (Table t WholeTable) = t < length tables
-IsResourceOf tables (Table t (Part p WholePart)) = option_map (λ s. nat_lt p (partitions s.split)) (slice_get tables t) ≡ Some true
+IsResourceOf tables (Table t (Part p WholePart)) =
+    option_map (λ s. nat_lt p (partitions s.split)) (slice_get tables t) ≡ Some true
 IsResourceOf tables (Table t (Part p (Row k))) = (k < 2 ^ 63) × (partition_of tables t k ≡ Some p)
 
 -- each resource that has a right is of these tables

@@ -1,6 +1,6 @@
 -- Claimed: what contracts promise to a reader rests on these words.
--- The tree of resources. The database is the root; its children are the tables, theirs the partitions, theirs the row names.
--- (A lock hierarchy as in Gray, Lorie, Putzolu and Traiger, 1975; these four levels are this project's own.)
+-- The tree of resources. The database is the root; its children are the tables, theirs the partitions, theirs the row
+-- names. (A lock hierarchy as in Gray, Lorie, Putzolu and Traiger, 1975; these four levels are this project's own.)
 use Rattle.std.specs.Prelude.{List, [], ◌∷◌, Option, Some, None, unwrap_or}
 use Rattle.std.specs.declared.cmp.Ordering.{Ordering}
 use Rattle.values.specs.declared.name.RowName.{RowName}
@@ -31,4 +31,5 @@ ancestors_of (Table t (Part p (Row k))) = Table t (Part p WholePart) ∷ Table t
 
 -- the row name (t, k) stands under the partition that the catalogue gives key k in table t
 abbrev pub row_resource : List TableShape → RowName → Resource
-row_resource tables name = Table name.table (Part (unwrap_or (partition_of tables name.table name.key) 0) (Row name.key))
+row_resource tables name =
+    Table name.table (Part (unwrap_or (partition_of tables name.table name.key) 0) (Row name.key))

@@ -6,8 +6,9 @@ ghost use Rattle.footprint.specs.Arithmetic.{result_of};
 use crate::abort_code::AbortCode;
 use proclang_types::IntOperator;
 
-/// The result of an operator. Outside the signed 64-bit range it is an overflow; a divisor of 0 is a division by zero. A
-/// quotient is rounded towards 0, and a remainder has the sign of the first operand; it overflows where its quotient does.
+/// The result of an operator. Outside the signed 64-bit range it is an overflow; a divisor of 0 is a division by zero.
+/// A quotient is rounded towards 0, and a remainder has the sign of the first operand; it overflows where its quotient
+/// does.
 pub fn compute(operator: IntOperator, left: i64, right: i64) -> Result<i64, AbortCode>
     ensures { result ≡ result_of operator left right }
 {

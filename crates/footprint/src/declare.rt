@@ -4,7 +4,7 @@ ghost use Rattle.std.specs.Prelude.{◌≡◌, false, pos, IfOk, map, slice_get}
 ghost use Rattle.std.specs.List.{AllByRecursion};
 ghost use Rattle.proclang_types.specs.Views.{int_view, entry_view};
 ghost use Rattle.proclang_types.specs.Procedures.{proc_syntax};
-ghost use Rattle.proclang_types.specs.Syntax.{entries_of, is_recon};
+ghost use Rattle.proclang_types.specs.Syntax.{declared_entries, is_recon};
 ghost use Rattle.footprint.specs.Declaration.{declared_number, number_or, grants_of, declared_footprint};
 ghost use Rattle.footprint.specs.Grants.{GrantsAs, IsGrantOf};
 ghost use Rattle.footprint.specs.Tables.{HasTable};
@@ -144,10 +144,10 @@ fn with_entries(
     Ok(footprint)
 }
 
-/// The footprint that a procedure declares for these arguments, or the abort of the first fault: entries are evaluated in
-/// order, a result outside the signed 64-bit range is an overflow, a negative key a bad key, a number that is no
-/// partition of its table a bad partition, and more than 65,536 resources, repeats included, are too long. How many an entry
-/// adds is found before any of them is listed.
+/// The footprint that a procedure declares for these arguments, or the abort of the first fault: entries are evaluated
+/// in order, a result outside the signed 64-bit range is an overflow, a negative key a bad key, a number that is no
+/// partition of its table a bad partition, and more than 65,536 resources, repeats included, are too long. How many an
+/// entry adds is found before any of them is listed.
 pub fn declared(
     alloc: Global,
     catalogue: &Catalogue,
@@ -158,7 +158,7 @@ pub fn declared(
     // The procedure declares its footprint.
     requires declares { is_recon (proc_syntax proc.now).footprint ≡ false }
     ensures exact { IfOk result (λ declared.
-        declared ≡ declared_footprint catalogue.now arguments.now (entries_of (proc_syntax proc.now).footprint)) }
+        declared ≡ declared_footprint catalogue.now arguments.now (declared_entries (proc_syntax proc.now).footprint)) }
     // Each resource that it gives a right on is of the catalogue.
     ensures of_catalogue { IfOk result (λ declared.
         IfOk declared (λ footprint. IsFootprintOf catalogue.now footprint)) }

@@ -12,7 +12,8 @@ use catalogue::Catalogue;
 use proclang_types::Right;
 use values::{Key, NoMemory, RowName, TableNo};
 
-/// A right on a resource, or on the names of so many rows of a table, whose keys follow each other from the first on.
+/// A right on a resource, or on the names of a number of rows of a table, whose keys follow each other from the first
+/// on.
 #[derive(Drop)]
 pub(crate) enum Grant {
     OnOne {
@@ -93,8 +94,8 @@ fn keys_up_to(first: Key, last: i64) -> u64
     }
 }
 
-/// The key so many behind another.
-fn key_behind(first: Key, distance: u64) -> Key
+/// The key that is a distance above another.
+fn key_above(first: Key, distance: u64) -> Key
     requires { first + distance < 2 ^ 63 }
     ensures { result ≡ first + distance }
 {
@@ -104,7 +105,7 @@ fn key_behind(first: Key, distance: u64) -> Key
     }
 }
 
-/// Adds a right on the names of so many rows, from a key on.
+/// Adds a right on the names of a number of rows, from a key on.
 fn add_rows(
     catalogue: &Catalogue,
     footprint: &mut Footprint,
@@ -121,7 +122,7 @@ fn add_rows(
         OnOk result (IsFootprintOf catalogue.now footprint.new) }
 {
     for distance in 0..count {
-        let key = key_behind(first, distance);
+        let key = key_above(first, distance);
         footprint.add(Resource::row(catalogue, RowName::new(table, key)), right)?;
     }
     Ok(())

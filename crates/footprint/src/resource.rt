@@ -17,8 +17,8 @@ pub enum InTable {
     Part(u32, InPart),
 }
 
-/// A resource: the database, a table, a partition or a row. The order is tree order: a parent before its children, tables
-/// in declared order, partitions and keys ascending. (A lock hierarchy as Gray's, 1975, of these four levels.)
+/// A resource: the database, a table, a partition or a row. The order is tree order: a parent before its children,
+/// tables in declared order, partitions and keys ascending. (A lock hierarchy as Gray's, 1975, of these four levels.)
 #[derive(Clone, Copy, Debug, PartialEq, Eq, PartialOrd, Ord, Hash)]
 pub enum Resource {
     Db,

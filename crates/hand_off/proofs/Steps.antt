@@ -13,7 +13,7 @@ use Rattle.hand_off.specs.declared.state.LaneState.TheVariants as state
 use Rattle.hand_off.specs.declared.view.Claim.{Claim}
 use Rattle.hand_off.specs.declared.view.Known.TheVariants as known
 use Rattle.hand_off.specs.declared.view.Load.TheVariants.{Job, Done}
-use Rattle.hand_off.specs.Views.{knowing, noting, putting, claiming, delivering, newcomer}
+use Rattle.hand_off.specs.Views.{knowing, with_note, putting, claiming, delivering, newcomer}
 use Rattle.hand_off.specs.Rule.{Phase, idle, filling, waiting, taken, finished, draining, Claimant, nobody, by, state_of, known_of, Seated, Laned}
 use Rattle.hand_off.specs.Steps.{Seat, fills, posts, drains, clears, claims, delivers}
 use Rattle.hand_off.proofs.Phases.{put_at, at_put, put_here, put_other, holder, awaited, job_in, times_claimed, not_idle, at_filling, at_draining, other_state, at_idle, at_waiting, at_finished}
@@ -97,7 +97,7 @@ module _ {J D : Type 0} (comes_of : J → D → Type 0) where
   may_drain n id me i close sch s r wide at _ =
       let y : ℕ = get_or s.words i 0 in let told = drains comes_of (step n i 4 5 none) me in let near : i < length s.homes = omega arith in let ok = r.each_lane i near in let k = (r.each_seat id me.0 at).schedules sch in
       exchanged y 4 5 (Goes s i id me told)
-      (λ hit. let is = at_finished comes_of s.homes i (r.phases i) (sym ok.shows ∙ hit) ok.lies in let job : J = is.0 in let done : D = is.2.0 in let w : V comes_of = knowing (noting me.0 i state.Finished) i (known.Draining job) in (
+      (λ hit. let is = at_finished comes_of s.homes i (r.phases i) (sym ok.shows ∙ hit) ok.lies in let job : J = is.0 in let done : D = is.2.0 in let w : V comes_of = knowing (with_note me.0 i state.Finished) i (known.Draining job) in (
         w,
         takes i (Some (Done done)),
         is.2.2,
@@ -106,7 +106,7 @@ module _ {J D : Type 0} (comes_of : J → D → Type 0) where
             (ap holder is.1) refl k.all_puts refl refl,
         ((λ _. (job, done, k.knows i near ∙ ap known_of is.1, is.2.1, refl, shown_at comes_of s id i me.0 state.Finished r at near hit)), λ miss. absurd (miss hit)),
       ))
-      (λ miss. let found = state_of (r.phases i) in let w : V comes_of = noting me.0 i found in (
+      (λ miss. let found = state_of (r.phases i) in let w : V comes_of = with_note me.0 i found in (
         w,
         keeps,
         tt,
@@ -167,7 +167,7 @@ module _ {J D : Type 0} (comes_of : J → D → Type 0) where
         kept,
         ((λ _. (put, job, free, refl, shown_at comes_of s id i me.0 state.Waiting r at near hit, stands_after comes_of s id me.0 w _ _ at kept)), λ miss. absurd (miss hit)),
       ))
-      (λ miss. let found = state_of (r.phases i) in let w : V comes_of = noting me.0 i found in (
+      (λ miss. let found = state_of (r.phases i) in let w : V comes_of = with_note me.0 i found in (
         w,
         keeps,
         tt,

@@ -18,14 +18,17 @@ module _ {J D : Type 0} (comes_of : J → D → Type 0) where
 
   -- two claims of one put are one claim, by one seat
   abbrev pub ClaimedAtMostOnce : Type 0
-  ClaimedAtMostOnce = (s : Moment J D) → Laned comes_of s → (a b k l : ℕ) (c d : Claim J) → HasClaimed s a k c → HasClaimed s b l d → c.put ≡ d.put → (a ≡ b) × (k ≡ l)
+  ClaimedAtMostOnce = (s : Moment J D) → Laned comes_of s → (a b k l : ℕ) (c d : Claim J) → HasClaimed s a k c
+      → HasClaimed s b l d → c.put ≡ d.put → (a ≡ b) × (k ≡ l)
 
   -- and it is of that lane and of that job
   abbrev pub ClaimedAsPut : Type 0
-  ClaimedAsPut = (s : Moment J D) → Laned comes_of s → (a b k : ℕ) (c : Claim J) (v : View J) → HasClaimed s a k c → get_elem? s.views b ≡ some v → v.schedules ≡ true
+  ClaimedAsPut = (s : Moment J D) → Laned comes_of s → (a b k : ℕ) (c : Claim J) (v : View J) → HasClaimed s a k c
+      → get_elem? s.views b ≡ some v → v.schedules ≡ true
       → slice_get v.puts c.put ≡ Some (c.lane, c.job)
 
   -- the job that a seat has claimed at a lane and not delivered is the one that the scheduler's seat has there
   abbrev pub HeldAsPut : Type 0
-  HeldAsPut = (s : Moment J D) → Laned comes_of s → (a b i : ℕ) (job : J) (v w : View J) → get_elem? s.views a ≡ some w → slice_index_or w.claimed i None ≡ Some job
+  HeldAsPut = (s : Moment J D) → Laned comes_of s → (a b i : ℕ) (job : J) (v w : View J) → get_elem? s.views a ≡ some w
+      → slice_index_or w.claimed i None ≡ Some job
       → get_elem? s.views b ≡ some v → v.schedules ≡ true → slice_index_or v.known i Idle ≡ Put job

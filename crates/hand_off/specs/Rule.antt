@@ -1,6 +1,6 @@
 -- Claimed: what contracts promise to a reader rests on these words.
--- The rule of the lanes: what holds of the words, the slots and all seats' views between any two steps.
--- Lane i has the word i and the slot i. The phase of a lane says what its word is, where its slot is and what lies there.
+-- The rule of the lanes: what holds of the words, the slots and all seats' views between any two steps. Lane i has the
+-- word i and the slot i. The phase of a lane says what its word is, where its slot is and what lies there.
 use Rattle.std.specs.Prelude.{◌≡◌, ◌<◌, ◌≤◌, ℕ, true, ⊤, List, length, Option, Some, None, slice_get, slice_index_or}
 use mathlib.Core.Option.{some}
 use mathlib.Core.Option as maybe
@@ -56,11 +56,13 @@ module _ {J : Type 0} where
     pub all_puts : v.puts ≡ puts
 
   -- a lane that a seat has is taken by it; and each claim that it ever made is of a put, and it is that put's claimant
-  pub record Seated (id n : ℕ) (phases : ℕ → Phase J) (puts : List (ℕ × J)) (claimants : ℕ → Claimant) (v : View J) : Type 0 where
+  pub record Seated (id n : ℕ) (phases : ℕ → Phase J) (puts : List (ℕ × J)) (claimants : ℕ → Claimant)
+      (v : View J) : Type 0 where
     pub schedules : v.schedules ≡ true → Scheduled id n phases puts v
     pub wide : length v.claimed ≡ n
     pub claimed : (i : ℕ) (job : J) → slice_index_or v.claimed i None ≡ Some job → phases i ≡ taken id job
-    pub claims : (k : ℕ) (c : Claim J) → slice_get v.claims k ≡ Some c → (slice_get puts c.put ≡ Some (c.lane, c.job)) × (claimants c.put ≡ by id k)
+    pub claims : (k : ℕ) (c : Claim J) → slice_get v.claims k ≡ Some c → (slice_get puts c.put ≡ Some (c.lane, c.job))
+        × (claimants c.put ≡ by id k)
 
 module _ {J D : Type 0} (comes_of : J → D → Type 0) where
   -- what the slot of a lane has, where no seat has it
@@ -72,7 +74,8 @@ module _ {J D : Type 0} (comes_of : J → D → Type 0) where
   Lies homes i (finished job) = (done : D) × comes_of job done × (get_elem? homes i ≡ some (some (Some (Done done))))
   Lies homes i (draining job) = ⊤
 
-  pub record LaneOk (words : List ℕ) (homes : List (maybe.Option (Option (Load J D)))) (i : ℕ) (p : Phase J) : Type 0 where
+  pub record LaneOk (words : List ℕ) (homes : List (maybe.Option (Option (Load J D)))) (i : ℕ) (p : Phase J)
+      : Type 0 where
     pub shows : slice_index_or words i 0 ≡ word_of (state_of p)
     pub lies : Lies homes i p
 
@@ -82,6 +85,8 @@ module _ {J D : Type 0} (comes_of : J → D → Type 0) where
     pub claimants : ℕ → Claimant
     pub wide : length s.words ≡ length s.homes
     pub each_lane : (i : ℕ) → i < length s.homes → LaneOk s.words s.homes i (phases i)
-    pub waits : (i put : ℕ) (job : J) → phases i ≡ waiting put job → (slice_get puts put ≡ Some (i, job)) × (claimants put ≡ nobody)
+    pub waits : (i put : ℕ) (job : J) → phases i ≡ waiting put job → (slice_get puts put ≡ Some (i, job))
+        × (claimants put ≡ nobody)
     pub fresh : (put : ℕ) → length puts ≤ put → claimants put ≡ nobody
-    pub each_seat : (id : ℕ) (v : View J) → get_elem? s.views id ≡ some v → Seated id (length s.homes) phases puts claimants v
+    pub each_seat : (id : ℕ) (v : View J) → get_elem? s.views id ≡ some v
+        → Seated id (length s.homes) phases puts claimants v

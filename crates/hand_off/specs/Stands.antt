@@ -34,8 +34,8 @@ module _ {J D : Type 0} (comes_of : J → D → Type 0) where
     pub near : lane < length stands.moment.words
     pub shows : slice_index_or stands.moment.words lane 0 ≡ word_of found
 
-  -- of all notes, each that was added since a seat had this view says what the lane was doing at a moment of its look: at
-  -- which the seat had the same view with the notes before that one
+  -- of all notes, each that was added since a seat had this view says what the lane was doing at a moment of its look:
+  -- at which the seat had the same view with the notes before that one
   pub record AllShown (first : View J) (notes : List Note) : Type 0 where
     pub each : (i : ℕ) (note : Note) → length first.notes ≤ i → slice_get notes i ≡ Some note
         → ShownAt note.lane note.found (looked first (take i notes))

@@ -11,11 +11,19 @@ use Rattle.hand_off.specs.declared.view.View.{View}
 module _ {J : Type 0} where
   -- the scheduler's view at the start, of so many lanes
   abbrev pub opened : ℕ → View J
-  opened n = record { schedules = true; known = replicate n Idle; puts = []; claimed = replicate n None; claims = []; notes = [] }
+  opened n = record {
+    schedules = true;
+    known = replicate n Idle;
+    puts = [];
+    claimed = replicate n None;
+    claims = [];
+    notes = [];
+  }
 
   -- the view of a worker's new seat, which is cut from the scheduler's with this view
   abbrev pub newcomer : View J → View J
-  newcomer v = record { schedules = false; known = []; puts = []; claimed = replicate (length v.known) None; claims = []; notes = [] }
+  newcomer v = record
+      { schedules = false; known = []; puts = []; claimed = replicate (length v.known) None; claims = []; notes = [] }
 
   -- this is known of a lane now
   abbrev pub knowing : View J → ℕ → Known J → View J
@@ -26,8 +34,8 @@ module _ {J : Type 0} where
   looked v notes = record v { notes = notes }
 
   -- a lane was looked at, and found so
-  abbrev pub noting : View J → ℕ → LaneState → View J
-  noting v lane found = record v { notes = v.notes ++ record { lane = lane; found = found } ∷ [] }
+  abbrev pub with_note : View J → ℕ → LaneState → View J
+  with_note v lane found = record v { notes = v.notes ++ record { lane = lane; found = found } ∷ [] }
 
   -- a job was put into a lane
   abbrev pub putting : View J → ℕ → J → View J
@@ -35,7 +43,7 @@ module _ {J : Type 0} where
 
   -- what came of a lane's job was found and collected
   abbrev pub collecting : View J → ℕ → View J
-  collecting v lane = knowing (noting v lane Finished) lane Idle
+  collecting v lane = knowing (with_note v lane Finished) lane Idle
 
   -- a lane's job was found and claimed, which was put there by the put of this number
   abbrev pub claiming : View J → ℕ → ℕ → J → View J

@@ -13,9 +13,9 @@ use crate::view::{LaneSeat, Lanes, Work};
 use std::alloc::Allocator;
 
 impl<J, D, W: Work<J, D>, A: Allocator> Lanes<J, D, W, A> {
-    /// What a worker delivered, from the lowest lane where a result was found. It came of the job that was put there, and
-    /// that lane is idle again. `None` comes only where each lane was found without a result when it was tried. The notes
-    /// say what each lane that was tried was doing at a moment of its try.
+    /// What a worker delivered, from the lowest lane where a result was found. It came of the job that was put there,
+    /// and that lane is idle again. `None` comes only where each lane was found without a result when it was tried. The
+    /// notes say what each lane that was tried was doing at a moment of its try.
     pub fn collect(&self, seat: &mut LaneSeat<J, D>) -> Option<(usize, D)>
         requires { Schedules self.now seat.old }
         ensures seat { Schedules self.now seat.new }

@@ -10,8 +10,8 @@ use crate::view::{LaneSeat, Lanes, Work};
 use std::alloc::Allocator;
 
 impl<J, D, W: Work<J, D>, A: Allocator> Lanes<J, D, W, A> {
-    /// Puts the job into the lowest lane without one. It comes back exactly where each lane has a job that isn't
-    /// collected.
+    /// Puts the job into the lowest lane without one. It comes back exactly where each lane
+    /// has a job that isn't collected.
     pub fn put(&self, seat: &mut LaneSeat<J, D>, job: J) -> Result<usize, J>
         requires { Schedules self.now seat.old }
         ensures seat { Schedules self.now seat.new }

@@ -12,9 +12,9 @@ use crate::view::{LaneSeat, Lanes, Work};
 use std::alloc::Allocator;
 
 impl<J, D, W: Work<J, D>, A: Allocator> Lanes<J, D, W, A> {
-    /// A job that waits, from the lowest lane where one was found. From now on it is this worker's, and the lane's slot is
-    /// with its seat, empty, in front. `None` comes only where each lane was found without a waiting job when it was tried.
-    /// The notes say what each lane that was tried was doing at a moment of its try.
+    /// A job that waits, from the lowest lane where one was found. From now on it is this worker's, and the lane's slot
+    /// is with its seat, empty, in front. `None` comes only where each lane was found without a waiting job when it was
+    /// tried. The notes say what each lane that was tried was doing at a moment of its try.
     pub fn claim(&self, seat: &mut LaneSeat<J, D>) -> Option<(usize, J)>
         requires { Works self.now seat.old }
         ensures seat { Works self.now seat.new }

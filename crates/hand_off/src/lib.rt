@@ -1,5 +1,5 @@
-//! A hand-off of jobs from one scheduler to many workers, and of what came of them back, generic in job and result.
-//! It is a table of lanes. Each lane is a word, which changes in single steps, and a slot, which one seat at a time has.
+//! A hand-off of jobs from one scheduler to many workers, and of what came of them back, generic in job and result. It
+//! is a table of lanes. Each lane is a word, which changes in single steps, and a slot, which one seat at a time has.
 //! No call waits, and none but `new` takes memory.
 #![tactic(auto)]
 

@@ -1,11 +1,12 @@
-//! The making of lanes and of seats, and the calls at one lane. Each try is one compare-exchange, and each hand-over one store.
+//! The making of lanes and of seats, and the calls at one lane. Each try is one compare-
+//! exchange, and each hand-over one store.
 
 ghost use Rattle.std.specs.Prelude.{◌≡◌, ◌≢◌, ℕ, ◌<◌, [], ◌∷◌, IfOk, IfErr, IfSome, IfNone, None, Some, slice_index_or, true};
 ghost use Rattle.atomic_table.specs.Table.{rest};
 ghost use Rattle.hand_off.specs.declared.state.LaneState.{LaneState};
 ghost use Rattle.hand_off.specs.declared.state.LaneState.TheVariants.{Waiting, Finished};
 ghost use Rattle.hand_off.specs.declared.view.Known.TheVariants as known;
-ghost use Rattle.hand_off.specs.Views.{noting, putting, collecting, claiming, delivering, knowing, opened, newcomer};
+ghost use Rattle.hand_off.specs.Views.{with_note, putting, collecting, claiming, delivering, knowing, opened, newcomer};
 ghost use Rattle.hand_off.specs.Seats.{IsPut, Schedules, Works};
 ghost use Rattle.hand_off.specs.Stands.{ShownAt, Stands};
 
@@ -63,8 +64,8 @@ impl<J, D, W: Work<J, D>, A: Allocator> Lanes<J, D, W, A> {
         Ok(())
     }
 
-    /// What a worker delivered at the lane, if it was found there. It came of the job that was put there, and the lane is
-    /// idle again. The note of the lane says what its word said at a moment of the try.
+    /// What a worker delivered at the lane, if it was found there. It came of the job that was put there, and the lane
+    /// is idle again. The note of the lane says what its word said at a moment of the try.
     pub fn collect_from(&self, seat: &mut LaneSeat<J, D>, lane: usize) -> Option<D>
         requires { Schedules self.now seat.old × (lane < self.now.count) }
         ensures seat { Schedules self.now seat.new }
@@ -74,7 +75,7 @@ impl<J, D, W: Work<J, D>, A: Allocator> Lanes<J, D, W, A> {
         ensures shown { IfSome result (λ _. ShownAt W.comes_of lane Finished seat.old.me.0) }
         ensures stands { IfSome result (λ _. Stands W.comes_of seat.new.me.0) }
         ensures none { IfNone result ((found : LaneState) × (found ≢ Finished) ×
-            (seat.new.me ≡ (noting seat.old.me.0 lane found, [])) × ShownAt W.comes_of lane found seat.old.me.0) }
+            (seat.new.me ≡ (with_note seat.old.me.0 lane found, [])) × ShownAt W.comes_of lane found seat.old.me.0) }
     {
         let found = self
             .table
@@ -91,8 +92,8 @@ impl<J, D, W: Work<J, D>, A: Allocator> Lanes<J, D, W, A> {
         }
     }
 
-    /// The job that waits at the lane, if one was found there. From now on it is this worker's, and the lane's slot is with
-    /// its seat, empty. The note of the lane says what its word said at a moment of the try.
+    /// The job that waits at the lane, if one was found there. From now on it is this worker's, and the lane's slot is
+    /// with its seat, empty. The note of the lane says what its word said at a moment of the try.
     pub fn claim_from(&self, seat: &mut LaneSeat<J, D>, lane: usize) -> Option<J>
         requires { Works self.now seat.old × (lane < self.now.count) }
         ensures seat { Works self.now seat.new }
@@ -101,7 +102,7 @@ impl<J, D, W: Work<J, D>, A: Allocator> Lanes<J, D, W, A> {
         ensures shown { IfSome result (λ _. ShownAt W.comes_of lane Waiting seat.old.me.0) }
         ensures stands { IfSome result (λ _. Stands W.comes_of seat.new.me.0) }
         ensures none { IfNone result ((found : LaneState) × (found ≢ Waiting) ×
-            (seat.new.me ≡ (noting seat.old.me.0 lane found, seat.old.me.1)) ×
+            (seat.new.me ≡ (with_note seat.old.me.0 lane found, seat.old.me.1)) ×
             ShownAt W.comes_of lane found seat.old.me.0) }
     {
         let found = self

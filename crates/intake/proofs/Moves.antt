@@ -8,7 +8,7 @@ use Rattle.crossbeam_queue.proofs.Lists.{at_set}
 use Rattle.batch_items.specs.declared.item.Item.{Item}
 use Rattle.intake.specs.declared.view.History.{History}
 use Rattle.intake.specs.declared.view.View.{View}
-use Rattle.intake.specs.Histories.{from_client, numbered, HasAll, IsNumbered, view, history, opening, spent, without_drawing, only_drawing, without_first, only_first, joined, after_submit, after_draw}
+use Rattle.intake.specs.Histories.{from_client, numbered, HasAll, IsNumbered, view, history, first_view, spent, without_drawing, only_drawing, without_first, only_first, joined, after_submit, after_draw}
 use Rattle.intake.specs.Rule.{times, total, rights, drawers, AreTrue, IsStranger, IsInOrder, IsAccounted}
 use Rattle.intake.proofs.Items.{item, log_beginning, log_more, sent_more, sent_more-own, sent_more-other}
 use Rattle.intake.proofs.Places.{AllAt, total_set, total_at, total_two, all_set, all_snoc, total_snoc, times-append, times-split, times-alone, times-other, two_drawers, all_one, true-more, true-append, true-first, true-rest, true_has}
@@ -17,7 +17,7 @@ use Rattle.intake.proofs.Places.{AllAt, total_set, total_at, total_two, all_set,
 known_client : (p k : ℕ) → 0 < p → p ≤ 4 → IsStranger k → k ≡ p → ⊥
 known_client p k low high s e = ⊎_elim (λ (z : k ≡ 0). absurd (omega arith)) (λ (z : 4 < k). absurd (omega arith)) s
 
-begins_once : (Q : Type 0) (k : ℕ) → total (rights {Q = Q} k) (opening ∷ []) ≤ 1
+begins_once : (Q : Type 0) (k : ℕ) → total (rights {Q = Q} k) (first_view ∷ []) ≤ 1
 begins_once Q k = grind (arith, nat_tests)
 
 module _ {Q : Type 0} where
@@ -91,7 +91,7 @@ module _ {Q : Type 0} where
       let same : v.drawn ≡ h.drawn = h.draws pass v at may in
       subst (λ (l : List (Item Q)). HasAll (l ++ items) v.histories) (sym same) (true_has h.sent (h.drawn ++ items) v.histories h.logged (h.histories pass v at))
 
-  pub begins : IsInOrder {Q = Q} [] (opening ∷ [])
+  pub begins : IsInOrder {Q = Q} [] (first_view ∷ [])
   begins = record {
     sent = λ k. [];
     drawn = [];
@@ -99,8 +99,8 @@ module _ {Q : Type 0} where
     strangers = (λ k s. refl);
     one_place = begins_once Q;
     one_drawer = omega arith;
-    histories = all_one (λ v. AreTrue (λ k. []) v.histories) opening (omega arith, omega arith, refl, (omega arith, omega arith, refl, (omega arith, omega arith, refl, (omega arith, omega arith, refl, tt))));
-    draws = all_one (λ v. v.draws ≡ true → v.drawn ≡ []) opening (λ e. refl);
+    histories = all_one (λ v. AreTrue (λ k. []) v.histories) first_view (omega arith, omega arith, refl, (omega arith, omega arith, refl, (omega arith, omega arith, refl, (omega arith, omega arith, refl, tt))));
+    draws = all_one (λ v. v.draws ≡ true → v.drawn ≡ []) first_view (λ e. refl);
   }
 
   pub parts_drawing : (pass : ℕ) (v : View Q) → Forks IsInOrder pass v (without_drawing v) (only_drawing v)

@@ -23,7 +23,8 @@ module _ {Q B : Type 0} (items_of : B → List (Item Q)) where
 
   -- what was drawn in between was appended, in batches
   abbrev pub Appends : List B → List B → List (Item Q) → List (Item Q) → Type 0
-  Appends old new before after = (more : List B) × (new ≡ old ++ more) × (after ≡ before ++ all_items more) × AreBatches more
+  Appends old new before after =
+      (more : List B) × (new ≡ old ++ more) × (after ≡ before ++ all_items more) × AreBatches more
 
 module _ {Q : Type 0} where
   -- the pass once its client's history is with another pass: the spare ones are left

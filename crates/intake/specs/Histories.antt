@@ -36,13 +36,14 @@ module _ {Q : Type 0} where
   abbrev pub no_history : List (History Q)
   no_history = history 1 [] ∷ history 2 [] ∷ history 3 [] ∷ history 4 [] ∷ []
 
-  -- the histories that a new client's pass has beside its own: the last client's has those of the clients that there are not
+  -- the histories that a new client's pass has beside its own: the last client's has those of the clients that there
+  -- are not
   abbrev pub spare_for : ℕ → ℕ → List (History Q)
   spare_for clients client = cond (client == clients) (drop client no_history) []
 
   -- the one view that there is at first
-  abbrev pub opening : View Q
-  opening = view no_history true []
+  abbrev pub first_view : View Q
+  first_view = view no_history true []
 
   -- ---- how the steps change a view
 

@@ -41,8 +41,8 @@ module _ {Q : Type 0} where
   abbrev pub known_by : ClientPass Q → View Q
   known_by p = known p.pass
 
-  -- It is of this intake, alone submits for its client, and has counted what the client submitted. It may know more: other
-  -- histories, and what was drawn, if it draws
+  -- It is of this intake, alone submits for its client, and has counted what the client submitted. It may know more:
+  -- other histories, and what was drawn, if it draws
   pub record MaySubmit (intake : Intake Q) (p : ClientPass Q) : Type 0 where
     pub pass : IsPassOf intake.queue p.pass
     pub view : known_by p ≡ view (histories_of p) (known_by p).draws (known_by p).drawn
@@ -58,7 +58,7 @@ module _ {Q : Type 0} where
   AreClientsOf intake [] = Unit {0}
   AreClientsOf intake (p ∷ ps) = IsClientOf intake p × AreClientsOf intake ps
 
-  -- the pass of the client of this number, of a new intake with so many clients
+  -- the pass of the client of this number, of a new intake with that many clients
   pub record IsNewClient (intake : Intake Q) (clients number : ℕ) (p : ClientPass Q) : Type 0 where
     pub client : p.client ≡ number
     pub pass : IsClientOf intake p
@@ -67,7 +67,8 @@ module _ {Q : Type 0} where
 
   -- they are the passes of its clients 1, 2 and so on, in this order
   abbrev pub AreNewClients : Intake Q → ℕ → List (ClientPass Q) → Type 0
-  AreNewClients intake clients ps = (k : ℕ) (d : ClientPass Q) → k < length ps → IsNewClient intake clients (k + 1) (slice_index_or ps k d)
+  AreNewClients intake clients ps =
+      (k : ℕ) (d : ClientPass Q) → k < length ps → IsNewClient intake clients (k + 1) (slice_index_or ps k d)
 
   -- ---- the pass that draws
 

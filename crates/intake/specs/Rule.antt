@@ -1,6 +1,7 @@
 -- Claimed: what contracts promise to a reader rests on these words.
--- The rule of the queue: what holds of its items and of all passes' views between any two steps. The log is what was drawn and then
--- what the queue holds. Of each client it has its history. To submit for a client, and to draw, is each the right of one pass at most.
+-- The rule of the queue: what holds of its items and of all passes' views between any two steps. The log is what was
+-- drawn and then what the queue holds. Of each client it has its history. To submit for a client, and to draw, is each
+-- the right of one pass at most.
 use Rattle.std.specs.Prelude.{◌≡◌, ℕ, ◌+◌, ◌<◌, ◌≤◌, ◌==◌, ◌⊎◌, true, List, [], ◌∷◌, ◌++◌, cond}
 use mathlib.Core.Option.{some}
 use lib.ListN.{get_elem?}
@@ -46,8 +47,8 @@ module _ {Q : Type 0} where
     pub histories : (pass : ℕ) (v : View Q) → get_elem? views pass ≡ some v → AreTrue sent v.histories
     pub draws : (pass : ℕ) (v : View Q) → get_elem? views pass ≡ some v → v.draws ≡ true → v.drawn ≡ drawn
 
-  -- the queue may hold these items: behind what was drawn they make the histories of a view whole, and no stranger sent any. What
-  -- was drawn is what the view says, if it draws
+  -- the queue may hold these items: after what was drawn they make the histories of a view whole, and no stranger sent
+  -- any. What was drawn is what the view says, if it draws
   pub record IsAccounted (v : View Q) (items : List (Item Q)) : Type 0 where
     pub drawn : List (Item Q)
     pub known : v.draws ≡ true → v.drawn ≡ drawn

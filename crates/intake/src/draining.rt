@@ -78,8 +78,8 @@ impl<Q: Drop> Intake<Q> {
     }
 
     /// Draws until a step finds the queue empty, while the passes of these clients are at hand, and appends the batches
-    /// that are not empty, each of at most 4,096. After `Ok` all that these clients ever submitted was drawn. Where memory is
-    /// refused, what was drawn stands in the list. It may wait.
+    /// that are not empty, each of at most 4,096. After `Ok` all that these clients ever submitted was drawn. If
+    /// allocation fails, what was drawn is in the list. It may wait.
     pub fn drain<R: Wait, B: Batched<Q>>(
         &self,
         rt: &R,

@@ -25,8 +25,8 @@ pub struct Intake<Q> {
 }
 
 impl<Q> Intake<Q> {
-    /// An intake of 1 to 4 clients, whose queue takes so many requests, and the passes: of the clients in the order of their
-    /// numbers, from 1, and of the owner.
+    /// An intake of 1 to 4 clients, whose queue takes `capacity` requests, and the passes: of the clients in the order
+    /// of their numbers, from 1, and of the owner.
     pub fn new(
         alloc: Global,
         clients: u8,
@@ -73,8 +73,9 @@ impl<Q> Intake<Q> {
         ensures client { IsClientOf self.now pass.old → IsClientOf self.now pass.new }
         ensures sent { IfOk result (λ n. (n ≡ length (sent_by pass.old)) ×
             (sent_by pass.new ≡ sent_by pass.old ++ request ∷ [])) }
-        // A pass learns of the queue what it knows itself. The clause is of each pass that submits, one that has all histories and
-        // draws among them; which one it is doesn't show, so a request comes back from a full queue alone.
+        // A pass learns of the queue what it knows itself. The clause is of each pass that submits, one that has all
+        // histories and draws among them; which one it is doesn't show, so a request comes back from a full queue
+        // alone.
         ensures full { IfErr result (λ e. (e.0 ≡ request) × (sent_by pass.new ≡ sent_by pass.old) ×
             Held (capacity_of self.now) (IsAccounted (known_by pass.old))) }
     {
@@ -93,8 +94,8 @@ impl<Q> Intake<Q> {
         }
     }
 
-    /// Draws requests in the queue's order, as a batch: at most `max` and 4,096, and fewer only where a step found the queue
-    /// empty. Room for them is made first; where memory is refused, nothing is drawn. It may wait.
+    /// Draws requests in the queue's order, as a batch: at most `max` and 4,096, and fewer only where a step found the
+    /// queue empty. Room for them is made first; if allocation fails, nothing is drawn. It may wait.
     pub fn draw<R: Wait, B: Batched<Q>>(
         &self,
         rt: &R,

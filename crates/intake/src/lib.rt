@@ -1,5 +1,6 @@
-//! An intake: clients submit requests to a bounded queue, each by a pass of its own, and one owner draws them in batches.
-//! Each client's requests are drawn in the order in which it submitted them, each once. Generic in the request.
+//! An intake: clients submit requests to a bounded queue, each by a pass of its own, and one owner draws them in
+//! batches. Each client's requests are drawn in the order in which it submitted them, each once. Generic in the
+//! request.
 #![tactic(auto)]
 
 mod draining;

@@ -8,12 +8,12 @@ use crossbeam_queue::protocol::{Join, Lesson, Outcome, Protocol, Split};
 pub struct InOrder;
 
 impl<Q> Protocol<Item<Q>, View<Q>> for InOrder {
-    ghost use Rattle.intake.specs.Histories.{opening};
+    ghost use Rattle.intake.specs.Histories.{first_view};
     ghost use Rattle.intake.specs.Rule.{IsInOrder};
 
     ghost holds = { IsInOrder };
 
-    ghost first = { opening };
+    ghost first = { first_view };
 }
 
 /// The right to draw goes to a new pass.
@@ -65,8 +65,8 @@ impl<Q> Lesson<Item<Q>, View<Q>> for Submits {
     ghost fact = { λ v items. IsAccounted v items };
 }
 
-/// The owner draws: what was drawn grows by the item. Where the queue is empty, what was drawn has the histories that the
-/// pass holds.
+/// The owner draws: what was drawn grows by the item. Where the queue is empty, what was drawn has the histories that
+/// the pass holds.
 pub struct Draws;
 
 impl<Q> Outcome<Item<Q>, View<Q>> for Draws {

@@ -14,7 +14,7 @@ one_more : (d e : ℤ) → d ≡ e +ℤ pos 1 → pos 0 ≤ℤ e → or_zero d �
 one_more d (pos n) is h = let k : pos n +ℤ pos 1 ≡ pos (suc n) = omega (arith, ints) in ap or_zero (is ∙ k)
 one_more d (negsuc n) is h = absurd (omega (arith, ints, h))
 
--- a number and those behind it
+-- a number and those after it
 between_on : (low high : ℤ) → low ≤ℤ high → numbers_between low high ≡ low ∷ numbers_between (low +ℤ pos 1) high
 between_on low high h =
     ap (λ (n : ℕ). numbers_from n low) (one_more ((high +ℤ pos 1) -ℤ low) ((high +ℤ pos 1) -ℤ (low +ℤ pos 1)) (omega (arith, ints)) (omega (arith, ints, h)))
@@ -34,7 +34,7 @@ next_by : (b : Bool) (number last : ℤ) → (b ≡ true → number <ℤ last) �
 next_by true number last f g = sym (between_on (number +ℤ pos 1) last (let h = f refl in omega (arith, ints, h)))
 next_by false number last f g = sym (between_none (number +ℤ pos 1) last (let h = g refl in omega (arith, ints, h)))
 
--- behind a number those behind it are left
+-- after a number those after it are left
 pub next_left : (number last : ℤ) → numbers_left (number_after number last) last ≡ numbers_between (number +ℤ pos 1) last
 next_left number last = next_by (int_lt number last) number last (λ e. omega (arith, ints, lt-true number last e)) (λ e. omega (arith, ints, lt-false number last e))
 

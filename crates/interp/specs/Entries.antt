@@ -18,4 +18,9 @@ footing_shape (Faulting code) = faults code
 footing_shape (Found footprint) = finds footprint
 
 abbrev pub entry_shape : EntryParts → EntryShape
-entry_shape e = record { tables = e.request.proc.tables; body = stmts_view e.request.proc.body; arguments = e.request.args; footing = footing_shape e.footing }
+entry_shape e = record {
+  tables = e.request.proc.tables;
+  body = stmts_view e.request.proc.body;
+  arguments = e.request.args;
+  footing = footing_shape e.footing;
+}

@@ -1,4 +1,5 @@
 pub mod Entries
+pub mod Answered
 pub mod Endings
 pub mod Touched
 pub mod Over

@@ -12,11 +12,12 @@ ghost use Rattle.workspace.specs.Coverage.{rule_of, KeepsCovered};
 ghost use Rattle.workspace.specs.States.{state_at};
 ghost use Rattle.workspace.specs.Answers.{Gives};
 
-use crate::loop_numbers::{first_number, number_after, number_of};
+use crate::expression::evaluate_int;
+use crate::loop_numbers::{first_number, number_after, number_of_key};
 use crate::row_statement::{delete_key, insert_values};
 use crate::statement::{assign_value, get_column, put_column, reply_with};
+use crate::truth::evaluate_bool;
 use footprint::AbortCode;
-use interp_expr::{evaluate_bool, evaluate_int};
 use meaning::Ending;
 use proclang_types::Stmt;
 use std::alloc::Global;
@@ -142,7 +143,7 @@ fn for_each_key<V: RowView>(
     ensures kept { OnOk result (KeepsCovered shown.now.permit space.old space.new) }
 {
     for key in keys {
-        turn(alloc, shown, space, number_of(*key), statements)?;
+        turn(alloc, shown, space, number_of_key(*key), statements)?;
     }
     Ok(())
 }

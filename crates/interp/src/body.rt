@@ -57,7 +57,8 @@ pub(crate) fn run_body<V: RowView>(
     }
 }
 
-/// Runs a body on the rows that it is shown, and gives the footprint of the accesses that it noted, up to its end, however it ended.
+/// Runs a body on the rows that it is shown, and gives the footprint of the accesses that it recorded, up to its end,
+/// however it ended.
 pub(crate) fn find_footprint<V: RowView>(
     alloc: Global,
     shown: &Shown<'_, V>,

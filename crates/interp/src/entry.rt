@@ -99,6 +99,7 @@ impl Entry {
     pub(crate) fn is_call(&self)
         ensures { IsCallOf (proc_syntax self.now.request.proc) (entry_shape self.now) }
     {
+        // proof: the parts of the request, and what is known of them.
         let request = self.request();
         let _body = request.proc().body();
         let _args = request.args();

@@ -24,7 +24,7 @@ pub(crate) fn number_after(number: i64, last: i64) -> Option<i64>
 }
 
 /// A key's number.
-pub(crate) fn number_of(key: Key) -> i64
+pub(crate) fn number_of_key(key: Key) -> i64
     ensures { result ≡ pos key }
 {
     key.number() as i64

@@ -20,9 +20,9 @@ use std::alloc::Global;
 use values::{NoMemory, Value};
 use workspace::{Passage, Permit, RowView, Shown};
 
-/// The footprint that the body of a procedure turns out to need, over a view of the procedure's catalogue that shows each name:
-/// the body is run with every access allowed, up to its end, however it ends, and its writes and its reply are dropped. The only
-/// error is want of memory.
+/// The footprint that the body of a procedure turns out to need, over a view of the procedure's catalogue that shows
+/// each name: the body is run with every access allowed, up to its end, however it ends, and its writes and its reply
+/// are dropped. The only error is want of memory.
 pub fn recon<V: RowView>(
     alloc: Global,
     catalogue: &Catalogue,
@@ -37,21 +37,23 @@ pub fn recon<V: RowView>(
     ensures found { IfOk result (λ footprint.
         footprint ≡ found_footprint proc.now.tables (stmts_view proc.now.body) args.now (V.rows view.now)) }
     ensures of_catalogue { IfOk result (λ footprint. IsFootprintOf catalogue.now footprint) }
-    // On each database that agrees with the view on that footprint, the entry with it has the outcome that this run had.
+    // On each database that agrees with the view on that footprint, the entry with it has the outcome that this run
+    // had.
     ensures not_stale { (db : Database) →
         Agree (found_entry proc.now.tables (stmts_view proc.now.body) args.now (V.rows view.now)) (V.rows view.now) db
         → HoldsAsFound proc.now.tables (stmts_view proc.now.body) args.now (V.rows view.now) db }
-    // What stands for a variable or a column that is not there makes no difference, for arguments of the parameters' types and on
-    // rows of the columns' types.
+    // What stands for a variable or a column that is not there makes no difference, for arguments of the parameters'
+    // types and on rows of the columns' types.
     ensures stand_in { map type_of args.now ≡ kinds_of proc.now.params → HasTypes proc.now.tables (V.rows view.now)
         → StandInNeverFound proc.now.tables (stmts_view proc.now.body) args.now (V.rows view.now) }
 {
+    // proof: laws of the footprint that is found.
     found_entry_is_not_stale();
     found_footprint_is_of_tables();
     stand_in_is_never_found();
     let permit = Permit {
         catalogue,
-        passage: Passage::Noting,
+        passage: Passage::Recorded,
     };
     let shown = Shown { view, permit };
     find_footprint(alloc, &shown, args, proc.body())

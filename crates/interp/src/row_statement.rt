@@ -9,8 +9,8 @@ ghost use Rattle.workspace.specs.Coverage.{rule_of, KeepsCovered};
 ghost use Rattle.workspace.specs.States.{state_at};
 ghost use Rattle.workspace.specs.Answers.{Gives};
 
+use crate::expression::{evaluate_all, evaluate_int};
 use footprint::{AbortCode, Right};
-use interp_expr::{evaluate_all, evaluate_int};
 use meaning::Ending;
 use proclang_types::{IntExpr, ValueExpr};
 use std::alloc::Global;

@@ -56,8 +56,8 @@ fn run_here<V: RowView>(
     run_body(alloc, &shown, request.args(), request.proc().body())
 }
 
-/// Runs an entry over a view of the entry's catalogue that shows each name that the entry may read, and is asked for no other
-/// name. The only error is want of memory.
+/// Runs an entry over a view of the entry's catalogue that shows each name that the entry may read, and is asked for no
+/// other name. The only error is want of memory.
 pub fn run<V: RowView>(
     alloc: Global,
     catalogue: &Catalogue,
@@ -67,8 +67,8 @@ pub fn run<V: RowView>(
     requires tables { entry.now.request.proc.tables ≡ catalogue.now }
     requires view { V.tables view.now ≡ catalogue.now }
     requires shows { ShowsTouched (entry_shape entry.now) (V.shows view.now) }
-    // On each database that agrees with the view on what the entry may read, the entry has this outcome, and it leaves that
-    // database with these writes.
+    // On each database that agrees with the view on what the entry may read, the entry has this outcome, and it leaves
+    // that database with these writes.
     ensures meaning { IfOk result (λ effect. (db : Database) → Agree (entry_shape entry.now) (V.rows view.now) db
         → meaning (entry_shape entry.now) db ≡ (as_reply effect.outcome, applied effect.writes.entries db)) }
     // Each write is of a name that the entry may write.
@@ -79,6 +79,7 @@ pub fn run<V: RowView>(
     ensures stand_in { (db : Database) → HasTypes entry.now.request.proc.tables db →
         StandInNeverShows (entry_shape entry.now) db }
 {
+    // proof: laws of what an entry reads and writes.
     stays_in_footprint();
     stand_in_never_shows();
     entry.is_call();

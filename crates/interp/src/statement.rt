@@ -10,8 +10,8 @@ ghost use Rattle.workspace.specs.Coverage.{rule_of, KeepsCovered};
 ghost use Rattle.workspace.specs.States.{state_at};
 ghost use Rattle.workspace.specs.Answers.{Gives};
 
+use crate::expression::{evaluate, evaluate_all, evaluate_int};
 use footprint::Right;
-use interp_expr::{evaluate, evaluate_all, evaluate_int};
 use proclang_types::{IntExpr, ValueExpr};
 use std::alloc::Global;
 use values::{NoMemory, Row, TableNo, Value};

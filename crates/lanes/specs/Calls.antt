@@ -25,8 +25,8 @@ pub record Collects (old : SchedulerSeatOf) (lane : ℕ) (done : DoneOf) (new : 
   pub shown : AllShownToScheduler old new.notes
   pub stands : SchedulerStands new
 
--- the scheduler has looked at each lane, and found none with a result: each was doing what its note says, at a moment of
--- its look
+-- the scheduler has looked at each lane, and found none with a result: each was doing what
+-- its note says, at a moment of its look
 pub record CollectsNothing (old new : SchedulerSeatOf) : Type 0 where
   pub notes : Misses Finished old.lanes.count old.notes new.notes
   pub new_is : new ≡ record old { notes = new.notes }
@@ -39,12 +39,16 @@ pub record Claims (old : WorkerSeatOf) (lane : ℕ) (job : JobOf) (new : WorkerS
   pub has : slice_get new.jobs lane ≡ Some (Some job)
   pub put : ℕ
   pub notes : Finds Waiting lane old.notes new.notes
-  pub new_is : new ≡ record old { jobs = slice_set old.jobs lane (Some job); claims = old.claims ++ record { put = put; lane = lane; job = job } ∷ []; notes = new.notes }
+  pub new_is : new ≡ record old {
+    jobs = slice_set old.jobs lane (Some job);
+    claims = old.claims ++ record { put = put; lane = lane; job = job } ∷ [];
+    notes = new.notes;
+  }
   pub shown : AllShownToWorker old new.notes
   pub stands : WorkerStands new
 
--- a worker has looked at each lane, and found none whose job waits: each was doing what its note says, at a moment of its
--- look
+-- a worker has looked at each lane, and found none whose job waits: each was doing what its
+-- note says, at a moment of its look
 pub record ClaimsNothing (old new : WorkerSeatOf) : Type 0 where
   pub notes : Misses Waiting old.lanes.count old.notes new.notes
   pub new_is : new ≡ record old { notes = new.notes }

@@ -58,6 +58,7 @@ empties lanes = map (λ lane. (lane, None)) lanes
 pub record IsAtWork (w : worker.Inside) : Type 0 where
   pub wide : length w.seat.me.0.claimed ≡ w.seat.table_id.words
   pub slots : w.seat.me.1 ≡ empties w.held.items
-  pub holds : (lane : ℕ) (job : JobOf) → slice_index_or w.seat.me.0.claimed lane None ≡ Some job → Contains w.held.items lane
+  pub holds : (lane : ℕ) (job : JobOf) → slice_index_or w.seat.me.0.claimed lane None ≡ Some job
+      → Contains w.held.items lane
   pub no_more : deque_len w.held ≡ count_by is_some w.seat.me.0.claimed
   pub room : w.seat.table_id.words ≤ deque_capacity w.held

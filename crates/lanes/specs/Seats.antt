@@ -50,17 +50,23 @@ abbrev pub delivers_from : WorkerSeatOf → ℕ → WorkerSeatOf
 delivers_from seat lane = record seat { jobs = slice_set seat.jobs lane None }
 
 abbrev pub lanes_code : Coded LanesOf
-lanes_code = code_by (TableId × ℕ) (coded× table_id_coded coded_ℕ) (λ l. (l.table, l.count)) (λ p. record { table = p.0; count = p.1 }) (λ _. refl)
+lanes_code = code_by (TableId × ℕ) (coded× table_id_coded coded_ℕ) (λ l. (l.table, l.count))
+    (λ p. record { table = p.0; count = p.1 }) (λ _. refl)
 
 abbrev pub claim_code : Coded (Claim JobOf)
-claim_code = code_by (ℕ × (ℕ × JobOf)) (coded× coded_ℕ (coded× coded_ℕ job_code)) (λ c. (c.put, (c.lane, c.job))) (λ p. record { put = p.0; lane = p.1.0; job = p.1.1 }) (λ _. refl)
+claim_code = code_by (ℕ × (ℕ × JobOf)) (coded× coded_ℕ (coded× coded_ℕ job_code)) (λ c. (c.put, (c.lane, c.job)))
+    (λ p. record { put = p.0; lane = p.1.0; job = p.1.1 }) (λ _. refl)
 
 abbrev pub scheduler_seat_code : Coded SchedulerSeatOf
 scheduler_seat_code = code_by (LanesOf × (List (Option JobOf) × (List (ℕ × JobOf) × List Note)))
-    (coded× lanes_code (coded× (coded_list (coded_option job_code)) (coded× (coded_list (coded× coded_ℕ job_code)) (coded_list notes.the_row.coded))))
-    (λ s. (s.lanes, (s.jobs, (s.puts, s.notes)))) (λ p. record { lanes = p.0; jobs = p.1.0; puts = p.1.1.0; notes = p.1.1.1 }) (λ _. refl)
+    (coded× lanes_code (coded× (coded_list (coded_option job_code))
+    (coded× (coded_list (coded× coded_ℕ job_code)) (coded_list notes.the_row.coded))))
+    (λ s. (s.lanes, (s.jobs, (s.puts, s.notes))))
+    (λ p. record { lanes = p.0; jobs = p.1.0; puts = p.1.1.0; notes = p.1.1.1 }) (λ _. refl)
 
 abbrev pub worker_seat_code : Coded WorkerSeatOf
 worker_seat_code = code_by (LanesOf × (List (Option JobOf) × (List (Claim JobOf) × List Note)))
-    (coded× lanes_code (coded× (coded_list (coded_option job_code)) (coded× (coded_list claim_code) (coded_list notes.the_row.coded))))
-    (λ s. (s.lanes, (s.jobs, (s.claims, s.notes)))) (λ p. record { lanes = p.0; jobs = p.1.0; claims = p.1.1.0; notes = p.1.1.1 }) (λ _. refl)
+    (coded× lanes_code (coded× (coded_list (coded_option job_code))
+    (coded× (coded_list claim_code) (coded_list notes.the_row.coded))))
+    (λ s. (s.lanes, (s.jobs, (s.claims, s.notes))))
+    (λ p. record { lanes = p.0; jobs = p.1.0; claims = p.1.1.0; notes = p.1.1.1 }) (λ _. refl)

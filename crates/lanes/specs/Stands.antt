@@ -1,6 +1,6 @@
 -- Claimed: what contracts promise to a reader rests on these words.
--- Moments of the lanes, the seats that stand there with their values, and what calls tell of them: each tells of moments
--- at which the rule held and its own seat stood there. The laws speak of such moments.
+-- Moments of the lanes, the seats that stand there with their values, and what calls tell of them: each tells of
+-- moments at which the rule held and its own seat stood there. The laws speak of such moments.
 use Rattle.std.specs.Prelude.{◌≡◌, ◌<◌, ◌≤◌, ℕ, true, List, map, length, take, Some, slice_get, slice_index_or}
 use mathlib.Core.Option.{some}
 use lib.ListN.{get_elem?}
@@ -61,8 +61,8 @@ pub record ShownToScheduler (seat : SchedulerSeatOf) (note : Note) : Type 0 wher
   pub stands : SchedulerStands seat
   pub shows : Shows stands.moment note
 
--- of all notes, each that was added since a worker's seat had this value says what the lane was doing at a moment of its
--- look: at which the seat stood there with the same value and the notes before that one
+-- of all notes, each that was added since a worker's seat had this value says what the lane was doing at a moment of
+-- its look: at which the seat stood there with the same value and the notes before that one
 pub record AllShownToWorker (old : WorkerSeatOf) (notes : List Note) : Type 0 where
   pub each : (i : ℕ) (note : Note) → length old.notes ≤ i → slice_get notes i ≡ Some note
       → ShownToWorker (record old { notes = take i notes }) note

@@ -49,8 +49,8 @@ impl Lanes {
         self.table.put(&mut seat.seat, job)
     }
 
-    /// What a worker delivered, from the lowest lane where a result was found. It comes of the job that was put into that
-    /// lane, which has no job afterwards. It tries one lane after another, from 0; `None` comes only where each
+    /// What a worker delivered, from the lowest lane where a result was found. It comes of the job that was put into
+    /// that lane, which has no job afterwards. It tries one lane after another, from 0; `None` comes only where each
     /// lane was found without a result when it was tried. The seat's notes say what each lane that it tried was doing
     /// at a moment of the try.
     pub fn collect(&self, seat: &mut SchedulerSeat) -> Option<(LaneNo, Done)>

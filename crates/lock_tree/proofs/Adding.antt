@@ -31,7 +31,7 @@ module _ (was now : Lines) (q id : ℕ) (tail : Option ℕ) (request : Request) 
     (many : length now.lines.items ≡ length was.lines.items) (capacity : vec_capacity now.lines ≡ vec_capacity was.lines)
     (live : AreLive was.nodes) (pushed : Pushed was.nodes q tail request id now.nodes) where
   abbrev node : Held
-  node = record { request = request; behind = None }
+  node = record { request = request; successor = None }
 
   pub now_numbered : IsNumbered (record was { nodes = now.nodes; lines = now.lines }) None
   now_numbered = added was now q id tail node ok within many capacity pushed.fresh pushed.queues pushed.held

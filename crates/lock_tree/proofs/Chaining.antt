@@ -18,7 +18,8 @@ use Rattle.lock_tree.specs.Entered.{Enqueued}
 use Rattle.lock_tree.specs.Keys.{resource_eq}
 use Rattle.lock_tree.specs.Lines.{Lines, request_at, nodes_of, number_of, asked}
 use Rattle.lock_tree.specs.Chained.{IsPlaced, ArePlaced, Chains, IsChained, AreChained, IsTail, head_or}
-use Rattle.lock_tree.specs.Steps.{IsRemoved, OthersChained, IsShorter}
+use Rattle.lock_tree.specs.Steps.{OthersChained, IsShorter}
+use Rattle.request_arena.specs.Removals.{IsRemoved}
 use Rattle.lock_tree.proofs.Positions.{get_set_other, stands_still}
 
 -- ---- placed requests stay placed
@@ -110,7 +111,7 @@ map_at f [] n e = sym e
 map_at f (q ∷ qs) zero e = refl
 map_at f (q ∷ qs) (suc n) e = map_at f qs n e
 
-module _ (was now : Lines) (owner id : ℕ) (behind : Option ℕ) (numbers_same : now.numbers ≡ was.numbers) (removed : IsRemoved was.nodes id behind now.nodes) (owned : (request_at was.nodes.held id).0 ≡ owner) where
+module _ (was now : Lines) (owner id : ℕ) (successor : Option ℕ) (numbers_same : now.numbers ≡ was.numbers) (removed : IsRemoved was.nodes id successor now.nodes) (owned : (request_at was.nodes.held id).0 ≡ owner) where
   asks_as_before : (a : ℕ) → (a ≡ id → ⊥) → slice_get now.nodes.held a ≡ slice_get was.nodes.held a
   asks_as_before a other = ap (λ (hs : List (Option Held)). slice_get hs a) removed.gone ∙ get_set_other was.nodes.held id a None other
 
@@ -169,16 +170,16 @@ module _ (was now : Lines) (owner id : ℕ) (behind : Option ℕ) (numbers_same 
       go None e = let n : held_at now.nodes.held id ≡ false = ap holds (ap (λ (hs : List (Option Held)). slice_get hs id) removed.gone ∙ not_there was.nodes.held id e) in absurd (cc)
       go (Some o) e = absent (ap (λ (hs : List (Option Held)). slice_get hs id) removed.gone ∙ there was.nodes.held id o e)
 
-  pub left_own : IsShorter owner id behind was now
+  pub left_own : IsShorter owner id successor was now
   left_own e plan number numbers ok =
-      let rest : ArePlaced was owner plan numbers (chain_from now.nodes.held behind) = (subst (ArePlaced was owner (e ∷ plan) (number ∷ numbers)) removed.rest ok.placed).1 in
-      record { begins = removed.begins; placed = all_left owner plan numbers (chain_from now.nodes.held behind) (apart behind) rest }
+      let rest : ArePlaced was owner plan numbers (chain_from now.nodes.held successor) = (subst (ArePlaced was owner (e ∷ plan) (number ∷ numbers)) removed.rest ok.placed).1 in
+      record { begins = removed.begins; placed = all_left owner plan numbers (chain_from now.nodes.held successor) (apart successor) rest }
     where
       each : (nodes : List ℕ) → AllByRecursion (λ x. held_at now.nodes.held x ≡ true) nodes → AllByRecursion (λ a. a ≡ id → ⊥) nodes
       each [] live = tt
       each (x ∷ nodes) live = (λ same. gone_now (sym (ap (held_at now.nodes.held) same) ∙ live.0), each nodes live.1)
 
-      apart : (behind : Option ℕ) → AllByRecursion (λ a. a ≡ id → ⊥) (chain_from now.nodes.held behind)
+      apart : (successor : Option ℕ) → AllByRecursion (λ a. a ≡ id → ⊥) (chain_from now.nodes.held successor)
       apart None = tt
       apart (Some b) = each (chain now.nodes.held b) (all_live (step now.nodes.held) (held_at now.nodes.held) (length now.nodes.held) b)
 
@@ -192,7 +193,7 @@ placed_length l owner [] (number ∷ numbers) nodes placed = absurd placed
 placed_length l owner (e ∷ plan) [] nodes placed = absurd placed
 placed_length l owner (e ∷ plan) (number ∷ numbers) [] placed = absurd placed
 
--- a request that is placed, and the requests behind it
+-- a request that is placed, and the requests after it
 pub record First (l : Lines) (owner : ℕ) (plan : Requests) (numbers : List ℕ) (a : ℕ) (rest : List ℕ) : Type 0 where
   pub request : Resource × Mode
   pub later : Requests

@@ -9,7 +9,7 @@ use Rattle.lock_tree.specs.Entered.{Enqueued}
 use Rattle.lock_tree.specs.declared.transactions.Transactions.{Transactions}
 use Rattle.lock_tree.specs.Locks.{IsRising}
 use Rattle.lock_tree.specs.Enqueues.{AreBelow}
-use Rattle.lock_tree.specs.Placing.{place_of}
+use Rattle.lock_tree.specs.Placing.{place_numbered}
 use Rattle.lock_tree.specs.Views.{all_waiting, enqueued}
 use Rattle.lock_tree.specs.Open.{is_open, open_of, placed}
 use Rattle.lock_tree.specs.Indexed.{AreNamed, IsIndexed, IsFound}
@@ -21,11 +21,11 @@ use Rattle.lock_tree.proofs.Marks.{room_to_note, noted_set, rising_set, set_few,
 use Rattle.lock_tree.proofs.Named.{found, value_set, named_set, value_removed, named_removed, entered, values_end, named_end, last_set}
 
 -- the one that was found stands at its place, whatever is read beside
-pub it_stands : (k : ℕ) (es : List Enqueued) (e : Enqueued) (i : ℕ) (d : Enqueued) → IsFound es k e → place_of k (all_waiting es) ≡ Some i → e ≡ at es i d
+pub it_stands : (k : ℕ) (es : List Enqueued) (e : Enqueued) (i : ℕ) (d : Enqueued) → IsFound es k e → place_numbered k (all_waiting es) ≡ Some i → e ≡ at es i d
 it_stands k es e i d r h =
     r.there ∙ at_any es r.place e d r.within ∙ ap (λ n. at es n d) (some_one r.place i (sym r.exact ∙ h))
 
-pub not_absent : (k : ℕ) (es : List Enqueued) (e : Enqueued) → IsFound es k e → place_of k (all_waiting es) ≡ None → ⊥
+pub not_absent : (k : ℕ) (es : List Enqueued) (e : Enqueued) → IsFound es k e → place_numbered k (all_waiting es) ≡ None → ⊥
 not_absent k es e r h = none_some r.place (sym h ∙ r.exact)
 
 module _ (t : Transactions) (k : ℕ) (e : Enqueued) (indexed : IsIndexed t) (h : lookup (is_at (nat_cmp k)) t.entries.entries ≡ Some e) where
@@ -44,7 +44,7 @@ module _ (t : Transactions) (k : ℕ) (e : Enqueued) (indexed : IsIndexed t) (h 
   pub changed : (w : Enqueued) (xs : List (ℕ × Enqueued)) → xs ≡ set_value (is_at (nat_cmp k)) t.entries.entries w → values_of xs ≡ slice_set (enqueued t) it.place w
   changed w xs is = ap values_of is ∙ value_set k t.entries.entries it.place w indexed.named it.exact
 
-  pub changed_at : (w : Enqueued) (xs : List (ℕ × Enqueued)) (i : ℕ) → xs ≡ set_value (is_at (nat_cmp k)) t.entries.entries w → place_of k (all_waiting (enqueued t)) ≡ Some i → values_of xs ≡ slice_set (enqueued t) i w
+  pub changed_at : (w : Enqueued) (xs : List (ℕ × Enqueued)) (i : ℕ) → xs ≡ set_value (is_at (nat_cmp k)) t.entries.entries w → place_numbered k (all_waiting (enqueued t)) ≡ Some i → values_of xs ≡ slice_set (enqueued t) i w
   changed_at w xs i is there = ap values_of is ∙ value_set k t.entries.entries i w indexed.named there
 
   pub changed_index : (new : Transactions) (w : Enqueued) → w.no ≡ e.no → new.entries.entries ≡ set_value (is_at (nat_cmp k)) t.entries.entries w → new.open.items ≡ placed w.no (is_open w) t.open.items
@@ -62,7 +62,7 @@ module _ (t : Transactions) (k : ℕ) (e : Enqueued) (indexed : IsIndexed t) (h 
 
   -- ---- it goes
 
-  pub gone_at : (xs : List (ℕ × Enqueued)) (i : ℕ) → xs ≡ remove_entry (is_at (nat_cmp k)) t.entries.entries → place_of k (all_waiting (enqueued t)) ≡ Some i → values_of xs ≡ remove (enqueued t) i
+  pub gone_at : (xs : List (ℕ × Enqueued)) (i : ℕ) → xs ≡ remove_entry (is_at (nat_cmp k)) t.entries.entries → place_numbered k (all_waiting (enqueued t)) ≡ Some i → values_of xs ≡ remove (enqueued t) i
   gone_at xs i is there = ap values_of is ∙ value_removed k t.entries.entries i indexed.named there
 
   pub gone_index : (new : Transactions) → new.entries.entries ≡ remove_entry (is_at (nat_cmp k)) t.entries.entries → new.open.items ≡ placed k false t.open.items → deque_capacity new.open ≡ deque_capacity t.open → IsIndexed new
@@ -112,8 +112,8 @@ module _ (t now : Transactions) (e : Enqueued) (is : enqueued now ≡ enqueued t
   open_as_before =
       indexed.open_ones ∙ ap open_of is ∙ open_end (enqueued t) e ∙ ap (λ v. open_of (enqueued t) ++ cond v (e.no ∷ []) []) (is_shut e shut) ∙ append_none (open_of (enqueued t))
 
-  pub room_behind : length now.open.items < deque_capacity now.open
-  room_behind =
+  pub room_after_push : length now.open.items < deque_capacity now.open
+  room_after_push =
       let few = open_few (enqueued t) in let n = ap length open_as_before in let m = ap length is in let l = end_length (enqueued t) e in let room = indexed.room in
       omega (arith, few, n, m, l, room)
 

@@ -3,7 +3,7 @@ use Rattle.std.proofs.Common.{◌≡◌, ℕ, ◌+◌, ◌<◌, ◌≤◌, zero,
 use Rattle.std.specs.Prelude.{slice_get, slice_set}
 use Rattle.request_arena.specs.declared.node.Held.{Held}
 use Rattle.request_arena.specs.Following.{changed}
-use Rattle.request_arena.specs.Chains.{linked, behind_it}
+use Rattle.request_arena.specs.Chains.{linked, with_successor}
 use Rattle.request_arena.specs.Lists.{free_nodes}
 use Rattle.lock_tree.specs.Lines.{asked, request_at}
 use Rattle.lock_tree.specs.Numbered.{some, none, occupied, total}
@@ -62,32 +62,32 @@ none_if_some (x ∷ xs) h = refl
 abbrev Nodes : Type 0
 Nodes = List (Option Held)
 
-changed_length : (hs : Nodes) (t id : ℕ) → length (changed hs t (λ h. behind_it h id)) ≡ length hs
+changed_length : (hs : Nodes) (t id : ℕ) → length (changed hs t (λ h. with_successor h id)) ≡ length hs
 changed_length [] t id = refl
 changed_length (h ∷ hs) zero id = refl
 changed_length (h ∷ hs) (suc t) id = ap suc (changed_length hs t id)
 
-changed_free : (hs : Nodes) (t id : ℕ) → free_nodes (changed hs t (λ h. behind_it h id)) ≡ free_nodes hs
+changed_free : (hs : Nodes) (t id : ℕ) → free_nodes (changed hs t (λ h. with_successor h id)) ≡ free_nodes hs
 changed_free [] t id = refl
 changed_free (None ∷ hs) zero id = refl
 changed_free (Some h ∷ hs) zero id = refl
 changed_free (None ∷ hs) (suc t) id = ap suc (changed_free hs t id)
 changed_free (Some h ∷ hs) (suc t) id = changed_free hs t id
 
-changed_vacant : (hs : Nodes) (t id i : ℕ) → slice_get hs i ≡ Some None → slice_get (changed hs t (λ h. behind_it h id)) i ≡ Some None
+changed_vacant : (hs : Nodes) (t id i : ℕ) → slice_get hs i ≡ Some None → slice_get (changed hs t (λ h. with_successor h id)) i ≡ Some None
 changed_vacant [] t id i e = e
-changed_vacant (h ∷ hs) zero id zero e = ap (λ x. Some (behind_it x id)) (some_is h None e)
+changed_vacant (h ∷ hs) zero id zero e = ap (λ x. Some (with_successor x id)) (some_is h None e)
 changed_vacant (h ∷ hs) zero id (suc i) e = e
 changed_vacant (h ∷ hs) (suc t) id zero e = e
 changed_vacant (h ∷ hs) (suc t) id (suc i) e = changed_vacant hs t id i e
 
-behind_asks : (h : Option Held) (id : ℕ) → asked (Some (behind_it h id)) ≡ asked (Some h)
-behind_asks None id = refl
-behind_asks (Some h) id = refl
+successor_asks : (h : Option Held) (id : ℕ) → asked (Some (with_successor h id)) ≡ asked (Some h)
+successor_asks None id = refl
+successor_asks (Some h) id = refl
 
-changed_asks : (hs : Nodes) (t id i : ℕ) → request_at (changed hs t (λ h. behind_it h id)) i ≡ request_at hs i
+changed_asks : (hs : Nodes) (t id i : ℕ) → request_at (changed hs t (λ h. with_successor h id)) i ≡ request_at hs i
 changed_asks [] t id i = refl
-changed_asks (h ∷ hs) zero id zero = behind_asks h id
+changed_asks (h ∷ hs) zero id zero = successor_asks h id
 changed_asks (h ∷ hs) zero id (suc i) = refl
 changed_asks (h ∷ hs) (suc t) id zero = refl
 changed_asks (h ∷ hs) (suc t) id (suc i) = changed_asks hs t id i
@@ -122,7 +122,7 @@ given_free (Some x ∷ hs) zero h e = omega arith
 given_free (None ∷ hs) (suc i) h e = let r = given_free hs i h e in omega (arith, r)
 given_free (Some x ∷ hs) (suc i) h e = given_free hs i h e
 
--- a node is taken for a request behind the tail
+-- a node is taken for a request after the tail
 pub pushed_free : (hs new : Nodes) (tail : Option ℕ) (id : ℕ) (h : Held) → slice_get hs id ≡ Some None → new ≡ slice_set (linked tail id hs) id (Some h) → free_nodes new + 1 ≡ free_nodes hs
 pushed_free hs new tail id h e is = ap (λ (xs : Nodes). free_nodes xs + 1) is ∙ taken_free (linked tail id hs) id h (linked_vacant tail id hs id e) ∙ linked_free tail id hs
 

@@ -19,7 +19,7 @@ swapped : (a b c : Bool) → ((a && b) && c) ≡ (b && (a && c))
 swapped true b c = refl
 swapped false b c = sym (both_false b)
 
--- the request behind a front that is granted is granted exactly where it is compatible with all before it
+-- the request after a front that is granted is granted exactly where it is compatible with all before it
 step_fits : (held : List Mode) (q : Queue) (n : ℕ) (d : ℕ × Mode) → n < length q → n ≤ length (granted_beside held q)
     → nat_lt n (length (granted_beside held q)) ≡ (list_all (λ h. are_compatible h (get_or q n d).1) held && list_all (λ h. are_compatible h (get_or q n d).1) (modes_of (take n q)))
 step_fits held [] n d near le = absurd (omega arith)

@@ -16,7 +16,7 @@ use Rattle.lock_tree.specs.Lines.{Lines, request_at, requests, nodes_of, others,
 use Rattle.lock_tree.specs.Open.{AreRising}
 use Rattle.lock_tree.specs.Held.{AreHeld, times}
 use Rattle.lock_tree.specs.Granted.{IsFront, IsLine, IsEmpty, Stays, AreGranted}
-use Rattle.lock_tree.proofs.Positions.{none_is, get_either, without_at, removed_before, removed_behind}
+use Rattle.lock_tree.proofs.Positions.{none_is, get_either, without_at, removed_before, removed_after}
 use Rattle.lock_tree.proofs.Asking.{request_there, requests_length, requests_without}
 use Rattle.lock_tree.proofs.Leaving.{granted_length, granted_front, stay_within}
 use Rattle.lock_tree.proofs.Extending.{next_fits, next_bars, times_more, front_longer}
@@ -149,8 +149,8 @@ module _ (hs : Nodes) (xs : List ℕ) (x : Line) (ok : IsLine hs xs x) (no i a :
   granted_before : i < x.granted → has_number no (granted queue) ≡ true
   granted_before l = has_front no queue i d (let a = ok.all in omega (arith, l, a)) (its_number d)
 
-  waits_behind : x.granted ≤ i → has_number no (granted queue) ≡ false
-  waits_behind l = granted_nowhere no queue i ok.rising (sym (places_of no queue i d ok.rising its_place (its_number d))) (let a = ok.all in omega (arith, l, a))
+  waits_after : x.granted ≤ i → has_number no (granted queue) ≡ false
+  waits_after l = granted_nowhere no queue i ok.rising (sym (places_of no queue i d ok.rising its_place (its_number d))) (let a = ok.all in omega (arith, l, a))
 
   pub none_waits : x.waiting ≡ None → i < x.granted
   none_waits none = let past = past_all xs x.granted (sym ok.front.waiting ∙ none) in let l = slice_get_within xs i a there in omega (arith, past, l)
@@ -176,7 +176,7 @@ module _ (hs : Nodes) (xs : List ℕ) (x : Line) (ok : IsLine hs xs x) (no i a :
     pub before_first : nat_lt no number ≡ has_number no (granted queue)
     before_first = order i x.granted (nat_lt no number ≡ has_number no (granted queue))
         (λ l. let r = rising_at queue i x.granted d d ok.rising l first_place in let m = its_number d in let k = first_number in sym (less no number (omega (arith, r, m, k))) ∙ sym (granted_before l))
-        (λ l. sym (no_less no number (later l)) ∙ sym (waits_behind l))
+        (λ l. sym (no_less no number (later l)) ∙ sym (waits_after l))
       where
         order : (a b : ℕ) (P : Type 0) → (a < b → P) → (b ≤ a → P) → P
         order a b P below above = elim (nat_lt a b) as (λ v. v ≡ nat_lt a b → P) [
@@ -218,7 +218,7 @@ module _ (hs : Nodes) (xs : List ℕ) (x : Line) (ok : IsLine hs xs x) (owner i 
   if_before l = let e = ok.all in omega (arith, l, e)
 
   pub if_granted : true ≡ has_number owner (granted rs) → i < x.granted
-  if_granted so = order i x.granted (i < x.granted) (λ l. l) (λ l. let e = waits_behind hs xs x ok owner i a there owned l in absurd (cc))
+  if_granted so = order i x.granted (i < x.granted) (λ l. l) (λ l. let e = waits_after hs xs x ok owner i a there owned l in absurd (cc))
 
   pub if_waits : false ≡ has_number owner (granted rs) → x.granted ≤ i
   if_waits not = order i x.granted (x.granted ≤ i) (λ l. let e = granted_before hs xs x ok owner i a there owned l in absurd (cc)) (λ l. l)
@@ -253,7 +253,7 @@ module _ (hs : Nodes) (xs : List ℕ) (x : Line) (ok : IsLine hs xs x) (owner i 
   stays_before y l less taken waiting = record {
     count = (let n = (leaves_front owner rs i its ok.rising placed named (if_before l)).1 in let e = ok.all in omega (arith, n, e, less));
     modes = taken (modes_of (granted rs)) (modes_of (others owner (granted rs))) held_all (less_one l);
-    waiting = waiting ∙ ok.front.waiting ∙ ap (slice_get xs) (one_off x.granted y.granted (omega (arith, l)) less) ∙ sym (removed_behind xs i y.granted (omega (arith, l, less))) ∙ ap (λ (zs : List ℕ). slice_get zs y.granted) (sym without_is);
+    waiting = waiting ∙ ok.front.waiting ∙ ap (slice_get xs) (one_off x.granted y.granted (omega (arith, l)) less) ∙ sym (removed_after xs i y.granted (omega (arith, l, less))) ∙ ap (λ (zs : List ℕ). slice_get zs y.granted) (sym without_is);
   }
     where
       one_off : (n m : ℕ) → 0 < n → m ≡ n - 1 → n ≡ suc m
@@ -266,14 +266,14 @@ module _ (hs : Nodes) (xs : List ℕ) (x : Line) (ok : IsLine hs xs x) (owner i 
   stays_first y same kept held waiting = record {
     count = kept ∙ ok.all ∙ ap length (sym (stays_all (omega (arith, same))));
     modes = subst (λ (h : _). AreHeld h (modes_of (others owner (granted rs)))) (sym held) (subst (λ (q : Queue). AreHeld x.held (modes_of q)) (sym (stays_all (omega (arith, same)))) held_all);
-    waiting = waiting ∙ ap (slice_get xs) (more i) ∙ sym (removed_behind xs i i (omega arith)) ∙ ap (slice_get (remove xs i)) (sym (kept ∙ same)) ∙ ap (λ (zs : List ℕ). slice_get zs y.granted) (sym without_is);
+    waiting = waiting ∙ ap (slice_get xs) (more i) ∙ sym (removed_after xs i i (omega arith)) ∙ ap (slice_get (remove xs i)) (sym (kept ∙ same)) ∙ ap (λ (zs : List ℕ). slice_get zs y.granted) (sym without_is);
   }
     where
       more : (n : ℕ) → n + 1 ≡ suc n
       more n = omega arith
 
-  pub stays_behind : (y : Line) → x.granted < i → y.granted ≡ x.granted → y.held ≡ x.held → y.waiting ≡ x.waiting → Stays hs xs a owner y
-  stays_behind y l kept held waiting = record {
+  pub stays_after : (y : Line) → x.granted < i → y.granted ≡ x.granted → y.held ≡ x.held → y.waiting ≡ x.waiting → Stays hs xs a owner y
+  stays_after y l kept held waiting = record {
     count = kept ∙ ok.all ∙ ap length (sym (stays_all (omega (arith, l))));
     modes = subst (λ (h : _). AreHeld h (modes_of (others owner (granted rs)))) (sym held) (subst (λ (q : Queue). AreHeld x.held (modes_of q)) (sym (stays_all (omega (arith, l)))) held_all);
     waiting = waiting ∙ ok.front.waiting ∙ sym (removed_before xs i x.granted l) ∙ ap (slice_get (remove xs i)) (sym kept) ∙ ap (λ (zs : List ℕ). slice_get zs y.granted) (sym without_is);

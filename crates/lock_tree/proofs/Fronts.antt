@@ -10,8 +10,8 @@ both : (a b : Bool) → (a && b) ≡ true → (a ≡ true) × (b ≡ true)
 both true b h = (refl, h)
 both false b h = absurd (cc)
 
-further : {X : Type 0} (x : X) (xs : List X) (y : X) → Contains xs y → Contains (x ∷ xs) y
-further x xs y (k, l, is) = (suc k, omega (arith, l), is)
+contains_later : {X : Type 0} (x : X) (xs : List X) (y : X) → Contains xs y → Contains (x ∷ xs) y
+contains_later x xs y (k, l, is) = (suc k, omega (arith, l), is)
 
 first_or_further : {X : Type 0} (x : X) (xs : List X) (y : X) → Contains (x ∷ xs) y → (x ≡ y) ⊎ Contains xs y
 first_or_further x xs y (zero, l, is) = inl is
@@ -28,20 +28,20 @@ front_of held (q ∷ qs) = elim (list_all (λ h. are_compatible h q.1) held) as 
 
 -- ---- whose members are compatible
 
-here : (held : List Mode) (q : ℕ × Mode) (qs : Queue) (j : ℕ) (d : ℕ × Mode) → list_all (λ h. are_compatible h q.1) held ≡ true
+holder_admits : (held : List Mode) (q : ℕ × Mode) (qs : Queue) (j : ℕ) (d : ℕ × Mode) → list_all (λ h. are_compatible h q.1) held ≡ true
     → ((i : ℕ) → i < length (granted_beside (q.1 ∷ held) qs) → list_all (λ h. are_compatible h (slice_index_or (granted_beside (q.1 ∷ held) qs) i d).1) (q.1 ∷ held) ≡ true)
     → j < length (q ∷ granted_beside (q.1 ∷ held) qs)
     → list_all (λ h. are_compatible h (slice_index_or (q ∷ granted_beside (q.1 ∷ held) qs) j d).1) held ≡ true
-here held q qs zero d t more l = t
-here held q qs (suc j) d t more l =
+holder_admits held q qs zero d t more l = t
+holder_admits held q qs (suc j) d t more l =
     (both (are_compatible q.1 (slice_index_or (granted_beside (q.1 ∷ held) qs) j d).1) (list_all (λ h. are_compatible h (slice_index_or (granted_beside (q.1 ∷ held) qs) j d).1) held) (more j (omega (arith, l)))).1
 
-fits : (held : List Mode) (qs : Queue) (j : ℕ) (d : ℕ × Mode) → j < length (granted_beside held qs)
+granted_beside_held : (held : List Mode) (qs : Queue) (j : ℕ) (d : ℕ × Mode) → j < length (granted_beside held qs)
     → list_all (λ h. are_compatible h (slice_index_or (granted_beside held qs) j d).1) held ≡ true
-fits held [] j d l = absurd (omega (arith, l))
-fits held (q ∷ qs) j d l = elim (list_all (λ h. are_compatible h q.1) held) as (λ v. list_all (λ h. are_compatible h q.1) held ≡ v → j < length (cond v (q ∷ granted_beside (q.1 ∷ held) qs) [])
+granted_beside_held held [] j d l = absurd (omega (arith, l))
+granted_beside_held held (q ∷ qs) j d l = elim (list_all (λ h. are_compatible h q.1) held) as (λ v. list_all (λ h. are_compatible h q.1) held ≡ v → j < length (cond v (q ∷ granted_beside (q.1 ∷ held) qs) [])
     → list_all (λ h. are_compatible h (slice_index_or (cond v (q ∷ granted_beside (q.1 ∷ held) qs) []) j d).1) held ≡ true) [
-      | true ↦ λ t l. here held q qs j d t (λ i m. fits (q.1 ∷ held) qs i d m) l
+      | true ↦ λ t l. holder_admits held q qs j d t (λ i m. granted_beside_held (q.1 ∷ held) qs i d m) l
       | false ↦ λ t l. absurd (omega (arith, l))
     ] refl l
 
@@ -51,7 +51,7 @@ pairs_here : (held : List Mode) (q : ℕ × Mode) (qs : Queue) (i j : ℕ) (d : 
     → are_compatible (slice_index_or (q ∷ granted_beside (q.1 ∷ held) qs) i d).1 (slice_index_or (q ∷ granted_beside (q.1 ∷ held) qs) j d).1 ≡ true
 pairs_here held q qs i zero d more less l = absurd (omega (arith, less))
 pairs_here held q qs zero (suc j) d more less l =
-    (both (are_compatible q.1 (slice_index_or (granted_beside (q.1 ∷ held) qs) j d).1) (list_all (λ h. are_compatible h (slice_index_or (granted_beside (q.1 ∷ held) qs) j d).1) held) (fits (q.1 ∷ held) qs j d (omega (arith, l)))).0
+    (both (are_compatible q.1 (slice_index_or (granted_beside (q.1 ∷ held) qs) j d).1) (list_all (λ h. are_compatible h (slice_index_or (granted_beside (q.1 ∷ held) qs) j d).1) held) (granted_beside_held (q.1 ∷ held) qs j d (omega (arith, l)))).0
 pairs_here held q qs (suc i) (suc j) d more less l = more i j (omega (arith, less)) (omega (arith, l))
 
 pairs : (held : List Mode) (qs : Queue) (i j : ℕ) (d : ℕ × Mode) → i < j → j < length (granted_beside held qs)
@@ -69,7 +69,7 @@ pairs held (q ∷ qs) i j d less l = elim (list_all (λ h. are_compatible h q.1)
 barred : (held : List Mode) (b : Mode) → list_all (λ h. are_compatible h b) held ≡ false → (h : Mode) × Contains held h × (are_compatible h b ≡ false)
 barred [] b f = absurd (cc)
 barred (h ∷ held) b f = elim (are_compatible h b) as (λ v. are_compatible h b ≡ v → (v && list_all (λ h. are_compatible h b) held) ≡ false → (x : Mode) × Contains (h ∷ held) x × (are_compatible x b ≡ false)) [
-  | true ↦ λ e f. let r = barred held b f in (r.0, further h held r.0 r.1, r.2)
+  | true ↦ λ e f. let r = barred held b f in (r.0, contains_later h held r.0 r.1, r.2)
   | false ↦ λ e f. (h, (0, omega arith, refl), e)
 ] refl f
 
@@ -91,7 +91,7 @@ stopped held (q ∷ qs) next rest e = elim (list_all (λ h. are_compatible h q.1
           | inl same ↦ inr (q, (0, omega arith, refl), ap (λ m. are_compatible m next.1) same ∙ h.2)
           | inr k ↦ inl (h.0, k, h.2)
         ]
-        | inr x ↦ inr (x.0, further q (granted_beside (q.1 ∷ held) qs) x.0 x.1, x.2)
+        | inr x ↦ inr (x.0, contains_later q (granted_beside (q.1 ∷ held) qs) x.0 x.1, x.2)
       ]
       | false ↦ λ t e.
           let same : q ≡ next = first_of q next qs rest e in

@@ -20,10 +20,10 @@ abbrev pub all_spare : List Mode → Mode → Bool
 all_spare held c = spares (times IntentionShared held) IntentionShared c && (spares (times IntentionExclusive held) IntentionExclusive c
     && (spares (times Shared held) Shared c && (spares (times SharedIntentionExclusive held) SharedIntentionExclusive c && (spares (times Exclusive held) Exclusive c && true))))
 
-further : (p s x y : Bool) → (p && x) ≡ y → (p && (s && x)) ≡ (s && y)
-further p true x y h = h
-further true false x y h = refl
-further false false x y h = refl
+tested_before : (p s x y : Bool) → (p && x) ≡ y → (p && (s && x)) ≡ (s && y)
+tested_before p true x y h = h
+tested_before true false x y h = refl
+tested_before false false x y h = refl
 
 one_more : (n : ℕ) (p : Bool) → ((n + 1 == 0) || p) ≡ p
 one_more n p = let e : (n + 1 == 0) ≡ false = grind (arith, nat_tests) in ap (λ v. v || p) e
@@ -45,19 +45,19 @@ module _ (c : Mode) (held : List Mode) where
 
   step : (h : Mode) → (are_compatible h c && all_spare held c) ≡ all_spare (h ∷ held) c
   step IntentionShared = absorbed (times IntentionShared held) (p IntentionShared) (of IntentionExclusive && (of Shared && (of SharedIntentionExclusive && (of Exclusive && true))))
-  step IntentionExclusive = further (p IntentionExclusive) (of IntentionShared) (of IntentionExclusive && (of Shared && (of SharedIntentionExclusive && (of Exclusive && true)))) _
+  step IntentionExclusive = tested_before (p IntentionExclusive) (of IntentionShared) (of IntentionExclusive && (of Shared && (of SharedIntentionExclusive && (of Exclusive && true)))) _
       (absorbed (times IntentionExclusive held) (p IntentionExclusive) (of Shared && (of SharedIntentionExclusive && (of Exclusive && true))))
-  step Shared = further (p Shared) (of IntentionShared) (of IntentionExclusive && (of Shared && (of SharedIntentionExclusive && (of Exclusive && true)))) _
-      (further (p Shared) (of IntentionExclusive) (of Shared && (of SharedIntentionExclusive && (of Exclusive && true))) _
+  step Shared = tested_before (p Shared) (of IntentionShared) (of IntentionExclusive && (of Shared && (of SharedIntentionExclusive && (of Exclusive && true)))) _
+      (tested_before (p Shared) (of IntentionExclusive) (of Shared && (of SharedIntentionExclusive && (of Exclusive && true))) _
       (absorbed (times Shared held) (p Shared) (of SharedIntentionExclusive && (of Exclusive && true))))
-  step SharedIntentionExclusive = further (p SharedIntentionExclusive) (of IntentionShared) (of IntentionExclusive && (of Shared && (of SharedIntentionExclusive && (of Exclusive && true)))) _
-      (further (p SharedIntentionExclusive) (of IntentionExclusive) (of Shared && (of SharedIntentionExclusive && (of Exclusive && true))) _
-      (further (p SharedIntentionExclusive) (of Shared) (of SharedIntentionExclusive && (of Exclusive && true)) _
+  step SharedIntentionExclusive = tested_before (p SharedIntentionExclusive) (of IntentionShared) (of IntentionExclusive && (of Shared && (of SharedIntentionExclusive && (of Exclusive && true)))) _
+      (tested_before (p SharedIntentionExclusive) (of IntentionExclusive) (of Shared && (of SharedIntentionExclusive && (of Exclusive && true))) _
+      (tested_before (p SharedIntentionExclusive) (of Shared) (of SharedIntentionExclusive && (of Exclusive && true)) _
       (absorbed (times SharedIntentionExclusive held) (p SharedIntentionExclusive) (of Exclusive && true))))
-  step Exclusive = further (p Exclusive) (of IntentionShared) (of IntentionExclusive && (of Shared && (of SharedIntentionExclusive && (of Exclusive && true)))) _
-      (further (p Exclusive) (of IntentionExclusive) (of Shared && (of SharedIntentionExclusive && (of Exclusive && true))) _
-      (further (p Exclusive) (of Shared) (of SharedIntentionExclusive && (of Exclusive && true)) _
-      (further (p Exclusive) (of SharedIntentionExclusive) (of Exclusive && true) _
+  step Exclusive = tested_before (p Exclusive) (of IntentionShared) (of IntentionExclusive && (of Shared && (of SharedIntentionExclusive && (of Exclusive && true)))) _
+      (tested_before (p Exclusive) (of IntentionExclusive) (of Shared && (of SharedIntentionExclusive && (of Exclusive && true))) _
+      (tested_before (p Exclusive) (of Shared) (of SharedIntentionExclusive && (of Exclusive && true)) _
+      (tested_before (p Exclusive) (of SharedIntentionExclusive) (of Exclusive && true) _
       (absorbed (times Exclusive held) (p Exclusive) true))))
 
 pub fits_counted : (held : List Mode) (c : Mode) → all_spare held c ≡ list_all (λ h. are_compatible h c) held

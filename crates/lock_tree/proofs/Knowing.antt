@@ -7,7 +7,7 @@ use Rattle.coarsen.specs.Subtrees.{Requests}
 use Rattle.lock_tree.specs.Entered.{Enqueued}
 use Rattle.lock_tree.specs.Locks.{AreAbove, IsRising}
 use Rattle.lock_tree.specs.Queues.{Queue, has_number}
-use Rattle.lock_tree.specs.Placing.{place_of}
+use Rattle.lock_tree.specs.Placing.{place_numbered}
 use Rattle.lock_tree.specs.Views.{waiting_of, all_waiting}
 use Rattle.lock_tree.specs.Known.{granted_in, Knows, AreKnown}
 use Rattle.lock_tree.proofs.Places.{at, some_one, none_some, later_place, no_later_place, same_numbers}
@@ -39,11 +39,11 @@ module _ (queues : Resource → Queue) (n : ℕ) (mode : Mode) (lately : Queue) 
   known_above (e ∷ es) above known = (knows_more e (below_other n e.no above.0) known.0, known_above es above.1 known.1)
 
   -- nobody has the number
-  pub none_to_note : (es : List Enqueued) → place_of n (all_waiting es) ≡ None → AreKnown queues ((n, mode) ∷ lately) es → AreKnown queues lately es
+  pub none_to_note : (es : List Enqueued) → place_numbered n (all_waiting es) ≡ None → AreKnown queues ((n, mode) ∷ lately) es → AreKnown queues lately es
   none_to_note [] h known = tt
-  none_to_note (e ∷ es) h known = elim (e.no == n) as (λ v. (e.no == n) ≡ v → cond v (Some 0) (option_map (λ n. n + 1) (place_of n (all_waiting es))) ≡ None → AreKnown queues lately (e ∷ es)) [
+  none_to_note (e ∷ es) h known = elim (e.no == n) as (λ v. (e.no == n) ≡ v → cond v (Some 0) (option_map (λ n. n + 1) (place_numbered n (all_waiting es))) ≡ None → AreKnown queues lately (e ∷ es)) [
     | true ↦ λ here h. absurd (cc)
-    | false ↦ λ other h. (knows_more e other known.0, none_to_note es (no_later_place (place_of n (all_waiting es)) h) known.1)
+    | false ↦ λ other h. (knows_more e other known.0, none_to_note es (no_later_place (place_numbered n (all_waiting es)) h) known.1)
   ] refl h
 
   knows_now : (e : Enqueued) (b : Bool) → e.no ≡ n → b ≡ granted_in queues n e.plan.value → Knows queues lately (record e { ready = b })
@@ -52,10 +52,10 @@ module _ (queues : Resource → Queue) (n : ℕ) (mode : Mode) (lately : Queue) 
       record { sound = λ h. at_it ∙ h; complete = λ g. inl (sym at_it ∙ g) }
 
   -- the one with the number
-  pub noted_at : (es : List Enqueued) (i : ℕ) (d : Enqueued) (b : Bool) → IsRising (all_waiting es) → place_of n (all_waiting es) ≡ Some i → b ≡ granted_in queues n (at es i d).plan.value
+  pub noted_at : (es : List Enqueued) (i : ℕ) (d : Enqueued) (b : Bool) → IsRising (all_waiting es) → place_numbered n (all_waiting es) ≡ Some i → b ≡ granted_in queues n (at es i d).plan.value
       → AreKnown queues ((n, mode) ∷ lately) es → AreKnown queues lately (slice_set es i (record (at es i d) { ready = b }))
   noted_at [] i d b rising h is known = absurd (none_some i h)
-  noted_at (e ∷ es) i d b rising h is known = elim (e.no == n) as (λ v. (e.no == n) ≡ v → cond v (Some 0) (option_map (λ n. n + 1) (place_of n (all_waiting es))) ≡ Some i
+  noted_at (e ∷ es) i d b rising h is known = elim (e.no == n) as (λ v. (e.no == n) ≡ v → cond v (Some 0) (option_map (λ n. n + 1) (place_numbered n (all_waiting es))) ≡ Some i
       → AreKnown queues lately (slice_set (e ∷ es) i (record (at (e ∷ es) i d) { ready = b }))) [
         | true ↦ λ here h.
             let first : 0 ≡ i = some_one 0 i h in
@@ -65,7 +65,7 @@ module _ (queues : Resource → Queue) (n : ℕ) (mode : Mode) (lately : Queue) 
             (knows_now e b same plan, known_above es (subst (λ k. AreAbove k (all_waiting es)) same rising.0) known.1) in
             subst (λ j. AreKnown queues lately (slice_set (e ∷ es) j (record (at (e ∷ es) j d) { ready = b }))) first now
         | false ↦ λ other h.
-            let j = later_place (place_of n (all_waiting es)) i h in
+            let j = later_place (place_numbered n (all_waiting es)) i h in
             let plan : b ≡ granted_in queues n (at es j.0 d).plan.value = is ∙ ap (λ x. granted_in queues n (at (e ∷ es) x d).plan.value) j.2 in
             let now : AreKnown queues lately (slice_set (e ∷ es) (suc j.0) (record (at (e ∷ es) (suc j.0) d) { ready = b })) =
             (knows_more e other known.0, noted_at es j.0 d b rising.1 j.1 plan known.1) in

@@ -9,7 +9,7 @@ use Rattle.modes.specs.declared.mode.Mode.{Mode}
 use Rattle.request_arena.specs.declared.node.Held.{Held}
 use Rattle.request_arena.specs.declared.node.Request.{Request}
 use Rattle.request_arena.specs.Following.{changed}
-use Rattle.request_arena.specs.Chains.{chain, linked, behind_it}
+use Rattle.request_arena.specs.Chains.{chain, linked, with_successor}
 use Rattle.request_arena.specs.Lists.{IsLive}
 use Rattle.request_arena.specs.Pushes.{Pushed, appended}
 use Rattle.lock_tree.specs.Keys.{resource_eq}
@@ -26,11 +26,11 @@ use Rattle.lock_tree.proofs.Chaining.{PlacedStill, all_still, placed_end, none_o
 abbrev Live : List (Option Held) → ℕ → Type 0
 Live hs a = (h : Held) × (slice_get hs a ≡ Some (Some h))
 
--- a live node stays live as one comes behind another
-changed_live : (hs : List (Option Held)) (t id a : ℕ) → Live hs a → Live (changed hs t (λ h. behind_it h id)) a
+-- a live node stays live as one comes after another
+changed_live : (hs : List (Option Held)) (t id a : ℕ) → Live hs a → Live (changed hs t (λ h. with_successor h id)) a
 changed_live [] t id a live = absurd (none_is (Some live.0) live.1)
 changed_live (None ∷ hs) zero id zero live = absurd (let e = live.1 in cc)
-changed_live (Some h ∷ hs) zero id zero live = (record h { behind = Some id }, refl)
+changed_live (Some h ∷ hs) zero id zero live = (record h { successor = Some id }, refl)
 changed_live (h ∷ hs) zero id (suc a) live = live
 changed_live (h ∷ hs) (suc t) id zero live = live
 changed_live (h ∷ hs) (suc t) id (suc a) live = changed_live hs t id a live
@@ -83,10 +83,10 @@ module _ (was now : Lines) (q id : ℕ) (tail : Option ℕ) (request : Request) 
                 (all_still e.no was now (placed_still e.no) e.plan.value ok_chain.0 (chain was.nodes.held h) chained.placed);
           }
 
-  new_there : slice_get now.nodes.held id ≡ Some (Some (record { request = request; behind = None }))
+  new_there : slice_get now.nodes.held id ≡ Some (Some (record { request = request; successor = None }))
   new_there =
       let near : id < length (linked tail id was.nodes.held) = (let l = slice_get_within was.nodes.held id None pushed.fresh in let n = linked_length tail id was.nodes.held in omega (arith, l, n)) in
-      ap (λ (hs : List (Option Held)). slice_get hs id) pushed.held ∙ get_set_same (linked tail id was.nodes.held) id (Some (record { request = request; behind = None })) near
+      ap (λ (hs : List (Option Held)). slice_get hs id) pushed.held ∙ get_set_same (linked tail id was.nodes.held) id (Some (record { request = request; successor = None })) near
 
   new_number : (request_at now.nodes.held id).0 ≡ request.no
   new_number = ap (λ (x : ℕ × Mode). x.0) (asks_new was mid q id tail request ok within refl refl live pushed)
@@ -109,7 +109,7 @@ module _ (was now : Lines) (q id : ℕ) (tail : Option ℕ) (request : Request) 
           → Chains now request.no (plan ++ (resource, mode) ∷ []) (numbers ++ q ∷ []) (Some (head_or head id)) × IsTail now request.no (Some (head_or head id)) (Some id)
       go None None same chained end = (
         record {
-          begins = (((record { request = request; behind = None }), new_there), pushed.first same);
+          begins = (((record { request = request; successor = None }), new_there), pushed.first same);
           placed = subst (ArePlaced now request.no (plan ++ (resource, mode) ∷ []) (numbers ++ q ∷ [])) (sym pushed.alone) (placed_all [] chained.placed);
         },
         (ap (list_any (eqb id)) pushed.alone ∙ ends_with [] id, (request, new_there), new_number),

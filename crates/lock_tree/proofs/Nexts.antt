@@ -35,19 +35,19 @@ no_first n ns e = absurd (cc)
 none_first : (n : ℕ) (ns : List ℕ) → [] ≡ n ∷ ns → ⊥
 none_first n ns e = absurd (cc)
 
--- an entry that stands behind the first, or is the first
-abbrev Behind : Enqueued → List Enqueued → ℕ → Enqueued → Type 0
-Behind f es i e = (j : ℕ) × (i ≡ suc j) × StandsAt es j e
+-- an entry that stands after the first, or is the first
+abbrev IsLater : Enqueued → List Enqueued → ℕ → Enqueued → Type 0
+IsLater f es i e = (j : ℕ) × (i ≡ suc j) × StandsAt es j e
 
-first_or_behind : (f : Enqueued) (es : List Enqueued) (i : ℕ) (e : Enqueued) → StandsAt (f ∷ es) i e → (e ≡ f) ⊎ Behind f es i e
-first_or_behind f es zero e s = inl s.there
-first_or_behind f es (suc j) e s = inr (j, refl, record { within = (let l = s.within in omega (arith, l)); there = s.there })
+first_or_later : (f : Enqueued) (es : List Enqueued) (i : ℕ) (e : Enqueued) → StandsAt (f ∷ es) i e → (e ≡ f) ⊎ IsLater f es i e
+first_or_later f es zero e s = inl s.there
+first_or_later f es (suc j) e s = inr (j, refl, record { within = (let l = s.within in omega (arith, l)); there = s.there })
 
 nobody_open : (es : List Enqueued) → open_of es ≡ [] → (i : ℕ) (e : Enqueued) → StandsAt es i e → is_open e ≡ true → ⊥
 nobody_open [] none i e s o = (let l = s.within in absurd (omega (arith, l)))
 nobody_open (f ∷ es) none i e s o = elim (is_open f) as (λ v. is_open f ≡ v → cond v (f.no ∷ open_of es) (open_of es) ≡ [] → ⊥) [
   | true ↦ λ u none. no_first f.no (open_of es) none
-  | false ↦ λ u none. elim (first_or_behind f es i e s) [
+  | false ↦ λ u none. elim (first_or_later f es i e s) [
     | inl same ↦ true_false (sym o ∙ ap is_open same ∙ u)
     | inr b ↦ nobody_open es none b.0 e b.2 o
   ]
@@ -60,7 +60,7 @@ first_open (f ∷ es) n ns rising is = elim (is_open f) as (λ v. is_open f ≡ 
       let same : f.no ≡ n = number_first f.no n (open_of es) ns is in
       record {
         one = (f, 0, record { within = omega arith; there = refl }, u, same);
-        least = λ i e s o. elim (first_or_behind f es i e s) [
+        least = λ i e s o. elim (first_or_later f es i e s) [
           | inl it ↦ (let k = ap (λ (x : Enqueued). x.no) it in omega (arith, k, same))
           | inr b ↦
               (let above = member_above f.no es b.0 e rising.0 b.2.within in
@@ -73,7 +73,7 @@ first_open (f ∷ es) n ns rising is = elim (is_open f) as (λ v. is_open f ≡ 
       let o = r.one in
       record {
         one = (o.0, suc o.1, record { within = (let l = o.2.within in omega (arith, l)); there = o.2.there }, o.3, o.4);
-        least = λ i e s open_one. elim (first_or_behind f es i e s) [
+        least = λ i e s open_one. elim (first_or_later f es i e s) [
           | inl it ↦ absurd (true_false (sym open_one ∙ ap is_open it ∙ u))
           | inr b ↦ r.least b.0 e b.2 open_one
         ];

@@ -11,7 +11,8 @@ use Rattle.lock_tree.specs.Lines.{Lines, request_at, requests, nodes_of, in_orde
 use Rattle.lock_tree.specs.Open.{AreRising}
 use Rattle.lock_tree.specs.Numbered.{IsNumbered}
 use Rattle.lock_tree.specs.Granted.{IsFront, IsLine, Stays, AreGranted}
-use Rattle.lock_tree.specs.Steps.{AreLive, StandApart, IsRemoved}
+use Rattle.lock_tree.specs.Steps.{AreLive, StandApart}
+use Rattle.request_arena.specs.Removals.{IsRemoved}
 use Rattle.lock_tree.proofs.Positions.{some_is, get_set_same, get_set_other, one_without}
 use Rattle.lock_tree.proofs.Counting.{given_free, queue_few}
 use Rattle.lock_tree.proofs.Asking.{requests_beside}
@@ -19,9 +20,9 @@ use Rattle.lock_tree.proofs.Vacancies.{or_other}
 use Rattle.lock_tree.proofs.Passing.{left, left_here, left_elsewhere}
 use Rattle.lock_tree.proofs.Fronting.{line_kept, line_by_front, rest_requests, rest_rising, rest_front}
 
-module _ (was now : Lines) (q i a : ℕ) (behind : Option ℕ) (ok : IsNumbered was None) (within : q < length was.lines.items)
+module _ (was now : Lines) (q i a : ℕ) (successor : Option ℕ) (ok : IsNumbered was None) (within : q < length was.lines.items)
     (many : length now.lines.items ≡ length was.lines.items) (capacity : vec_capacity now.lines ≡ vec_capacity was.lines)
-    (live : AreLive was.nodes) (apart : StandApart was.nodes) (there : slice_get (nodes_of was.nodes q) i ≡ Some a) (removed : IsRemoved was.nodes a behind now.nodes) where
+    (live : AreLive was.nodes) (apart : StandApart was.nodes) (there : slice_get (nodes_of was.nodes q) i ≡ Some a) (removed : IsRemoved was.nodes a successor now.nodes) where
   once : (j : ℕ) → slice_get (nodes_of was.nodes q) j ≡ Some a → i ≡ j
   once j h = (apart q q i j a there h).1
 

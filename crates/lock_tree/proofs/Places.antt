@@ -5,7 +5,7 @@ use Rattle.std.proofs.lemmas.Bool.Decides.{nat_tests}
 use Rattle.lock_tree.specs.Entered.{Enqueued}
 use Rattle.lock_tree.specs.Locks.{Waiting, used, plan_of, without, with_mark, AreAbove, IsRising}
 use Rattle.lock_tree.specs.Enqueues.{AreBelow}
-use Rattle.lock_tree.specs.Placing.{place_of}
+use Rattle.lock_tree.specs.Placing.{place_numbered}
 use Rattle.lock_tree.specs.Views.{waiting_of, all_waiting}
 
 pub same_numbers : (i k : ℕ) → (i == k) ≡ true → i ≡ k
@@ -20,7 +20,7 @@ some_one i j e = cc
 pub none_some : (i : ℕ) → None ≡ Some i → ⊥
 none_some i e = absurd (cc)
 
--- a place behind the first
+-- a place after the first
 pub later_place : (o : Option ℕ) (i : ℕ) → option_map (λ n. n + 1) o ≡ Some i → (j : ℕ) × (o ≡ Some j) × (i ≡ suc j)
 later_place None i h = absurd (cc)
 later_place (Some j) i h = let e : j + 1 ≡ i = cc in (j, refl, omega (arith, e))
@@ -29,22 +29,22 @@ pub no_later_place : (o : Option ℕ) → option_map (λ n. n + 1) o ≡ None �
 no_later_place None h = refl
 no_later_place (Some j) h = absurd (cc)
 
-pub no_plan : (k : ℕ) (ws : List Waiting) → place_of k ws ≡ None → plan_of ws k ≡ None
+pub no_plan : (k : ℕ) (ws : List Waiting) → place_numbered k ws ≡ None → plan_of ws k ≡ None
 no_plan k [] h = refl
-no_plan k (w ∷ ws) h = elim (w.no == k) as (λ v. cond v (Some 0) (option_map (λ n. n + 1) (place_of k ws)) ≡ None → cond v (Some w.plan) (plan_of ws k) ≡ None) [
+no_plan k (w ∷ ws) h = elim (w.no == k) as (λ v. cond v (Some 0) (option_map (λ n. n + 1) (place_numbered k ws)) ≡ None → cond v (Some w.plan) (plan_of ws k) ≡ None) [
   | true ↦ λ h. absurd (cc)
-  | false ↦ λ h. no_plan k ws (no_later_place (place_of k ws) h)
+  | false ↦ λ h. no_plan k ws (no_later_place (place_numbered k ws) h)
 ] h
 
 -- what stands at the place of a number
 abbrev pub at : List Enqueued → ℕ → Enqueued → Enqueued
 at es i d = slice_index_or es i d
 
-pub plan_at : (k : ℕ) (es : List Enqueued) (i : ℕ) (d : Enqueued) → place_of k (all_waiting es) ≡ Some i → plan_of (all_waiting es) k ≡ Some (at es i d).plan.value
+pub plan_at : (k : ℕ) (es : List Enqueued) (i : ℕ) (d : Enqueued) → place_numbered k (all_waiting es) ≡ Some i → plan_of (all_waiting es) k ≡ Some (at es i d).plan.value
 plan_at k [] i d h = absurd (none_some i h)
-plan_at k (e ∷ es) i d h = elim (e.no == k) as (λ v. cond v (Some 0) (option_map (λ n. n + 1) (place_of k (all_waiting es))) ≡ Some i → cond v (Some e.plan.value) (plan_of (all_waiting es) k) ≡ Some (at (e ∷ es) i d).plan.value) [
+plan_at k (e ∷ es) i d h = elim (e.no == k) as (λ v. cond v (Some 0) (option_map (λ n. n + 1) (place_numbered k (all_waiting es))) ≡ Some i → cond v (Some e.plan.value) (plan_of (all_waiting es) k) ≡ Some (at (e ∷ es) i d).plan.value) [
   | true ↦ λ h. ap (λ n. Some (at (e ∷ es) n d).plan.value) (some_one 0 i h)
-  | false ↦ λ h. let j = later_place (place_of k (all_waiting es)) i h in plan_at k es j.0 d j.1 ∙ ap (λ n. Some (at (e ∷ es) n d).plan.value) (sym j.2)
+  | false ↦ λ h. let j = later_place (place_numbered k (all_waiting es)) i h in plan_at k es j.0 d j.1 ∙ ap (λ n. Some (at (e ∷ es) n d).plan.value) (sym j.2)
 ] h
 
 -- ---- numbers that rise
@@ -88,33 +88,33 @@ used_end (v ∷ ws) w = let r = used_end ws w in omega (arith, r)
 
 -- ---- what a change at the place of a number does
 
-pub marked_at : (k : ℕ) (m : Bool) (es : List Enqueued) (i : ℕ) (d : Enqueued) → IsRising (all_waiting es) → place_of k (all_waiting es) ≡ Some i
+pub marked_at : (k : ℕ) (m : Bool) (es : List Enqueued) (i : ℕ) (d : Enqueued) → IsRising (all_waiting es) → place_numbered k (all_waiting es) ≡ Some i
     → all_waiting (slice_set es i (record (at es i d) { marked = m })) ≡ with_mark k m (all_waiting es)
 marked_at k m [] i d r h = absurd (none_some i h)
-marked_at k m (e ∷ es) i d r h = elim (e.no == k) as (λ v. (e.no == k) ≡ v → cond v (Some 0) (option_map (λ n. n + 1) (place_of k (all_waiting es))) ≡ Some i
+marked_at k m (e ∷ es) i d r h = elim (e.no == k) as (λ v. (e.no == k) ≡ v → cond v (Some 0) (option_map (λ n. n + 1) (place_numbered k (all_waiting es))) ≡ Some i
     → all_waiting (slice_set (e ∷ es) i (record (at (e ∷ es) i d) { marked = m })) ≡ cond v (record (waiting_of e) { marked = m }) (waiting_of e) ∷ with_mark k m (all_waiting es)) [
       | true ↦ λ here h.
           let above : AreAbove k (all_waiting es) = subst (λ n. AreAbove n (all_waiting es)) (same_numbers e.no k here) r.0 in
           ap (λ n. all_waiting (slice_set (e ∷ es) n (record (at (e ∷ es) n d) { marked = m }))) (sym (some_one 0 i h))
           ∙ ap (λ xs. record (waiting_of e) { marked = m } ∷ xs) (sym ((not_above k (all_waiting es) above).1 m))
       | false ↦ λ elsewhere h.
-          let j = later_place (place_of k (all_waiting es)) i h in
+          let j = later_place (place_numbered k (all_waiting es)) i h in
           ap (λ n. all_waiting (slice_set (e ∷ es) n (record (at (e ∷ es) n d) { marked = m }))) j.2
           ∙ ap (λ xs. waiting_of e ∷ xs) (marked_at k m es j.0 d r.1 j.1)
     ] refl h
 
-pub no_mark : (k : ℕ) (m : Bool) (ws : List Waiting) → place_of k ws ≡ None → with_mark k m ws ≡ ws
+pub no_mark : (k : ℕ) (m : Bool) (ws : List Waiting) → place_numbered k ws ≡ None → with_mark k m ws ≡ ws
 no_mark k m [] h = refl
-no_mark k m (w ∷ ws) h = elim (w.no == k) as (λ v. cond v (Some 0) (option_map (λ n. n + 1) (place_of k ws)) ≡ None → cond v (record w { marked = m }) w ∷ with_mark k m ws ≡ w ∷ ws) [
+no_mark k m (w ∷ ws) h = elim (w.no == k) as (λ v. cond v (Some 0) (option_map (λ n. n + 1) (place_numbered k ws)) ≡ None → cond v (record w { marked = m }) w ∷ with_mark k m ws ≡ w ∷ ws) [
   | true ↦ λ h. absurd (cc)
-  | false ↦ λ h. ap (λ xs. w ∷ xs) (no_mark k m ws (no_later_place (place_of k ws) h))
+  | false ↦ λ h. ap (λ xs. w ∷ xs) (no_mark k m ws (no_later_place (place_numbered k ws) h))
 ] h
 
-pub no_without : (k : ℕ) (ws : List Waiting) → place_of k ws ≡ None → without k ws ≡ ws
+pub no_without : (k : ℕ) (ws : List Waiting) → place_numbered k ws ≡ None → without k ws ≡ ws
 no_without k [] h = refl
-no_without k (w ∷ ws) h = elim (w.no == k) as (λ v. cond v (Some 0) (option_map (λ n. n + 1) (place_of k ws)) ≡ None → cond v (without k ws) (w ∷ without k ws) ≡ w ∷ ws) [
+no_without k (w ∷ ws) h = elim (w.no == k) as (λ v. cond v (Some 0) (option_map (λ n. n + 1) (place_numbered k ws)) ≡ None → cond v (without k ws) (w ∷ without k ws) ≡ w ∷ ws) [
   | true ↦ λ h. absurd (cc)
-  | false ↦ λ h. ap (λ xs. w ∷ xs) (no_without k ws (no_later_place (place_of k ws) h))
+  | false ↦ λ h. ap (λ xs. w ∷ xs) (no_without k ws (no_later_place (place_numbered k ws) h))
 ] h
 
 remove_first : (e : Enqueued) (es : List Enqueued) → remove (e ∷ es) 0 ≡ es
@@ -123,24 +123,24 @@ remove_first e es = refl
 remove_later : (e : Enqueued) (es : List Enqueued) (i : ℕ) → remove (e ∷ es) (suc i) ≡ e ∷ remove es i
 remove_later e es i = refl
 
-pub removed_at : (k : ℕ) (es : List Enqueued) (i : ℕ) → IsRising (all_waiting es) → place_of k (all_waiting es) ≡ Some i
+pub removed_at : (k : ℕ) (es : List Enqueued) (i : ℕ) → IsRising (all_waiting es) → place_numbered k (all_waiting es) ≡ Some i
     → all_waiting (remove es i) ≡ without k (all_waiting es)
 removed_at k [] i r h = absurd (none_some i h)
-removed_at k (e ∷ es) i r h = elim (e.no == k) as (λ v. (e.no == k) ≡ v → cond v (Some 0) (option_map (λ n. n + 1) (place_of k (all_waiting es))) ≡ Some i
+removed_at k (e ∷ es) i r h = elim (e.no == k) as (λ v. (e.no == k) ≡ v → cond v (Some 0) (option_map (λ n. n + 1) (place_numbered k (all_waiting es))) ≡ Some i
     → all_waiting (remove (e ∷ es) i) ≡ cond v (without k (all_waiting es)) (waiting_of e ∷ without k (all_waiting es))) [
       | true ↦ λ here h.
           let above : AreAbove k (all_waiting es) = subst (λ n. AreAbove n (all_waiting es)) (same_numbers e.no k here) r.0 in
           ap (λ n. all_waiting (remove (e ∷ es) n)) (sym (some_one 0 i h)) ∙ ap all_waiting (remove_first e es) ∙ sym (not_above k (all_waiting es) above).0
       | false ↦ λ elsewhere h.
-          let j = later_place (place_of k (all_waiting es)) i h in
+          let j = later_place (place_numbered k (all_waiting es)) i h in
           ap (λ n. all_waiting (remove (e ∷ es) n)) j.2 ∙ ap all_waiting (remove_later e es j.0)
           ∙ ap (λ xs. waiting_of e ∷ xs) (removed_at k es j.0 r.1 j.1)
     ] refl h
 
-pub used_at : (k : ℕ) (es : List Enqueued) (i : ℕ) (d : Enqueued) → IsRising (all_waiting es) → place_of k (all_waiting es) ≡ Some i
+pub used_at : (k : ℕ) (es : List Enqueued) (i : ℕ) (d : Enqueued) → IsRising (all_waiting es) → place_numbered k (all_waiting es) ≡ Some i
     → used (all_waiting es) ≡ length (at es i d).plan.value + used (without k (all_waiting es))
 used_at k [] i d r h = absurd (none_some i h)
-used_at k (e ∷ es) i d r h = elim (e.no == k) as (λ v. (e.no == k) ≡ v → cond v (Some 0) (option_map (λ n. n + 1) (place_of k (all_waiting es))) ≡ Some i
+used_at k (e ∷ es) i d r h = elim (e.no == k) as (λ v. (e.no == k) ≡ v → cond v (Some 0) (option_map (λ n. n + 1) (place_numbered k (all_waiting es))) ≡ Some i
     → length e.plan.value + used (all_waiting es) ≡ length (at (e ∷ es) i d).plan.value + used (cond v (without k (all_waiting es)) (waiting_of e ∷ without k (all_waiting es)))) [
       | true ↦ λ here h.
           let above : AreAbove k (all_waiting es) = subst (λ n. AreAbove n (all_waiting es)) (same_numbers e.no k here) r.0 in
@@ -148,7 +148,7 @@ used_at k (e ∷ es) i d r h = elim (e.no == k) as (λ v. (e.no == k) ≡ v → 
           let u : used (without k (all_waiting es)) ≡ used (all_waiting es) = ap used (not_above k (all_waiting es) above).0 in
           omega (arith, p, u)
       | false ↦ λ elsewhere h.
-          let j = later_place (place_of k (all_waiting es)) i h in
+          let j = later_place (place_numbered k (all_waiting es)) i h in
           let p : length (at (e ∷ es) i d).plan.value ≡ length (at es j.0 d).plan.value = ap (λ n. length (at (e ∷ es) n d).plan.value) j.2 in
           let u = used_at k es j.0 d r.1 j.1 in
           omega (arith, p, u)

@@ -95,12 +95,12 @@ removed_before (x ∷ xs) zero j lt = absurd (omega arith)
 removed_before (x ∷ xs) (suc i) zero lt = refl
 removed_before (x ∷ xs) (suc i) (suc j) lt = removed_before xs i j (omega arith)
 
-pub removed_behind : {X : Type 0} (xs : List X) (i j : ℕ) → i ≤ j → slice_get (remove xs i) j ≡ slice_get xs (suc j)
-removed_behind [] zero j le = refl
-removed_behind [] (suc i) j le = refl
-removed_behind (x ∷ xs) zero j le = refl
-removed_behind (x ∷ xs) (suc i) zero le = absurd (omega arith)
-removed_behind (x ∷ xs) (suc i) (suc j) le = removed_behind xs i j (omega arith)
+pub removed_after : {X : Type 0} (xs : List X) (i j : ℕ) → i ≤ j → slice_get (remove xs i) j ≡ slice_get xs (suc j)
+removed_after [] zero j le = refl
+removed_after [] (suc i) j le = refl
+removed_after (x ∷ xs) zero j le = refl
+removed_after (x ∷ xs) (suc i) zero le = absurd (omega arith)
+removed_after (x ∷ xs) (suc i) (suc j) le = removed_after xs i j (omega arith)
 
 -- the others stand in the list as before
 pub stands_still : (a b : ℕ) (xs : List ℕ) (j : ℕ) → slice_get xs j ≡ Some b → (b ≡ a → ⊥) → (k : ℕ) × (slice_get (without a xs) k ≡ Some b)

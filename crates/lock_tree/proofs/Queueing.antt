@@ -33,14 +33,14 @@ none_later r other (e ∷ plan) same later =
     let turned : is_same other e.0 ≡ false = ap (λ x. is_same x e.0) at ∙ ap is_eq later.0 in
     ap (λ v. cond v (Some e.1) (mode_on other plan)) turned ∙ none_later r other plan same later.1
 
-nothing_behind : (q : Queue) → q ++ [] ≡ q
-nothing_behind [] = refl
-nothing_behind (x ∷ q) = ap (λ xs. x ∷ xs) (nothing_behind q)
+nothing_added : (q : Queue) → q ++ [] ≡ q
+nothing_added [] = refl
+nothing_added (x ∷ q) = ap (λ xs. x ∷ xs) (nothing_added q)
 
 one_joined : (number : ℕ) (mode : Mode) (v : Bool) (now new target : Queue) (found : Option Mode) → new ≡ cond v (now ++ (number, mode) ∷ []) now
     → (v ≡ true → found ≡ None) → now ++ asks number (cond v (Some mode) found) [] ≡ target → new ++ asks number found [] ≡ target
 one_joined number mode true now new target found is none before =
-    ap (λ o. new ++ asks number o []) (none refl) ∙ nothing_behind new ∙ is ∙ before
+    ap (λ o. new ++ asks number o []) (none refl) ∙ nothing_added new ∙ is ∙ before
 one_joined number mode false now new target found is none before = ap (λ xs. xs ++ asks number found []) is ∙ before
 
 sorted_first : (e : Resource × Mode) (plan : Requests) → IsStrictlySortedBy resource_cmp (keys_of (e ∷ plan)) → AllByRecursion (λ x. resource_cmp e.0 x ≡ Less) (keys_of plan)
@@ -106,7 +106,7 @@ granted_before held n k mode (x ∷ q) other = elim (list_all (λ h. are_compati
 ]
 
 asked_before : (n k : ℕ) (o : Option Mode) (q : Queue) → (k == n) ≡ false → has_number n (granted (q ++ asks k o [])) ≡ has_number n (granted q)
-asked_before n k None q other = ap (λ xs. has_number n (granted xs)) (nothing_behind q)
+asked_before n k None q other = ap (λ xs. has_number n (granted xs)) (nothing_added q)
 asked_before n k (Some mode) q other = granted_before [] n k mode q other
 
 later_other : (n k : ℕ) → n < k → (k == n) ≡ false

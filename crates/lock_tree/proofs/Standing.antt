@@ -94,7 +94,7 @@ one_leaves k (x ∷ q) (suc i) d rising near same =
     let above = over_at x.0 q i d rising.0 (omega arith) in
     ap (λ v. cond (not v) (x ∷ others k q) (others k q)) (apart x.0 k (λ e. absurd (omega (arith, above, same, e)))) ∙ ap (λ xs. x ∷ xs) (one_leaves k q i d rising.1 (omega arith) same)
 
--- a number that stands before or behind all others
+-- a number that stands before or after all others
 pub rising_at : (q : Queue) (i j : ℕ) (d e : ℕ × Mode) → AreRising (numbers_of q) → i < j → j < length q → (get_or q i d).0 < (get_or q j e).0
 rising_at [] i j d e r lt near = absurd (omega arith)
 rising_at (x ∷ q) i zero d e r lt near = absurd (omega arith)
@@ -131,7 +131,7 @@ leaves_front k q i d rising near same within =
     (is, ap (λ xs. length xs + 1) is ∙ removed_length (granted q) i within, at)
 
 pub stays_front : (k : ℕ) (q : Queue) (i : ℕ) (d : ℕ × Mode) → AreRising (numbers_of q) → i < length q → (get_or q i d).0 ≡ k → length (granted q) ≤ i → others k (granted q) ≡ granted q
-stays_front k q i d rising near same behind = nobody_leaves k (granted q) (λ j e l is.
+stays_front k q i d rising near same late = nobody_leaves k (granted q) (λ j e l is.
     let at : get_or (granted q) j e ≡ get_or q j e = sym (ap (λ xs. get_or xs j e) (granted_front q)) ∙ take_at (length (granted q)) q j e l in
     let less = rising_at q j i e d rising (omega arith) near in let there : (get_or q j e).0 ≡ k = ap (λ x. x.0) (sym at) ∙ is in absurd (omega (arith, less, there, same)))
 
@@ -176,7 +176,7 @@ places_of k (x ∷ q) (suc j) d rising near same =
     let above = over_at x.0 q j d rising.0 (omega arith) in let rest = places_of k q j d rising.1 (omega arith) same in
     ap (λ v. cond v (places_before k (numbers_of q) + 1) 0) (is_less x.0 k (omega (arith, above, same))) ∙ (omega (arith, rest))
 
--- where a number's place is behind all lesser ones, and another stands there, it is nowhere
+-- where a number's place is after all lesser ones, and another stands there, it is nowhere
 pub nowhere : (k : ℕ) (q : Queue) (i : ℕ) → AreRising (numbers_of q) → i ≡ places_before k (numbers_of q) → (i < length q → (d : ℕ × Mode) → (get_or q i d).0 ≡ k → ⊥)
     → (j : ℕ) (d : ℕ × Mode) → j < length q → (get_or q j d).0 ≡ k → ⊥
 nowhere k q i rising is other j d near same = let at : j ≡ i = sym (places_of k q j d rising near same) ∙ sym is in
@@ -233,11 +233,11 @@ granted_there k q i x rising is within at = go (x.0 == k) refl
         let few = granted_length q in nowhere k q i rising is (λ near d2 h. no_number x.0 k e (ap (λ y. y.0) (sym (other_there d2)) ∙ h)) j d (omega (arith, few, l))
         (ap (λ y. y.0) (sym (sym (ap (λ xs. get_or xs j d) (granted_front q)) ∙ take_at (length (granted q)) q j d l)) ∙ same)))
 
--- a transaction whose place is behind what is granted has no request that is granted
+-- a transaction whose place is after what is granted has no request that is granted
 pub granted_nowhere : (k : ℕ) (q : Queue) (i : ℕ) → AreRising (numbers_of q) → i ≡ places_before k (numbers_of q) → length (granted q) ≤ i → has_number k (granted q) ≡ false
-granted_nowhere k q i rising is behind = has_not k (granted q) (λ j d l same.
+granted_nowhere k q i rising is late = has_not k (granted q) (λ j d l same.
     let few = granted_length q in let at = ap (λ y. y.0) (sym (sym (ap (λ xs. get_or xs j d) (granted_front q)) ∙ take_at (length (granted q)) q j d l)) ∙ same in
-    let there = places_of k q j d rising (omega (arith, few, l)) at in absurd (omega (arith, is, there, behind, l)))
+    let there = places_of k q j d rising (omega (arith, few, l)) at in absurd (omega (arith, is, there, late, l)))
 
 same_mode : (m : Mode) → is_mode m m ≡ true
 same_mode IntentionShared = refl

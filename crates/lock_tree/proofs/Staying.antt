@@ -33,10 +33,10 @@ or_second : (a b : Bool) → b ≡ true → (a || b) ≡ true
 or_second true b h = refl
 or_second false b h = h
 
--- a request that fits is granted, and so is who is granted behind it
-behind : (held : List Mode) (q : ℕ × Mode) (qs : Queue) (n : ℕ) → list_all (λ h. are_compatible h q.1) held ≡ true
+-- a request that fits is granted, and so is who is granted after it
+granted_after : (held : List Mode) (q : ℕ × Mode) (qs : Queue) (n : ℕ) → list_all (λ h. are_compatible h q.1) held ≡ true
     → ((q.0 == n) ≡ true) ⊎ (has_number n (granted_beside (q.1 ∷ held) qs) ≡ true) → has_number n (granted_beside held (q ∷ qs)) ≡ true
-behind held q qs n fits who =
+granted_after held q qs n fits who =
     ap (λ v. has_number n (cond v (q ∷ granted_beside (q.1 ∷ held) qs) [])) fits
     ∙ elim who as (λ _. ((q.0 == n) || has_number n (granted_beside (q.1 ∷ held) qs)) ≡ true) [
       | inl here ↦ ap (λ v. v || has_number n (granted_beside (q.1 ∷ held) qs)) here
@@ -47,7 +47,7 @@ granted_before_more : (held : List Mode) (qs more : Queue) (n : ℕ) → has_num
 granted_before_more held [] more n h = absurd (cc)
 granted_before_more held (q ∷ qs) more n h =
     let (fits, who) = head_fits held q qs n h in
-    behind held q (qs ++ more) n fits (elim who as (λ _. ((q.0 == n) ≡ true) ⊎ (has_number n (granted_beside (q.1 ∷ held) (qs ++ more)) ≡ true)) [
+    granted_after held q (qs ++ more) n fits (elim who as (λ _. ((q.0 == n) ≡ true) ⊎ (has_number n (granted_beside (q.1 ∷ held) (qs ++ more)) ≡ true)) [
       | inl here ↦ inl here
       | inr later ↦ inr (granted_before_more (q.1 ∷ held) qs more n later)
     ])
@@ -65,7 +65,7 @@ granted_without less more (q ∷ qs) k n differ fewer h =
         | inl here ↦ absurd (not_both k n q.0 differ is_k here)
         | inr later ↦ granted_without less (q.1 ∷ more) qs k n differ (without_first less more q.1 fewer) later
       ]
-      | false ↦ λ _. behind less q (others k qs) n (fewer q.1 fits) (elim who as (λ _. ((q.0 == n) ≡ true) ⊎ (has_number n (granted_beside (q.1 ∷ less) (others k qs)) ≡ true)) [
+      | false ↦ λ _. granted_after less q (others k qs) n (fewer q.1 fits) (elim who as (λ _. ((q.0 == n) ≡ true) ⊎ (has_number n (granted_beside (q.1 ∷ less) (others k qs)) ≡ true)) [
         | inl here ↦ inl here
         | inr later ↦ inr (granted_without (q.1 ∷ less) (q.1 ∷ more) qs k n differ (with_first less more q.1 fewer) later)
       ])

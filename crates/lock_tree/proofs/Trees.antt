@@ -11,7 +11,7 @@ use Rattle.lock_tree.specs.Indexed.{IsIndexed}
 use Rattle.lock_tree.specs.Locks.{Waiting, used, plan_of, without, with_mark, AreAbove, IsRising}
 use Rattle.lock_tree.specs.Queues.{Queue, mode_on, asks, queue, granted, has_number}
 use Rattle.lock_tree.specs.Ready.{ready, all_granted}
-use Rattle.lock_tree.specs.Placing.{place_of}
+use Rattle.lock_tree.specs.Placing.{place_numbered}
 use Rattle.lock_tree.specs.Views.{waiting_of, all_waiting, enqueued}
 use Rattle.lock_tree.specs.Lines.{Lines, line, others}
 use Rattle.request_arena.specs.Lists.{free_nodes}
@@ -135,11 +135,11 @@ flag_at queues es k i d lines known l number plan =
     ∙ ap (λ n. granted_in (λ r. queue r (all_waiting es)) n e.plan.value) number
     ∙ sym (ap (all_granted (all_waiting es) k) plan)
 
-pub number_at : (k : ℕ) (es : List Enqueued) (i : ℕ) (d : Enqueued) → place_of k (all_waiting es) ≡ Some i → (at es i d).no ≡ k
+pub number_at : (k : ℕ) (es : List Enqueued) (i : ℕ) (d : Enqueued) → place_numbered k (all_waiting es) ≡ Some i → (at es i d).no ≡ k
 number_at k [] i d h = absurd (none_some i h)
-number_at k (e ∷ es) i d h = elim (e.no == k) as (λ v. (e.no == k) ≡ v → cond v (Some 0) (option_map (λ n. n + 1) (place_of k (all_waiting es))) ≡ Some i → (at (e ∷ es) i d).no ≡ k) [
+number_at k (e ∷ es) i d h = elim (e.no == k) as (λ v. (e.no == k) ≡ v → cond v (Some 0) (option_map (λ n. n + 1) (place_numbered k (all_waiting es))) ≡ Some i → (at (e ∷ es) i d).no ≡ k) [
   | true ↦ λ here h. ap (λ n. (at (e ∷ es) n d).no) (sym (some_one 0 i h)) ∙ same_numbers e.no k here
-  | false ↦ λ other h. let j = later_place (place_of k (all_waiting es)) i h in ap (λ n. (at (e ∷ es) n d).no) j.2 ∙ number_at k es j.0 d j.1
+  | false ↦ λ other h. let j = later_place (place_numbered k (all_waiting es)) i h in ap (λ n. (at (e ∷ es) n d).no) j.2 ∙ number_at k es j.0 d j.1
 ] refl h
 
 -- nobody has the number
@@ -149,9 +149,9 @@ not_ready k ws none = ap (all_granted ws k) none
 -- ---- the code's tree
 
 pub ready_flag : (lines : Lines) (seen es : List Enqueued) (ws : List Waiting) (k i : ℕ) (d : Enqueued) → seen ≡ es → all_waiting es ≡ ws → ((r : Resource) → line lines r ≡ queue r (all_waiting es)) → AreKnown (line lines) [] es
-    → Some i ≡ place_of k (all_waiting seen) → i < length seen → d ≡ at es i d → d.ready ≡ ready ws k
+    → Some i ≡ place_numbered k (all_waiting seen) → i < length seen → d ≡ at es i d → d.ready ≡ ready ws k
 ready_flag lines seen es ws k i d same view is known found l item =
-    let place : place_of k (all_waiting es) ≡ Some i = sym (found ∙ ap (λ (xs : List Enqueued). place_of k (all_waiting xs)) same) in
+    let place : place_numbered k (all_waiting es) ≡ Some i = sym (found ∙ ap (λ (xs : List Enqueued). place_numbered k (all_waiting xs)) same) in
     let within : i < length es = (let e = ap length same in omega (arith, l, e)) in
     ap (λ (e : Enqueued). e.ready) item ∙ flag_at (line lines) es k i d is known within (number_at k es i d place) (plan_at k es i d place) ∙ ap (λ xs. ready xs k) view
 
@@ -166,13 +166,13 @@ member_above n [] i d above l = absurd (omega (arith, l))
 member_above n (e ∷ es) zero d above l = above.0
 member_above n (e ∷ es) (suc i) d above l = member_above n es i d above.1 (omega (arith, l))
 
-pub place_at : (es : List Enqueued) (i : ℕ) (d : Enqueued) → IsRising (all_waiting es) → i < length es → place_of (at es i d).no (all_waiting es) ≡ Some i
+pub place_at : (es : List Enqueued) (i : ℕ) (d : Enqueued) → IsRising (all_waiting es) → i < length es → place_numbered (at es i d).no (all_waiting es) ≡ Some i
 place_at [] i d rising l = absurd (omega (arith, l))
-place_at (e ∷ es) zero d rising l = ap (λ v. cond v (Some 0) (option_map (λ n. n + 1) (place_of e.no (all_waiting es)))) (same_itself e.no)
+place_at (e ∷ es) zero d rising l = ap (λ v. cond v (Some 0) (option_map (λ n. n + 1) (place_numbered e.no (all_waiting es)))) (same_itself e.no)
 place_at (e ∷ es) (suc i) d rising l =
     let m : i < length es = omega (arith, l) in
     let less : e.no < (at es i d).no = member_above e.no es i d rising.0 m in
-    ap (λ v. cond v (Some 0) (option_map (λ n. n + 1) (place_of (at es i d).no (all_waiting es)))) (less_other e.no (at es i d).no less)
+    ap (λ v. cond v (Some 0) (option_map (λ n. n + 1) (place_numbered (at es i d).no (all_waiting es)))) (less_other e.no (at es i d).no less)
     ∙ ap (option_map (λ n. n + 1)) (place_at es i d rising.1 m) ∙ ap (λ n. Some n) (add-one i)
 
 pub item_flag : (lines : Lines) (seen es : List Enqueued) (ws : List Waiting) (i : ℕ) (d : Enqueued) → seen ≡ es → all_waiting es ≡ ws → IsRising (all_waiting es) → ((r : Resource) → line lines r ≡ queue r (all_waiting es))
@@ -180,7 +180,7 @@ pub item_flag : (lines : Lines) (seen es : List Enqueued) (ws : List Waiting) (i
 item_flag lines seen es ws i d same view rising is known l item =
     let within : i < length es = (let e = ap length same in omega (arith, l, e)) in
     let read : d ≡ at es i d = item ∙ ap (λ (xs : List Enqueued). at xs i d) same in
-    let place : place_of d.no (all_waiting es) ≡ Some i = ap (λ (e : Enqueued). place_of e.no (all_waiting es)) read ∙ place_at es i d rising within in
+    let place : place_numbered d.no (all_waiting es) ≡ Some i = ap (λ (e : Enqueued). place_numbered e.no (all_waiting es)) read ∙ place_at es i d rising within in
     ready_flag lines es es ws d.no i d refl view is known (sym place) within read
 
 known_same : (old new : Resource → Queue) → ((r : Resource) → old r ≡ new r) → (es : List Enqueued) → AreKnown old [] es → AreKnown new [] es
@@ -258,23 +258,23 @@ marked_tree arena k m ts new lines tree is indexed known chained =
 
 -- the one that has a number is marked, if there is one
 pub record IsMarked (k : ℕ) (m : Bool) (es new : List Enqueued) : Type 0 where
-  pub there : (i : ℕ) (d : Enqueued) → place_of k (all_waiting es) ≡ Some i → new ≡ slice_set es i (record (at es i d) { marked = m })
-  pub none : place_of k (all_waiting es) ≡ None → new ≡ es
+  pub there : (i : ℕ) (d : Enqueued) → place_numbered k (all_waiting es) ≡ Some i → new ≡ slice_set es i (record (at es i d) { marked = m })
+  pub none : place_numbered k (all_waiting es) ≡ None → new ≡ es
 
-one_of : (k i : ℕ) (es : List Enqueued) → place_of k (all_waiting es) ≡ Some i → Enqueued
+one_of : (k i : ℕ) (es : List Enqueued) → place_numbered k (all_waiting es) ≡ Some i → Enqueued
 one_of k i [] h = absurd (none_some i h)
 one_of k i (e ∷ es) h = e
 
 -- what holds of all with the mark set holds of them now
 marked_so : (k : ℕ) (m : Bool) (es new : List Enqueued) (P : List Enqueued → Type 0) → IsMarked k m es new → P es → ((i : ℕ) (d : Enqueued) → P (slice_set es i (record (at es i d) { marked = m }))) → P new
-marked_so k m es new P is old there = elim (place_of k (all_waiting es)) as (λ o. place_of k (all_waiting es) ≡ o → P new) [
+marked_so k m es new P is old there = elim (place_numbered k (all_waiting es)) as (λ o. place_numbered k (all_waiting es) ≡ o → P new) [
   | None ↦ λ h. subst P (sym (is.none h)) old
   | Some i ↦ λ h. subst P (sym (is.there i (one_of k i es h) h)) (there i (one_of k i es h))
 ] refl
 
 module _ (k : ℕ) (m : Bool) (es new : List Enqueued) (is : IsMarked k m es new) where
   pub marked_seen : IsRising (all_waiting es) → all_waiting new ≡ with_mark k m (all_waiting es)
-  marked_seen rising = elim (place_of k (all_waiting es)) as (λ o. place_of k (all_waiting es) ≡ o → all_waiting new ≡ with_mark k m (all_waiting es)) [
+  marked_seen rising = elim (place_numbered k (all_waiting es)) as (λ o. place_numbered k (all_waiting es) ≡ o → all_waiting new ≡ with_mark k m (all_waiting es)) [
     | None ↦ λ h. ap all_waiting (is.none h) ∙ sym (no_mark k m (all_waiting es) h)
     | Some i ↦ λ h. ap all_waiting (is.there i (one_of k i es h) h) ∙ marked_at k m es i (one_of k i es h) rising h
   ] refl

@@ -19,7 +19,8 @@ pub record IsPlaced (lines : Lines) (owner : ℕ) (resource : Resource) (number 
 -- so does one for each request
 abbrev pub ArePlaced : Lines → ℕ → Requests → List ℕ → List ℕ → Type 0
 ArePlaced lines owner [] [] [] = ⊤
-ArePlaced lines owner (e ∷ plan) (number ∷ numbers) (a ∷ nodes) = IsPlaced lines owner e.0 number a × ArePlaced lines owner plan numbers nodes
+ArePlaced lines owner (e ∷ plan) (number ∷ numbers) (a ∷ nodes) =
+    IsPlaced lines owner e.0 number a × ArePlaced lines owner plan numbers nodes
 ArePlaced lines owner plan numbers nodes = ⊥
 
 abbrev pub Begins : Lines → Option ℕ → Type 0
@@ -39,7 +40,8 @@ AreChained lines es = AllByRecursion (IsChained lines) es
 -- the last node of the chain from the head on
 abbrev pub IsTail : Lines → ℕ → Option ℕ → Option ℕ → Type 0
 IsTail lines owner head None = head ≡ None
-IsTail lines owner head (Some t) = (list_any (eqb t) (chain_from lines.nodes.held head) ≡ true) × EndsChain lines.nodes t × ((request_at lines.nodes.held t).0 ≡ owner)
+IsTail lines owner head (Some t) = (list_any (eqb t) (chain_from lines.nodes.held head) ≡ true)
+    × EndsChain lines.nodes t × ((request_at lines.nodes.held t).0 ≡ owner)
 
 -- the head of a chain with one more node at its end
 abbrev pub head_or : Option ℕ → ℕ → ℕ

@@ -1,5 +1,5 @@
 -- Claimed: what contracts promise to a reader rests on these words.
--- A transaction that may come behind all others.
+-- A transaction that may come after all others.
 use Rattle.std.specs.Prelude.{◌<◌, ℕ, List, [], ◌∷◌, ⊤}
 use Rattle.lock_tree.specs.Locks.{Waiting}
 

@@ -23,5 +23,13 @@ requests_code = coded_list (coded× resource.the_row.coded mode.the_row.coded)
 
 abbrev pub enqueued_code : Coded Enqueued
 enqueued_code =
-    code_by (ℕ × (Requests × (Option ℕ × (Bool × Bool)))) (coded× coded_ℕ (coded× requests_code (coded× (coded_option coded_ℕ) (coded× coded_bool coded_bool))))
-    (λ e. (e.no, (e.plan.value, (e.head, (e.marked, e.ready))))) (λ p. record { no = p.0; plan = record { value = p.1.0 }; head = p.1.1.0; marked = p.1.1.1.0; ready = p.1.1.1.1 }) (λ _. refl)
+    code_by (ℕ × (Requests × (Option ℕ × (Bool × Bool))))
+    (coded× coded_ℕ (coded× requests_code (coded× (coded_option coded_ℕ) (coded× coded_bool coded_bool))))
+    (λ e. (e.no, (e.plan.value, (e.head, (e.marked, e.ready)))))
+    (λ p. record {
+      no = p.0;
+      plan = record { value = p.1.0 };
+      head = p.1.1.0;
+      marked = p.1.1.1.0;
+      ready = p.1.1.1.1;
+    }) (λ _. refl)

@@ -35,4 +35,5 @@ pub record IsEmpty (line : Line) : Type 0 where
 
 -- so it is of each number's queue
 abbrev pub AreGranted : Lines → Type 0
-AreGranted lines = (number : ℕ) (x : Line) → slice_get lines.lines.items number ≡ Some x → IsLine lines.nodes.held (nodes_of lines.nodes number) x
+AreGranted lines = (number : ℕ) (x : Line) → slice_get lines.lines.items number ≡ Some x
+    → IsLine lines.nodes.held (nodes_of lines.nodes number) x

@@ -5,7 +5,7 @@ use Rattle.std.specs.VecDeque.{deque_capacity}
 use Rattle.lock_tree.specs.Entered.{Enqueued}
 use Rattle.lock_tree.specs.declared.transactions.Transactions.{Transactions}
 use Rattle.lock_tree.specs.Locks.{IsRising}
-use Rattle.lock_tree.specs.Placing.{place_of}
+use Rattle.lock_tree.specs.Placing.{place_numbered}
 use Rattle.lock_tree.specs.Views.{all_waiting, enqueued}
 use Rattle.lock_tree.specs.Open.{open_of}
 
@@ -28,6 +28,6 @@ pub record HasPlace (t : Transactions) : Type 0 where
 -- the one with a number stands at its place
 pub record IsFound (es : List Enqueued) (number : ℕ) (e : Enqueued) : Type 0 where
   pub place : ℕ
-  pub exact : place_of number (all_waiting es) ≡ Some place
+  pub exact : place_numbered number (all_waiting es) ≡ Some place
   pub within : place < length es
   pub there : e ≡ slice_index_or es place e

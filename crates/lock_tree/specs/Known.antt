@@ -14,7 +14,8 @@ granted_in queues number plan = list_all (λ e. has_number number (granted (queu
 -- it knows that it is ready, but for requests that were granted lately
 pub record Knows (queues : Resource → Queue) (lately : Queue) (entry : Enqueued) : Type 0 where
   pub sound : entry.ready ≡ true → granted_in queues entry.no entry.plan.value ≡ true
-  pub complete : granted_in queues entry.no entry.plan.value ≡ true → (entry.ready ≡ true) ⊎ (has_number entry.no lately ≡ true)
+  pub complete : granted_in queues entry.no entry.plan.value ≡ true
+      → (entry.ready ≡ true) ⊎ (has_number entry.no lately ≡ true)
 
 abbrev pub AreKnown : (Resource → Queue) → Queue → List Enqueued → Type 0
 AreKnown queues lately entries = AllByRecursion (Knows queues lately) entries

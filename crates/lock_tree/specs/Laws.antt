@@ -25,15 +25,19 @@ pub record GrantsLongestFront : Type 0 where
 abbrev pub ReadyApart : Type 0
 ReadyApart =
     (waiting : List Waiting) → IsRising waiting → (i k : ℕ) → i < k → (p q : Requests)
-    → plan_of waiting i ≡ Some p → plan_of waiting k ≡ Some q → IsWellFormed p → IsWellFormed q → ready waiting k ≡ true → ModesClash p q → ⊥
+    → plan_of waiting i ≡ Some p → plan_of waiting k ≡ Some q → IsWellFormed p → IsWellFormed q → ready waiting k ≡ true
+    → ModesClash p q → ⊥
 
 -- the first of all is ready
 abbrev pub FirstReady : Type 0
 FirstReady = (w : Waiting) (ws : List Waiting) → ready (w ∷ ws) w.no ≡ true
 
--- a ready transaction stays ready until it is released: when one more is enqueued, when any is marked or unmarked, and when
--- another is released
+-- a ready transaction stays ready until it is released: when one more is enqueued, when any is marked or unmarked, and
+-- when another is released
 pub record ReadyStays : Type 0 where
-  pub enqueued : (waiting : List Waiting) (more : Waiting) (number : ℕ) → ready waiting number ≡ true → ready (waiting ++ more ∷ []) number ≡ true
-  pub marked : (waiting : List Waiting) (other : ℕ) (mark : Bool) (number : ℕ) → ready waiting number ≡ true → ready (with_mark other mark waiting) number ≡ true
-  pub released : (waiting : List Waiting) (other number : ℕ) → other ≢ number → ready waiting number ≡ true → ready (without other waiting) number ≡ true
+  pub enqueued : (waiting : List Waiting) (more : Waiting) (number : ℕ) → ready waiting number ≡ true
+      → ready (waiting ++ more ∷ []) number ≡ true
+  pub marked : (waiting : List Waiting) (other : ℕ) (mark : Bool) (number : ℕ) → ready waiting number ≡ true
+      → ready (with_mark other mark waiting) number ≡ true
+  pub released : (waiting : List Waiting) (other number : ℕ) → other ≢ number → ready waiting number ≡ true
+      → ready (without other waiting) number ≡ true

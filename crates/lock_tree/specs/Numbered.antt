@@ -29,19 +29,24 @@ abbrev pub gap : List (List ℕ) → Option ℕ → ℕ
 gap queues None = 0
 gap queues (Some number) = none (slice_index_or queues number [])
 
--- each number is a resource's whose queue has nodes, or it is vacant; the one that is open is a resource's in any case. The resource is noted by its number.
--- So there is a number left where a node is free, and room to note each
+-- each number is a resource's whose queue has nodes, or it is vacant; the one that is open is a resource's in any case.
+-- The resource is noted by its number. So there is a number left where a node is free, and room to note each
 pub record IsNumbered (lines : Lines) (open_one : Option ℕ) : Type 0 where
   pub few : length lines.lines.items ≤ length lines.nodes.held
   pub many : length lines.nodes.queues ≡ length lines.nodes.held
   pub small : length lines.nodes.held < 2 ^ 32
-  pub named : (r : Resource) (number : ℕ) → number_of lines r ≡ Some number → (number < length lines.lines.items) × (nodes_of lines.nodes number ≡ [] → open_one ≡ Some number)
-  pub noted : (r : Resource) (number : ℕ) → number_of lines r ≡ Some number → slice_get lines.resources.items number ≡ Some r
+  pub named : (r : Resource) (number : ℕ) → number_of lines r ≡ Some number
+      → (number < length lines.lines.items) × (nodes_of lines.nodes number ≡ [] → open_one ≡ Some number)
+  pub noted : (r : Resource) (number : ℕ) → number_of lines r ≡ Some number
+      → slice_get lines.resources.items number ≡ Some r
   pub as_many : length lines.resources.items ≡ length lines.lines.items
   pub fresh : (number : ℕ) → length lines.lines.items ≤ number → nodes_of lines.nodes number ≡ []
-  pub vacant : (i number : ℕ) → slice_get lines.vacant.items i ≡ Some number → (number < length lines.lines.items) × (nodes_of lines.nodes number ≡ []) × (open_one ≡ Some number → ⊥)
-  pub apart : (i j number : ℕ) → slice_get lines.vacant.items i ≡ Some number → slice_get lines.vacant.items j ≡ Some number → i ≡ j
-  pub count : length lines.lines.items ≡ occupied lines.nodes.queues + length lines.vacant.items + gap lines.nodes.queues open_one
+  pub vacant : (i number : ℕ) → slice_get lines.vacant.items i ≡ Some number
+      → (number < length lines.lines.items) × (nodes_of lines.nodes number ≡ []) × (open_one ≡ Some number → ⊥)
+  pub apart : (i j number : ℕ) → slice_get lines.vacant.items i ≡ Some number
+      → slice_get lines.vacant.items j ≡ Some number → i ≡ j
+  pub count : length lines.lines.items
+      ≡ occupied lines.nodes.queues + length lines.vacant.items + gap lines.nodes.queues open_one
   pub room : total lines.nodes.queues + free_nodes lines.nodes.held ≤ length lines.nodes.held
   pub lines_fit : length lines.nodes.held ≤ vec_capacity lines.lines
   pub resources_fit : length lines.nodes.held ≤ vec_capacity lines.resources

@@ -17,7 +17,8 @@ places_before number [] = 0
 places_before number (x ∷ xs) = if nat_lt x number then places_before number xs + 1 else 0
 
 abbrev pub front_with : ℕ → Bool → ℕ → List ℕ → List ℕ
-front_with number there x xs = if x == number then (if there then x ∷ xs else xs) else (if there then number ∷ x ∷ xs else x ∷ xs)
+front_with number there x xs =
+    if x == number then (if there then x ∷ xs else xs) else (if there then number ∷ x ∷ xs else x ∷ xs)
 
 -- rising numbers with one more, or without it
 abbrev pub placed : ℕ → Bool → List ℕ → List ℕ

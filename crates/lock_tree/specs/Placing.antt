@@ -4,6 +4,6 @@ use Rattle.std.specs.Prelude.{ℕ, ◌+◌, ◌==◌, if◌then◌else◌, List,
 use Rattle.lock_tree.specs.Locks.{Waiting}
 
 -- the place of the transaction with a number
-abbrev pub place_of : ℕ → List Waiting → Option ℕ
-place_of number [] = None
-place_of number (w ∷ ws) = if w.no == number then Some 0 else option_map (λ n. n + 1) (place_of number ws)
+abbrev pub place_numbered : ℕ → List Waiting → Option ℕ
+place_numbered number [] = None
+place_numbered number (w ∷ ws) = if w.no == number then Some 0 else option_map (λ n. n + 1) (place_numbered number ws)

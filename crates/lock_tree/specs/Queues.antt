@@ -30,7 +30,8 @@ queue resource (w ∷ ws) = asks w.no (mode_on resource w.plan) (queue resource 
 -- what is granted of a queue: its longest front whose members are compatible with each other, and with what is held
 abbrev pub granted_beside : List Mode → Queue → Queue
 granted_beside held [] = []
-granted_beside held (q ∷ qs) = if list_all (λ h. are_compatible h q.1) held then q ∷ granted_beside (q.1 ∷ held) qs else []
+granted_beside held (q ∷ qs) =
+    if list_all (λ h. are_compatible h q.1) held then q ∷ granted_beside (q.1 ∷ held) qs else []
 
 abbrev pub granted : Queue → Queue
 granted queue = granted_beside [] queue

@@ -19,7 +19,9 @@ abbrev pub enqueued : Transactions → List Enqueued
 enqueued t = values_of t.entries.entries
 
 abbrev pub waiting_code : Coded Waiting
-waiting_code = code_by (ℕ × (Requests × Bool)) (coded× coded_ℕ (coded× requests_code coded_bool)) (λ w. (w.no, (w.plan, w.marked))) (λ p. record { no = p.0; plan = p.1.0; marked = p.1.1 }) (λ _. refl)
+waiting_code = code_by (ℕ × (Requests × Bool)) (coded× coded_ℕ (coded× requests_code coded_bool))
+    (λ w. (w.no, (w.plan, w.marked))) (λ p. record { no = p.0; plan = p.1.0; marked = p.1.1 }) (λ _. refl)
 
 abbrev pub locks_code : Coded Locks
-locks_code = code_by (ℕ × List Waiting) (coded× coded_ℕ (coded_list waiting_code)) (λ l. (l.arena, l.waiting)) (λ p. record { arena = p.0; waiting = p.1 }) (λ _. refl)
+locks_code = code_by (ℕ × List Waiting) (coded× coded_ℕ (coded_list waiting_code)) (λ l. (l.arena, l.waiting))
+    (λ p. record { arena = p.0; waiting = p.1 }) (λ _. refl)

@@ -8,8 +8,8 @@ use request_arena::NodeId;
 use std::marker::Model;
 use std::snapshot::Snapshot;
 
-/// A transaction, and whether each of its requests is granted, in few bytes: `head` says nothing where it has no node. Its number and
-/// its plan are there as clauses see them, which takes no room.
+/// A transaction, and whether each of its requests is granted, in few bytes: `head` says nothing where it has no node.
+/// Its number and its plan are there as clauses see them, which takes no room.
 #[derive(Drop)]
 pub(crate) struct Enqueued {
     no: Snapshot<u64>,
@@ -29,7 +29,14 @@ impl Model for Enqueued {
 
     ghost coded = { enqueued_code };
 
-    ghost view = { λ e. record { no = e.no.value; plan = record { value = e.plan.value }; head = if e.has_head then Some e.head else None; marked = e.marked; ready = e.ready } };
+    ghost view = { λ e. record {
+      no = e.no.value;
+      plan = record { value = e.plan.value };
+      head = if e.has_head then Some e.head
+          else None;
+      marked = e.marked;
+      ready = e.ready;
+    } };
 }
 
 impl Enqueued {

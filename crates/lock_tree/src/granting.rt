@@ -1,6 +1,6 @@
 //! Nodes that come into a queue and leave it, and what is granted then.
 
-ghost use Rattle.std.specs.Prelude.{◌≡◌, ◌<◌, ◌≤◌, ◌+◌, ◌^◌, ℕ, true, false, Some, None, IfSome, length, slice_get, slice_index_or};
+ghost use Rattle.std.specs.Prelude.{◌≡◌, ◌<◌, ◌+◌, ◌^◌, ℕ, true, false, Some, None, IfSome, length, slice_get};
 ghost use Rattle.request_arena.specs.Lists.{free_nodes, IsLive, EndsChain, BeginsChain};
 ghost use Rattle.request_arena.specs.Pushes.{Pushed};
 ghost use Rattle.lock_tree.specs.declared.line.Line.{Line as AnyLine};
@@ -8,13 +8,14 @@ ghost use Rattle.lock_tree.specs.Queues.{granted, has_number};
 ghost use Rattle.lock_tree.specs.Lines.{nodes_of, in_order, request_at, numbers_of, others, AllUnder};
 ghost use Rattle.lock_tree.specs.Numbered.{IsNumbered};
 ghost use Rattle.lock_tree.specs.Granted.{IsFront, Stays, AreGranted};
-ghost use Rattle.lock_tree.specs.Steps.{AreLive, IsAdded, IsRemoved, IsLeft};
+ghost use Rattle.lock_tree.specs.Steps.{AreLive, IsAdded, IsLeft};
+ghost use Rattle.request_arena.specs.Removals.{IsRemoved};
 
 use crate::line::Line;
 use crate::lines::Lines;
 use request_arena::{Full, NodeId, Queues, Request};
 
-/// Goes on behind what is granted of a queue, as long as each request is compatible with all before it.
+/// Goes on after what is granted of a queue, as long as each request is compatible with all before it.
 fn extended(lines: &Lines, number: usize) -> Line
     requires live { AreLive lines.now.nodes }
     requires few { length (nodes_of lines.now.nodes number) < 2 ^ 32 }
@@ -51,7 +52,7 @@ fn push(nodes: &mut Queues, number: usize, tail: Option<NodeId>, request: Reques
     }
 }
 
-/// Puts a request at the back of a queue, and behind the tail of its transaction. A node is free.
+/// Puts a request at the back of a queue, and after the tail of its transaction. A node is free.
 pub(crate) fn add(
     lines: &mut Lines,
     number: usize,
@@ -66,8 +67,10 @@ pub(crate) fn add(
     requires above { AllUnder request.no (numbers_of (in_order lines.old.nodes number)) }
     ensures { IsAdded lines.old number tail request result lines.new }
 {
+    // proof: a node stands at one place of one queue.
     lines.nodes.nodes_stand_apart();
     let node = push(&mut lines.nodes, number, tail, request);
+    // proof: a node stands at one place of one queue.
     lines.nodes.nodes_stand_apart();
     let waiting = lines.lines[number].waiting.or(Some(node));
     lines.lines[number].waiting = waiting;
@@ -84,6 +87,7 @@ pub(crate) fn is_granted(lines: &Lines, number: usize, no: u64) -> bool
         × ((request_at lines.now.nodes.held a).0 ≡ no) }
     ensures { result ≡ has_number no (granted (in_order lines.now.nodes number)) }
 {
+    // proof: a node stands at one place of one queue.
     lines.nodes.nodes_stand_apart();
     match lines.lines[number].waiting {
         Some(node) => no < lines.nodes.get(node).no,
@@ -111,6 +115,7 @@ fn without(lines: &Lines, number: usize, node: NodeId, no: u64) -> Line
     requires owned { (request_at lines.now.nodes.held node).0 ≡ no }
     ensures { Stays lines.now.nodes.held (nodes_of lines.now.nodes number) node no result }
 {
+    // proof: a node stands at one place of one queue.
     lines.nodes.nodes_stand_apart();
     let mut line = lines.lines[number];
     if is_granted(lines, number, no) {
@@ -137,10 +142,10 @@ fn take_out(nodes: &mut Queues, node: NodeId) -> Option<NodeId>
 #[derive(Clone, Copy)]
 pub(crate) struct Left {
     /// The next of its chain.
-    pub(crate) behind: Option<NodeId>,
+    pub(crate) successor: Option<NodeId>,
     /// How many of the others were granted before.
     pub(crate) stay: u32,
-    /// The one behind these in the queue.
+    /// The one after these in the queue.
     pub(crate) first: Option<NodeId>,
 }
 
@@ -153,16 +158,18 @@ pub(crate) fn leave(lines: &mut Lines, number: usize, node: NodeId, no: u64) -> 
     requires owned { (request_at lines.old.nodes.held node).0 ≡ no }
     requires live { IsLive lines.old.nodes node }
     requires begins { BeginsChain lines.old.nodes node }
-    ensures left { IsLeft lines.old number no node result.behind lines.new }
+    ensures left { IsLeft lines.old number no node result.successor lines.new }
     ensures stay { result.stay ≡ length (others no (granted (in_order lines.old.nodes number))) }
     ensures first { result.first ≡ slice_get (nodes_of lines.new.nodes number) result.stay }
 {
+    // proof: a node stands at one place of one queue.
     lines.nodes.nodes_stand_apart();
     let line = without(lines, number, node, no);
-    let behind = take_out(&mut lines.nodes, node);
+    let successor = take_out(&mut lines.nodes, node);
+    // proof: a node stands at one place of one queue.
     lines.nodes.nodes_stand_apart();
     let left = Left {
-        behind,
+        successor,
         stay: line.granted,
         first: line.waiting,
     };

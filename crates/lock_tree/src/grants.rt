@@ -24,7 +24,7 @@ pub(crate) fn are_granted(lines: &Lines, entry: &Enqueued, no: u64) -> bool
         if !is_granted(lines, lines.nodes.queue_of(node), no) {
             return false;
         }
-        head = lines.nodes.behind(node);
+        head = lines.nodes.successor(node);
     }
     true
 }

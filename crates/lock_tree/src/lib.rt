@@ -2,19 +2,19 @@
 #![tactic(auto)]
 
 mod enqueued;
+mod enqueueing;
 mod granting;
 mod grants;
 mod held;
-mod joining;
 mod laws;
 mod line;
 mod lines;
-mod noting;
 mod numbering;
-mod opening;
 mod queues;
+mod release;
 mod requested;
 mod resource_key;
+mod rising_numbers;
 mod transactions;
 mod tree;
 

@@ -8,8 +8,8 @@ ghost use Rattle.lock_tree.specs.Granted.{IsEmpty};
 use crate::held::Held;
 use request_arena::NodeId;
 
-/// How many requests of a queue are granted from the front on, how many of these in each mode, and the first of those that
-/// wait.
+/// How many requests of a queue are granted from the front on, how many of these in each
+/// mode, and the first of those that wait.
 #[derive(Clone, Copy)]
 pub(crate) struct Line {
     pub(crate) granted: u32,
@@ -17,7 +17,7 @@ pub(crate) struct Line {
     pub(crate) waiting: Option<NodeId>,
 }
 
-/// Puts the line of an empty queue behind the others. There is room for it.
+/// Puts the line of an empty queue after the others. There is room for it.
 pub(crate) fn push_empty(lines: &mut Vec<Line>)
     requires { vec_len lines.old < vec_capacity lines.old }
     ensures lines { (line : AnyLine) × (lines.new.items ≡ lines.old.items ++ line ∷ []) × IsEmpty line }

@@ -17,8 +17,8 @@ use std::alloc::Global;
 use std::collections::HashMap;
 use values::NoMemory;
 
-/// The requests on each resource, in order: each is a node of a queue, and of the chain of its transaction. A resource that
-/// anyone asks for has the number of a queue; the number of a queue that became empty is vacant.
+/// The requests on each resource, in order: each is a node of a queue, and of the chain of its transaction. A resource
+/// that anyone asks for has the number of a queue; the number of a queue that became empty is vacant.
 #[derive(Drop)]
 pub(crate) struct Lines {
     pub(crate) nodes: Queues,
@@ -39,6 +39,7 @@ impl Lines {
         ensures free { IfOk result (λ lines. free_nodes lines.nodes.held ≡ arena) }
     {
         let nodes = Queues::with_capacity(alloc, arena, arena)?;
+        // proof: there are fewer nodes than numbers for them.
         nodes.nodes_are_few();
         Ok(Lines {
             nodes,

@@ -1,7 +1,6 @@
 //! The numbers of queues.
 
 ghost use Rattle.std.specs.Prelude.{◌≡◌, ◌<◌, [], Some, None, length, slice_get};
-ghost use Rattle.footprint.specs.declared.resource.Resource.{Resource as AnyResource};
 ghost use Rattle.request_arena.specs.Lists.{free_nodes};
 ghost use Rattle.lock_tree.specs.Lines.{number_of, nodes_of, HasRoom};
 ghost use Rattle.lock_tree.specs.Numbered.{IsNumbered};

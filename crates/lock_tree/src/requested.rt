@@ -6,18 +6,18 @@ ghost use Rattle.lock_tree.specs.Ready.{ready, IsNextReady};
 ghost use Rattle.lock_tree.specs.Enqueues.{AreBelow};
 
 use crate::enqueued::Enqueued;
-use crate::joining::join;
+use crate::enqueueing::enqueue_transaction;
 use crate::lines::Lines;
-use crate::noting::leave_all;
-use crate::opening::least;
+use crate::release::leave_all;
+use crate::rising_numbers::least;
 use crate::transactions::Transactions;
 use coarsen::Plan;
 use std::alloc::Global;
 use std::marker::Model;
 use values::NoMemory;
 
-/// What was requested: transactions with their plans, in the order in which they were enqueued, and a mark on some of them.
-/// Contracts see the list of them.
+/// What was requested: transactions with their plans, in the order in which they were enqueued, and a mark on some of
+/// them. Contracts see the list of them.
 #[derive(Drop)]
 pub(crate) struct Requested {
     arena: usize,
@@ -61,7 +61,7 @@ impl Requested {
         plan.requests().len() <= self.lines.nodes.free()
     }
 
-    /// Puts a transaction behind all others, without a mark. On an error nothing has changed.
+    /// Puts a transaction after all others, without a mark. On an error nothing has changed.
     pub(crate) fn enqueue(&mut self, no: u64, plan: &Plan) -> Result<(), NoMemory>
         requires below { AreBelow no self.old.waiting }
         requires room { used self.old.waiting + length plan.now ≤ self.old.arena }
@@ -74,7 +74,7 @@ impl Requested {
     {
         self.transactions.make_place()?;
         self.lines.make_room(plan.requests().len())?;
-        join(
+        enqueue_transaction(
             &mut self.lines,
             &mut self.transactions,
             plan.requests(),

@@ -4,12 +4,12 @@ ghost use Rattle.std.specs.Prelude.{◌≡◌, ◌∷◌, [], ◌++◌, ◌≤�
 ghost use Rattle.std.specs.VecDeque.{deque_len, deque_capacity};
 ghost use Rattle.lock_tree.specs.Entered.{Enqueued as AnyEnqueued};
 ghost use Rattle.lock_tree.specs.Enqueues.{AreBelow};
-ghost use Rattle.lock_tree.specs.Placing.{place_of};
+ghost use Rattle.lock_tree.specs.Placing.{place_numbered};
 ghost use Rattle.lock_tree.specs.Views.{all_waiting, enqueued};
 ghost use Rattle.lock_tree.specs.Open.{is_open, placed, AreRising};
 
 use crate::enqueued::Enqueued;
-use crate::opening::{put, take_out};
+use crate::rising_numbers::{put, take_out};
 use std::alloc::Global;
 use std::collections::{BTreeMap, VecDeque};
 use values::NoMemory;
@@ -22,7 +22,7 @@ pub(crate) struct Transactions {
 }
 
 /// Notes whether a transaction is open.
-fn note_open(numbers: &mut VecDeque<u64>, entry: &Enqueued, no: u64)
+fn record_open(numbers: &mut VecDeque<u64>, entry: &Enqueued, no: u64)
     requires owner { entry.now.no ≡ no }
     requires rising { AreRising numbers.old.items }
     requires room { is_open entry.now ≡ true →
@@ -37,7 +37,7 @@ fn note_open(numbers: &mut VecDeque<u64>, entry: &Enqueued, no: u64)
     }
 }
 
-/// Notes whether a transaction that comes behind the others is open.
+/// Notes whether a transaction that comes after the others is open.
 pub(crate) fn push_open(numbers: &mut VecDeque<u64>, entry: &Enqueued, no: u64)
     requires owner { entry.now.no ≡ no }
     requires room { deque_len numbers.old < deque_capacity numbers.old }
@@ -79,12 +79,12 @@ impl Transactions {
     pub(crate) fn get(&self, no: u64) -> Option<&Enqueued>
         requires { IsIndexed self.now }
         ensures found { IfSome result (λ entry. IsFound (enqueued self.now) no entry.now) }
-        ensures none { IfNone result (place_of no (all_waiting (enqueued self.now)) ≡ None) }
+        ensures none { IfNone result (place_numbered no (all_waiting (enqueued self.now)) ≡ None) }
     {
         self.entries.get(&no)
     }
 
-    /// Puts a transaction that is not ready behind the others. There is room for it among the open ones.
+    /// Puts a transaction that is not ready after the others. There is room for it among the open ones.
     pub(crate) fn push(&mut self, no: u64, entry: Enqueued) -> Result<(), NoMemory>
         requires owner { entry.no ≡ no }
         requires indexed { IsIndexed self.old }
@@ -103,14 +103,17 @@ impl Transactions {
     pub(crate) fn set_mark(&mut self, no: u64, mark: bool)
         requires { IsIndexed self.old }
         ensures indexed { IsIndexed self.new }
-        ensures there { (place : ℕ) (d : AnyEnqueued) → place_of no (all_waiting (enqueued self.old)) ≡ Some place →
+        ensures there { (place : ℕ) (d : AnyEnqueued) →
+            place_numbered no (all_waiting (enqueued self.old)) ≡ Some place →
             enqueued self.new
-            ≡ slice_set (enqueued self.old) place (record (slice_index_or (enqueued self.old) place d) { marked = mark }) }
-        ensures none { place_of no (all_waiting (enqueued self.old)) ≡ None → enqueued self.new ≡ enqueued self.old }
+            ≡ slice_set (enqueued self.old) place
+            (record (slice_index_or (enqueued self.old) place d) { marked = mark }) }
+        ensures none { place_numbered no (all_waiting (enqueued self.old)) ≡ None →
+            enqueued self.new ≡ enqueued self.old }
     {
         if let Some(entry) = self.entries.get_mut(&no) {
             entry.set_mark(mark);
-            note_open(&mut self.open, entry, no);
+            record_open(&mut self.open, entry, no);
         }
     }
 
@@ -118,14 +121,17 @@ impl Transactions {
     pub(crate) fn set_ready(&mut self, no: u64, ready: bool)
         requires { IsIndexed self.old }
         ensures indexed { IsIndexed self.new }
-        ensures there { (place : ℕ) (d : AnyEnqueued) → place_of no (all_waiting (enqueued self.old)) ≡ Some place →
+        ensures there { (place : ℕ) (d : AnyEnqueued) →
+            place_numbered no (all_waiting (enqueued self.old)) ≡ Some place →
             enqueued self.new
-            ≡ slice_set (enqueued self.old) place (record (slice_index_or (enqueued self.old) place d) { ready = ready }) }
-        ensures none { place_of no (all_waiting (enqueued self.old)) ≡ None → enqueued self.new ≡ enqueued self.old }
+            ≡ slice_set (enqueued self.old) place
+            (record (slice_index_or (enqueued self.old) place d) { ready = ready }) }
+        ensures none { place_numbered no (all_waiting (enqueued self.old)) ≡ None →
+            enqueued self.new ≡ enqueued self.old }
     {
         if let Some(entry) = self.entries.get_mut(&no) {
             entry.set_ready(ready);
-            note_open(&mut self.open, entry, no);
+            record_open(&mut self.open, entry, no);
         }
     }
 
@@ -134,9 +140,9 @@ impl Transactions {
         requires { IsIndexed self.old }
         ensures indexed { IsIndexed self.new }
         ensures found { IfSome result (IsFound (enqueued self.old) no) }
-        ensures entries { (place : ℕ) → place_of no (all_waiting (enqueued self.old)) ≡ Some place →
+        ensures entries { (place : ℕ) → place_numbered no (all_waiting (enqueued self.old)) ≡ Some place →
             enqueued self.new ≡ remove (enqueued self.old) place }
-        ensures none { IfNone result ((place_of no (all_waiting (enqueued self.old)) ≡ None)
+        ensures none { IfNone result ((place_numbered no (all_waiting (enqueued self.old)) ≡ None)
             × (enqueued self.new ≡ enqueued self.old)) }
     {
         let entry = self.entries.remove(&no)?;

@@ -22,8 +22,8 @@ pub enum EnqueueFault {
     NoMemory,
 }
 
-/// Transactions with their plans, in the order in which they were enqueued, and a mark on some of them. Contracts see the
-/// list of them.
+/// Transactions with their plans, in the order in which they were enqueued, and a mark on some of them. Contracts see
+/// the list of them.
 #[derive(Drop)]
 pub struct LockTree {
     alloc: Global,
@@ -48,8 +48,8 @@ impl Model for LockTree {
 }
 
 impl LockTree {
-    /// A tree with room for so many requests, and no transaction. This body never fails, since it makes the block of the requests with the
-    /// first of them; a caller is to expect a tree that makes it at once.
+    /// A tree with room for so many requests, and no transaction. This body never fails, since it makes the block of
+    /// the requests with the first of them; a caller is to expect a tree that makes it at once.
     pub fn new(alloc: Global, arena: usize) -> Result<LockTree, NoMemory>
         ensures { IfOk result (λ tree. tree ≡ record { arena = arena; waiting = [] }) }
     {
@@ -70,7 +70,7 @@ impl LockTree {
         }
     }
 
-    /// Puts a transaction behind all others, without a mark. Full exactly where there is less room than the plan has
+    /// Puts a transaction after all others, without a mark. Full exactly where there is less room than the plan has
     /// requests. On an error nothing has changed.
     pub fn enqueue(&mut self, no: u64, plan: &Plan) -> Result<(), EnqueueFault>
         requires { AreBelow no self.old.waiting }

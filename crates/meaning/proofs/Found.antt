@@ -13,7 +13,7 @@ use Rattle.footprint.specs.declared.resource.Resource.{Resource}
 use Rattle.footprint.specs.Rights.{FootprintOf, covers}
 use Rattle.meaning.specs.declared.outcome.Ending.{Ending}
 use Rattle.meaning.specs.declared.outcome.Ending.TheVariants as endings
-use Rattle.meaning.specs.Runs.{Access, State, Ran, continued, and_then, ok, abort, look, alter, passing, tested, covered, noted, noting}
+use Rattle.meaning.specs.Runs.{Access, State, Ran, continued, and_then, ok, abort, look, alter, passing, tested, covered, recorded, recording}
 use Rattle.meaning.specs.Partitions.{part_rows}
 use Rattle.meaning.specs.Entries.{Reply, stale, start, finished, end_of, nothing}
 use Rattle.meaning.specs.Frame.{Agree}
@@ -22,7 +22,7 @@ use Rattle.meaning.proofs.Frame.{stays}
 use Rattle.meaning.proofs.Greatest.{has_greatest_rights}
 use Rattle.meaning.proofs.Related.{Any, HangsOnTheRest, ChangesTheRest, Relation, block_related}
 
--- without what was noted
+-- without what was recorded
 abbrev bare : State → State
 bare s = record s { accesses = [] }
 
@@ -35,7 +35,7 @@ Gives Q (Ok x) = Q x
 Gives Q (Err (endings.Abort code)) = Unit {0}
 Gives Q (Err endings.Stale) = ⊥
 
--- How the second run stands beside the first, by whether all was covered that the first had noted before, and after: it does the
+-- How the second run stands beside the first, by whether all was covered that the first had recorded before, and after: it does the
 -- same up to the first access that is not covered, and there it ends as stale. What was left uncovered stays so.
 abbrev Beside : {A : Type 0} → Bool → Bool → Result A Ending × State → Result A Ending × State → Type 0
 Beside true true r q = q ≡ bared r
@@ -74,14 +74,14 @@ module _ (tables : List TableShape) (fo : FootprintOf) where
   abbrev passes : Access → Bool
   passes access = covers fo access.0 access.1
 
-  -- all that was noted is covered
+  -- all that was recorded is covered
   abbrev within : State → Bool
   within s = list_all passes s.accesses
 
   abbrev FollowsFrom : {A : Type 0} → (A → Type 0) → State → Result A Ending × State → Result A Ending × State → Type 0
   FollowsFrom Q s r q = Gives Q r.0 × Beside (within s) (within r.1) r q
 
-  -- the second run, from a state where nothing was noted, beside the first
+  -- the second run, from a state where nothing was recorded, beside the first
   abbrev Follows : {A : Type 0} → (A → Type 0) → Ran A → Ran A → Type 0
   Follows Q f g = (s : State) → FollowsFrom Q s (f s) (g (bare s))
 
@@ -115,7 +115,7 @@ module _ (tables : List TableShape) (fo : FootprintOf) where
             (subst (λ (b : Bool). Beside b (within (f s)) (Ok tt, f s) (Ok tt, bare (f s))) (ap within kept) (unmoved (within (f s)) (Ok tt, f s))),
       )
 
-  access : (resource : Resource) (right : Right) → Follows Any (noted resource right) (tested fo endings.Stale resource right)
+  access : (resource : Resource) (right : Right) → Follows Any (recorded resource right) (tested fo endings.Stale resource right)
   access resource right s =
       let left : State = record s { accesses = s.accesses ++ (resource, right) ∷ [] } in (
         tt,
@@ -123,7 +123,7 @@ module _ (tables : List TableShape) (fo : FootprintOf) where
             (access_beside (within s) (covers fo resource right) s left refl),
       )
 
-  abbrev following : Relation tables noted (tested fo endings.Stale)
+  abbrev following : Relation tables recorded (tested fo endings.Stale)
   following = record {
     Related = Follows;
     Passed = λ resource right. Unit {0};
@@ -162,7 +162,7 @@ all_pass p (a ∷ accesses) h =
 
 module _ (tables : List TableShape) (body : List StmtSyntax) (arguments : List Value) (read : Database) where
   abbrev run : Result (Unit {0}) Ending × State
-  run = end_of nothing (noting tables) body arguments read
+  run = end_of nothing (recording tables) body arguments read
 
   -- the run of an entry that finds the footprint
   abbrev again : FootprintOf → Result (Unit {0}) Ending × State

@@ -13,7 +13,7 @@ use Rattle.footprint.specs.Tree.{resource_cmp}
 use Rattle.footprint.specs.Rights.{is_at_least, greater, with_right, covers}
 use Rattle.footprint.proofs.Resources.{resources_total, exact_resources}
 use Rattle.meaning.specs.Runs.{Access}
-use Rattle.meaning.specs.Reconnaissance.{is_of, greatest_right, greatest_rights, HasGreatestRights}
+use Rattle.meaning.specs.Reconnaissance.{is_access_of, greatest_right, greatest_rights, HasGreatestRights}
 use Rattle.meaning.proofs.Frame.{is_equal}
 
 same_resource : (r q : Resource) → eq_by_cmp resource_cmp r q ≡ true → r ≡ q
@@ -24,10 +24,10 @@ itself r = (eq_by_cmp_equiv resources_total).refl r
 
 -- one of the accesses is of the resource, and one of them writes it
 abbrev has : List Access → Resource → Bool
-has accesses r = list_any (is_of r) accesses
+has accesses r = list_any (is_access_of r) accesses
 
 abbrev writes : List Access → Resource → Bool
-writes accesses r = list_any (λ access. is_of r access && is_at_least Write (Some access.1)) accesses
+writes accesses r = list_any (λ access. is_access_of r access && is_at_least Write (Some access.1)) accesses
 
 abbrev greatest : Bool → Right
 greatest b = if b then Write else Read
@@ -64,7 +64,7 @@ and_right false b e = absurd (cc)
 written_is_had : (accesses : List Access) (r : Resource) → writes accesses r ≡ true → has accesses r ≡ true
 written_is_had [] r e = e
 written_is_had (a ∷ accesses) r e =
-    or_more (is_of r a && is_at_least Write (Some a.1)) (writes accesses r) (is_of r a) (has accesses r) (and_left (is_of r a) (is_at_least Write (Some a.1))) (written_is_had accesses r) e
+    or_more (is_access_of r a && is_at_least Write (Some a.1)) (writes accesses r) (is_access_of r a) (has accesses r) (and_left (is_access_of r a) (is_at_least Write (Some a.1))) (written_is_had accesses r) e
 
 new_right : (x : Right) → greatest (is_at_least Write (Some x) || false) ≡ x
 new_right Read = refl
@@ -84,11 +84,11 @@ one_step false false false x o f g = refl
 pub one_more : (accesses : List Access) (access : Access) → greatest_rights (accesses ++ access ∷ []) ≡ with_right (greatest_rights accesses) access.0 access.1
 one_more accesses a = same_map resources_total exact_resources _ _ (λ q.
     at_resource (accesses ++ a ∷ []) q
-    ∙ ap (λ (b : Bool). cond b (Some (greatest (writes (accesses ++ a ∷ []) q))) None) (list_any-append (is_of q) accesses (a ∷ []))
-    ∙ ap (λ (b : Bool). cond (has accesses q || (is_of q a || false)) (Some (greatest b)) None) (list_any-append (λ access. is_of q access && is_at_least Write (Some access.1)) accesses (a ∷ []))
-    ∙ one_step (has accesses q) (writes accesses q) (is_of q a) a.1 (get (greatest_rights accesses) a.0) (written_is_had accesses q)
+    ∙ ap (λ (b : Bool). cond b (Some (greatest (writes (accesses ++ a ∷ []) q))) None) (list_any-append (is_access_of q) accesses (a ∷ []))
+    ∙ ap (λ (b : Bool). cond (has accesses q || (is_access_of q a || false)) (Some (greatest b)) None) (list_any-append (λ access. is_access_of q access && is_at_least Write (Some access.1)) accesses (a ∷ []))
+    ∙ one_step (has accesses q) (writes accesses q) (is_access_of q a) a.1 (get (greatest_rights accesses) a.0) (written_is_had accesses q)
     (λ e. ap (get (greatest_rights accesses)) (sym (same_resource q a.0 e)) ∙ at_resource accesses q)
-    ∙ ap (cond (is_of q a) (Some (greater (get (greatest_rights accesses) a.0) a.1))) (sym (at_resource accesses q))
+    ∙ ap (cond (is_access_of q a) (Some (greater (get (greatest_rights accesses) a.0) a.1))) (sym (at_resource accesses q))
     ∙ sym (get-insert resources_total (greatest_rights accesses) a.0 (greater (get (greatest_rights accesses) a.0) a.1) q))
 
 -- ---- the greatest rights
@@ -97,11 +97,11 @@ abbrev AtLeast : List Access → Resource → Right → Type 0
 AtLeast accesses r x = is_at_least x (get (greatest_rights accesses) r) ≡ true
 
 one_of : (accesses : List Access) (r : Resource) (x : Right) → Contains accesses (r, x) → has accesses r ≡ true
-one_of accesses r x c = list_any_at (is_of r) accesses c.0 (r, x) c.1 (ap (is_of r) c.2 ∙ itself r)
+one_of accesses r x c = list_any_at (is_access_of r) accesses c.0 (r, x) c.1 (ap (is_access_of r) c.2 ∙ itself r)
 
 one_writes : (accesses : List Access) (r : Resource) → Contains accesses (r, Write) → writes accesses r ≡ true
-one_writes accesses r c = list_any_at (λ access. is_of r access && is_at_least Write (Some access.1)) accesses c.0 (r, Write) c.1
-    (ap (λ (access : Access). is_of r access && is_at_least Write (Some access.1)) c.2 ∙ ap (λ b. b && true) (itself r))
+one_writes accesses r c = list_any_at (λ access. is_access_of r access && is_at_least Write (Some access.1)) accesses c.0 (r, Write) c.1
+    (ap (λ (access : Access). is_access_of r access && is_at_least Write (Some access.1)) c.2 ∙ ap (λ b. b && true) (itself r))
 
 at_least : (accesses : List Access) (r : Resource) (x : Right) → Contains accesses (r, x) → AtLeast accesses r x
 at_least accesses r Read c = ap (is_at_least Read) (at_resource accesses r ∙ ap (λ b. cond b (Some (greatest (writes accesses r))) None) (one_of accesses r Read c))
@@ -124,7 +124,7 @@ is_write : (x : Right) → is_at_least Write (Some x) ≡ true → x ≡ Write
 is_write Read e = absurd (cc)
 is_write Write e = refl
 
-pair_of : (a : Access) (r : Resource) (x : Right) → is_of r a ≡ true → a.1 ≡ x → a ≡ (r, x)
+pair_of : (a : Access) (r : Resource) (x : Right) → is_access_of r a ≡ true → a.1 ≡ x → a ≡ (r, x)
 pair_of a r x e is = λ i. (sym (same_resource r a.0 e) i, is i)
 
 -- an access at a place of the list is one of its accesses
@@ -133,15 +133,15 @@ contains accesses k a b less is same = (k, less, subst (λ (x : Access). slice_i
 
 a_write : (accesses : List Access) (r : Resource) → writes accesses r ≡ true → Contains accesses (r, Write)
 a_write accesses r e =
-    let any = Any-from_list_any (λ access. is_of r access && is_at_least Write (Some access.1)) accesses e in
+    let any = Any-from_list_any (λ access. is_access_of r access && is_at_least Write (Some access.1)) accesses e in
     let w = is_at_least Write (Some any.1.1) in
     contains accesses any.0 any.1 (r, Write) any.2 any.3
-    (pair_of any.1 r Write (and_left (is_of r any.1) w any.4) (is_write any.1.1 (and_right (is_of r any.1) w any.4)))
+    (pair_of any.1 r Write (and_left (is_access_of r any.1) w any.4) (is_write any.1.1 (and_right (is_access_of r any.1) w any.4)))
 
 a_read : (accesses : List Access) (r : Resource) → has accesses r ≡ true → writes accesses r ≡ false → Contains accesses (r, Read)
 a_read accesses r e n =
-    let any = Any-from_list_any (is_of r) accesses e in
-    let written = λ (access : Access). is_of r access && is_at_least Write (Some access.1) in
+    let any = Any-from_list_any (is_access_of r) accesses e in
+    let written = λ (access : Access). is_access_of r access && is_at_least Write (Some access.1) in
     contains accesses any.0 any.1 (r, Read) any.2 any.3
     (elim (is_at_least Write (Some any.1.1)) as (λ b. is_at_least Write (Some any.1.1) ≡ b → any.1 ≡ (r, Read)) [
       | true ↦ λ w.

@@ -12,7 +12,7 @@ use Rattle.footprint.specs.declared.abort_code.AbortCode.TheVariants.{TooLong}
 use Rattle.meaning.specs.declared.outcome.Ending.{Ending}
 use Rattle.meaning.specs.Runs.{State, Ran, continued, and_then, ok, look, provided, AccessRule, step, accessed, part_accessed, row_now, present, absent}
 use Rattle.meaning.specs.Meaning.{StandIn, int_of, bool_of, value_of, values_of, effect, in_order}
-use Rattle.meaning.specs.Order.{Operand, value_operand, condition, number_operand, operands_of, operand_values, row_reached, part_reached, first_number, tests_of, parts_in_order, EndsLike, GoesOnLike, is_plain, OperandsComeFirst}
+use Rattle.meaning.specs.Order.{Operand, value_operand, condition, number_operand, operands_of, operand_values, row_reached, part_reached, leading_number, tests_of, parts_in_order, EndsLike, GoesOnLike, is_plain, OperandsComeFirst}
 
 -- where the first ends the run the second ends it likewise, and where the first goes on, P holds of the second
 abbrev Led : {A B : Type 0} → (Result B Ending × State → Type 0) → Result A Ending × State → Result B Ending × State → Type 0
@@ -38,14 +38,14 @@ bind : {A B C : Type 0} (P : Result C Ending × State → Type 0) (f : Ran A) (h
 unfolding and_then
 bind P f h k n s = led_on P (f s) h k n
 
--- what stands behind a part that fails is left out
-led_behind : {A B C : Type 0} (r : Result A Ending × State) (q : Result B Ending × State) (k : B → Ran C) → Led (Any {B = B}) r q → Led (Any {B = C}) r (continued q k)
-led_behind (Ok x, s) q k l = tt
-led_behind {B = B} (Err e, s) q k l = ap (λ (p : Result B Ending × State). continued p k) l
+-- what comes after a part that fails is left out
+led_then : {A B C : Type 0} (r : Result A Ending × State) (q : Result B Ending × State) (k : B → Ran C) → Led (Any {B = B}) r q → Led (Any {B = C}) r (continued q k)
+led_then (Ok x, s) q k l = tt
+led_then {B = B} (Err e, s) q k l = ap (λ (p : Result B Ending × State). continued p k) l
 
-behind : {A B C : Type 0} (f : Ran A) (g : Ran B) (k : B → Ran C) → Leads (Any {B = B}) f g → Leads (Any {B = C}) f (and_then g k)
+leads_then : {A B C : Type 0} (f : Ran A) (g : Ran B) (k : B → Ran C) → Leads (Any {B = B}) f g → Leads (Any {B = C}) f (and_then g k)
 unfolding and_then
-behind f g k l s = led_behind (f s) (g s) k (l s)
+leads_then f g k l s = led_then (f s) (g s) k (l s)
 
 goes_on : {B C : Type 0} (q : Result B Ending × State) (x : C) → GoesOn q → GoesOn (continued q (λ y. ok x))
 goes_on (Ok y, s) x g = tt
@@ -100,7 +100,7 @@ unfolding and_then
 provided_first true code x k g s = g x s
 provided_first false code x k g s = refl
 
--- a plain statement goes on behind its parts
+-- a plain statement goes on after its parts
 abbrev After : Bool → Result (Unit {0}) Ending × State → Type 0
 After true q = GoesOn q
 After false q = Any q
@@ -179,7 +179,7 @@ module _ (d : StandIn) (rule : AccessRule) where
 
   in_a_block : (s : StmtSyntax) (rest : BlockSyntax) → EndsLike (parts_in_order d rule (operands_of s) (tests_of d rule s)) (in_order d rule (followed s rest))
   in_a_block s rest = ends_like Any (parts_in_order d rule (operands_of s) (tests_of d rule s)) (in_order d rule (followed s rest))
-      (bind Any step _ _ (λ u. behind (and_then (operand_values d rule (operands_of s)) (tests_of d rule s)) (effect d rule s) (λ v. in_order d rule rest)
+      (bind Any step _ _ (λ u. leads_then (and_then (operand_values d rule (operands_of s)) (tests_of d rule s)) (effect d rule s) (λ v. in_order d rule rest)
       (said_less (After (is_plain s)) (and_then (operand_values d rule (operands_of s)) (tests_of d rule s)) (effect d rule s) (statement s))))
 
   alone_in_a_block : (s : StmtSyntax) → is_plain s ≡ true → GoesOnLike (parts_in_order d rule (operands_of s) (tests_of d rule s)) (in_order d rule (followed s no_statements))
@@ -189,13 +189,13 @@ module _ (d : StandIn) (rule : AccessRule) where
 
   -- ---- expressions
 
-  count : (table : ℕ) (part : IntSyntax) → EndsLike (parts_in_order d rule (number_operand part ∷ []) (λ vs. part_reached rule table (first_number d vs))) (int_of d rule (count_rows table part))
+  count : (table : ℕ) (part : IntSyntax) → EndsLike (parts_in_order d rule (number_operand part ∷ []) (λ vs. part_reached rule table (leading_number d vs))) (int_of d rule (count_rows table part))
   count table part = ends_like Any _ _ (bind Any step _ _ (λ u. number_first Any part [] _ _ (λ z. none_left Any _ _ (bind Any (part_accessed rule table z) _ _ (λ p s. tt)))))
 
-  sum : (table : ℕ) (part : IntSyntax) (column : ℕ) → EndsLike (parts_in_order d rule (number_operand part ∷ []) (λ vs. part_reached rule table (first_number d vs))) (int_of d rule (sum_column table part column))
+  sum : (table : ℕ) (part : IntSyntax) (column : ℕ) → EndsLike (parts_in_order d rule (number_operand part ∷ []) (λ vs. part_reached rule table (leading_number d vs))) (int_of d rule (sum_column table part column))
   sum table part column = ends_like Any _ _ (bind Any step _ _ (λ u. number_first Any part [] _ _ (λ z. none_left Any _ _ (bind Any (part_accessed rule table z) _ _ (λ p s. tt)))))
 
-  test_of_a_row : (table : ℕ) (key : IntSyntax) → EndsLike (parts_in_order d rule (number_operand key ∷ []) (λ vs. row_reached rule Read table (first_number d vs))) (bool_of d rule (row_exists table key))
+  test_of_a_row : (table : ℕ) (key : IntSyntax) → EndsLike (parts_in_order d rule (number_operand key ∷ []) (λ vs. row_reached rule Read table (leading_number d vs))) (bool_of d rule (row_exists table key))
   test_of_a_row table key = ends_like Any _ _ (bind Any step _ _ (λ u. number_first Any key [] _ _ (λ z. none_left Any _ _ (bind Any (accessed rule Read table z) _ _ (λ name s. tt)))))
 
   operator : (op : IntOperator) (a b : IntSyntax) → EndsLike (operand_values d rule (number_operand a ∷ number_operand b ∷ [])) (int_of d rule (binary op a b))

@@ -28,7 +28,7 @@ use Rattle.footprint.specs.Arithmetic.{result_of}
 use Rattle.footprint.specs.Declaration.{number_or}
 use Rattle.meaning.specs.declared.outcome.Ending.{Ending}
 use Rattle.meaning.specs.declared.outcome.Ending.TheVariants as endings
-use Rattle.meaning.specs.Runs.{Access, State, Ran, continued, and_then, ok, ended, look, alter, provided, AccessRule, noted, noting, step, tested_key, computed, accessed, part_there, part_accessed, present, absent, set_row, remove_row, declare, with_variable, set_variable, scoped, replying}
+use Rattle.meaning.specs.Runs.{Access, State, Ran, continued, and_then, ok, ended, look, alter, provided, AccessRule, recorded, recording, step, tested_key, computed, accessed, part_there, part_accessed, present, absent, set_row, remove_row, declare, with_variable, set_variable, scoped, replying}
 use Rattle.meaning.specs.Comparing.{compare, compare_bytes}
 use Rattle.meaning.specs.Partitions.{part_rows, keys_of}
 use Rattle.meaning.specs.Turns.{numbers_between}
@@ -59,12 +59,12 @@ module _ (tables : List TableShape) where
   abbrev ArePlaces : List Access → Type 0
   ArePlaces accesses = All (λ (access : Access). IsPlace access.0) accesses
 
-  -- what is noted is of these tables
+  -- what is recorded is of these tables
   abbrev H : {A : Type 0} → Ran A → Type 0
   H f = (s : State) → ArePlaces s.accesses → ArePlaces (f s).1.accesses
 
   abbrev rule : AccessRule
-  rule = noting tables
+  rule = recording tables
 
   then_places : {A B : Type 0} (r : Result A Ending × State) (h : A → Ran B) → ArePlaces r.1.accesses → ((v : A) → H (h v)) → ArePlaces (continued r h).1.accesses
   then_places (Ok x, s) h a n = n x s a
@@ -97,8 +97,8 @@ module _ (tables : List TableShape) where
   p_key (pos n) = p_ok n
   p_key (negsuc n) = p_ended ℕ (endings.Abort BadKey)
 
-  p_noted : (resource : Resource) (right : Right) → IsPlace resource → H (noted resource right)
-  p_noted resource right place s places = All-push (λ (access : Access). IsPlace access.0) s.accesses (resource, right) places place
+  p_recorded : (resource : Resource) (right : Right) → IsPlace resource → H (recorded resource right)
+  p_recorded resource right place s places = All-push (λ (access : Access). IsPlace access.0) s.accesses (resource, right) places place
 
   -- ---- tables that are there
 
@@ -120,7 +120,7 @@ module _ (tables : List TableShape) where
   p_access : (right : Right) (table : ℕ) (z : ℤ) → IsThere table → H (accessed rule right table z)
   p_access right table z there = bind _ _ (p_key z) (λ key.
       let name : RowName = record { table = table; key = key } in
-      bind _ _ (p_noted (row_resource tables name) right (in_partition (slice_get tables table) key there)) (λ u. p_ok name))
+      bind _ _ (p_recorded (row_resource tables name) right (in_partition (slice_get tables table) key there)) (λ u. p_ok name))
 
   -- ---- partitions
 
@@ -138,13 +138,13 @@ module _ (tables : List TableShape) where
   is_part table (pos n) p e = part_numbered (slice_get tables table) n p e
   is_part table (negsuc n) p e = absurd (cc)
 
-  abbrev noted_part : ℕ → ℕ → Ran ℕ
-  noted_part table part = and_then (noted (Table table (Part part WholePart)) Read) (λ u. ok part)
+  abbrev recorded_part : ℕ → ℕ → Ran ℕ
+  recorded_part table part = and_then (recorded (Table table (Part part WholePart)) Read) (λ u. ok part)
 
-  p_part_by : (table : ℕ) (o : Option ℕ) → ((p : ℕ) → o ≡ Some p → IsPlace (Table table (Part p WholePart))) → H (and_then (part_there o) (noted_part table))
+  p_part_by : (table : ℕ) (o : Option ℕ) → ((p : ℕ) → o ≡ Some p → IsPlace (Table table (Part p WholePart))) → H (and_then (part_there o) (recorded_part table))
   unfolding and_then
   p_part_by table None h s places = places
-  p_part_by table (Some p) h s places = p_noted (Table table (Part p WholePart)) Read (h p refl) s places
+  p_part_by table (Some p) h s places = p_recorded (Table table (Part p WholePart)) Read (h p refl) s places
 
   p_part : (table : ℕ) (z : ℤ) → H (part_accessed rule table z)
   p_part table z = p_part_by table (partition_numbered tables table z) (is_part table z)

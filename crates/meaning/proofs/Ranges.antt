@@ -30,15 +30,15 @@ at_place (suc n) (suc k) first =
 le_test : (a b : ℤ) → a ≤ℤ b → int_le a b ≡ true
 le_test a b h = grind (arith, ints, h)
 
-fits : (d low high : ℤ) (k : ℕ) → d ≡ (high +ℤ pos 1) -ℤ low → nat_lt k (or_zero d) ≡ int_le (low +ℤ pos k) high
-fits (pos n) low high k e = both_ways _ _
+below_count_is_at_most : (d low high : ℤ) (k : ℕ) → d ≡ (high +ℤ pos 1) -ℤ low → nat_lt k (or_zero d) ≡ int_le (low +ℤ pos k) high
+below_count_is_at_most (pos n) low high k e = both_ways _ _
     (λ t. let l = ltb-true k n t in le_test (low +ℤ pos k) high (omega (arith, ints, l, e)))
     (λ t. let l = le-true (low +ℤ pos k) high t in lt-ltb k n (omega (arith, ints, l, e)))
-fits (negsuc n) low high k e = both_ways _ _
+below_count_is_at_most (negsuc n) low high k e = both_ways _ _
     (λ t. absurd (let l = ltb-true k 0 t in omega (arith, l)))
     (λ t. absurd (let l = le-true (low +ℤ pos k) high t in omega (arith, ints, l, e)))
 
 pub numbers_at : (low high : ℤ) (k : ℕ) → slice_get (numbers_between low high) k ≡ (if int_le (low +ℤ pos k) high then Some (low +ℤ pos k) else None)
 numbers_at low high k =
     at_place (or_zero ((high +ℤ pos 1) -ℤ low)) k low
-    ∙ ap (λ (b : Bool). if b then Some (low +ℤ pos k) else None) (fits ((high +ℤ pos 1) -ℤ low) low high k refl)
+    ∙ ap (λ (b : Bool). if b then Some (low +ℤ pos k) else None) (below_count_is_at_most ((high +ℤ pos 1) -ℤ low) low high k refl)

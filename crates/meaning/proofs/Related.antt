@@ -30,11 +30,11 @@ use Rattle.meaning.specs.Meaning.{StandIn, text_or, int_of, text_of, bool_of, va
 abbrev pub Any : {A : Type 0} → A → Type 0
 Any x = Unit {0}
 
--- it hangs on the variables, the steps and the reply alone
+-- it depends on the variables, the steps and the reply alone
 abbrev pub HangsOnTheRest : {A : Type 0} → (State → A) → Type 0
 HangsOnTheRest f = (s : State) (rows : Database) (accesses : List Access) → f (record s { rows = rows; accesses = accesses }) ≡ f s
 
--- it changes the variables, the steps and the reply alone, and hangs on them alone
+-- it changes the variables, the steps and the reply alone, and depends on them alone
 abbrev pub ChangesTheRest : (State → State) → Type 0
 ChangesTheRest f = (s : State) (rows : Database) (accesses : List Access) → f (record s { rows = rows; accesses = accesses }) ≡ record (f s) { rows = rows; accesses = accesses }
 

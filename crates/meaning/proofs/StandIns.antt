@@ -30,7 +30,7 @@ use Rattle.footprint.specs.Rights.{FootprintOf, covers}
 use Rattle.footprint.specs.Arithmetic.{result_of, is_int}
 use Rattle.meaning.specs.declared.outcome.Ending.{Ending}
 use Rattle.meaning.specs.declared.outcome.Ending.TheVariants as endings
-use Rattle.meaning.specs.Runs.{State, Ran, continued, and_then, ok, ended, look, alter, provided, AccessRule, passing, tested, covered, noted, step, tested_key, in_range, computed, accessed, part_there, part_accessed, part_now, row_now, present, absent, set_row, remove_row, declare, set_variable, scoped, replying}
+use Rattle.meaning.specs.Runs.{State, Ran, continued, and_then, ok, ended, look, alter, provided, AccessRule, passing, tested, covered, recorded, step, tested_key, int_result, computed, accessed, part_there, part_accessed, part_now, row_now, present, absent, set_row, remove_row, declare, set_variable, scoped, replying}
 use Rattle.meaning.specs.Comparing.{compare, compare_bytes}
 use Rattle.meaning.specs.Partitions.{keys_of, total, part_rows}
 use Rattle.meaning.specs.Turns.{numbers_between}
@@ -175,7 +175,7 @@ module _ (tables : List TableShape) where
   s_count : (kinds : List ColType) → Same (Counts kinds) kinds kinds (look (λ st. length st.variables)) (look (λ st. length st.variables))
   s_count kinds s typed = (refl, (sym (length-map s.variables type_of) ∙ ap length typed.variables, typed))
 
-  -- the variables that were declared behind the others are no more
+  -- the variables that were declared after the others are no more
   s_cut : (kinds later : List ColType) (n : ℕ) → Extends kinds later → Counts kinds n → Same Any later kinds (alter (λ st. record st { variables = take n st.variables })) (alter (λ st. record st { variables = take n st.variables }))
   s_cut kinds later n more is s typed = (
     refl,
@@ -207,8 +207,8 @@ module _ (tables : List TableShape) where
   s_tested : (fo : FootprintOf) (uncovered : Ending) → Passes (tested fo uncovered)
   s_tested fo uncovered kinds resource right = s_passing kinds uncovered (covers fo resource right)
 
-  s_noted : Passes noted
-  s_noted kinds resource right = s_alter kinds (λ st. record st { accesses = st.accesses ++ (resource, right) ∷ [] }) (λ s. refl) (λ s. refl)
+  s_recorded : Passes recorded
+  s_recorded kinds resource right = s_alter kinds (λ st. record st { accesses = st.accesses ++ (resource, right) ∷ [] }) (λ s. refl) (λ s. refl)
 
   module _ (access : Resource → Right → Ran (Unit {0})) (passes : Passes access) (d e : StandIn) where
     abbrev rule : AccessRule
@@ -233,8 +233,8 @@ module _ (tables : List TableShape) where
     s_rows : (kinds : List ColType) (table part column : ℕ) → column_kind tables table column ≡ Some types.Int → Same (Totals table column) kinds kinds (part_now rule table part) (part_now rule table part)
     s_rows kinds table part column is s typed = (refl, (λ x y. same_total tables table part column s.rows x y typed.rows is, typed))
 
-    s_in_range : (kinds : List ColType) (x y : ℤ) → y ≡ x → Same Any kinds kinds (in_range x) (in_range y)
-    s_in_range kinds x y is s typed = (ap (λ (z : ℤ). in_range z s) is, (s_provided kinds (is_int x) Overflow x s typed).1)
+    s_int_result : (kinds : List ColType) (x y : ℤ) → y ≡ x → Same Any kinds kinds (int_result x) (int_result y)
+    s_int_result kinds x y is s typed = (ap (λ (z : ℤ). int_result z s) is, (s_provided kinds (is_int x) Overflow x s typed).1)
 
     s_int : (kinds : List ColType) (t : IntSyntax) → IntFits tables kinds t → Same Any kinds kinds (int_of d rule t) (int_of e rule t)
     s_int kinds (number z) fits = s_ok Any kinds z tt
@@ -249,7 +249,7 @@ module _ (tables : List TableShape) where
         bind Any Any kinds kinds kinds _ _ _ _ (s_int kinds part fits.0) (λ z w.
         bind Any Any kinds kinds kinds _ _ _ _ (s_part kinds table z) (λ p x.
         bind (Totals table column) Any kinds kinds kinds _ _ _ _ (s_rows kinds table p column fits.1) (λ rows same.
-        s_in_range kinds (total d.number column (entries rows)) (total e.number column (entries rows)) (same d.number e.number)))))
+        s_int_result kinds (total d.number column (entries rows)) (total e.number column (entries rows)) (same d.number e.number)))))
 
     s_text : (kinds : List ColType) (t : TextSyntax) → TextFits kinds t → Same Any kinds kinds (text_of d rule t) (text_of e rule t)
     s_text kinds (literal s) fits = s_ok Any kinds s tt
@@ -388,4 +388,4 @@ pub never_found : (tables : List TableShape) (proc : ProcSyntax) (arguments : Li
     → StandInNeverFound tables proc.body arguments db
 never_found tables proc arguments db fits args rows = λ d.
     ap (λ (r : Result (Unit {0}) Ending × State). r.1.accesses)
-    (s_order tables noted (s_noted tables) nothing d (kinds_of proc.params) (block_of proc.body) fits.body (start arguments db) (record { variables = args; rows = rows })).0
+    (s_order tables recorded (s_recorded tables) nothing d (kinds_of proc.params) (block_of proc.body) fits.body (start arguments db) (record { variables = args; rows = rows })).0

@@ -78,7 +78,7 @@ abbrev pub kinds_through : List TableShape → List ColType → BlockSyntax → 
 kinds_through tables kinds no_statements = kinds
 kinds_through tables kinds (followed s rest) = kinds_through tables (kinds_after tables kinds s) rest
 
--- variables are declared behind those that are seen
+-- variables are declared after those that are seen
 abbrev pub Extends : List ColType → List ColType → Type 0
 Extends before later = (more : List ColType) × (later ≡ before ++ more)
 
@@ -111,7 +111,7 @@ through_extends tables kinds (followed s rest) =
     let more = through_extends tables (kinds_after tables kinds s) rest in
     (first.0 ++ more.0, more.1 ∙ ap (λ (ks : List ColType). ks ++ more.0) first.1 ∙ append_assoc kinds first.0 more.0)
 
--- what a block declares, the variable of its loop first, goes behind the others
+-- what a block declares, the variable of its loop first, comes after the others
 pub loop_extends : (tables : List TableShape) (kinds : List ColType) (b : BlockSyntax) → Extends kinds (kinds_through tables (in_loop kinds) b)
 loop_extends tables kinds b =
     let more = through_extends tables (in_loop kinds) b in

@@ -58,9 +58,11 @@ run_of d rule body arguments db = finished db (end_of d rule body arguments db)
 
 -- an uncovered access aborts a declared entry, and makes a found one stale
 abbrev pub meaning_by : StandIn → List TableShape → List StmtSyntax → List Value → Footing → Database → Reply × Database
-meaning_by d tables body arguments (declares footprint) db = run_of d (covered tables footprint (endings.Abort Uncovered)) body arguments db
+meaning_by d tables body arguments (declares footprint) db =
+    run_of d (covered tables footprint (endings.Abort Uncovered)) body arguments db
 meaning_by d tables body arguments (faults code) db = (aborted code, db)
-meaning_by d tables body arguments (finds footprint) db = run_of d (covered tables footprint endings.Stale) body arguments db
+meaning_by d tables body arguments (finds footprint) db =
+    run_of d (covered tables footprint endings.Stale) body arguments db
 
 abbrev pub nothing : StandIn
 nothing = record { number = pos 0; text = [] }

@@ -1,5 +1,5 @@
 -- Claimed: what contracts promise to a reader rests on these words.
--- The frame of a meaning: what it hangs on, and what it changes.
+-- The frame of a meaning: what it depends on, and what it changes.
 use Rattle.std.specs.Prelude.{◌≡◌, Bool, true, false, List, Option, Some, None}
 use Rattle.std.specs.FinMap.{get}
 use Rattle.values.specs.declared.name.RowName.{RowName}
@@ -22,8 +22,8 @@ touches entry = may_touch entry.tables (footprint_of entry.footing)
 abbrev pub Agree : EntryShape → Database → Database → Type 0
 Agree entry a b = (name : RowName) → touches entry name Read ≡ true → get b name ≡ get a name
 
--- The entry has one outcome on both databases, the databases that it leaves agree on what it may read, and it changes no row
--- name that it may not write.
+-- The entry has one outcome on both databases, the databases that it leaves agree on what it may read, and it changes
+-- no row name that it may not write.
 pub record StaysInFootprint (entry : EntryShape) (one two : Database) : Type 0 where
   pub outcome : (meaning entry two).0 ≡ (meaning entry one).0
   pub agree : Agree entry (meaning entry one).1 (meaning entry two).1

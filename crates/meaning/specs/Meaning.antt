@@ -14,7 +14,7 @@ use Rattle.footprint.specs.Declaration.{number_or}
 use Rattle.meaning.specs.Comparing.{compare, compare_bytes}
 use Rattle.meaning.specs.Partitions.{keys_of, total}
 use Rattle.meaning.specs.Turns.{numbers_between}
-use Rattle.meaning.specs.Runs.{Ran, ◌>>=◌, ok, abort, look, AccessRule, step, in_range, computed, accessed, part_accessed, part_now, row_now, present, absent, set_row, remove_row, declare, set_variable, scoped, replying}
+use Rattle.meaning.specs.Runs.{Ran, ◌>>=◌, ok, abort, look, AccessRule, step, int_result, computed, accessed, part_accessed, part_now, row_now, present, absent, set_row, remove_row, declare, set_variable, scoped, replying}
 
 -- What stands for a variable or a column that is not there, or has the other type. That it never shows
 -- where procedure, arguments and rows fit the tables is a law of its own, StandInNeverShows.
@@ -40,13 +40,13 @@ int_of d rule (count_rows table part) = do
   z ← int_of d rule part
   p ← part_accessed rule table z
   rows ← part_now rule table p
-  in_range (pos (len rows))
+  int_result (pos (len rows))
 int_of d rule (sum_column table part column) = do
   u ← step
   z ← int_of d rule part
   p ← part_accessed rule table z
   rows ← part_now rule table p
-  in_range (total d.number column (entries rows))
+  int_result (total d.number column (entries rows))
 
 abbrev pub text_of : StandIn → AccessRule → TextSyntax → Ran (List ℕ)
 text_of d rule (literal s) = ok s
@@ -97,8 +97,8 @@ values_of d rule (e ∷ es) = do
   vs ← values_of d rule es
   ok (v ∷ vs)
 
--- ---- what each statement does. In which order its parts are looked at, and so which of them fails first, is said once for all
--- statements in the law OperandsComeFirst: its operands come first, from left to right
+-- ---- what each statement does. In which order its parts are looked at, and so which of them fails first, is said once
+-- for all statements in the law OperandsComeFirst: its operands come first, from left to right
 
 -- a variable gets a value: operands first, in order (OperandsComeFirst)
 abbrev pub assign_value : StandIn → AccessRule → ℕ → ValueSyntax → Ran (Unit {0})
@@ -184,7 +184,8 @@ for_of d rule low high block = do
   last ← int_of d rule high
   turns block (numbers_between first last)
 
--- a block for each key that a partition holds when the statement begins, ascending: operands first, in order (OperandsComeFirst)
+-- a block for each key that a partition holds when the statement begins, ascending: operands first, in order
+-- (OperandsComeFirst)
 abbrev pub each_of : StandIn → AccessRule → ℕ → IntSyntax → Ran (Unit {0}) → Ran (Unit {0})
 each_of d rule table part block = do
   z ← int_of d rule part

@@ -81,15 +81,15 @@ reply_has_room vs = do
   provided (not (nat_lt 64 (length before + length vs))) TooLong tt
 
 -- the first of the values: a key, or the number of a partition
-abbrev pub first_number : StandIn → List Value → ℤ
-first_number d vs = number_or d.number (slice_get vs 0)
+abbrev pub leading_number : StandIn → List Value → ℤ
+leading_number d vs = number_or d.number (slice_get vs 0)
 
 abbrev pub tests_of : StandIn → AccessRule → StmtSyntax → List Value → Ran (Unit {0})
-tests_of d rule (get place table key column) vs = row_present rule Read table (first_number d vs)
-tests_of d rule (put table key column e) vs = row_present rule Write table (first_number d vs)
-tests_of d rule (insert_row table key es) vs = row_absent rule Write table (first_number d vs)
-tests_of d rule (delete_row table key) vs = row_present rule Write table (first_number d vs)
-tests_of d rule (for_keys table part body) vs = part_reached rule table (first_number d vs)
+tests_of d rule (get place table key column) vs = row_present rule Read table (leading_number d vs)
+tests_of d rule (put table key column e) vs = row_present rule Write table (leading_number d vs)
+tests_of d rule (insert_row table key es) vs = row_absent rule Write table (leading_number d vs)
+tests_of d rule (delete_row table key) vs = row_present rule Write table (leading_number d vs)
+tests_of d rule (for_keys table part body) vs = part_reached rule table (leading_number d vs)
 tests_of d rule (reply es) vs = reply_has_room vs
 tests_of d rule s vs = ok tt
 
@@ -108,7 +108,8 @@ EndsLike parts whole = (before left : State) (e : Ending) → parts before ≡ (
 
 -- where the parts go on, so does the whole
 abbrev pub GoesOnLike : {A B : Type 0} → Ran A → Ran B → Type 0
-GoesOnLike {A} {B} parts whole = (before left : State) (x : A) → parts before ≡ (Ok x, left) → (after : State) × (y : B) × (whole before ≡ (Ok y, after))
+GoesOnLike {A} {B} parts whole = (before left : State) (x : A) → parts before ≡ (Ok x, left)
+    → (after : State) × (y : B) × (whole before ≡ (Ok y, after))
 
 -- no block stands in the statement, and it is no abort
 abbrev pub is_plain : StmtSyntax → Bool
@@ -118,16 +119,29 @@ is_plain (for_keys table part body) = false
 is_plain (abort code) = false
 is_plain s = true
 
--- Each statement looks at its parts in this order, and the first that fails ends the run. A plain statement fails in no other way.
--- Counts, sums and tests of a row go the same way, and operators and comparisons evaluate their operands from left to right.
+-- Each statement looks at its parts in this order, and the first that fails ends the run. A plain statement fails in no
+-- other way. Counts, sums and tests of a row go the same way, and operators and comparisons evaluate their operands
+-- from left to right.
 pub record OperandsComeFirst (d : StandIn) (rule : AccessRule) : Type 0 where
-  pub statements : (s : StmtSyntax) (rest : BlockSyntax) → EndsLike (parts_in_order d rule (operands_of s) (tests_of d rule s)) (in_order d rule (followed s rest))
-  pub nothing_else : (s : StmtSyntax) → is_plain s ≡ true → GoesOnLike (parts_in_order d rule (operands_of s) (tests_of d rule s)) (in_order d rule (followed s no_statements))
+  pub statements : (s : StmtSyntax) (rest : BlockSyntax)
+      → EndsLike (parts_in_order d rule (operands_of s) (tests_of d rule s)) (in_order d rule (followed s rest))
+  pub nothing_else : (s : StmtSyntax) → is_plain s ≡ true
+      → GoesOnLike (parts_in_order d rule (operands_of s) (tests_of d rule s))
+      (in_order d rule (followed s no_statements))
   pub counts : (table : ℕ) (part : IntSyntax)
-      → EndsLike (parts_in_order d rule (number_operand part ∷ []) (λ vs. part_reached rule table (first_number d vs))) (int_of d rule (count_rows table part))
+      → EndsLike
+      (parts_in_order d rule (number_operand part ∷ []) (λ vs. part_reached rule table (leading_number d vs)))
+      (int_of d rule (count_rows table part))
   pub sums : (table : ℕ) (part : IntSyntax) (column : ℕ)
-      → EndsLike (parts_in_order d rule (number_operand part ∷ []) (λ vs. part_reached rule table (first_number d vs))) (int_of d rule (sum_column table part column))
+      → EndsLike
+      (parts_in_order d rule (number_operand part ∷ []) (λ vs. part_reached rule table (leading_number d vs)))
+      (int_of d rule (sum_column table part column))
   pub tests_of_rows : (table : ℕ) (key : IntSyntax)
-      → EndsLike (parts_in_order d rule (number_operand key ∷ []) (λ vs. row_reached rule Read table (first_number d vs))) (bool_of d rule (row_exists table key))
-  pub operators : (op : IntOperator) (a b : IntSyntax) → EndsLike (operand_values d rule (number_operand a ∷ number_operand b ∷ [])) (int_of d rule (binary op a b))
-  pub comparisons : (test : Comparison) (a b : IntSyntax) → EndsLike (operand_values d rule (number_operand a ∷ number_operand b ∷ [])) (bool_of d rule (compare_ints test a b))
+      → EndsLike
+      (parts_in_order d rule (number_operand key ∷ []) (λ vs. row_reached rule Read table (leading_number d vs)))
+      (bool_of d rule (row_exists table key))
+  pub operators : (op : IntOperator) (a b : IntSyntax)
+      → EndsLike (operand_values d rule (number_operand a ∷ number_operand b ∷ [])) (int_of d rule (binary op a b))
+  pub comparisons : (test : Comparison) (a b : IntSyntax)
+      → EndsLike (operand_values d rule (number_operand a ∷ number_operand b ∷ []))
+      (bool_of d rule (compare_ints test a b))

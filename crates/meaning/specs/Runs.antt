@@ -27,7 +27,7 @@ abbrev pub Access : Type 0
 Access = Resource × Right
 
 -- where a run is: the rows with its own changes, its variables in the order of their declarations, the steps taken, the
--- values replied, and the accesses noted
+-- values replied, and the accesses recorded
 pub record State : Type 0 where
   pub rows : Database
   pub variables : List Value
@@ -90,13 +90,13 @@ tested footprint uncovered resource right = passing (covers footprint resource r
 abbrev pub covered : List TableShape → FootprintOf → Ending → AccessRule
 covered tables footprint uncovered = record { tables = tables; access = tested footprint uncovered }
 
--- an access is noted behind the others, and the run goes on
-abbrev pub noted : Resource → Right → Ran (Unit {0})
-noted resource right = alter (λ st. record st { accesses = st.accesses ++ (resource, right) ∷ [] })
+-- an access is recorded after the others, and the run goes on
+abbrev pub recorded : Resource → Right → Ran (Unit {0})
+recorded resource right = alter (λ st. record st { accesses = st.accesses ++ (resource, right) ∷ [] })
 
--- every access is allowed, and noted
-abbrev pub noting : List TableShape → AccessRule
-noting tables = record { tables = tables; access = noted }
+-- every access is allowed, and recorded
+abbrev pub recording : List TableShape → AccessRule
+recording tables = record { tables = tables; access = recorded }
 
 -- ---- what steps are made of
 
@@ -108,8 +108,8 @@ step = do
   alter (λ st. record st { steps = more })
 
 -- an exact result, where it is in the signed 64-bit range
-abbrev pub in_range : ℤ → Ran ℤ
-in_range z = provided (is_int z) Overflow z
+abbrev pub int_result : ℤ → Ran ℤ
+int_result z = provided (is_int z) Overflow z
 
 -- the result of an operator
 abbrev pub computed : {A : Type 0} → Result A AbortCode → Ran A
@@ -160,13 +160,14 @@ set_row name row = alter (λ st. record st { rows = insert st.rows name row })
 abbrev pub remove_row : RowName → Ran (Unit {0})
 remove_row name = alter (λ st. record st { rows = remove st.rows name })
 
--- one more variable behind the others
+-- one more variable after the others
 abbrev pub declare : Value → Ran (Unit {0})
 declare value = alter (λ st. record st { variables = st.variables ++ value ∷ [] })
 
--- a variable is declared behind the others, or changed
+-- a variable is declared after the others, or changed
 abbrev pub with_variable : List Value → ℕ → Value → List Value
-with_variable variables place value = if place == length variables then variables ++ value ∷ [] else slice_set variables place value
+with_variable variables place value =
+    if place == length variables then variables ++ value ∷ [] else slice_set variables place value
 
 abbrev pub set_variable : ℕ → Value → Ran (Unit {0})
 set_variable place value = alter (λ st. record st { variables = with_variable st.variables place value })

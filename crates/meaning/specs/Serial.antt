@@ -1,6 +1,6 @@
 -- Claimed: what contracts promise to a reader rests on these words.
--- The serial run: entries one after another on one database. (Calvin, 2012: the outcome is a function of the log and the
--- start.)
+-- The serial run: entries one after another on one database. (Calvin, 2012: the outcome is a function of the log and
+-- the start.)
 use Rattle.std.specs.Prelude.{List, [], ◌∷◌}
 use Rattle.values.specs.Database.{Database}
 use Rattle.meaning.specs.Entries.{EntryShape, Reply, meaning}

@@ -2,7 +2,7 @@
 -- The numbers that a loop goes through.
 use Rattle.std.specs.Prelude.{ℕ, zero, suc, ℤ, pos, negsuc, ◌+ℤ◌, ◌-ℤ◌, List, [], ◌∷◌}
 
--- so many numbers, one after another, from one on
+-- n numbers, one after another, from one on
 abbrev pub numbers_from : ℕ → ℤ → List ℤ
 numbers_from zero first = []
 numbers_from (suc count) first = first ∷ numbers_from count (first +ℤ pos 1)

@@ -17,23 +17,23 @@ ghost use Rattle.meaning.specs.Turns.{numbers_between};
 ghost use Rattle.meaning.specs.Fitting.{HasTypes, IsCallOf, StandInNeverShows};
 ghost use Rattle.meaning.specs.Reconnaissance.{greatest_rights, HasGreatestRights, found_entry, HoldsAsFound, NeedsEachAccess, FindsOfTables, StandInNeverFound};
 
-/// The frame law. From databases that agree on what an entry may read, it has one outcome and does the same to what it may
-/// read, and it changes no row name that it may not write.
+/// The frame law. From databases that agree on what an entry may read, it has one outcome and does the same to what it
+/// may read, and it changes no row name that it may not write.
 #[tactic(auto, using(crate::proofs::Frame::stays))]
 pub fn stays_in_footprint()
     ensures { (entry : EntryShape) (one two : Database) → Agree entry one two → StaysInFootprint entry one two }
 {}
 
-/// What stands for a variable or a column that is not there, or has another type, never shows: a call of a procedure that fits
-/// its tables, with arguments of the parameters' types and on rows of the columns' types, has one meaning whatever stands
-/// for it. It leaves rows of the columns' types.
+/// What stands for a variable or a column that is not there, or has another type, never shows: a call of a procedure
+/// that fits its tables, with arguments of the parameters' types and on rows of the columns' types, has one meaning
+/// whatever stands for it. It leaves rows of the columns' types.
 pub fn stand_in_never_shows()
     ensures { (proc : ProcSyntax) (entry : EntryShape) (db : Database) → IsCallOf proc entry →
         HasTypes entry.tables db → StandInNeverShows entry db }
 {}
 
-/// The footprint of a list of accesses has each resource that was accessed, with just the greatest right with which it was: it
-/// covers each access of the list, and grants nothing for which there was no access of the resource itself.
+/// The footprint of a list of accesses has each resource that was accessed, with just the greatest right with which it
+/// was: it covers each access of the list, and grants nothing for which there was no access of the resource itself.
 #[tactic(auto, using(crate::proofs::Greatest::has_greatest_rights))]
 pub fn footprint_has_greatest_rights()
     ensures { (accesses : List Access) → HasGreatestRights accesses (greatest_rights accesses) }
@@ -54,11 +54,12 @@ pub fn found_entry_is_not_stale()
         Agree (found_entry tables body arguments read) read db → HoldsAsFound tables body arguments read db }
 {}
 
-/// On the database read, the entry needs each access of the reconnaissance run, and no other: with a footprint that leaves out one
-/// of them it is stale, and with one that covers them all it has the outcome of that run.
+/// On the database read, the entry needs each access of the reconnaissance run, and no other: with a footprint that
+/// leaves out one of them it is stale, and with one that covers them all it has the outcome of that run.
 #[tactic(auto, using(crate::proofs::Found::needs_each_access))]
 pub fn each_access_is_needed()
-    ensures { (tables : List TableShape) (body : List StmtSyntax) (arguments : List Value) (read : Database) (footprint : FootprintOf) →
+    ensures { (tables : List TableShape) (body : List StmtSyntax) (arguments : List Value) (read : Database)
+        (footprint : FootprintOf) →
         NeedsEachAccess tables body arguments read footprint }
 {}
 
@@ -69,9 +70,9 @@ pub fn found_footprint_is_of_tables()
         ProcFits tables proc → FindsOfTables tables proc.body arguments db }
 {}
 
-/// What stands for a variable or a column that is not there, or has another type, is never found: reconnaissance of a procedure that
-/// fits its tables, with arguments of the parameters' types and on rows of the columns' types, makes the same accesses whatever
-/// stands for it.
+/// What stands for a variable or a column that is not there, or has another type, is never found: reconnaissance of a
+/// procedure that fits its tables, with arguments of the parameters' types and on rows of the columns' types, makes the
+/// same accesses whatever stands for it.
 #[tactic(auto, using(crate::proofs::StandIns::never_found))]
 pub fn stand_in_is_never_found()
     ensures { (tables : List TableShape) (proc : ProcSyntax) (arguments : List Value) (db : Database) →
@@ -79,15 +80,15 @@ pub fn stand_in_is_never_found()
         → StandInNeverFound tables proc.body arguments db }
 {}
 
-/// The order in which the parts of a statement fail, the same for all statements: its step, its operands from left to right as
-/// they are written, and then what is tested of them: whether the first is a key or a partition's number, whether the footprint
-/// covers the access, and whether the row is there. The first that fails ends the run.
+/// The order in which the parts of a statement fail, the same for all statements: its step, its operands from left to
+/// right as they are written, and then what is tested of them: whether the first is a key or a partition's number,
+/// whether the footprint covers the access, and whether the row is there. The first that fails ends the run.
 pub fn operands_come_first()
     ensures { (d : StandIn) (rule : AccessRule) → OperandsComeFirst d rule }
 {}
 
-/// The numbers from one to another, place by place: each is one more than the one before it, the first is the lower one, and there
-/// are those that are not above the higher one.
+/// The numbers from one to another, place by place: each is one more than the one before it, the first is the lower
+/// one, and there are those that are not above the higher one.
 #[tactic(auto, using(crate::proofs::Ranges::numbers_at))]
 pub fn numbers_go_from_low_to_high()
     ensures { (low high : ℤ) (place : ℕ) →

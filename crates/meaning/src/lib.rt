@@ -1,4 +1,4 @@
-//! What an entry means: its outcome on a database, and the database that it leaves. The definitions stand in `specs/`;
+//! What an entry means: its outcome on a database, and the database that it leaves. The definitions are in `specs/`;
 //! here are the types that they speak of, and the laws that follow from them, each as the contract of a function.
 #![tactic(auto)]
 

@@ -9,7 +9,8 @@ use Rattle.modes.specs.Modes.{own, subtree, are_compatible, IsAtMost, IsJoin}
 
 pub record RanksAreRights : Type 0 where
   pub order : (wanted : Right) (given : Option Right) → is_at_least wanted given ≡ nat_le (rank_of wanted) (rank given)
-  pub greatest : (given : Option Right) (right : Right) → rank_of (greater given right) ≡ max (rank given) (rank_of right)
+  pub greatest : (given : Option Right) (right : Right)
+      → rank_of (greater given right) ≡ max (rank given) (rank_of right)
 
 pub record PairsAreModes : Type 0 where
   pub same : (a b : Mode) → own a ≡ own b → subtree a ≡ subtree b → a ≡ b

@@ -24,7 +24,8 @@ subtree Exclusive = 2
 
 -- neither's own right clashes with the other's right in the subtree
 abbrev pub are_compatible : Mode → Mode → Bool
-are_compatible first second = not (rights_clash (own first) (subtree second)) && not (rights_clash (own second) (subtree first))
+are_compatible first second =
+    not (rights_clash (own first) (subtree second)) && not (rights_clash (own second) (subtree first))
 
 -- the second mode is at least as strong as the first: it has at least its rights, on the resource and in the subtree.
 -- So IS < IX < SIX < X and IS < S < SIX, and neither of IX and S is stronger than the other
@@ -33,4 +34,5 @@ IsAtMost weaker stronger = (own weaker ≤ own stronger) × (subtree weaker ≤ 
 
 -- the mode has the greater of each of the rights of two modes
 abbrev pub IsJoin : Mode → Mode → Mode → Type 0
-IsJoin first second joined = (own joined ≡ max (own first) (own second)) × (subtree joined ≡ max (subtree first) (subtree second))
+IsJoin first second joined =
+    (own joined ≡ max (own first) (own second)) × (subtree joined ≡ max (subtree first) (subtree second))

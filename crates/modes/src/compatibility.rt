@@ -5,8 +5,8 @@ ghost use Rattle.modes.specs.Modes.{own, subtree, are_compatible};
 
 use crate::mode::Mode;
 
-/// Whether two requests on one resource may be granted together: neither's own right clashes with the other's right in the
-/// subtree. (The table of Gray and others, 1975 and 1976.)
+/// Whether two requests on one resource may be granted together: neither's own right clashes with the other's right in
+/// the subtree. (The table of Gray and others, 1975 and 1976.)
 pub fn compatible(first: Mode, second: Mode) -> bool
     ensures { result ≡ are_compatible first second }
 {
@@ -19,8 +19,8 @@ pub fn compatible(first: Mode, second: Mode) -> bool
     }
 }
 
-/// The mode that gives what two modes give, and no more: the greater of their rights on the resource, and the greater of
-/// their rights in its subtree.
+/// The mode that gives what two modes give, and no more: the greater of their rights on the resource, and the greater
+/// of their rights in its subtree.
 pub fn join(first: Mode, second: Mode) -> Mode
     ensures own { own result ≡ max (own first) (own second) }
     ensures subtree { subtree result ≡ max (subtree first) (subtree second) }

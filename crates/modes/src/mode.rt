@@ -8,8 +8,8 @@ ghost use Rattle.modes.specs.declared.mode.Mode.{Mode as AnyMode};
 use footprint::Right;
 use std::fmt;
 
-/// The mode of a request on a resource: a right on the resource itself, and the greatest right in its subtree. (Modes of
-/// Gray and others, 1975 and 1976.)
+/// The mode of a request on a resource: a right on the resource itself, and the greatest right in its subtree. (Modes
+/// of Gray and others, 1975 and 1976.)
 #[derive(Clone, Copy, Debug, PartialEq, Eq)]
 pub enum Mode {
     /// IS: no right on the resource itself, at most Read under it.
@@ -49,8 +49,8 @@ impl Mode {
     }
 }
 
-/// The mode of a right on a resource itself and the greatest right in its subtree, `None` exactly where the pair is no
-/// mode.
+/// The mode of a right on a resource itself and the greatest right in its subtree, `None`
+/// exactly where the pair is no mode.
 pub fn of_rights(on_it: Option<Right>, in_subtree: Option<Right>) -> Option<Mode>
     ensures { (mode : AnyMode) → (result ≡ Some mode) ↔ ((own mode ≡ rank on_it) × (subtree mode ≡ rank in_subtree)) }
 {

@@ -4,9 +4,9 @@ use Rattle.serde_json.specs.Data.{Data}
 use Rattle.documents.specs.Json.{elements}
 use Rattle.catalogue.specs.Shapes.{TableShape}
 use Rattle.proclang_types.specs.Syntax.{StmtSyntax}
-use Rattle.proclang.specs.declared.fault.ProcFault.{ProcFault}
-use Rattle.proclang.specs.Seen.{Seen}
-use Rattle.proclang.specs.Walk.{each_from, at_most}
+use Rattle.proclang_expressions.specs.declared.fault.ProcFault.{ProcFault}
+use Rattle.proclang_expressions.specs.Seen.{Seen}
+use Rattle.proclang_expressions.specs.Walk.{each_from, at_most}
 use Rattle.proclang.specs.Statements.{BlockReader, statement_at, next_statement, block_at}
 
 pub next_is : (tables : List TableShape) (block : BlockReader) (path : List ℕ) (done : List StmtSyntax) (scope : List Seen) (d : Data) (s : StmtSyntax) (after : List Seen)

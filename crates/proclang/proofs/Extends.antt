@@ -8,17 +8,17 @@ use Rattle.values.specs.declared.value.ColType.{ColType}
 use Rattle.catalogue.specs.Shapes.{TableShape}
 use Rattle.proclang_types.specs.Syntax.{StmtSyntax, assign, get}
 use Rattle.proclang_types.specs.Typing.{kind_of}
-use Rattle.proclang.specs.declared.fault.FaultKind.TheVariants.{Shape}
-use Rattle.proclang.specs.declared.fault.ProcFault.{ProcFault}
-use Rattle.proclang.specs.declared.fault.ProcFault.TheVariants.{At}
-use Rattle.proclang.specs.declared.scope.Declaration.TheVariants.{Statement}
-use Rattle.proclang.specs.declared.scope.Found.{Found}
-use Rattle.proclang.specs.Seen.{Seen}
-use Rattle.proclang.specs.Lookups.{same_type, table_at, column_at}
-use Rattle.proclang.specs.Expressions.{as_int, as_value, statement_expr}
+use Rattle.proclang_expressions.specs.declared.fault.FaultKind.TheVariants.{Shape}
+use Rattle.proclang_expressions.specs.declared.fault.ProcFault.{ProcFault}
+use Rattle.proclang_expressions.specs.declared.fault.ProcFault.TheVariants.{At}
+use Rattle.proclang_expressions.specs.declared.scope.Declaration.TheVariants.{Statement}
+use Rattle.proclang_expressions.specs.declared.scope.Found.{Found}
+use Rattle.proclang_expressions.specs.Seen.{Seen}
+use Rattle.proclang_expressions.specs.Lookups.{same_type, table_called, column_called}
+use Rattle.proclang_expressions.specs.Expressions.{as_int, as_value, statement_expr}
 use Rattle.proclang_forms.specs.StmtForms.{LetParts, GetParts, StatementForm, let_parts, get_parts, put_parts, insert_parts, delete_parts, if_parts, for_parts, each_parts, abort_code, reply_values, statement_form}
-use Rattle.proclang.specs.Targets.{target_at, bound}
-use Rattle.proclang.specs.Statements.{let_at, get_at, put_at, insert_at, delete_at, BlockReader, if_at, for_at, each_at, abort_at, reply_at, in_scope, form_at, statement_at}
+use Rattle.proclang_expressions.specs.Targets.{target_at, bound}
+use Rattle.proclang.specs.Statements.{let_at, get_at, put_at, insert_at, delete_at, BlockReader, if_at, for_at, each_loop_at, abort_at, reply_at, in_scope, form_at, statement_at}
 
 after_is : {A B F : Type 0} (x : A) (y : B) (r : A × B) → ◌≡◌ {A = Result (A × B) F} (Ok (x, y)) (Ok r) → y ≡ r.1
 after_is x y r e = cc
@@ -42,9 +42,9 @@ get_extends : (tables : List TableShape) (path : List ℕ) (scope : List Seen) (
 unfolding get_at
 get_extends tables path scope form r e =
     let target = bind_ok (target_at (path ++ 1 ∷ []) scope form.variable) _ r e in
-    let table = bind_ok (table_at (path ++ 2 ∷ []) tables form.table) _ r target.2 in
+    let table = bind_ok (table_called (path ++ 2 ∷ []) tables form.table) _ r target.2 in
     let expr = bind_ok (statement_expr tables (path ++ 3 ∷ []) scope form.key) _ r table.2 in
-    let column = bind_ok (column_at (path ++ 4 ∷ []) tables table.0 form.column) _ r expr.2 in
+    let column = bind_ok (column_called (path ++ 4 ∷ []) tables table.0 form.column) _ r expr.2 in
     let key = bind_ok (as_int (path ++ 3 ∷ []) expr.0) _ r column.2 in
     let variable = bind_ok (bound (path ++ 4 ∷ []) scope form.variable column.0.1 target.0) _ r key.2 in
     let is : variable.0.1 ≡ r.1 = after_is (get variable.0.0 table.0 key.0 column.0.0) variable.0.1 r variable.2 in
@@ -73,7 +73,7 @@ form_extends tables block path scope (insert_parts form) r e = scoped_extends sc
 form_extends tables block path scope (delete_parts form) r e = scoped_extends scope (delete_at tables path scope form) r e
 form_extends tables block path scope (if_parts form) r e = scoped_extends scope (if_at tables block path scope form) r e
 form_extends tables block path scope (for_parts form) r e = scoped_extends scope (for_at tables block path scope form) r e
-form_extends tables block path scope (each_parts form) r e = scoped_extends scope (each_at tables block path scope form) r e
+form_extends tables block path scope (each_parts form) r e = scoped_extends scope (each_loop_at tables block path scope form) r e
 form_extends tables block path scope (abort_code z) r e = scoped_extends scope (abort_at path z) r e
 form_extends tables block path scope (reply_values ds) r e = scoped_extends scope (reply_at tables path scope ds) r e
 

@@ -9,23 +9,24 @@ use Rattle.documents.proofs.Steps.{bind_ok, formed_ok}
 use Rattle.catalogue.specs.Places.{table_named}
 use Rattle.catalogue.specs.Shapes.{TableShape}
 use Rattle.proclang_types.specs.Syntax.{StmtSyntax, choose, for_numbers, for_keys, block_of}
-use Rattle.proclang.specs.declared.fault.FaultKind.TheVariants.{Shape, UnknownTable, Limit}
-use Rattle.proclang.specs.declared.fault.ProcFault.{ProcFault}
-use Rattle.proclang.specs.declared.fault.ProcFault.TheVariants.{At}
-use Rattle.proclang.specs.Faults.{refuse}
-use Rattle.proclang.specs.Seen.{Seen, found_in, seen_in_loop}
-use Rattle.proclang.specs.Walk.{each_from}
-use Rattle.proclang.specs.Lookups.{table_at}
-use Rattle.proclang.specs.Targets.{loop_name_at}
-use Rattle.proclang.specs.Expressions.{as_int, as_bool, statement_expr}
+use Rattle.proclang_expressions.specs.declared.fault.FaultKind.TheVariants.{Shape, UnknownTable, Limit}
+use Rattle.proclang_expressions.specs.declared.fault.ProcFault.{ProcFault}
+use Rattle.proclang_expressions.specs.declared.fault.ProcFault.TheVariants.{At}
+use Rattle.proclang_expressions.specs.Faults.{refuse}
+use Rattle.proclang_expressions.specs.Seen.{Seen, found_in, seen_in_loop}
+use Rattle.proclang_expressions.specs.Walk.{each_from}
+use Rattle.proclang_expressions.specs.Lookups.{table_called}
+use Rattle.proclang_expressions.specs.Targets.{loop_name_at}
+use Rattle.proclang_expressions.specs.Expressions.{as_int, as_bool, statement_expr}
 use Rattle.proclang_forms.specs.StmtForms.{IfParts, ForParts, EachParts, StatementForm, let_parts, get_parts, put_parts, insert_parts, delete_parts, if_parts, for_parts, each_parts, abort_code, reply_values, statement_form}
-use Rattle.proclang.specs.Statements.{put_at, insert_at, delete_at, abort_at, reply_at, BlockReader, if_at, for_at, each_at, in_scope, form_at, statement_at, next_statement, block_at}
-use Rattle.proclang.specs.BrokenNames.{in_table}
-use Rattle.proclang.specs.BrokenExpressions.{not_int, not_bool, in_statement_expr}
-use Rattle.proclang.specs.BrokenStatements.{in_loop_name, in_put, in_insert, in_delete, in_abort, in_reply, BlockRules, in_if, in_for, in_each, in_statement_form, in_statement, seen_after_form, seen_after, in_statements, in_deep_block, in_block_form, in_block}
-use Rattle.proclang.proofs.FirstNames.{found_first}
-use Rattle.proclang.proofs.FirstTypes.{int_first, bool_first}
-use Rattle.proclang.proofs.FirstParts.{statement_expr_first, statement_expr_so, loop_name_first}
+use Rattle.proclang.specs.Statements.{put_at, insert_at, delete_at, abort_at, reply_at, BlockReader, if_at, for_at, each_loop_at, in_scope, form_at, statement_at, next_statement, block_at}
+use Rattle.proclang_expressions.specs.BrokenNames.{not_table}
+use Rattle.proclang_expressions.specs.BrokenExpressions.{not_int, not_bool, in_statement_expr}
+use Rattle.proclang_expressions.specs.BrokenTargets.{in_loop_name}
+use Rattle.proclang.specs.BrokenStatements.{in_put, in_insert, in_delete, in_abort, in_reply, BlockRules, in_if, in_for, in_each_loop, in_statement_form, in_statement, seen_after_form, seen_after, in_statements, in_deep_block, in_block_form, in_block}
+use Rattle.proclang_expressions.proofs.FirstNames.{found_first}
+use Rattle.proclang_expressions.proofs.FirstTypes.{int_first, bool_first}
+use Rattle.proclang_expressions.proofs.FirstParts.{statement_expr_first, statement_expr_so, loop_name_first}
 use Rattle.proclang.proofs.FirstStatements.{let_first, let_so, get_first, get_so, put_first, insert_first, delete_first, abort_first, reply_first}
 
 alone_first : (scope : List Seen) (r : Result StmtSyntax ProcFault) (fs : List ProcFault) → IsFirst r fs → IsFirst (in_scope scope r) fs
@@ -71,20 +72,20 @@ module _ (tables : List TableShape) (block : BlockReader) (faults : BlockRules)
       bind_first (as_int p l) _ low_kind high_kind (int_first p scope form.low l (statement_expr_so tables p scope form.low l l_is)) (λ i _.
       ok_first (as_int q h) (λ j. for_numbers i j (block_of ss)) high_kind (int_first q scope form.high h (statement_expr_so tables q scope form.high h h_is)))))))
 
-  each_first_of : (path : List ℕ) (scope : List Seen) (form : EachParts) → IsFirst (each_at tables block path scope form) (in_each tables faults path scope form)
-  unfolding each_at
+  each_first_of : (path : List ℕ) (scope : List Seen) (form : EachParts) → IsFirst (each_loop_at tables block path scope form) (in_each_loop tables faults path scope form)
+  unfolding each_loop_at
   each_first_of path scope form =
       let p = path ++ 2 ∷ [] in
       let q = path ++ 3 ∷ [] in
       let r = path ++ 4 ∷ [] in
       let inner = seen_in_loop scope form.variable in
-      let table = in_table p tables form.table in
+      let table = not_table p tables form.table in
       let part = in_statement_expr tables q scope form.number in
       let body = faults r inner form.body in
       let kind = not_int q scope form.number in
       bind_first (loop_name_at (path ++ 1 ∷ []) scope form.variable) _ (in_loop_name (path ++ 1 ∷ []) form.variable (found_in form.variable scope)) (table ++ (part ++ (body ++ kind)))
       (loop_name_first (path ++ 1 ∷ []) form.variable (found_in form.variable scope)) (λ _ _.
-      bind_first (table_at p tables form.table) _ table (part ++ (body ++ kind)) (found_first (At UnknownTable p) (table_named tables form.table)) (λ t _.
+      bind_first (table_called p tables form.table) _ table (part ++ (body ++ kind)) (found_first (At UnknownTable p) (table_named tables form.table)) (λ t _.
       bind_first (statement_expr tables q scope form.number) _ part (body ++ kind) (statement_expr_first tables q scope form.number) (λ e e_is.
       bind_first (block r inner form.body) _ body kind (law r inner form.body) (λ ss _.
       ok_first (as_int q e) (λ i. for_keys t i (block_of ss)) kind (int_first q scope form.number e (statement_expr_so tables q scope form.number e e_is))))))
@@ -98,7 +99,7 @@ module _ (tables : List TableShape) (block : BlockReader) (faults : BlockRules)
   form_first path scope (delete_parts form) = alone_first scope (delete_at tables path scope form) (in_delete tables path scope form) (delete_first tables path scope form)
   form_first path scope (if_parts form) = alone_first scope (if_at tables block path scope form) (in_if tables faults path scope form) (if_first_of path scope form)
   form_first path scope (for_parts form) = alone_first scope (for_at tables block path scope form) (in_for tables faults path scope form) (for_first path scope form)
-  form_first path scope (each_parts form) = alone_first scope (each_at tables block path scope form) (in_each tables faults path scope form) (each_first_of path scope form)
+  form_first path scope (each_parts form) = alone_first scope (each_loop_at tables block path scope form) (in_each_loop tables faults path scope form) (each_first_of path scope form)
   form_first path scope (abort_code z) = alone_first scope (abort_at path z) (in_abort path z) (abort_first path z)
   form_first path scope (reply_values ds) = alone_first scope (reply_at tables path scope ds) (in_reply tables path scope ds) (reply_first tables path scope ds)
 
@@ -111,7 +112,7 @@ module _ (tables : List TableShape) (block : BlockReader) (faults : BlockRules)
   form_so path scope (delete_parts form) r e = alone_so scope (delete_at tables path scope form) r e
   form_so path scope (if_parts form) r e = alone_so scope (if_at tables block path scope form) r e
   form_so path scope (for_parts form) r e = alone_so scope (for_at tables block path scope form) r e
-  form_so path scope (each_parts form) r e = alone_so scope (each_at tables block path scope form) r e
+  form_so path scope (each_parts form) r e = alone_so scope (each_loop_at tables block path scope form) r e
   form_so path scope (abort_code z) r e = alone_so scope (abort_at path z) r e
   form_so path scope (reply_values ds) r e = alone_so scope (reply_at tables path scope ds) r e
 

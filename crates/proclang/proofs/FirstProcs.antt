@@ -17,26 +17,27 @@ use Rattle.catalogue.specs.Reading.{column_form, is_used}
 use Rattle.catalogue.specs.Shapes.{TableShape}
 use Rattle.catalogue.specs.Places.{table_named}
 use Rattle.proclang_types.specs.Syntax.{row_entry, rows_entry, part_entry, table_entry, declared_by, ParamShape, ProcSyntax}
-use Rattle.proclang.specs.declared.fault.FaultKind.TheVariants.{Shape, UnknownTable, DuplicateName, Limit}
-use Rattle.proclang.specs.declared.fault.ProcFault.{ProcFault}
-use Rattle.proclang.specs.declared.fault.ProcFault.TheVariants.{Memory, At}
-use Rattle.proclang.specs.Faults.{is_memory}
-use Rattle.proclang.specs.Seen.{Seen, seen_of}
-use Rattle.proclang.specs.Walk.{each_from, behind, at_most}
-use Rattle.proclang.specs.Lookups.{table_at}
-use Rattle.proclang.specs.Expressions.{deepest, as_int, expr_at}
+use Rattle.proclang_expressions.specs.declared.fault.FaultKind.TheVariants.{Shape, UnknownTable, DuplicateName, Limit}
+use Rattle.proclang_expressions.specs.declared.fault.ProcFault.{ProcFault}
+use Rattle.proclang_expressions.specs.declared.fault.ProcFault.TheVariants.{Memory, At}
+use Rattle.proclang_expressions.specs.Faults.{is_memory}
+use Rattle.proclang_expressions.specs.Seen.{Seen, seen_of}
+use Rattle.proclang_expressions.specs.Walk.{each_from, appended, at_most}
+use Rattle.proclang_expressions.specs.Lookups.{table_called}
+use Rattle.proclang_expressions.specs.Expressions.{deepest, as_int, expr_at}
 use Rattle.proclang.specs.Statements.{block_at}
 use Rattle.proclang_forms.specs.ProcForms.{ProcDocument, proc_form, FootprintDocument, declared_parts, recon_parts, footprint_form, EntryDocument, row_parts, rows_parts, part_parts, table_parts, db_parts, entry_form}
-use Rattle.proclang.specs.Procs.{fresh_at, param_at, each_param, params_at, int_at, entry_of, entry_at, each_entry, footprint_of, footprint_at, PartsSyntax, parts_at, proc_at, each_proc, procs_at}
-use Rattle.proclang.specs.BrokenExpressions.{not_int, in_expr}
+use Rattle.proclang.specs.Procs.{fresh_at, param_at, each_param, params_at, int_at, entry_of, entry_at, each_entry, footprint_from, footprint_at, PartsSyntax, parts_at, proc_at, each_proc, procs_at}
+use Rattle.proclang_expressions.specs.BrokenExpressions.{not_int, in_expr}
 use Rattle.proclang_forms.specs.declared.expr_forms.Section.TheVariants as sections
-use Rattle.proclang.specs.BrokenNames.{in_table}
-use Rattle.proclang.specs.BrokenStatements.{in_parts, in_block}
+use Rattle.proclang_expressions.specs.BrokenNames.{not_table}
+use Rattle.proclang_expressions.specs.BrokenParts.{in_parts}
+use Rattle.proclang.specs.BrokenStatements.{in_block}
 use Rattle.proclang.specs.BrokenProcs.{in_named_parts, in_new_name, name_of_param, in_param_form, in_param, in_params, params_of_form, params_said, in_int, in_entry_form, in_entry, in_footprint_form, in_footprint, name_of_proc, in_proc_form, in_proc, in_procs_form, procedures_faults}
-use Rattle.proclang.proofs.FirstNames.{found_first}
-use Rattle.proclang.proofs.FirstTypes.{type_so, int_first}
-use Rattle.proclang.proofs.FirstExpressions.{expr_first}
-use Rattle.proclang.proofs.FirstParts.{parts_first}
+use Rattle.proclang_expressions.proofs.FirstNames.{found_first}
+use Rattle.proclang_expressions.proofs.FirstTypes.{type_so, int_first}
+use Rattle.proclang_expressions.proofs.FirstExpressions.{expr_first}
+use Rattle.proclang_expressions.proofs.FirstParts.{parts_first}
 use Rattle.proclang.proofs.FirstBlocks.{block_first}
 
 -- ---- names
@@ -55,21 +56,21 @@ fresh_first name_of path before name =
     last true = refl
     last false = refl
 
--- parts one behind the other, each with a name
+-- parts one after another, each with a name
 module _ {X : Type 0} (name_of : X → List ℕ) (one : List ℕ → List X → Data → Result X ProcFault) (named : Data → Option (List ℕ)) (faults : List ℕ → List (List ℕ) → Data → List ProcFault)
     (law : (path : List ℕ) (before : List X) (d : Data) → IsFirst (one path before d) (faults path (map name_of before) d))
     (name_law : (path : List ℕ) (before : List X) (d : Data) (x : X) → one path before d ≡ Ok x → named d ≡ Some (name_of x)) where
-  named_first : (path : List ℕ) (place : ℕ) (before : List X) (ds : List Data) → IsFirst (each_from (λ p b d. behind b (one p b d)) path place before ds) (in_named_parts named faults path place (map name_of before) ds)
+  named_first : (path : List ℕ) (place : ℕ) (before : List X) (ds : List Data) → IsFirst (each_from (λ p b d. appended b (one p b d)) path place before ds) (in_named_parts named faults path place (map name_of before) ds)
   named_first path place before [] = refl
   named_first path place before (d ∷ ds) =
       let p = path ++ place ∷ [] in
-      bind_first (behind before (one p before d)) _ (faults p (map name_of before) d) (in_named_parts named faults path (place + 1) (map name_of before ++ option_to_list (named d)) ds)
+      bind_first (appended before (one p before d)) _ (faults p (map name_of before) d) (in_named_parts named faults path (place + 1) (map name_of before ++ option_to_list (named d)) ds)
       (ok_first (one p before d) (λ x. before ++ x ∷ []) (faults p (map name_of before) d) (law p before d)) (λ so_far so_far_is.
       let x = bind_ok (one p before d) _ so_far so_far_is in
       let is : before ++ x.0 ∷ [] ≡ so_far = (let h = x.2 in cc) in
       let names : map name_of so_far ≡ map name_of before ++ option_to_list (named d) =
       ap (map name_of) (sym is) ∙ map-append name_of before (x.0 ∷ []) ∙ ap (λ (o : Option (List ℕ)). map name_of before ++ option_to_list o) (sym (name_law p before d x.0 x.1)) in
-      subst (λ (ns : List (List ℕ)). IsFirst (each_from (λ p b d. behind b (one p b d)) path (place + 1) so_far ds) (in_named_parts named faults path (place + 1) ns ds)) names (named_first path (place + 1) so_far ds))
+      subst (λ (ns : List (List ℕ)). IsFirst (each_from (λ p b d. appended b (one p b d)) path (place + 1) so_far ds) (in_named_parts named faults path (place + 1) ns ds)) names (named_first path (place + 1) so_far ds))
 
 -- ---- parameters
 
@@ -104,11 +105,11 @@ params_first path ds =
 said_with : (d : Data) (ds : List Data) (p : ParamShape) → ((f : List ℕ × ColType) × (column_form d ≡ Some f) × (record { name = f.0; kind = f.1 } ≡ p)) → p ∷ params_said ds ≡ params_said (d ∷ ds)
 said_with d ds p f = ap (λ (q : ParamShape). q ∷ params_said ds) (sym f.2) ∙ ap (λ (o : Option (List ℕ × ColType)). params_of_form o (params_said ds)) (sym f.1)
 
-each_param_so : (path : List ℕ) (place : ℕ) (before : List ParamShape) (ds : List Data) (all : List ParamShape) → each_from (λ p b d. behind b (param_at p b d)) path place before ds ≡ Ok all → all ≡ before ++ params_said ds
+each_param_so : (path : List ℕ) (place : ℕ) (before : List ParamShape) (ds : List Data) (all : List ParamShape) → each_from (λ p b d. appended b (param_at p b d)) path place before ds ≡ Ok all → all ≡ before ++ params_said ds
 each_param_so path place before [] all e = let is : before ≡ all = cc in sym is ∙ sym (append-nil before)
 each_param_so path place before (d ∷ ds) all e =
     let q = path ++ place ∷ [] in
-    let step = bind_ok (behind before (param_at q before d)) _ all e in
+    let step = bind_ok (appended before (param_at q before d)) _ all e in
     let x = bind_ok (param_at q before d) _ step.0 step.1 in
     let is : before ++ x.0 ∷ [] ≡ step.0 = (let h = x.2 in cc) in
     let f = param_so q before d x.0 x.1 in
@@ -132,27 +133,27 @@ int_expr_first tables path scope d =
 entry_of_first : (tables : List TableShape) (path : List ℕ) (scope : List Seen) (form : EntryDocument) → IsFirst (entry_of tables path scope form) (in_entry_form tables path scope (Some form))
 unfolding entry_of
 entry_of_first tables path scope (row_parts right table key) =
-    bind_first (table_at (path ++ 2 ∷ []) tables table) _ (in_table (path ++ 2 ∷ []) tables table) (in_int tables (path ++ 3 ∷ []) scope key) (found_first (At UnknownTable (path ++ 2 ∷ [])) (table_named tables table)) (λ t _.
+    bind_first (table_called (path ++ 2 ∷ []) tables table) _ (not_table (path ++ 2 ∷ []) tables table) (in_int tables (path ++ 3 ∷ []) scope key) (found_first (At UnknownTable (path ++ 2 ∷ [])) (table_named tables table)) (λ t _.
     ok_first (int_at tables (path ++ 3 ∷ []) scope key) (λ k. row_entry right t k) (in_int tables (path ++ 3 ∷ []) scope key) (int_expr_first tables (path ++ 3 ∷ []) scope key))
 entry_of_first tables path scope (rows_parts right table low high) =
     let lows = in_int tables (path ++ 3 ∷ []) scope low in
     let highs = in_int tables (path ++ 4 ∷ []) scope high in
-    bind_first (table_at (path ++ 2 ∷ []) tables table) _ (in_table (path ++ 2 ∷ []) tables table) (lows ++ highs) (found_first (At UnknownTable (path ++ 2 ∷ [])) (table_named tables table)) (λ t _.
+    bind_first (table_called (path ++ 2 ∷ []) tables table) _ (not_table (path ++ 2 ∷ []) tables table) (lows ++ highs) (found_first (At UnknownTable (path ++ 2 ∷ [])) (table_named tables table)) (λ t _.
     bind_first (int_at tables (path ++ 3 ∷ []) scope low) _ lows highs (int_expr_first tables (path ++ 3 ∷ []) scope low) (λ l _.
     ok_first (int_at tables (path ++ 4 ∷ []) scope high) (λ h. rows_entry right t l h) highs (int_expr_first tables (path ++ 4 ∷ []) scope high)))
 entry_of_first tables path scope (part_parts right table part) =
-    bind_first (table_at (path ++ 2 ∷ []) tables table) _ (in_table (path ++ 2 ∷ []) tables table) (in_int tables (path ++ 3 ∷ []) scope part) (found_first (At UnknownTable (path ++ 2 ∷ [])) (table_named tables table)) (λ t _.
+    bind_first (table_called (path ++ 2 ∷ []) tables table) _ (not_table (path ++ 2 ∷ []) tables table) (in_int tables (path ++ 3 ∷ []) scope part) (found_first (At UnknownTable (path ++ 2 ∷ [])) (table_named tables table)) (λ t _.
     ok_first (int_at tables (path ++ 3 ∷ []) scope part) (λ p. part_entry right t p) (in_int tables (path ++ 3 ∷ []) scope part) (int_expr_first tables (path ++ 3 ∷ []) scope part))
 entry_of_first tables path scope (table_parts right table) =
-    ok_first (table_at (path ++ 2 ∷ []) tables table) (λ t. table_entry right t) (in_table (path ++ 2 ∷ []) tables table) (found_first (At UnknownTable (path ++ 2 ∷ [])) (table_named tables table))
+    ok_first (table_called (path ++ 2 ∷ []) tables table) (λ t. table_entry right t) (not_table (path ++ 2 ∷ []) tables table) (found_first (At UnknownTable (path ++ 2 ∷ [])) (table_named tables table))
 entry_of_first tables path scope (db_parts right) = refl
 
 entry_first : (tables : List TableShape) (scope : List Seen) (path : List ℕ) (d : Data) → IsFirst (entry_at tables scope path d) (in_entry tables scope path d)
 unfolding entry_at
 entry_first tables scope path d = formed_first (At Shape path) (entry_form d) (entry_of tables path scope) (in_entry_form tables path scope) refl (λ f. entry_of_first tables path scope f)
 
-footprint_of_first : (tables : List TableShape) (path : List ℕ) (scope : List Seen) (form : FootprintDocument) → IsFirst (footprint_of tables path scope form) (in_footprint_form tables path scope (Some form))
-unfolding footprint_of
+footprint_of_first : (tables : List TableShape) (path : List ℕ) (scope : List Seen) (form : FootprintDocument) → IsFirst (footprint_from tables path scope form) (in_footprint_form tables path scope (Some form))
+unfolding footprint_from
 footprint_of_first tables path scope (declared_parts ds) =
     rule_first (leb (length ds) 256) (At Limit path) (λ _. each_entry tables path scope ds >>= λ es. Ok (declared_by es)) (in_parts (in_entry tables scope) path 1 ds)
     (ok_first (each_entry tables path scope ds) (λ es. declared_by es) (in_parts (in_entry tables scope) path 1 ds)
@@ -161,7 +162,7 @@ footprint_of_first tables path scope recon_parts = refl
 
 footprint_first : (tables : List TableShape) (path : List ℕ) (scope : List Seen) (d : Data) → IsFirst (footprint_at tables path scope d) (in_footprint tables path scope d)
 unfolding footprint_at
-footprint_first tables path scope d = formed_first (At Shape path) (footprint_form d) (footprint_of tables path scope) (in_footprint_form tables path scope) refl (λ f. footprint_of_first tables path scope f)
+footprint_first tables path scope d = formed_first (At Shape path) (footprint_form d) (footprint_from tables path scope) (in_footprint_form tables path scope) refl (λ f. footprint_of_first tables path scope f)
 
 -- ---- procedures
 

@@ -11,23 +11,26 @@ use Rattle.catalogue.specs.Places.{table_named}
 use Rattle.catalogue.specs.Shapes.{TableShape}
 use Rattle.proclang_types.specs.Syntax.{ExprSyntax, ValueSyntax, StmtSyntax, assign, get, put, insert_row, delete_row, abort, reply}
 use Rattle.proclang_types.specs.Typing.{kind_of, column_kinds}
-use Rattle.proclang.specs.declared.fault.FaultKind.TheVariants.{Shape, UnknownTable, TypeMismatch, AbortCode, Limit}
-use Rattle.proclang.specs.declared.fault.ProcFault.TheVariants.{At}
-use Rattle.proclang.specs.declared.scope.Found.{Found}
-use Rattle.proclang.specs.Seen.{Seen, found_in}
-use Rattle.proclang.specs.Walk.{each_from, behind}
-use Rattle.proclang.specs.Lookups.{same_type, table_at, column_at}
-use Rattle.proclang.specs.Targets.{target_at, bound}
-use Rattle.proclang.specs.Expressions.{as_int, as_value, statement_expr}
+use Rattle.proclang_expressions.specs.declared.fault.FaultKind.TheVariants.{Shape, UnknownTable, TypeMismatch, AbortCode, Limit}
+use Rattle.proclang_expressions.specs.declared.fault.ProcFault.TheVariants.{At}
+use Rattle.proclang_expressions.specs.declared.scope.Found.{Found}
+use Rattle.proclang_expressions.specs.Seen.{Seen, found_in}
+use Rattle.proclang_expressions.specs.Walk.{each_from, appended}
+use Rattle.proclang_expressions.specs.Lookups.{same_type, table_called, column_called}
+use Rattle.proclang_expressions.specs.Targets.{target_at, bound}
+use Rattle.proclang_expressions.specs.Expressions.{as_int, as_value, statement_expr}
 use Rattle.proclang_forms.specs.StmtForms.{LetParts, GetParts, PutParts, InsertParts, DeleteParts}
-use Rattle.proclang.specs.Statements.{of_type, let_at, get_at, put_at, exprs_at, stored_at, row_at, kinds_in, insert_at, delete_at, abort_at, values_at, reply_at}
-use Rattle.proclang.specs.ExprTypes.{type_said, kind_said}
-use Rattle.proclang.specs.BrokenNames.{in_table, column_type_said, in_column}
-use Rattle.proclang.specs.BrokenExpressions.{not_int, not_value, in_statement_expr}
-use Rattle.proclang.specs.BrokenStatements.{in_target, type_found, agree, kinds_said, in_parts, in_let, in_get, in_put, not_stored, in_insert, in_delete, in_abort, in_reply, seen_with}
-use Rattle.proclang.proofs.FirstNames.{found_first, table_so, column_first, column_type_so}
-use Rattle.proclang.proofs.FirstTypes.{type_read, kind_so, int_first, value_first}
-use Rattle.proclang.proofs.FirstParts.{statement_expr_first, statement_expr_so, seen_is, target_first, target_so, bound_first, bound_so, AreTyped, exprs_first, exprs_so}
+use Rattle.proclang_expressions.specs.Values.{of_type, exprs_at, stored_at, row_values_at, kinds_in, values_at}
+use Rattle.proclang.specs.Statements.{let_at, get_at, put_at, insert_at, delete_at, abort_at, reply_at}
+use Rattle.proclang_expressions.specs.ExprTypes.{type_said, kind_said}
+use Rattle.proclang_expressions.specs.BrokenNames.{not_table, column_type_said, not_column}
+use Rattle.proclang_expressions.specs.BrokenExpressions.{not_int, not_value, in_statement_expr}
+use Rattle.proclang_expressions.specs.BrokenTargets.{in_target, type_found, agree, seen_with}
+use Rattle.proclang.specs.BrokenStatements.{kinds_said, in_let, in_get, in_put, not_stored, in_insert, in_delete, in_abort, in_reply}
+use Rattle.proclang_expressions.specs.BrokenParts.{in_parts}
+use Rattle.proclang_expressions.proofs.FirstNames.{found_first, table_so, column_first, column_type_so}
+use Rattle.proclang_expressions.proofs.FirstTypes.{type_read, kind_so, int_first, value_first}
+use Rattle.proclang_expressions.proofs.FirstParts.{statement_expr_first, statement_expr_so, seen_is, target_first, target_so, bound_first, bound_so, AreTyped, exprs_first, exprs_so}
 
 -- ---- let
 
@@ -70,16 +73,16 @@ unfolding get_at
 get_first tables path scope form =
     let last = broken (agree (type_found (found_in form.variable scope)) (column_type_said tables form.table form.column)) (At TypeMismatch (path ++ 4 ∷ [])) in
     let key = not_int (path ++ 3 ∷ []) scope form.key in
-    let column = in_column (path ++ 4 ∷ []) tables form.table form.column in
+    let column = not_column (path ++ 4 ∷ []) tables form.table form.column in
     let expr = in_statement_expr tables (path ++ 3 ∷ []) scope form.key in
-    let table = in_table (path ++ 2 ∷ []) tables form.table in
+    let table = not_table (path ++ 2 ∷ []) tables form.table in
     bind_first (target_at (path ++ 1 ∷ []) scope form.variable) _ (in_target (path ++ 1 ∷ []) form.variable (found_in form.variable scope)) (table ++ (expr ++ (column ++ (key ++ last))))
     (target_first (path ++ 1 ∷ []) form.variable (found_in form.variable scope)) (λ target target_is.
-    bind_first (table_at (path ++ 2 ∷ []) tables form.table) _ table (expr ++ (column ++ (key ++ last)))
+    bind_first (table_called (path ++ 2 ∷ []) tables form.table) _ table (expr ++ (column ++ (key ++ last)))
     (found_first (At UnknownTable (path ++ 2 ∷ [])) (table_named tables form.table)) (λ place place_is.
     bind_first (statement_expr tables (path ++ 3 ∷ []) scope form.key) _ expr (column ++ (key ++ last))
     (statement_expr_first tables (path ++ 3 ∷ []) scope form.key) (λ e e_is.
-    bind_first (column_at (path ++ 4 ∷ []) tables place form.column) _ column (key ++ last)
+    bind_first (column_called (path ++ 4 ∷ []) tables place form.column) _ column (key ++ last)
     (column_first (path ++ 4 ∷ []) tables form.table form.column place (table_so (path ++ 2 ∷ []) tables form.table place place_is)) (λ c c_is.
     bind_first (as_int (path ++ 3 ∷ []) e) _ key last
     (int_first (path ++ 3 ∷ []) scope form.key e (statement_expr_so tables (path ++ 3 ∷ []) scope form.key e e_is)) (λ k _.
@@ -97,9 +100,9 @@ pub get_so : (tables : List TableShape) (path : List ℕ) (scope : List Seen) (f
 unfolding get_at
 get_so tables path scope form r e =
     let target = bind_ok (target_at (path ++ 1 ∷ []) scope form.variable) _ r e in
-    let table = bind_ok (table_at (path ++ 2 ∷ []) tables form.table) _ r target.2 in
+    let table = bind_ok (table_called (path ++ 2 ∷ []) tables form.table) _ r target.2 in
     let expr = bind_ok (statement_expr tables (path ++ 3 ∷ []) scope form.key) _ r table.2 in
-    let column = bind_ok (column_at (path ++ 4 ∷ []) tables table.0 form.column) _ r expr.2 in
+    let column = bind_ok (column_called (path ++ 4 ∷ []) tables table.0 form.column) _ r expr.2 in
     let key = bind_ok (as_int (path ++ 3 ∷ []) expr.0) _ r column.2 in
     let variable = bind_ok (bound (path ++ 4 ∷ []) scope form.variable column.0.1 target.0) _ r key.2 in
     let found : found_in form.variable scope ≡ target.0 = target_so (path ++ 1 ∷ []) form.variable (found_in form.variable scope) target.0 target.1 in
@@ -120,14 +123,14 @@ put_first tables path scope form =
     let value = not_value (path ++ 4 ∷ []) scope form.value in
     let key = not_int (path ++ 2 ∷ []) scope form.key in
     let stored = in_statement_expr tables (path ++ 4 ∷ []) scope form.value in
-    let column = in_column (path ++ 3 ∷ []) tables form.table form.column in
+    let column = not_column (path ++ 3 ∷ []) tables form.table form.column in
     let expr = in_statement_expr tables (path ++ 2 ∷ []) scope form.key in
-    let table = in_table (path ++ 1 ∷ []) tables form.table in
-    bind_first (table_at (path ++ 1 ∷ []) tables form.table) _ table (expr ++ (column ++ (stored ++ (key ++ (value ++ last)))))
+    let table = not_table (path ++ 1 ∷ []) tables form.table in
+    bind_first (table_called (path ++ 1 ∷ []) tables form.table) _ table (expr ++ (column ++ (stored ++ (key ++ (value ++ last)))))
     (found_first (At UnknownTable (path ++ 1 ∷ [])) (table_named tables form.table)) (λ place place_is.
     bind_first (statement_expr tables (path ++ 2 ∷ []) scope form.key) _ expr (column ++ (stored ++ (key ++ (value ++ last))))
     (statement_expr_first tables (path ++ 2 ∷ []) scope form.key) (λ k k_is.
-    bind_first (column_at (path ++ 3 ∷ []) tables place form.column) _ column (stored ++ (key ++ (value ++ last)))
+    bind_first (column_called (path ++ 3 ∷ []) tables place form.column) _ column (stored ++ (key ++ (value ++ last)))
     (column_first (path ++ 3 ∷ []) tables form.table form.column place (table_so (path ++ 1 ∷ []) tables form.table place place_is)) (λ c c_is.
     bind_first (statement_expr tables (path ++ 4 ∷ []) scope form.value) _ stored (key ++ (value ++ last))
     (statement_expr_first tables (path ++ 4 ∷ []) scope form.value) (λ x x_is.
@@ -159,14 +162,14 @@ stored_first path scope kind d e typed =
     known v is = rw is (of_first path kind v)
 
 row_first : (path : List ℕ) (scope : List Seen) (place : ℕ) (before : List ValueSyntax) (kinds : List ColType) (ds : List Data) (es : List ExprSyntax) → AreTyped scope ds es
-    → IsFirst (each_from (λ p b c. behind b (stored_at p c.0 c.1)) path place before (zip kinds es)) (in_parts (λ p c. not_stored p scope c.0 c.1) path place (zip kinds ds))
+    → IsFirst (each_from (λ p b c. appended b (stored_at p c.0 c.1)) path place before (zip kinds es)) (in_parts (λ p c. not_stored p scope c.0 c.1) path place (zip kinds ds))
 row_first path scope place before [] ds es h = refl
 row_first path scope place before (k ∷ kinds) [] [] h = refl
 row_first path scope place before (k ∷ kinds) [] (e ∷ es) h = absurd h
 row_first path scope place before (k ∷ kinds) (d ∷ ds) [] h = absurd h
 row_first path scope place before (k ∷ kinds) (d ∷ ds) (e ∷ es) h =
     let p = path ++ place ∷ [] in
-    bind_first (behind before (stored_at p k e)) _ (not_stored p scope k d) (in_parts (λ q c. not_stored q scope c.0 c.1) path (place + 1) (zip kinds ds))
+    bind_first (appended before (stored_at p k e)) _ (not_stored p scope k d) (in_parts (λ q c. not_stored q scope c.0 c.1) path (place + 1) (zip kinds ds))
     (ok_first (stored_at p k e) (λ v. before ++ v ∷ []) (not_stored p scope k d) (stored_first p scope k d e h.0)) (λ so_far _.
     row_first path scope (place + 1) so_far kinds ds es h.1)
 
@@ -175,19 +178,19 @@ unfolding insert_at
 insert_first tables path scope form =
     let p = path ++ 2 ∷ [] in
     let q = path ++ 3 ∷ [] in
-    let table = in_table (path ++ 1 ∷ []) tables form.table in
+    let table = not_table (path ++ 1 ∷ []) tables form.table in
     let expr = in_statement_expr tables p scope form.key in
     let key = not_int p scope form.key in
     let parts = in_parts (λ r d. in_statement_expr tables r scope d) q 0 form.values in
     let many = broken (eqb (length form.values) (length (kinds_said tables form.table))) (At Shape q) in
     let kinds = in_parts (λ r c. not_stored r scope c.0 c.1) q 0 (zip (kinds_said tables form.table) form.values) in
-    bind_first (table_at (path ++ 1 ∷ []) tables form.table) _ table (expr ++ (many ++ (parts ++ (key ++ kinds))))
+    bind_first (table_called (path ++ 1 ∷ []) tables form.table) _ table (expr ++ (many ++ (parts ++ (key ++ kinds))))
     (found_first (At UnknownTable (path ++ 1 ∷ [])) (table_named tables form.table)) (λ place place_is.
     bind_first (statement_expr tables p scope form.key) _ expr (many ++ (parts ++ (key ++ kinds))) (statement_expr_first tables p scope form.key) (λ k k_is.
     rw (kinds_so tables form.table place (table_so (path ++ 1 ∷ []) tables form.table place place_is))
     (rest p q place k (statement_expr_so tables p scope form.key k k_is))))
   where
-    rest : (p q : List ℕ) (place : ℕ) (k : ExprSyntax) → type_said scope form.key ≡ Some (type_read k) → IsFirst {A = StmtSyntax} (rule (eqb (length form.values) (length (kinds_in tables place))) (At Shape q) >>= λ _. exprs_at tables q 0 scope form.values >>= λ es. as_int p k >>= λ i. row_at q (kinds_in tables place) es >>= λ vs. Ok (insert_row place i vs))
+    rest : (p q : List ℕ) (place : ℕ) (k : ExprSyntax) → type_said scope form.key ≡ Some (type_read k) → IsFirst {A = StmtSyntax} (rule (eqb (length form.values) (length (kinds_in tables place))) (At Shape q) >>= λ _. exprs_at tables q 0 scope form.values >>= λ es. as_int p k >>= λ i. row_values_at q (kinds_in tables place) es >>= λ vs. Ok (insert_row place i vs))
         (broken (eqb (length form.values) (length (kinds_in tables place))) (At Shape q) ++ (in_parts (λ r d. in_statement_expr tables r scope d) q 0 form.values ++ (not_int p scope form.key ++ in_parts (λ r c. not_stored r scope c.0 c.1) q 0 (zip (kinds_in tables place) form.values))))
     rest p q place k typed =
         let key = not_int p scope form.key in
@@ -196,7 +199,7 @@ insert_first tables path scope form =
         rule_first (eqb (length form.values) (length (kinds_in tables place))) (At Shape q) _ (parts ++ (key ++ kinds))
         (bind_first (exprs_at tables q 0 scope form.values) _ parts (key ++ kinds) (exprs_first tables q 0 scope form.values) (λ es es_are.
         bind_first (as_int p k) _ key kinds (int_first p scope form.key k typed) (λ i _.
-        ok_first (row_at q (kinds_in tables place) es) (λ vs. insert_row place i vs) kinds
+        ok_first (row_values_at q (kinds_in tables place) es) (λ vs. insert_row place i vs) kinds
         (row_first q scope 0 [] (kinds_in tables place) form.values es (exprs_so tables q 0 scope form.values es es_are)))))
 
 -- ---- delete
@@ -205,10 +208,10 @@ pub delete_first : (tables : List TableShape) (path : List ℕ) (scope : List Se
 unfolding delete_at
 delete_first tables path scope form =
     let p = path ++ 2 ∷ [] in
-    let table = in_table (path ++ 1 ∷ []) tables form.table in
+    let table = not_table (path ++ 1 ∷ []) tables form.table in
     let expr = in_statement_expr tables p scope form.key in
     let key = not_int p scope form.key in
-    bind_first (table_at (path ++ 1 ∷ []) tables form.table) _ table (expr ++ key) (found_first (At UnknownTable (path ++ 1 ∷ [])) (table_named tables form.table)) (λ place place_is.
+    bind_first (table_called (path ++ 1 ∷ []) tables form.table) _ table (expr ++ key) (found_first (At UnknownTable (path ++ 1 ∷ [])) (table_named tables form.table)) (λ place place_is.
     bind_first (statement_expr tables p scope form.key) _ expr key (statement_expr_first tables p scope form.key) (λ k k_is.
     ok_first (as_int p k) (λ i. delete_row place i) key (int_first p scope form.key k (statement_expr_so tables p scope form.key k k_is))))
 
@@ -222,13 +225,13 @@ abort_first path (negsuc n) = refl
 -- ---- reply
 
 values_first : (path : List ℕ) (scope : List Seen) (place : ℕ) (before : List ValueSyntax) (ds : List Data) (es : List ExprSyntax) → AreTyped scope ds es
-    → IsFirst (each_from (λ p b e. behind b (as_value p e)) path place before es) (in_parts (λ p d. not_value p scope d) path place ds)
+    → IsFirst (each_from (λ p b e. appended b (as_value p e)) path place before es) (in_parts (λ p d. not_value p scope d) path place ds)
 values_first path scope place before [] [] h = refl
 values_first path scope place before [] (e ∷ es) h = absurd h
 values_first path scope place before (d ∷ ds) [] h = absurd h
 values_first path scope place before (d ∷ ds) (e ∷ es) h =
     let p = path ++ place ∷ [] in
-    bind_first (behind before (as_value p e)) _ (not_value p scope d) (in_parts (λ q x. not_value q scope x) path (place + 1) ds)
+    bind_first (appended before (as_value p e)) _ (not_value p scope d) (in_parts (λ q x. not_value q scope x) path (place + 1) ds)
     (ok_first (as_value p e) (λ v. before ++ v ∷ []) (not_value p scope d) (value_first p scope d e h.0)) (λ so_far _.
     values_first path scope (place + 1) so_far ds es h.1)
 

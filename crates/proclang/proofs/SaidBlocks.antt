@@ -9,21 +9,21 @@ use Rattle.documents.proofs.Steps.{bind_ok, formed_ok}
 use Rattle.catalogue.specs.Places.{table_named}
 use Rattle.catalogue.specs.Shapes.{TableShape}
 use Rattle.proclang_types.specs.Syntax.{StmtSyntax, choose, for_numbers, for_keys, block_of}
-use Rattle.proclang.specs.declared.fault.FaultKind.TheVariants.{Shape, UnknownTable}
-use Rattle.proclang.specs.declared.fault.ProcFault.{ProcFault}
-use Rattle.proclang.specs.declared.fault.ProcFault.TheVariants.{At}
-use Rattle.proclang.specs.Seen.{Seen, seen_in_loop}
-use Rattle.proclang.specs.Walk.{each_from, at_most}
-use Rattle.proclang.specs.Lookups.{table_at}
-use Rattle.proclang.specs.Targets.{loop_name_at}
-use Rattle.proclang.specs.Expressions.{as_int, as_bool, statement_expr}
+use Rattle.proclang_expressions.specs.declared.fault.FaultKind.TheVariants.{Shape, UnknownTable}
+use Rattle.proclang_expressions.specs.declared.fault.ProcFault.{ProcFault}
+use Rattle.proclang_expressions.specs.declared.fault.ProcFault.TheVariants.{At}
+use Rattle.proclang_expressions.specs.Seen.{Seen, seen_in_loop}
+use Rattle.proclang_expressions.specs.Walk.{each_from, at_most}
+use Rattle.proclang_expressions.specs.Lookups.{table_called}
+use Rattle.proclang_expressions.specs.Targets.{loop_name_at}
+use Rattle.proclang_expressions.specs.Expressions.{as_int, as_bool, statement_expr}
 use Rattle.proclang_forms.specs.StmtForms.{IfParts, ForParts, EachParts, StatementForm, let_parts, get_parts, put_parts, insert_parts, delete_parts, if_parts, for_parts, each_parts, abort_code, reply_values, statement_form}
-use Rattle.proclang.specs.Statements.{put_at, insert_at, delete_at, abort_at, reply_at, BlockReader, if_at, for_at, each_at, in_scope, form_at, statement_at, next_statement, block_at}
+use Rattle.proclang.specs.Statements.{put_at, insert_at, delete_at, abort_at, reply_at, BlockReader, if_at, for_at, each_loop_at, in_scope, form_at, statement_at, next_statement, block_at}
 use Rattle.proclang.specs.SaysStatements.{SaysIf, SaysFor, SaysEach, SaysStatementForm, SaysStatements, SaysBlock}
-use Rattle.proclang.proofs.SaidParts.{few_found, few_again, int_said, bool_said, int_read, bool_read, new_found, new_again}
+use Rattle.proclang_expressions.proofs.SaidParts.{few_found, few_again, int_said, bool_said, int_read, bool_read, new_found, new_again}
 use Rattle.proclang.proofs.SaidStatements.{let_found, let_again, get_found, get_again, put_found, put_again, delete_found, delete_again, abort_found, abort_again, reply_found, reply_again}
 use Rattle.proclang.proofs.SaidInserts.{insert_found, insert_again}
-use Rattle.proclang.proofs.SpelledStatements.{statement_said, statement_again}
+use Rattle.proclang_forms.proofs.SpelledStatements.{statement_said, statement_again}
 
 alone_found : (scope : List Seen) (read : Result StmtSyntax ProcFault) (r : StmtSyntax × List Seen) → in_scope scope read ≡ Ok r → (read ≡ Ok r.0) × (r.1 ≡ scope)
 alone_found scope read r e =
@@ -75,11 +75,11 @@ module _ (tables : List TableShape) (block : BlockReader) (says : List Seen → 
         is = sym is;
       }
 
-  each_found : (path : List ℕ) (scope : List Seen) (form : EachParts) (s : StmtSyntax) → each_at tables block path scope form ≡ Ok s → SaysEach tables says scope form s
-  unfolding each_at
+  each_found : (path : List ℕ) (scope : List Seen) (form : EachParts) (s : StmtSyntax) → each_loop_at tables block path scope form ≡ Ok s → SaysEach tables says scope form s
+  unfolding each_loop_at
   each_found path scope form s e =
       let name = bind_ok (loop_name_at (path ++ 1 ∷ []) scope form.variable) _ s e in
-      let table = bind_ok (table_at (path ++ 2 ∷ []) tables form.table) _ s name.2 in
+      let table = bind_ok (table_called (path ++ 2 ∷ []) tables form.table) _ s name.2 in
       let x = bind_ok (statement_expr tables (path ++ 3 ∷ []) scope form.number) _ s table.2 in
       let body = bind_ok (block (path ++ 4 ∷ []) (seen_in_loop scope form.variable) form.body) _ s x.2 in
       let part = bind_ok (as_int (path ++ 3 ∷ []) x.0) _ s body.2 in
@@ -104,7 +104,7 @@ module _ (tables : List TableShape) (block : BlockReader) (says : List Seen → 
   form_found path scope (delete_parts form) r e = let a = alone_found scope (delete_at tables path scope form) r e in (delete_found tables path scope form r.0 a.0, a.1)
   form_found path scope (if_parts form) r e = let a = alone_found scope (if_at tables block path scope form) r e in (if_found path scope form r.0 a.0, a.1)
   form_found path scope (for_parts form) r e = let a = alone_found scope (for_at tables block path scope form) r e in (for_found path scope form r.0 a.0, a.1)
-  form_found path scope (each_parts form) r e = let a = alone_found scope (each_at tables block path scope form) r e in (each_found path scope form r.0 a.0, a.1)
+  form_found path scope (each_parts form) r e = let a = alone_found scope (each_loop_at tables block path scope form) r e in (each_found path scope form r.0 a.0, a.1)
   form_found path scope (abort_code z) r e =
       let a = alone_found scope (abort_at path z) r e in
       let n = abort_found path z r.0 a.0 in
@@ -150,8 +150,8 @@ module _ (tables : List TableShape) (block : BlockReader) (says : List Seen → 
         again (path ++ 4 ∷ []) (seen_in_loop scope form.variable) form.body h.body h.is_body,
       ) (ap (λ (x : StmtSyntax). Ok x) (sym h.is))
 
-  each_again : (path : List ℕ) (scope : List Seen) (form : EachParts) (s : StmtSyntax) → SaysEach tables says scope form s → each_at tables block path scope form ≡ Ok s
-  unfolding each_at
+  each_again : (path : List ℕ) (scope : List Seen) (form : EachParts) (s : StmtSyntax) → SaysEach tables says scope form s → each_loop_at tables block path scope form ≡ Ok s
+  unfolding each_loop_at
   each_again path scope form s h =
       rw (
         new_again (path ++ 1 ∷ []) scope form.variable h.name,
@@ -169,7 +169,7 @@ module _ (tables : List TableShape) (block : BlockReader) (says : List Seen → 
   form_again path scope (delete_parts form) s after h = alone_again scope (delete_at tables path scope form) s after (delete_again tables path scope form s h.0) h.1
   form_again path scope (if_parts form) s after h = alone_again scope (if_at tables block path scope form) s after (if_again path scope form s h.0) h.1
   form_again path scope (for_parts form) s after h = alone_again scope (for_at tables block path scope form) s after (for_again path scope form s h.0) h.1
-  form_again path scope (each_parts form) s after h = alone_again scope (each_at tables block path scope form) s after (each_again path scope form s h.0) h.1
+  form_again path scope (each_parts form) s after h = alone_again scope (each_loop_at tables block path scope form) s after (each_again path scope form s h.0) h.1
   form_again path scope (abort_code z) s after h = alone_again scope (abort_at path z) s after (abort_again path z s (h.0, h.1, h.2, h.3, h.4)) h.5
   form_again path scope (reply_values ds) s after h = alone_again scope (reply_at tables path scope ds) s after (reply_again tables path scope ds s (h.0, h.1, h.2, h.3)) h.4
 

@@ -17,25 +17,25 @@ use Rattle.catalogue.specs.Shapes.{TableShape}
 use Rattle.catalogue.proofs.Forms.{column_said, column_again}
 use Rattle.catalogue.proofs.Named.{distinct_push, unused}
 use Rattle.proclang_types.specs.Syntax.{IntSyntax, int, EntrySyntax, row_entry, rows_entry, part_entry, table_entry, db_entry, FootprintSyntax, declared_by, found_by_recon, ParamShape, StmtSyntax, ProcSyntax}
-use Rattle.proclang.specs.declared.fault.FaultKind.TheVariants.{Shape, UnknownTable, DuplicateName}
-use Rattle.proclang.specs.declared.fault.ProcFault.{ProcFault}
-use Rattle.proclang.specs.declared.fault.ProcFault.TheVariants.{At}
+use Rattle.proclang_expressions.specs.declared.fault.FaultKind.TheVariants.{Shape, UnknownTable, DuplicateName}
+use Rattle.proclang_expressions.specs.declared.fault.ProcFault.{ProcFault}
+use Rattle.proclang_expressions.specs.declared.fault.ProcFault.TheVariants.{At}
 use Rattle.proclang_forms.specs.declared.expr_forms.Section.TheVariants as sections
-use Rattle.proclang.specs.Seen.{Seen, seen_of}
-use Rattle.proclang.specs.Walk.{each_from, behind, at_most}
-use Rattle.proclang.specs.Lookups.{table_at}
-use Rattle.proclang.specs.Expressions.{deepest, expr_at}
+use Rattle.proclang_expressions.specs.Seen.{Seen, seen_of}
+use Rattle.proclang_expressions.specs.Walk.{each_from, appended, at_most}
+use Rattle.proclang_expressions.specs.Lookups.{table_called}
+use Rattle.proclang_expressions.specs.Expressions.{deepest, expr_at}
 use Rattle.proclang.specs.Statements.{block_at}
 use Rattle.proclang_forms.specs.ProcForms.{ProcDocument, proc_form, FootprintDocument, declared_parts, recon_parts, footprint_form, EntryDocument, row_parts, rows_parts, part_parts, table_parts, db_parts, entry_form}
-use Rattle.proclang.specs.Procs.{fresh_at, param_at, params_at, int_at, entry_of, entry_at, each_entry, footprint_of, footprint_at, PartsSyntax, parts_at, proc_at, procs_at}
-use Rattle.proclang.specs.SaysExpressions.{SaysExpr, SaysFootprintInt}
+use Rattle.proclang.specs.Procs.{fresh_at, param_at, params_at, int_at, entry_of, entry_at, each_entry, footprint_from, footprint_at, PartsSyntax, parts_at, proc_at, procs_at}
+use Rattle.proclang_expressions.specs.SaysExpressions.{SaysExpr, SaysFootprintInt}
 use Rattle.proclang.specs.SaysStatements.{SaysBlock}
 use Rattle.proclang.specs.Says.{SaysParam, SaysParams, SaysEntryForm, SaysEntry, SaysFootprint, SaysProc, SaysProcs}
-use Rattle.proclang.proofs.SaidExpressions.{int_found, expr_found, expr_read}
-use Rattle.proclang.proofs.SaidParts.{few_found, few_again, parts_found, parts_read}
+use Rattle.proclang_expressions.proofs.SaidExpressions.{int_found, expr_found, expr_read}
+use Rattle.proclang_expressions.proofs.SaidParts.{few_found, few_again, parts_found, parts_read}
 use Rattle.proclang.proofs.SaidBlocks.{block_found, block_read}
-use Rattle.proclang.specs.Spells.{SpellsFootprint}
-use Rattle.proclang.proofs.Spelled.{entry_said, entry_again, footprint_said, footprint_again, proc_said, proc_again}
+use Rattle.proclang_forms.specs.Spells.{SpellsFootprint}
+use Rattle.proclang_forms.proofs.SpelledProcs.{entry_said, entry_again, footprint_said, footprint_again, proc_said, proc_again}
 
 ok_is : {A : Type 0} (x y : A) → ◌≡◌ {A = Result A ProcFault} (Ok x) (Ok y) → x ≡ y
 ok_is x y e = cc
@@ -58,7 +58,7 @@ fresh_found name_of path before name r h =
 fresh_again : {X : Type 0} (name_of : X → List ℕ) (path : List ℕ) (before : List X) (name : List ℕ) → is_name name ≡ true → is_used name_of name before ≡ false → fresh_at name_of path before name ≡ Ok tt
 fresh_again name_of path before name named fresh = rw (named, fresh) refl
 
--- parts one behind the other, each with a name that none before it has
+-- parts one after another, each with a name that none before it has
 module _ {X : Type 0} (name_of : X → List ℕ) (one : List ℕ → List X → Data → Result X ProcFault) (SaysOne : Data → X → Type 0) where
   pub record NamesFound (before : List X) (ds : List Data) (all : List X) : Type 0 where
     pub new : List X
@@ -68,13 +68,13 @@ module _ {X : Type 0} (name_of : X → List ℕ) (one : List ℕ → List X → 
     pub distinct : IsDistinct bytes_eq (map name_of all)
 
   pub named_found : ((path : List ℕ) (before : List X) (d : Data) (x : X) → one path before d ≡ Ok x → SaysOne d x × (is_name (name_of x) ≡ true) × (is_used name_of (name_of x) before ≡ false))
-      → (path : List ℕ) (place : ℕ) (before : List X) (ds : List Data) (all : List X) → IsDistinct bytes_eq (map name_of before) → each_from (λ p b d. behind b (one p b d)) path place before ds ≡ Ok all → NamesFound before ds all
+      → (path : List ℕ) (place : ℕ) (before : List X) (ds : List Data) (all : List X) → IsDistinct bytes_eq (map name_of before) → each_from (λ p b d. appended b (one p b d)) path place before ds ≡ Ok all → NamesFound before ds all
   named_found law path place before [] all distinct e =
       let is : before ≡ all = cc in
       record { new = []; is = sym is ∙ sym (append-nil before); says = tt; named = tt; distinct = subst (λ (xs : List X). IsDistinct bytes_eq (map name_of xs)) is distinct }
   named_found law path place before (d ∷ ds) all distinct e =
       let p = path ++ place ∷ [] in
-      let step = bind_ok (behind before (one p before d)) _ all e in
+      let step = bind_ok (appended before (one p before d)) _ all e in
       let x = bind_ok (one p before d) _ step.0 step.1 in
       let is : before ++ x.0 ∷ [] ≡ step.0 = (let g = x.2 in cc) in
       let one_is = law p before d x.0 x.1 in
@@ -89,7 +89,7 @@ module _ {X : Type 0} (name_of : X → List ℕ) (one : List ℕ → List X → 
 
   pub named_read : ((path : List ℕ) (before : List X) (d : Data) (x : X) → SaysOne d x → is_name (name_of x) ≡ true → is_used name_of (name_of x) before ≡ false → one path before d ≡ Ok x)
       → (path : List ℕ) (place : ℕ) (before : List X) (ds : List Data) (xs : List X) → Says SaysOne ds xs → AllByRecursion (λ name. is_name name ≡ true) (map name_of xs) → IsDistinct bytes_eq (map name_of (before ++ xs))
-      → each_from (λ p b d. behind b (one p b d)) path place before ds ≡ Ok (before ++ xs)
+      → each_from (λ p b d. appended b (one p b d)) path place before ds ≡ Ok (before ++ xs)
   named_read law path place before [] [] says named distinct = ap (λ (ys : List X). Ok ys) (sym (append-nil before))
   named_read law path place before [] (x ∷ xs) says named distinct = absurd says
   named_read law path place before (d ∷ ds) [] says named distinct = absurd says
@@ -149,26 +149,26 @@ int_expr_read : (tables : List TableShape) (path : List ℕ) (scope : List Seen)
 unfolding int_at
 int_expr_read tables path scope d x h = rw (expr_read sections.Footprint tables deepest path scope d (int x) h) refl
 
-table_found : (path : List ℕ) (tables : List TableShape) (name : List ℕ) (t : ℕ) → table_at path tables name ≡ Ok t → table_named tables name ≡ Some t
+table_found : (path : List ℕ) (tables : List TableShape) (name : List ℕ) (t : ℕ) → table_called path tables name ≡ Ok t → table_named tables name ≡ Some t
 table_found path tables name t e = formed_ok (At UnknownTable path) (table_named tables name) t e
 
 entry_form_found : (tables : List TableShape) (path : List ℕ) (scope : List Seen) (form : EntryDocument) (e : EntrySyntax) → entry_of tables path scope form ≡ Ok e → SaysEntryForm tables scope form e
 unfolding entry_of
 entry_form_found tables path scope (row_parts right table key) e h =
-    let t = bind_ok (table_at (path ++ 2 ∷ []) tables table) _ e h in
+    let t = bind_ok (table_called (path ++ 2 ∷ []) tables table) _ e h in
     let k = bind_ok (int_at tables (path ++ 3 ∷ []) scope key) _ e t.2 in
     (t.0, k.0, table_found (path ++ 2 ∷ []) tables table t.0 t.1, int_expr_found tables (path ++ 3 ∷ []) scope key k.0 k.1, sym (ok_is (row_entry right t.0 k.0) e k.2))
 entry_form_found tables path scope (rows_parts right table low high) e h =
-    let t = bind_ok (table_at (path ++ 2 ∷ []) tables table) _ e h in
+    let t = bind_ok (table_called (path ++ 2 ∷ []) tables table) _ e h in
     let l = bind_ok (int_at tables (path ++ 3 ∷ []) scope low) _ e t.2 in
     let k = bind_ok (int_at tables (path ++ 4 ∷ []) scope high) _ e l.2 in
     (t.0, l.0, k.0, table_found (path ++ 2 ∷ []) tables table t.0 t.1, int_expr_found tables (path ++ 3 ∷ []) scope low l.0 l.1, int_expr_found tables (path ++ 4 ∷ []) scope high k.0 k.1, sym (ok_is (rows_entry right t.0 l.0 k.0) e k.2))
 entry_form_found tables path scope (part_parts right table part) e h =
-    let t = bind_ok (table_at (path ++ 2 ∷ []) tables table) _ e h in
+    let t = bind_ok (table_called (path ++ 2 ∷ []) tables table) _ e h in
     let p = bind_ok (int_at tables (path ++ 3 ∷ []) scope part) _ e t.2 in
     (t.0, p.0, table_found (path ++ 2 ∷ []) tables table t.0 t.1, int_expr_found tables (path ++ 3 ∷ []) scope part p.0 p.1, sym (ok_is (part_entry right t.0 p.0) e p.2))
 entry_form_found tables path scope (table_parts right table) e h =
-    let t = bind_ok (table_at (path ++ 2 ∷ []) tables table) _ e h in
+    let t = bind_ok (table_called (path ++ 2 ∷ []) tables table) _ e h in
     (t.0, table_found (path ++ 2 ∷ []) tables table t.0 t.1, sym (ok_is (table_entry right t.0) e t.2))
 entry_form_found tables path scope (db_parts right) e h = sym (ok_is (db_entry right) e h)
 
@@ -190,8 +190,8 @@ entry_read : (tables : List TableShape) (scope : List Seen) (path : List ℕ) (d
 unfolding entry_at
 entry_read tables scope path d e h = rw (entry_again d h.0 h.1) (entry_form_read tables path scope h.0 e h.2)
 
-footprint_parts_found : (tables : List TableShape) (path : List ℕ) (scope : List Seen) (d : Data) (form : FootprintDocument) (f : FootprintSyntax) → SpellsFootprint d form → footprint_of tables path scope form ≡ Ok f → SaysFootprint tables scope d f
-unfolding footprint_of
+footprint_parts_found : (tables : List TableShape) (path : List ℕ) (scope : List Seen) (d : Data) (form : FootprintDocument) (f : FootprintSyntax) → SpellsFootprint d form → footprint_from tables path scope form ≡ Ok f → SaysFootprint tables scope d f
+unfolding footprint_from
 footprint_parts_found tables path scope d (declared_parts ds) f spells e =
     let few = bind_ok (at_most path 256 ds) _ f e in
     let es = bind_ok (each_entry tables path scope ds) _ f few.2 in
@@ -207,7 +207,7 @@ footprint_found tables path scope d f e =
     footprint_parts_found tables path scope d form.0 f (footprint_said d form.0 (formed_ok (At Shape path) (footprint_form d) form.0 form.1)) form.2
 
 footprint_read : (tables : List TableShape) (path : List ℕ) (scope : List Seen) (d : Data) (f : FootprintSyntax) → SaysFootprint tables scope d f → footprint_at tables path scope d ≡ Ok f
-unfolding footprint_at footprint_of
+unfolding footprint_at footprint_from
 footprint_read tables path scope d (declared_by es) h =
     rw (footprint_again d (declared_parts h.0) h.1, few_again path 256 h.0 h.2, parts_read (λ p b x. entry_at tables scope p x) (SaysEntry tables scope) (λ p b x y g. entry_read tables scope p x y g) path 1 [] h.0 es h.3) refl
 footprint_read tables path scope d found_by_recon h = rw (footprint_again d recon_parts h) refl

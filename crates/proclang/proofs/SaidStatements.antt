@@ -10,21 +10,23 @@ use Rattle.catalogue.specs.Rules.{Says}
 use Rattle.catalogue.specs.Shapes.{TableShape}
 use Rattle.proclang_types.specs.Syntax.{ExprSyntax, ValueSyntax, StmtSyntax, assign, get, put, delete_row, abort, reply}
 use Rattle.proclang_types.specs.Typing.{kind_of}
-use Rattle.proclang.specs.declared.fault.FaultKind.TheVariants.{UnknownTable, UnknownColumn}
-use Rattle.proclang.specs.declared.fault.ProcFault.TheVariants.{At}
+use Rattle.proclang_expressions.specs.declared.fault.FaultKind.TheVariants.{UnknownTable, UnknownColumn}
+use Rattle.proclang_expressions.specs.declared.fault.ProcFault.TheVariants.{At}
 use Rattle.proclang_forms.specs.declared.expr_forms.Section.TheVariants as sections
-use Rattle.proclang.specs.Seen.{Seen, found_in}
-use Rattle.proclang.specs.Walk.{each_from, behind, at_most}
-use Rattle.proclang.specs.Lookups.{table_at, column_in, column_at}
-use Rattle.proclang.specs.Targets.{target_at, bound}
-use Rattle.proclang.specs.Expressions.{deepest, as_int, as_value, statement_expr}
+use Rattle.proclang_expressions.specs.Seen.{Seen, found_in}
+use Rattle.proclang_expressions.specs.Walk.{each_from, appended, at_most}
+use Rattle.proclang_expressions.specs.Lookups.{table_called, column_in, column_called}
+use Rattle.proclang_expressions.specs.Targets.{target_at, bound}
+use Rattle.proclang_expressions.specs.Expressions.{deepest, as_int, as_value, statement_expr}
 use Rattle.proclang_forms.specs.StmtForms.{LetParts, GetParts, PutParts, DeleteParts}
-use Rattle.proclang.specs.Statements.{of_type, let_at, get_at, put_at, exprs_at, delete_at, abort_at, values_at, reply_at}
-use Rattle.proclang.specs.SaysExpressions.{SaysExpr, as_expr, SaysValue}
-use Rattle.proclang.specs.SaysStatements.{Gets, SaysLet, SaysGet, SaysPut, SaysDelete}
-use Rattle.proclang.proofs.SaidExpressions.{value_found, value_again}
-use Rattle.proclang.proofs.TypedParts.{typed_is}
-use Rattle.proclang.proofs.SaidParts.{ok_is, few_found, few_again, int_said, value_said, int_read, value_read, same_again, gets_found, gets_again, exprs_found, exprs_read, values_said, exprs_said}
+use Rattle.proclang_expressions.specs.Values.{of_type, exprs_at, values_at}
+use Rattle.proclang.specs.Statements.{let_at, get_at, put_at, delete_at, abort_at, reply_at}
+use Rattle.proclang_expressions.specs.SaysExpressions.{SaysExpr, as_expr, SaysValue}
+use Rattle.proclang_expressions.specs.SaysTargets.{Gets}
+use Rattle.proclang.specs.SaysStatements.{SaysLet, SaysGet, SaysPut, SaysDelete}
+use Rattle.proclang_expressions.proofs.SaidExpressions.{value_found, value_again}
+use Rattle.proclang_expressions.proofs.TypedParts.{typed_is}
+use Rattle.proclang_expressions.proofs.SaidParts.{ok_is, few_found, few_again, int_said, value_said, int_read, value_read, same_again, gets_found, gets_again, exprs_found, exprs_read, values_said, exprs_said}
 
 -- ---- let
 
@@ -57,9 +59,9 @@ pub get_found : (tables : List TableShape) (path : List ℕ) (scope : List Seen)
 unfolding get_at
 get_found tables path scope form r e =
     let target = bind_ok (target_at (path ++ 1 ∷ []) scope form.variable) _ r e in
-    let table = bind_ok (table_at (path ++ 2 ∷ []) tables form.table) _ r target.2 in
+    let table = bind_ok (table_called (path ++ 2 ∷ []) tables form.table) _ r target.2 in
     let expr = bind_ok (statement_expr tables (path ++ 3 ∷ []) scope form.key) _ r table.2 in
-    let column = bind_ok (column_at (path ++ 4 ∷ []) tables table.0 form.column) _ r expr.2 in
+    let column = bind_ok (column_called (path ++ 4 ∷ []) tables table.0 form.column) _ r expr.2 in
     let key = bind_ok (as_int (path ++ 3 ∷ []) expr.0) _ r column.2 in
     let variable = bind_ok (bound (path ++ 4 ∷ []) scope form.variable column.0.1 target.0) _ r key.2 in
     let is : (get variable.0.0 table.0 key.0 column.0.0, variable.0.1) ≡ r = (let h = variable.2 in cc) in
@@ -86,9 +88,9 @@ get_again tables path scope form s after h =
 pub put_found : (tables : List TableShape) (path : List ℕ) (scope : List Seen) (form : PutParts) (s : StmtSyntax) → put_at tables path scope form ≡ Ok s → SaysPut tables scope form s
 unfolding put_at
 put_found tables path scope form s e =
-    let table = bind_ok (table_at (path ++ 1 ∷ []) tables form.table) _ s e in
+    let table = bind_ok (table_called (path ++ 1 ∷ []) tables form.table) _ s e in
     let k = bind_ok (statement_expr tables (path ++ 2 ∷ []) scope form.key) _ s table.2 in
-    let column = bind_ok (column_at (path ++ 3 ∷ []) tables table.0 form.column) _ s k.2 in
+    let column = bind_ok (column_called (path ++ 3 ∷ []) tables table.0 form.column) _ s k.2 in
     let x = bind_ok (statement_expr tables (path ++ 4 ∷ []) scope form.value) _ s column.2 in
     let key = bind_ok (as_int (path ++ 2 ∷ []) k.0) _ s x.2 in
     let v = bind_ok (as_value (path ++ 4 ∷ []) x.0) _ s key.2 in
@@ -119,7 +121,7 @@ put_again tables path scope form s h =
 pub delete_found : (tables : List TableShape) (path : List ℕ) (scope : List Seen) (form : DeleteParts) (s : StmtSyntax) → delete_at tables path scope form ≡ Ok s → SaysDelete tables scope form s
 unfolding delete_at
 delete_found tables path scope form s e =
-    let table = bind_ok (table_at (path ++ 1 ∷ []) tables form.table) _ s e in
+    let table = bind_ok (table_called (path ++ 1 ∷ []) tables form.table) _ s e in
     let k = bind_ok (statement_expr tables (path ++ 2 ∷ []) scope form.key) _ s table.2 in
     let key = bind_ok (as_int (path ++ 2 ∷ []) k.0) _ s k.2 in
     let is : delete_row table.0 key.0 ≡ s = ok_is (delete_row table.0 key.0) s key.2 in
@@ -153,11 +155,11 @@ abort_again path z s h = rw (h.1, le-leb 100 h.0 h.2, le-leb h.0 65535 h.3) (ap 
 
 -- ---- reply
 
-values_found : (path : List ℕ) (place : ℕ) (before : List ValueSyntax) (es : List ExprSyntax) (all : List ValueSyntax) → each_from (λ p b e. behind b (as_value p e)) path place before es ≡ Ok all → (new : List ValueSyntax) × (all ≡ before ++ new) × (es ≡ map as_expr new)
+values_found : (path : List ℕ) (place : ℕ) (before : List ValueSyntax) (es : List ExprSyntax) (all : List ValueSyntax) → each_from (λ p b e. appended b (as_value p e)) path place before es ≡ Ok all → (new : List ValueSyntax) × (all ≡ before ++ new) × (es ≡ map as_expr new)
 values_found path place before [] all e = let is : before ≡ all = cc in ([], sym is ∙ sym (append-nil before), refl)
 values_found path place before (x ∷ es) all e =
     let p = path ++ place ∷ [] in
-    let step = bind_ok (behind before (as_value p x)) _ all e in
+    let step = bind_ok (appended before (as_value p x)) _ all e in
     let v = bind_ok (as_value p x) _ step.0 step.1 in
     let is : before ++ v.0 ∷ [] ≡ step.0 = (let g = v.2 in cc) in
     let others = values_found path (place + 1) step.0 es all step.2 in
@@ -166,7 +168,7 @@ values_found path place before (x ∷ es) all e =
     both : (x : ExprSyntax) (v : ValueSyntax) (es : List ExprSyntax) (vs : List ValueSyntax) → x ≡ as_expr v → es ≡ map as_expr vs → x ∷ es ≡ as_expr v ∷ map as_expr vs
     both x v es vs p q = rw (p, q) refl
 
-values_read : (path : List ℕ) (place : ℕ) (before vs : List ValueSyntax) → each_from (λ p b e. behind b (as_value p e)) path place before (map as_expr vs) ≡ Ok (before ++ vs)
+values_read : (path : List ℕ) (place : ℕ) (before vs : List ValueSyntax) → each_from (λ p b e. appended b (as_value p e)) path place before (map as_expr vs) ≡ Ok (before ++ vs)
 values_read path place before [] = ap (λ (ys : List ValueSyntax). Ok ys) (sym (append-nil before))
 values_read path place before (v ∷ vs) =
     rw (value_again (path ++ place ∷ []) v) (values_read path (place + 1) (before ++ v ∷ []) vs ∙ ap (λ (ys : List ValueSyntax). Ok ys) (append_assoc before (v ∷ []) vs))

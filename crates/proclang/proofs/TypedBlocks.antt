@@ -9,18 +9,18 @@ use Rattle.values.specs.declared.value.ColType.{ColType}
 use Rattle.catalogue.specs.Shapes.{TableShape}
 use Rattle.proclang_types.specs.Syntax.{StmtSyntax, choose, for_numbers, for_keys, block_of}
 use Rattle.proclang_types.specs.Typing.{in_loop, BlockFits}
-use Rattle.proclang.specs.declared.fault.FaultKind.TheVariants.{Shape}
-use Rattle.proclang.specs.declared.fault.ProcFault.{ProcFault}
-use Rattle.proclang.specs.declared.fault.ProcFault.TheVariants.{At}
-use Rattle.proclang.specs.Seen.{Seen, seen_kinds, seen_in_loop}
-use Rattle.proclang.specs.Walk.{each_from, at_most}
-use Rattle.proclang.specs.Lookups.{table_at}
-use Rattle.proclang.specs.Targets.{loop_name_at}
-use Rattle.proclang.specs.Expressions.{as_int, as_bool, statement_expr}
+use Rattle.proclang_expressions.specs.declared.fault.FaultKind.TheVariants.{Shape}
+use Rattle.proclang_expressions.specs.declared.fault.ProcFault.{ProcFault}
+use Rattle.proclang_expressions.specs.declared.fault.ProcFault.TheVariants.{At}
+use Rattle.proclang_expressions.specs.Seen.{Seen, seen_kinds, seen_in_loop}
+use Rattle.proclang_expressions.specs.Walk.{each_from, at_most}
+use Rattle.proclang_expressions.specs.Lookups.{table_called}
+use Rattle.proclang_expressions.specs.Targets.{loop_name_at}
+use Rattle.proclang_expressions.specs.Expressions.{as_int, as_bool, statement_expr}
 use Rattle.proclang_forms.specs.StmtForms.{IfParts, ForParts, EachParts, StatementForm, let_parts, get_parts, put_parts, insert_parts, delete_parts, if_parts, for_parts, each_parts, abort_code, reply_values, statement_form}
-use Rattle.proclang.specs.Statements.{put_at, insert_at, delete_at, abort_at, reply_at, BlockReader, if_at, for_at, each_at, in_scope, form_at, statement_at, next_statement, block_at}
-use Rattle.proclang.proofs.TypedExpressions.{table_there, bool_fits}
-use Rattle.proclang.proofs.TypedParts.{statement_expr_fits, key_fits, loop_kinds}
+use Rattle.proclang.specs.Statements.{put_at, insert_at, delete_at, abort_at, reply_at, BlockReader, if_at, for_at, each_loop_at, in_scope, form_at, statement_at, next_statement, block_at}
+use Rattle.proclang_expressions.proofs.TypedExpressions.{table_there, bool_fits}
+use Rattle.proclang_expressions.proofs.TypedParts.{statement_expr_fits, key_fits, loop_kinds}
 use Rattle.proclang.proofs.TypedStatements.{Fit, FitAlone, let_fits, get_fits, put_fits, insert_fits, delete_fits, abort_fits, reply_fits}
 
 scoped_fits : (tables : List TableShape) (scope : List Seen) (read : Result StmtSyntax ProcFault) (r : StmtSyntax × List Seen) → ((s : StmtSyntax) → read ≡ Ok s → FitAlone tables scope s) → in_scope scope read ≡ Ok r → Fit tables scope r
@@ -56,11 +56,11 @@ module _ (tables : List TableShape) (block : BlockReader) (law : (path : List �
       subst (FitAlone tables scope) is
       ((key_fits tables (path ++ 2 ∷ []) scope form.low l.0 low.0 l.1 low.1, key_fits tables (path ++ 3 ∷ []) scope form.high h.0 high.0 h.1 high.1, body_fits (path ++ 4 ∷ []) scope form.variable form.body body.0 body.1), refl)
 
-  each_fits : (path : List ℕ) (scope : List Seen) (form : EachParts) (s : StmtSyntax) → each_at tables block path scope form ≡ Ok s → FitAlone tables scope s
-  unfolding each_at
+  each_fits : (path : List ℕ) (scope : List Seen) (form : EachParts) (s : StmtSyntax) → each_loop_at tables block path scope form ≡ Ok s → FitAlone tables scope s
+  unfolding each_loop_at
   each_fits path scope form s e =
       let name = bind_ok (loop_name_at (path ++ 1 ∷ []) scope form.variable) _ s e in
-      let table = bind_ok (table_at (path ++ 2 ∷ []) tables form.table) _ s name.2 in
+      let table = bind_ok (table_called (path ++ 2 ∷ []) tables form.table) _ s name.2 in
       let x = bind_ok (statement_expr tables (path ++ 3 ∷ []) scope form.number) _ s table.2 in
       let body = bind_ok (block (path ++ 4 ∷ []) (seen_in_loop scope form.variable) form.body) _ s x.2 in
       let part = bind_ok (as_int (path ++ 3 ∷ []) x.0) _ s body.2 in
@@ -77,7 +77,7 @@ module _ (tables : List TableShape) (block : BlockReader) (law : (path : List �
   form_fits path scope (delete_parts form) r e = scoped_fits tables scope (delete_at tables path scope form) r (λ s h. delete_fits tables path scope form s h) e
   form_fits path scope (if_parts form) r e = scoped_fits tables scope (if_at tables block path scope form) r (λ s h. if_fits path scope form s h) e
   form_fits path scope (for_parts form) r e = scoped_fits tables scope (for_at tables block path scope form) r (λ s h. for_fits path scope form s h) e
-  form_fits path scope (each_parts form) r e = scoped_fits tables scope (each_at tables block path scope form) r (λ s h. each_fits path scope form s h) e
+  form_fits path scope (each_parts form) r e = scoped_fits tables scope (each_loop_at tables block path scope form) r (λ s h. each_fits path scope form s h) e
   form_fits path scope (abort_code z) r e = scoped_fits tables scope (abort_at path z) r (λ s h. abort_fits tables path scope z s h) e
   form_fits path scope (reply_values ds) r e = scoped_fits tables scope (reply_at tables path scope ds) r (λ s h. reply_fits tables path scope ds s h) e
 

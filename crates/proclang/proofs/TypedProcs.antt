@@ -13,22 +13,22 @@ use Rattle.catalogue.proofs.Named.{distinct_push}
 use Rattle.proclang_types.specs.Syntax.{IntSyntax, EntrySyntax, row_entry, rows_entry, part_entry, table_entry, db_entry, FootprintSyntax, declared_by, found_by_recon, ParamShape, ProcSyntax, block_of}
 use Rattle.proclang_types.specs.Procedures.{ProcParts, proc_syntax}
 use Rattle.proclang_types.specs.Typing.{IntFits, AsksNoRows, EntryFits, FootprintFits, BlockFits, kinds_of, ProcFits}
-use Rattle.proclang.specs.declared.fault.FaultKind.TheVariants.{Shape, DuplicateName}
-use Rattle.proclang.specs.declared.fault.ProcFault.{ProcFault}
-use Rattle.proclang.specs.declared.fault.ProcFault.TheVariants.{At}
+use Rattle.proclang_expressions.specs.declared.fault.FaultKind.TheVariants.{Shape, DuplicateName}
+use Rattle.proclang_expressions.specs.declared.fault.ProcFault.{ProcFault}
+use Rattle.proclang_expressions.specs.declared.fault.ProcFault.TheVariants.{At}
 use Rattle.proclang_forms.specs.declared.expr_forms.Section.TheVariants as sections
-use Rattle.proclang.specs.Seen.{Seen, seen_of, seen_kinds}
-use Rattle.proclang.specs.Walk.{each_from, behind, at_most}
-use Rattle.proclang.specs.Lookups.{declared_at, table_at}
-use Rattle.proclang.specs.Expressions.{deepest, expr_at}
+use Rattle.proclang_expressions.specs.Seen.{Seen, seen_of, seen_kinds}
+use Rattle.proclang_expressions.specs.Walk.{each_from, appended, at_most}
+use Rattle.proclang_expressions.specs.Lookups.{declared_at, table_called}
+use Rattle.proclang_expressions.specs.Expressions.{deepest, expr_at}
 use Rattle.proclang.specs.Statements.{block_at}
 use Rattle.proclang_forms.specs.ProcForms.{ProcDocument, proc_form, FootprintDocument, declared_parts, recon_parts, footprint_form, EntryDocument, row_parts, rows_parts, part_parts, table_parts, db_parts, entry_form}
-use Rattle.proclang.specs.Procs.{fresh_at, params_at, int_at, entry_of, entry_at, each_entry, footprint_of, footprint_at, PartsSyntax, parts_at, proc_at, each_proc}
+use Rattle.proclang.specs.Procs.{fresh_at, params_at, int_at, entry_of, entry_at, each_entry, footprint_from, footprint_at, PartsSyntax, parts_at, proc_at, each_proc}
 use Rattle.requests.specs.ProcLists.{AreOver, AreProcs, proc_named}
 use Rattle.requests.proofs.ProcLists.{named_used}
-use Rattle.proclang.proofs.TypedExpressions.{table_there, int_fits, expr_fits}
-use Rattle.proclang.proofs.FootprintExpressions.{int_plain, expr_plain}
-use Rattle.proclang.proofs.TypedParts.{all_push, each_keeps}
+use Rattle.proclang_expressions.proofs.TypedExpressions.{table_there, int_fits, expr_fits}
+use Rattle.proclang_expressions.proofs.FootprintExpressions.{int_plain, expr_plain}
+use Rattle.proclang_expressions.proofs.TypedParts.{all_push, each_keeps}
 use Rattle.proclang.proofs.TypedBlocks.{block_fits}
 
 -- parameters are seen with their types
@@ -46,13 +46,13 @@ number_fits tables path scope d e r =
 entry_fits : (tables : List TableShape) (path : List ℕ) (scope : List Seen) (f : EntryDocument) (e : EntrySyntax) → entry_of tables path scope f ≡ Ok e → EntryFits tables (seen_kinds scope) e
 unfolding entry_of
 entry_fits tables path scope (row_parts right table key) e r =
-    let t = bind_ok (table_at (path ++ 2 ∷ []) tables table) _ e r in
+    let t = bind_ok (table_called (path ++ 2 ∷ []) tables table) _ e r in
     let k = bind_ok (int_at tables (path ++ 3 ∷ []) scope key) _ e t.2 in
     let is : row_entry right t.0 k.0 ≡ e = (let h = k.2 in cc) in
     let fits = number_fits tables (path ++ 3 ∷ []) scope key k.0 k.1 in
     subst (EntryFits tables (seen_kinds scope)) is (table_there tables (path ++ 2 ∷ []) table t.0 t.1, fits.0, fits.1)
 entry_fits tables path scope (rows_parts right table low high) e r =
-    let t = bind_ok (table_at (path ++ 2 ∷ []) tables table) _ e r in
+    let t = bind_ok (table_called (path ++ 2 ∷ []) tables table) _ e r in
     let l = bind_ok (int_at tables (path ++ 3 ∷ []) scope low) _ e t.2 in
     let k = bind_ok (int_at tables (path ++ 4 ∷ []) scope high) _ e l.2 in
     let is : rows_entry right t.0 l.0 k.0 ≡ e = (let h = k.2 in cc) in
@@ -60,21 +60,21 @@ entry_fits tables path scope (rows_parts right table low high) e r =
     let last = number_fits tables (path ++ 4 ∷ []) scope high k.0 k.1 in
     subst (EntryFits tables (seen_kinds scope)) is (table_there tables (path ++ 2 ∷ []) table t.0 t.1, first.0, first.1, last.0, last.1)
 entry_fits tables path scope (part_parts right table part) e r =
-    let t = bind_ok (table_at (path ++ 2 ∷ []) tables table) _ e r in
+    let t = bind_ok (table_called (path ++ 2 ∷ []) tables table) _ e r in
     let p = bind_ok (int_at tables (path ++ 3 ∷ []) scope part) _ e t.2 in
     let is : part_entry right t.0 p.0 ≡ e = (let h = p.2 in cc) in
     let fits = number_fits tables (path ++ 3 ∷ []) scope part p.0 p.1 in
     subst (EntryFits tables (seen_kinds scope)) is (table_there tables (path ++ 2 ∷ []) table t.0 t.1, fits.0, fits.1)
 entry_fits tables path scope (table_parts right table) e r =
-    let t = bind_ok (table_at (path ++ 2 ∷ []) tables table) _ e r in
+    let t = bind_ok (table_called (path ++ 2 ∷ []) tables table) _ e r in
     let is : table_entry right t.0 ≡ e = (let h = t.2 in cc) in
     subst (EntryFits tables (seen_kinds scope)) is (table_there tables (path ++ 2 ∷ []) table t.0 t.1)
 entry_fits tables path scope (db_parts right) e r =
     let is : db_entry right ≡ e = cc in
     subst (EntryFits tables (seen_kinds scope)) is tt
 
-footprint_parts_fit : (tables : List TableShape) (path : List ℕ) (scope : List Seen) (form : FootprintDocument) (f : FootprintSyntax) → footprint_of tables path scope form ≡ Ok f → FootprintFits tables (seen_kinds scope) f
-unfolding footprint_of entry_at
+footprint_parts_fit : (tables : List TableShape) (path : List ℕ) (scope : List Seen) (form : FootprintDocument) (f : FootprintSyntax) → footprint_from tables path scope form ≡ Ok f → FootprintFits tables (seen_kinds scope) f
+unfolding footprint_from entry_at
 footprint_parts_fit tables path scope (declared_parts ds) f e =
     let few = bind_ok (at_most path 256 ds) _ f e in
     let es = bind_ok (each_entry tables path scope ds) _ f few.2 in
@@ -136,10 +136,10 @@ pub record AreNamed (ps : List ProcSyntax) : Type 0 where
 
 -- the names of procedures that are read obey the rule, and no two are the same
 pub each_named : (tables : List TableShape) (path : List ℕ) (place : ℕ) (before : List ProcSyntax) (ds : List Data) (all : List ProcSyntax) → AreNamed before
-    → each_from (λ p b d. behind b (proc_at tables p b d)) path place before ds ≡ Ok all → AreNamed all
+    → each_from (λ p b d. appended b (proc_at tables p b d)) path place before ds ≡ Ok all → AreNamed all
 each_named tables path place before [] all h e = let is : before ≡ all = cc in subst AreNamed is h
 each_named tables path place before (d ∷ ds) all h e =
-    let step = bind_ok (behind before (proc_at tables (path ++ place ∷ []) before d)) _ all e in
+    let step = bind_ok (appended before (proc_at tables (path ++ place ∷ []) before d)) _ all e in
     let p = bind_ok (proc_at tables (path ++ place ∷ []) before d) _ step.0 step.1 in
     let is : before ++ p.0 ∷ [] ≡ step.0 = (let g = p.2 in cc) in
     let new = proc_fresh tables (path ++ place ∷ []) before d p.0 p.1 in

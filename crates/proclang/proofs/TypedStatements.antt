@@ -10,18 +10,19 @@ use Rattle.values.specs.declared.value.ColType.TheVariants as types
 use Rattle.catalogue.specs.Shapes.{TableShape}
 use Rattle.proclang_types.specs.Syntax.{IntSyntax, ExprSyntax, ValueSyntax, StmtSyntax, assign, get, put, insert_row, delete_row, abort, reply}
 use Rattle.proclang_types.specs.Typing.{column_kind, column_kinds, IntFits, ExprFits, ValueFits, kind_of, declared, scope_after, StmtFits}
-use Rattle.proclang.specs.declared.fault.FaultKind.TheVariants.{Shape, UnknownColumn}
-use Rattle.proclang.specs.declared.fault.ProcFault.{ProcFault}
-use Rattle.proclang.specs.declared.fault.ProcFault.TheVariants.{At}
-use Rattle.proclang.specs.Seen.{Seen, seen_kinds, found_in}
-use Rattle.proclang.specs.Walk.{each_from, behind, at_most}
-use Rattle.proclang.specs.Lookups.{table_at, column_in, column_at}
-use Rattle.proclang.specs.Targets.{target_at, bound}
-use Rattle.proclang.specs.Expressions.{as_int, as_value, statement_expr}
+use Rattle.proclang_expressions.specs.declared.fault.FaultKind.TheVariants.{Shape, UnknownColumn}
+use Rattle.proclang_expressions.specs.declared.fault.ProcFault.{ProcFault}
+use Rattle.proclang_expressions.specs.declared.fault.ProcFault.TheVariants.{At}
+use Rattle.proclang_expressions.specs.Seen.{Seen, seen_kinds, found_in}
+use Rattle.proclang_expressions.specs.Walk.{each_from, appended, at_most}
+use Rattle.proclang_expressions.specs.Lookups.{table_called, column_in, column_called}
+use Rattle.proclang_expressions.specs.Targets.{target_at, bound}
+use Rattle.proclang_expressions.specs.Expressions.{as_int, as_value, statement_expr}
 use Rattle.proclang_forms.specs.StmtForms.{LetParts, GetParts, PutParts, InsertParts, DeleteParts}
-use Rattle.proclang.specs.Statements.{of_type, let_at, get_at, put_at, exprs_at, stored_at, row_at, kinds_in, insert_at, delete_at, abort_at, values_at, reply_at}
-use Rattle.proclang.proofs.TypedExpressions.{table_there, column_fits, value_fits}
-use Rattle.proclang.proofs.TypedParts.{statement_expr_fits, key_fits, target_is, IsBound, bound_fits, all_push, exprs_fit, typed_is}
+use Rattle.proclang_expressions.specs.Values.{of_type, exprs_at, stored_at, row_values_at, kinds_in, values_at}
+use Rattle.proclang.specs.Statements.{let_at, get_at, put_at, insert_at, delete_at, abort_at, reply_at}
+use Rattle.proclang_expressions.proofs.TypedExpressions.{table_there, column_fits, value_fits}
+use Rattle.proclang_expressions.proofs.TypedParts.{statement_expr_fits, key_fits, target_is, IsBound, bound_fits, all_push, exprs_fit, typed_is}
 
 -- ---- statements
 
@@ -50,9 +51,9 @@ pub get_fits : (tables : List TableShape) (path : List ℕ) (scope : List Seen) 
 unfolding get_at
 get_fits tables path scope form r e =
     let target = bind_ok (target_at (path ++ 1 ∷ []) scope form.variable) _ r e in
-    let table = bind_ok (table_at (path ++ 2 ∷ []) tables form.table) _ r target.2 in
+    let table = bind_ok (table_called (path ++ 2 ∷ []) tables form.table) _ r target.2 in
     let expr = bind_ok (statement_expr tables (path ++ 3 ∷ []) scope form.key) _ r table.2 in
-    let column = bind_ok (column_at (path ++ 4 ∷ []) tables table.0 form.column) _ r expr.2 in
+    let column = bind_ok (column_called (path ++ 4 ∷ []) tables table.0 form.column) _ r expr.2 in
     let key = bind_ok (as_int (path ++ 3 ∷ []) expr.0) _ r column.2 in
     let variable = bind_ok (bound (path ++ 4 ∷ []) scope form.variable column.0.1 target.0) _ r key.2 in
     let found : found_in form.variable scope ≡ target.0 = target_is (path ++ 1 ∷ []) form.variable (found_in form.variable scope) target.0 target.1 in
@@ -71,9 +72,9 @@ get_fits tables path scope form r e =
 pub put_fits : (tables : List TableShape) (path : List ℕ) (scope : List Seen) (form : PutParts) (s : StmtSyntax) → put_at tables path scope form ≡ Ok s → FitAlone tables scope s
 unfolding put_at
 put_fits tables path scope form s e =
-    let table = bind_ok (table_at (path ++ 1 ∷ []) tables form.table) _ s e in
+    let table = bind_ok (table_called (path ++ 1 ∷ []) tables form.table) _ s e in
     let k = bind_ok (statement_expr tables (path ++ 2 ∷ []) scope form.key) _ s table.2 in
-    let column = bind_ok (column_at (path ++ 3 ∷ []) tables table.0 form.column) _ s k.2 in
+    let column = bind_ok (column_called (path ++ 3 ∷ []) tables table.0 form.column) _ s k.2 in
     let x = bind_ok (statement_expr tables (path ++ 4 ∷ []) scope form.value) _ s column.2 in
     let key = bind_ok (as_int (path ++ 2 ∷ []) k.0) _ s x.2 in
     let v = bind_ok (as_value (path ++ 4 ∷ []) x.0) _ s key.2 in
@@ -100,13 +101,13 @@ pub record AreStored (tables : List TableShape) (kinds types : List ColType) (al
   pub typed : map kind_of new ≡ types
 
 pub row_fits : (tables : List TableShape) (kinds : List ColType) (path : List ℕ) (place : ℕ) (before : List ValueSyntax) (columns : List ColType) (es : List ExprSyntax) (all : List ValueSyntax) → length es ≡ length columns → AllByRecursion (ExprFits tables kinds) es
-    → each_from (λ p b c. behind b (stored_at p c.0 c.1)) path place before (zip columns es) ≡ Ok all → AreStored tables kinds columns all before
+    → each_from (λ p b c. appended b (stored_at p c.0 c.1)) path place before (zip columns es) ≡ Ok all → AreStored tables kinds columns all before
 row_fits tables kinds path place before [] [] all many f e = let is : before ≡ all = cc in record { new = []; is = sym is ∙ sym (append-nil before); fit = tt; typed = refl }
 row_fits tables kinds path place before [] (x ∷ es) all many f e = absurd (omega (arith, many))
 row_fits tables kinds path place before (k ∷ columns) [] all many f e = absurd (omega (arith, many))
 row_fits tables kinds path place before (k ∷ columns) (x ∷ es) all many f e =
     let p = path ++ place ∷ [] in
-    let step = bind_ok (behind before (stored_at p k x)) _ all e in
+    let step = bind_ok (appended before (stored_at p k x)) _ all e in
     let v = bind_ok (stored_at p k x) _ step.0 step.1 in
     let is : before ++ v.0 ∷ [] ≡ step.0 = (let g = v.2 in cc) in
     let w = bind_ok (as_value p x) _ v.0 v.1 in
@@ -125,10 +126,10 @@ row_fits tables kinds path place before (k ∷ columns) (x ∷ es) all many f e 
 
 -- as many expressions as documents
 pub exprs_many : (tables : List TableShape) (path : List ℕ) (place : ℕ) (scope : List Seen) (before : List ExprSyntax) (ds : List Data) (all : List ExprSyntax)
-    → each_from (λ p b d. behind b (statement_expr tables p scope d)) path place before ds ≡ Ok all → length all ≡ length before + length ds
+    → each_from (λ p b d. appended b (statement_expr tables p scope d)) path place before ds ≡ Ok all → length all ≡ length before + length ds
 exprs_many tables path place scope before [] all e = let is : before ≡ all = cc in omega (arith, ap length is)
 exprs_many tables path place scope before (d ∷ ds) all e =
-    let step = bind_ok (behind before (statement_expr tables (path ++ place ∷ []) scope d)) _ all e in
+    let step = bind_ok (appended before (statement_expr tables (path ++ place ∷ []) scope d)) _ all e in
     let x = bind_ok (statement_expr tables (path ++ place ∷ []) scope d) _ step.0 step.1 in
     let is : before ++ x.0 ∷ [] ≡ step.0 = (let g = x.2 in cc) in
     let one : length step.0 ≡ length before + 1 = ap length (sym is) ∙ length-append before (x.0 ∷ []) in
@@ -148,12 +149,12 @@ pub insert_fits : (tables : List TableShape) (path : List ℕ) (scope : List See
 unfolding insert_at
 insert_fits tables path scope form s e =
     let q = path ++ 3 ∷ [] in
-    let table = bind_ok (table_at (path ++ 1 ∷ []) tables form.table) _ s e in
+    let table = bind_ok (table_called (path ++ 1 ∷ []) tables form.table) _ s e in
     let k = bind_ok (statement_expr tables (path ++ 2 ∷ []) scope form.key) _ s table.2 in
     let many = rule_ok (eqb (length form.values) (length (kinds_in tables table.0))) (At Shape q) _ s k.2 in
     let es = bind_ok (exprs_at tables q 0 scope form.values) _ s many.1 in
     let key = bind_ok (as_int (path ++ 2 ∷ []) k.0) _ s es.2 in
-    let vs = bind_ok (row_at q (kinds_in tables table.0) es.0) _ s key.2 in
+    let vs = bind_ok (row_values_at q (kinds_in tables table.0) es.0) _ s key.2 in
     let is : insert_row table.0 key.0 vs.0 ≡ s = (let h = vs.2 in cc) in
     let count : length form.values ≡ length (kinds_in tables table.0) = eqb-true (length form.values) (length (kinds_in tables table.0)) many.0 in
     let row = row_fits tables (seen_kinds scope) q 0 [] (kinds_in tables table.0) es.0 vs.0 (exprs_count tables q 0 scope form.values es.0 es.1 ∙ count) (exprs_fit tables q 0 scope form.values es.0 es.1) vs.1 in
@@ -165,7 +166,7 @@ insert_fits tables path scope form s e =
 pub delete_fits : (tables : List TableShape) (path : List ℕ) (scope : List Seen) (form : DeleteParts) (s : StmtSyntax) → delete_at tables path scope form ≡ Ok s → FitAlone tables scope s
 unfolding delete_at
 delete_fits tables path scope form s e =
-    let table = bind_ok (table_at (path ++ 1 ∷ []) tables form.table) _ s e in
+    let table = bind_ok (table_called (path ++ 1 ∷ []) tables form.table) _ s e in
     let k = bind_ok (statement_expr tables (path ++ 2 ∷ []) scope form.key) _ s table.2 in
     let key = bind_ok (as_int (path ++ 2 ∷ []) k.0) _ s k.2 in
     let is : delete_row table.0 key.0 ≡ s = (let h = key.2 in cc) in
@@ -186,10 +187,10 @@ abort_fits tables path scope (pos n) s e = by (leb 100 n) (leb n 65535) refl ref
 -- ---- replies
 
 values_fit : (tables : List TableShape) (kinds : List ColType) (path : List ℕ) (place : ℕ) (before : List ValueSyntax) (es : List ExprSyntax) (vs : List ValueSyntax) → AllByRecursion (ValueFits tables kinds) before → AllByRecursion (ExprFits tables kinds) es
-    → each_from (λ p b x. behind b (as_value p x)) path place before es ≡ Ok vs → AllByRecursion (ValueFits tables kinds) vs
+    → each_from (λ p b x. appended b (as_value p x)) path place before es ≡ Ok vs → AllByRecursion (ValueFits tables kinds) vs
 values_fit tables kinds path place before [] vs f g r = let is : before ≡ vs = cc in subst (AllByRecursion (ValueFits tables kinds)) is f
 values_fit tables kinds path place before (e ∷ es) vs f g r =
-    let step = bind_ok (behind before (as_value (path ++ place ∷ []) e)) _ vs r in
+    let step = bind_ok (appended before (as_value (path ++ place ∷ []) e)) _ vs r in
     let v = bind_ok (as_value (path ++ place ∷ []) e) _ step.0 step.1 in
     let is : before ++ v.0 ∷ [] ≡ step.0 = (let h = v.2 in cc) in
     values_fit tables kinds path (place + 1) step.0 es vs (subst (AllByRecursion (ValueFits tables kinds)) is (all_push (ValueFits tables kinds) before v.0 f (value_fits tables kinds (path ++ place ∷ []) e v.0 g.0 v.1))) g.1 step.2

@@ -1,9 +1,9 @@
--- Parts that are read one behind the other, as a loop does.
+-- Parts that are read one after another, as a loop does.
 use Rattle.std.proofs.Common.{◌≡◌, ℕ, suc, ◌+◌, ◌<◌, List, [], ◌∷◌, ◌++◌, length, drop, map, get_or, Result, Ok, Err, refl, sym, ap, ◌∙◌, add-one, drop-cons}
 use Rattle.serde_json.specs.Data.{Data}
 use Rattle.serde_json.specs.View.{view}
 use Rattle.serde_json.specs.declared.value.Value.{Value}
-use Rattle.proclang.specs.Walk.{each_from}
+use Rattle.proclang_expressions.specs.Walk.{each_from}
 
 -- one part more
 pub goes_on : {S F : Type 0} (one : List ℕ → S → Data → Result S F) (path : List ℕ) (before so_far : S) (vs : List Value) (i : ℕ) (v : Value) (total : Result S F)

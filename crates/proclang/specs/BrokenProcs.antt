@@ -1,5 +1,8 @@
 -- Claimed: what contracts promise to a reader rests on these words.
--- The faults of a document of procedures, each with its path, in the order in which rules are looked at: the first is the one that is answered, and there is none where no rule is broken. Those behind the first may follow from it, and be of rules that the document keeps: a parameter whose type is refused is no variable, so a use of its name stands here as that of an unknown one. No rule here hangs on what reading gives.
+-- The faults of a document of procedures, each with its path, in the order in which rules are looked at: the first is
+-- the one that is answered, and there is none where no rule is broken. Those after the first may follow from it, and be
+-- of rules that the document keeps: a parameter whose type is refused is no variable, so a use of its name stands here
+-- as that of an unknown one. No rule here depends on what reading gives.
 use Rattle.std.specs.Prelude.{ℕ, ◌+◌, not, List, [], ◌∷◌, ◌++◌, Option, Some, None, option_map, codes}
 use Rattle.std.specs.Option.{option_to_list}
 use Rattle.serde_json.specs.Data.{Data}
@@ -11,26 +14,29 @@ use Rattle.values.specs.Names.{is_name}
 use Rattle.catalogue.specs.Reading.{column_form}
 use Rattle.catalogue.specs.Shapes.{TableShape}
 use Rattle.proclang_types.specs.Syntax.{ParamShape}
-use Rattle.proclang.specs.declared.fault.FaultKind.TheVariants.{Shape, DuplicateName}
-use Rattle.proclang.specs.declared.fault.ProcFault.{ProcFault}
-use Rattle.proclang.specs.declared.fault.ProcFault.TheVariants.{At}
+use Rattle.proclang_expressions.specs.declared.fault.FaultKind.TheVariants.{Shape, DuplicateName}
+use Rattle.proclang_expressions.specs.declared.fault.ProcFault.{ProcFault}
+use Rattle.proclang_expressions.specs.declared.fault.ProcFault.TheVariants.{At}
 use Rattle.proclang_forms.specs.declared.expr_forms.Section.TheVariants as sections
-use Rattle.proclang.specs.BrokenExpressions.{not_int, in_expr}
-use Rattle.proclang.specs.BrokenNames.{in_table}
-use Rattle.proclang.specs.BrokenStatements.{in_parts, too_many, in_block}
-use Rattle.proclang.specs.Expressions.{deepest}
+use Rattle.proclang_expressions.specs.BrokenExpressions.{not_int, in_expr}
+use Rattle.proclang_expressions.specs.BrokenNames.{not_table}
+use Rattle.proclang_expressions.specs.BrokenParts.{in_parts, too_many}
+use Rattle.proclang.specs.BrokenStatements.{in_block}
+use Rattle.proclang_expressions.specs.Expressions.{deepest}
 use Rattle.proclang_forms.specs.ProcForms.{ProcDocument, proc_form, FootprintDocument, declared_parts, recon_parts, footprint_form, EntryDocument, row_parts, rows_parts, part_parts, table_parts, db_parts, entry_form}
-use Rattle.proclang.specs.Seen.{Seen, seen_of}
+use Rattle.proclang_expressions.specs.Seen.{Seen, seen_of}
 
--- those of each part in turn, the first at the place that is given, behind the names that the parts before it give
-abbrev pub in_named_parts : (Data → Option (List ℕ)) → (List ℕ → List (List ℕ) → Data → List ProcFault) → List ℕ → ℕ → List (List ℕ) → List Data → List ProcFault
+-- those of each part in turn, the first at the place that is given, after the names that the parts before it give
+abbrev pub in_named_parts : (Data → Option (List ℕ)) → (List ℕ → List (List ℕ) → Data → List ProcFault) → List ℕ → ℕ
+    → List (List ℕ) → List Data → List ProcFault
 in_named_parts named one path place names [] = []
 in_named_parts named one path place names (d ∷ ds) =
     one (path ++ place ∷ []) names d ++ in_named_parts named one path (place + 1) (names ++ option_to_list (named d)) ds
 
 -- a name obeys the rule, and none before it is the same
 abbrev pub in_new_name : List ℕ → List (List ℕ) → List ℕ → List ProcFault
-in_new_name path names name = broken (is_name name) (At Shape path) ++ broken (not (is_among name names)) (At DuplicateName path)
+in_new_name path names name =
+    broken (is_name name) (At Shape path) ++ broken (not (is_among name names)) (At DuplicateName path)
 
 -- ---- parameters
 
@@ -64,11 +70,14 @@ in_int tables path scope d = in_expr sections.Footprint tables deepest path scop
 
 abbrev pub in_entry_form : List TableShape → List ℕ → List Seen → Option EntryDocument → List ProcFault
 in_entry_form tables path scope None = At Shape path ∷ []
-in_entry_form tables path scope (Some (row_parts right table key)) = in_table (path ++ 2 ∷ []) tables table ++ in_int tables (path ++ 3 ∷ []) scope key
+in_entry_form tables path scope (Some (row_parts right table key)) =
+    not_table (path ++ 2 ∷ []) tables table ++ in_int tables (path ++ 3 ∷ []) scope key
 in_entry_form tables path scope (Some (rows_parts right table low high)) =
-    in_table (path ++ 2 ∷ []) tables table ++ (in_int tables (path ++ 3 ∷ []) scope low ++ in_int tables (path ++ 4 ∷ []) scope high)
-in_entry_form tables path scope (Some (part_parts right table part)) = in_table (path ++ 2 ∷ []) tables table ++ in_int tables (path ++ 3 ∷ []) scope part
-in_entry_form tables path scope (Some (table_parts right table)) = in_table (path ++ 2 ∷ []) tables table
+    not_table (path ++ 2 ∷ []) tables table
+    ++ (in_int tables (path ++ 3 ∷ []) scope low ++ in_int tables (path ++ 4 ∷ []) scope high)
+in_entry_form tables path scope (Some (part_parts right table part)) =
+    not_table (path ++ 2 ∷ []) tables table ++ in_int tables (path ++ 3 ∷ []) scope part
+in_entry_form tables path scope (Some (table_parts right table)) = not_table (path ++ 2 ∷ []) tables table
 in_entry_form tables path scope (Some (db_parts right)) = []
 
 abbrev pub in_entry : List TableShape → List Seen → List ℕ → Data → List ProcFault
@@ -76,7 +85,8 @@ in_entry tables scope path d = in_entry_form tables path scope (entry_form d)
 
 abbrev pub in_footprint_form : List TableShape → List ℕ → List Seen → Option FootprintDocument → List ProcFault
 in_footprint_form tables path scope None = At Shape path ∷ []
-in_footprint_form tables path scope (Some (declared_parts ds)) = too_many path 256 ds ++ in_parts (in_entry tables scope) path 1 ds
+in_footprint_form tables path scope (Some (declared_parts ds)) =
+    too_many path 256 ds ++ in_parts (in_entry tables scope) path 1 ds
 in_footprint_form tables path scope (Some recon_parts) = []
 
 abbrev pub in_footprint : List TableShape → List ℕ → List Seen → Data → List ProcFault
@@ -100,7 +110,8 @@ in_proc tables path names d = in_proc_form tables path names (proc_form d)
 
 abbrev pub in_procs_form : List TableShape → Option (List Data) → List ProcFault
 in_procs_form tables None = At Shape [] ∷ []
-in_procs_form tables (Some ds) = too_many (2 ∷ []) 256 ds ++ in_named_parts name_of_proc (in_proc tables) (2 ∷ []) 0 [] ds
+in_procs_form tables (Some ds) =
+    too_many (2 ∷ []) 256 ds ++ in_named_parts name_of_proc (in_proc tables) (2 ∷ []) 0 [] ds
 
 -- the faults of a document of procedures over the tables of a catalogue, the first of which is answered
 abbrev pub procedures_faults : List TableShape → Data → List ProcFault

@@ -1,5 +1,6 @@
 -- Claimed: what contracts promise to a reader rests on these words.
--- The faults of a statement and of a block, each with its path, in the order in which rules are looked at; and the variables that are seen after a statement. No rule here hangs on what reading gives.
+-- The faults of a statement and of a block, each with its path, in the order in which rules are looked at; and the
+-- variables that are seen after a statement. No rule here depends on what reading gives.
 use Rattle.std.specs.Prelude.{ℕ, zero, suc, ℤ, pos, negsuc, ◌+◌, ◌==◌, Bool, true, false, ◌&&◌, not, nat_le, List, [], ◌∷◌, ◌++◌, length, Option, Some, None, option_map, option_and_then, unwrap_or}
 use Rattle.std.specs.List.{zip}
 use Rattle.serde_json.specs.Data.{Data}
@@ -10,52 +11,26 @@ use Rattle.catalogue.specs.Places.{table_named}
 use Rattle.values.specs.Names.{is_name}
 use Rattle.catalogue.specs.Shapes.{TableShape}
 use Rattle.proclang_types.specs.Typing.{column_kinds}
-use Rattle.proclang.specs.declared.fault.FaultKind.TheVariants.{Shape, TypeMismatch, DuplicateName, AbortCode, Limit}
-use Rattle.proclang.specs.declared.fault.ProcFault.{ProcFault}
-use Rattle.proclang.specs.declared.fault.ProcFault.TheVariants.{At}
-use Rattle.proclang.specs.declared.scope.Declaration.TheVariants.{Statement}
-use Rattle.proclang.specs.declared.scope.Found.{Found}
-use Rattle.proclang.specs.BrokenNames.{in_table, column_type_said, in_column}
-use Rattle.proclang.specs.BrokenExpressions.{not_int, not_bool, not_value, in_statement_expr}
-use Rattle.proclang.specs.ExprTypes.{kind_said}
-use Rattle.proclang.specs.Lookups.{same_type}
-use Rattle.proclang.specs.Seen.{Seen, found_in, seen_in_loop}
+use Rattle.proclang_expressions.specs.declared.fault.FaultKind.TheVariants.{Shape, TypeMismatch, DuplicateName, AbortCode, Limit}
+use Rattle.proclang_expressions.specs.declared.fault.ProcFault.{ProcFault}
+use Rattle.proclang_expressions.specs.declared.fault.ProcFault.TheVariants.{At}
+use Rattle.proclang_expressions.specs.declared.scope.Declaration.TheVariants.{Statement}
+use Rattle.proclang_expressions.specs.declared.scope.Found.{Found}
+use Rattle.proclang_expressions.specs.BrokenNames.{not_table, column_type_said, not_column}
+use Rattle.proclang_expressions.specs.BrokenExpressions.{not_int, not_bool, not_value, in_statement_expr}
+use Rattle.proclang_expressions.specs.ExprTypes.{kind_said}
+use Rattle.proclang_expressions.specs.Lookups.{same_type}
+use Rattle.proclang_expressions.specs.Seen.{Seen, found_in, seen_in_loop}
 use Rattle.proclang_forms.specs.StmtForms.{LetParts, GetParts, PutParts, InsertParts, DeleteParts, IfParts, ForParts, EachParts, StatementForm, let_parts, get_parts, put_parts, insert_parts, delete_parts, if_parts, for_parts, each_parts, abort_code, reply_values, statement_form}
-use Rattle.proclang.specs.Targets.{is_fixed}
+use Rattle.proclang_expressions.specs.Targets.{is_fixed}
+use Rattle.proclang_expressions.specs.BrokenTargets.{in_target, in_loop_name, type_found, agree, seen_with}
+use Rattle.proclang_expressions.specs.BrokenParts.{in_parts, too_many}
 
--- ---- names and types
-
--- a variable that gets a value: the name of a new one obeys the rule, and one that is seen may be changed
-abbrev pub in_target : List ℕ → List ℕ → Option Found → List ProcFault
-in_target path name None = broken (is_name name) (At Shape path)
-in_target path name (Some v) = broken (not (is_fixed v.declaration)) (At DuplicateName path)
-
--- the variable of a loop: its name obeys the rule, and no variable that is seen has it
-abbrev pub in_loop_name : List ℕ → List ℕ → Option Found → List ProcFault
-in_loop_name path name None = broken (is_name name) (At Shape path)
-in_loop_name path name (Some v) = At DuplicateName path ∷ []
-
--- the type of a variable that is seen
-abbrev pub type_found : Option Found → Option ColType
-type_found variable = option_map (λ v. v.kind) variable
-
--- two types are the same, where both are known
-abbrev pub agree : Option ColType → Option ColType → Bool
-agree None b = true
-agree (Some a) None = true
-agree (Some a) (Some b) = same_type a b
+-- ---- types
 
 -- the types of the columns of the table with a name
 abbrev pub kinds_said : List TableShape → List ℕ → List ColType
 kinds_said tables table = unwrap_or (option_and_then (column_kinds tables) (table_named tables table)) []
-
--- those of each part in turn, the first at the place that is given
-abbrev pub in_parts : {D : Type 0} → (List ℕ → D → List ProcFault) → List ℕ → ℕ → List D → List ProcFault
-in_parts one path place [] = []
-in_parts one path place (d ∷ ds) = one (path ++ place ∷ []) d ++ in_parts one path (place + 1) ds
-
-abbrev pub too_many : {D : Type 0} → List ℕ → ℕ → List D → List ProcFault
-too_many path most ds = broken (nat_le (length ds) most) (At Limit path)
 
 -- ---- statements
 
@@ -64,44 +39,49 @@ in_let tables path scope form =
     in_target (path ++ 1 ∷ []) form.variable (found_in form.variable scope)
     ++ (in_statement_expr tables (path ++ 2 ∷ []) scope form.value
     ++ (not_value (path ++ 2 ∷ []) scope form.value
-    ++ broken (agree (type_found (found_in form.variable scope)) (kind_said scope form.value)) (At TypeMismatch (path ++ 2 ∷ []))))
+    ++ broken (agree (type_found (found_in form.variable scope)) (kind_said scope form.value))
+    (At TypeMismatch (path ++ 2 ∷ []))))
 
 abbrev pub in_get : List TableShape → List ℕ → List Seen → GetParts → List ProcFault
 in_get tables path scope form =
     in_target (path ++ 1 ∷ []) form.variable (found_in form.variable scope)
-    ++ (in_table (path ++ 2 ∷ []) tables form.table
+    ++ (not_table (path ++ 2 ∷ []) tables form.table
     ++ (in_statement_expr tables (path ++ 3 ∷ []) scope form.key
-    ++ (in_column (path ++ 4 ∷ []) tables form.table form.column
+    ++ (not_column (path ++ 4 ∷ []) tables form.table form.column
     ++ (not_int (path ++ 3 ∷ []) scope form.key
-    ++ broken (agree (type_found (found_in form.variable scope)) (column_type_said tables form.table form.column)) (At TypeMismatch (path ++ 4 ∷ []))))))
+    ++ broken (agree (type_found (found_in form.variable scope)) (column_type_said tables form.table form.column))
+    (At TypeMismatch (path ++ 4 ∷ []))))))
 
 abbrev pub in_put : List TableShape → List ℕ → List Seen → PutParts → List ProcFault
 in_put tables path scope form =
-    in_table (path ++ 1 ∷ []) tables form.table
+    not_table (path ++ 1 ∷ []) tables form.table
     ++ (in_statement_expr tables (path ++ 2 ∷ []) scope form.key
-    ++ (in_column (path ++ 3 ∷ []) tables form.table form.column
+    ++ (not_column (path ++ 3 ∷ []) tables form.table form.column
     ++ (in_statement_expr tables (path ++ 4 ∷ []) scope form.value
     ++ (not_int (path ++ 2 ∷ []) scope form.key
     ++ (not_value (path ++ 4 ∷ []) scope form.value
-    ++ broken (agree (kind_said scope form.value) (column_type_said tables form.table form.column)) (At TypeMismatch (path ++ 4 ∷ [])))))))
+    ++ broken (agree (kind_said scope form.value) (column_type_said tables form.table form.column))
+    (At TypeMismatch (path ++ 4 ∷ [])))))))
 
 -- an expression is a value of a column's type
 abbrev pub not_stored : List ℕ → List Seen → ColType → Data → List ProcFault
-not_stored path scope kind d = not_value path scope d ++ broken (agree (kind_said scope d) (Some kind)) (At TypeMismatch path)
+not_stored path scope kind d =
+    not_value path scope d ++ broken (agree (kind_said scope d) (Some kind)) (At TypeMismatch path)
 
 -- as many values as columns; all are well formed, and then each has its column's type
 abbrev pub in_insert : List TableShape → List ℕ → List Seen → InsertParts → List ProcFault
 in_insert tables path scope form =
-    in_table (path ++ 1 ∷ []) tables form.table
+    not_table (path ++ 1 ∷ []) tables form.table
     ++ (in_statement_expr tables (path ++ 2 ∷ []) scope form.key
     ++ (broken (length form.values == length (kinds_said tables form.table)) (At Shape (path ++ 3 ∷ []))
     ++ (in_parts (λ p d. in_statement_expr tables p scope d) (path ++ 3 ∷ []) 0 form.values
     ++ (not_int (path ++ 2 ∷ []) scope form.key
-    ++ in_parts (λ p c. not_stored p scope c.0 c.1) (path ++ 3 ∷ []) 0 (zip (kinds_said tables form.table) form.values)))))
+    ++ in_parts (λ p c. not_stored p scope c.0 c.1) (path ++ 3 ∷ []) 0
+    (zip (kinds_said tables form.table) form.values)))))
 
 abbrev pub in_delete : List TableShape → List ℕ → List Seen → DeleteParts → List ProcFault
 in_delete tables path scope form =
-    in_table (path ++ 1 ∷ []) tables form.table
+    not_table (path ++ 1 ∷ []) tables form.table
     ++ (in_statement_expr tables (path ++ 2 ∷ []) scope form.key
     ++ not_int (path ++ 2 ∷ []) scope form.key)
 
@@ -143,10 +123,10 @@ in_for tables block path scope form =
     ++ not_int (path ++ 3 ∷ []) scope form.high))))
 
 -- the partition's type comes after the block
-abbrev pub in_each : List TableShape → BlockRules → List ℕ → List Seen → EachParts → List ProcFault
-in_each tables block path scope form =
+abbrev pub in_each_loop : List TableShape → BlockRules → List ℕ → List Seen → EachParts → List ProcFault
+in_each_loop tables block path scope form =
     in_loop_name (path ++ 1 ∷ []) form.variable (found_in form.variable scope)
-    ++ (in_table (path ++ 2 ∷ []) tables form.table
+    ++ (not_table (path ++ 2 ∷ []) tables form.table
     ++ (in_statement_expr tables (path ++ 3 ∷ []) scope form.number
     ++ (block (path ++ 4 ∷ []) (seen_in_loop scope form.variable) form.body
     ++ not_int (path ++ 3 ∷ []) scope form.number)))
@@ -160,7 +140,7 @@ in_statement_form tables block path scope (Some (insert_parts form)) = in_insert
 in_statement_form tables block path scope (Some (delete_parts form)) = in_delete tables path scope form
 in_statement_form tables block path scope (Some (if_parts form)) = in_if tables block path scope form
 in_statement_form tables block path scope (Some (for_parts form)) = in_for tables block path scope form
-in_statement_form tables block path scope (Some (each_parts form)) = in_each tables block path scope form
+in_statement_form tables block path scope (Some (each_parts form)) = in_each_loop tables block path scope form
 in_statement_form tables block path scope (Some (abort_code code)) = in_abort path code
 in_statement_form tables block path scope (Some (reply_values ds)) = in_reply tables path scope ds
 
@@ -169,15 +149,11 @@ in_statement tables block path scope d = in_statement_form tables block path sco
 
 -- ---- the variables that are seen after a statement
 
--- a variable that isn't seen stands behind the others from there on, with the type of its value
-abbrev pub seen_with : List Seen → List ℕ → Option Found → Option ColType → List Seen
-seen_with scope name (Some v) kind = scope
-seen_with scope name None None = scope
-seen_with scope name None (Some kind) = scope ++ record { name = name; kind = kind; declaration = Statement } ∷ []
-
 abbrev pub seen_after_form : List TableShape → List Seen → Option StatementForm → List Seen
-seen_after_form tables scope (Some (let_parts form)) = seen_with scope form.variable (found_in form.variable scope) (kind_said scope form.value)
-seen_after_form tables scope (Some (get_parts form)) = seen_with scope form.variable (found_in form.variable scope) (column_type_said tables form.table form.column)
+seen_after_form tables scope (Some (let_parts form)) =
+    seen_with scope form.variable (found_in form.variable scope) (kind_said scope form.value)
+seen_after_form tables scope (Some (get_parts form)) =
+    seen_with scope form.variable (found_in form.variable scope) (column_type_said tables form.table form.column)
 seen_after_form tables scope form = scope
 
 abbrev pub seen_after : List TableShape → List Seen → Data → List Seen
@@ -189,7 +165,8 @@ seen_after tables scope d = seen_after_form tables scope (statement_form d)
 abbrev pub in_statements : List TableShape → BlockRules → List ℕ → ℕ → List Seen → List Data → List ProcFault
 in_statements tables block path place scope [] = []
 in_statements tables block path place scope (d ∷ ds) =
-    in_statement tables block (path ++ place ∷ []) scope d ++ in_statements tables block path (place + 1) (seen_after tables scope d) ds
+    in_statement tables block (path ++ place ∷ []) scope d
+    ++ in_statements tables block path (place + 1) (seen_after tables scope d) ds
 
 abbrev pub in_deep_block : List ℕ → Option (List Data) → List ProcFault
 in_deep_block path None = At Shape path ∷ []
@@ -199,7 +176,7 @@ abbrev pub in_block_form : List TableShape → BlockRules → List ℕ → List 
 in_block_form tables block path scope None = At Shape path ∷ []
 in_block_form tables block path scope (Some ds) = too_many path 1024 ds ++ in_statements tables block path 0 scope ds
 
--- the rules that a block breaks, where so many levels may still nest
+-- the rules that a block breaks, where that many levels may still nest
 unfoldable pub in_block : List TableShape → ℕ → List ℕ → List Seen → Data → List ProcFault
 in_block tables zero path scope d = in_deep_block path (elements d)
 in_block tables (suc room) path scope d = in_block_form tables (in_block tables room) path scope (elements d)

@@ -10,14 +10,14 @@ use Rattle.proclang_types.specs.Syntax.{IntSyntax, EntrySyntax, row_entry, rows_
 use Rattle.proclang_types.specs.Procedures.{param_shape}
 use Rattle.proclang_types.specs.Views.{footprint_view, stmts_view}
 use Rattle.proclang.specs.declared.read_proc.Parts.{Parts}
-use Rattle.proclang.specs.declared.fault.FaultKind.TheVariants.{Shape, DuplicateName}
-use Rattle.proclang.specs.declared.fault.ProcFault.{ProcFault}
-use Rattle.proclang.specs.declared.fault.ProcFault.TheVariants.{At}
+use Rattle.proclang_expressions.specs.declared.fault.FaultKind.TheVariants.{Shape, DuplicateName}
+use Rattle.proclang_expressions.specs.declared.fault.ProcFault.{ProcFault}
+use Rattle.proclang_expressions.specs.declared.fault.ProcFault.TheVariants.{At}
 use Rattle.proclang_forms.specs.declared.expr_forms.Section.TheVariants as sections
-use Rattle.proclang.specs.Seen.{Seen, seen_of}
-use Rattle.proclang.specs.Walk.{each_from, behind, at_most}
-use Rattle.proclang.specs.Lookups.{declared_at, table_at}
-use Rattle.proclang.specs.Expressions.{deepest, as_int, expr_at}
+use Rattle.proclang_expressions.specs.Seen.{Seen, seen_of}
+use Rattle.proclang_expressions.specs.Walk.{each_from, appended, at_most}
+use Rattle.proclang_expressions.specs.Lookups.{declared_at, table_called}
+use Rattle.proclang_expressions.specs.Expressions.{deepest, as_int, expr_at}
 use Rattle.proclang.specs.Statements.{block_at}
 use Rattle.proclang_forms.specs.ProcForms.{ProcDocument, proc_form, FootprintDocument, declared_parts, recon_parts, footprint_form, EntryDocument, row_parts, rows_parts, part_parts, table_parts, db_parts, entry_form}
 
@@ -36,7 +36,7 @@ param_at path before d = do
   Ok (record { name = form.0; kind = form.1 })
 
 abbrev pub each_param : List ℕ → List Data → Result (List ParamShape) ProcFault
-each_param path ds = each_from (λ p before d. behind before (param_at p before d)) path 0 [] ds
+each_param path ds = each_from (λ p before d. appended before (param_at p before d)) path 0 [] ds
 
 unfoldable pub params_at : List ℕ → List Data → Result (List ParamShape) ProcFault
 params_at path ds = do
@@ -53,20 +53,20 @@ int_at tables path scope d = do
 
 unfoldable pub entry_of : List TableShape → List ℕ → List Seen → EntryDocument → Result EntrySyntax ProcFault
 entry_of tables path scope (row_parts right table key) = do
-  t ← table_at (path ++ 2 ∷ []) tables table
+  t ← table_called (path ++ 2 ∷ []) tables table
   k ← int_at tables (path ++ 3 ∷ []) scope key
   Ok (row_entry right t k)
 entry_of tables path scope (rows_parts right table low high) = do
-  t ← table_at (path ++ 2 ∷ []) tables table
+  t ← table_called (path ++ 2 ∷ []) tables table
   l ← int_at tables (path ++ 3 ∷ []) scope low
   h ← int_at tables (path ++ 4 ∷ []) scope high
   Ok (rows_entry right t l h)
 entry_of tables path scope (part_parts right table part) = do
-  t ← table_at (path ++ 2 ∷ []) tables table
+  t ← table_called (path ++ 2 ∷ []) tables table
   p ← int_at tables (path ++ 3 ∷ []) scope part
   Ok (part_entry right t p)
 entry_of tables path scope (table_parts right table) = do
-  t ← table_at (path ++ 2 ∷ []) tables table
+  t ← table_called (path ++ 2 ∷ []) tables table
   Ok (table_entry right t)
 entry_of tables path scope (db_parts right) = Ok (db_entry right)
 
@@ -77,19 +77,20 @@ entry_at tables scope path d = do
 
 -- entries at the places from 1 on
 abbrev pub each_entry : List TableShape → List ℕ → List Seen → List Data → Result (List EntrySyntax) ProcFault
-each_entry tables path scope ds = each_from (λ p before e. behind before (entry_at tables scope p e)) path 1 [] ds
+each_entry tables path scope ds = each_from (λ p before e. appended before (entry_at tables scope p e)) path 1 [] ds
 
-unfoldable pub footprint_of : List TableShape → List ℕ → List Seen → FootprintDocument → Result FootprintSyntax ProcFault
-footprint_of tables path scope (declared_parts ds) = do
+unfoldable pub footprint_from : List TableShape → List ℕ → List Seen → FootprintDocument
+    → Result FootprintSyntax ProcFault
+footprint_from tables path scope (declared_parts ds) = do
   _ ← at_most path 256 ds
   entries ← each_entry tables path scope ds
   Ok (declared_by entries)
-footprint_of tables path scope recon_parts = Ok found_by_recon
+footprint_from tables path scope recon_parts = Ok found_by_recon
 
 unfoldable pub footprint_at : List TableShape → List ℕ → List Seen → Data → Result FootprintSyntax ProcFault
 footprint_at tables path scope d = do
   form ← formed (At Shape path) (footprint_form d)
-  footprint_of tables path scope form
+  footprint_from tables path scope form
 
 -- ---- procedures
 
@@ -100,7 +101,11 @@ pub record PartsSyntax : Type 0 where
   pub body : List StmtSyntax
 
 abbrev pub parts_view : Parts → PartsSyntax
-parts_view p = record { params = map param_shape p.params.items; footprint = footprint_view p.footprint; body = stmts_view p.body.items }
+parts_view p = record {
+  params = map param_shape p.params.items;
+  footprint = footprint_view p.footprint;
+  body = stmts_view p.body.items;
+}
 
 unfoldable pub parts_at : List TableShape → List ℕ → ProcDocument → Result PartsSyntax ProcFault
 parts_at tables path form = do
@@ -117,7 +122,7 @@ proc_at tables path before d = do
   Ok (record { name = form.name; params = parts.params; footprint = parts.footprint; body = parts.body })
 
 abbrev pub each_proc : List TableShape → List ℕ → List Data → Result (List ProcSyntax) ProcFault
-each_proc tables path ds = each_from (λ p before e. behind before (proc_at tables p before e)) path 0 [] ds
+each_proc tables path ds = each_from (λ p before e. appended before (proc_at tables p before e)) path 0 [] ds
 
 -- the procedures that a document says over the tables of a catalogue, or its first fault
 unfoldable pub procs_at : List TableShape → Data → Result (List ProcSyntax) ProcFault

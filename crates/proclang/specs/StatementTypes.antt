@@ -4,9 +4,9 @@ use Rattle.std.specs.Prelude.{ℕ, List, Result, Ok}
 use Rattle.documents.specs.Reading.{◌>>=◌}
 use Rattle.values.specs.declared.value.ColType.{ColType}
 use Rattle.proclang_types.specs.Syntax.{ExprSyntax, StmtSyntax, put, insert_row, choose, for_numbers, for_keys, block_of}
-use Rattle.proclang.specs.declared.fault.ProcFault.{ProcFault}
-use Rattle.proclang.specs.Expressions.{as_int, as_bool, as_value}
-use Rattle.proclang.specs.Statements.{of_type, row_at}
+use Rattle.proclang_expressions.specs.declared.fault.ProcFault.{ProcFault}
+use Rattle.proclang_expressions.specs.Expressions.{as_int, as_bool, as_value}
+use Rattle.proclang_expressions.specs.Values.{of_type, row_values_at}
 
 -- the test is a Bool
 abbrev pub typed_if : List ℕ → ExprSyntax → List StmtSyntax → List StmtSyntax → Result StmtSyntax ProcFault
@@ -36,8 +36,9 @@ typed_put table key_path k column kind value_path e = do
   Ok (put table key column value)
 
 -- the key is an Int, and each value of its column's type
-abbrev pub typed_insert : ℕ → List ColType → List ℕ → ExprSyntax → List ℕ → List ExprSyntax → Result StmtSyntax ProcFault
+abbrev pub typed_insert : ℕ → List ColType → List ℕ → ExprSyntax → List ℕ → List ExprSyntax
+    → Result StmtSyntax ProcFault
 typed_insert table kinds key_path k path es = do
   key ← as_int key_path k
-  values ← row_at path kinds es
+  values ← row_values_at path kinds es
   Ok (insert_row table key values)

@@ -9,16 +9,17 @@ use Rattle.values.specs.declared.value.ColType.{ColType}
 use Rattle.catalogue.specs.Shapes.{TableShape}
 use Rattle.proclang_types.specs.Syntax.{ExprSyntax, ValueSyntax, StmtSyntax, assign, get, put, insert_row, delete_row, choose, for_numbers, for_keys, abort, reply, block_of}
 use Rattle.proclang_types.specs.Typing.{kind_of, column_kinds}
-use Rattle.proclang.specs.declared.fault.FaultKind.TheVariants.{Shape, TypeMismatch, AbortCode, Limit}
-use Rattle.proclang.specs.declared.fault.ProcFault.{ProcFault}
-use Rattle.proclang.specs.declared.fault.ProcFault.TheVariants.{At}
-use Rattle.proclang.specs.Faults.{refuse}
-use Rattle.proclang.specs.Seen.{Seen, seen_in_loop}
-use Rattle.proclang.specs.Walk.{each_from, behind, at_most}
-use Rattle.proclang.specs.Lookups.{same_type, table_at, column_at}
-use Rattle.proclang.specs.Targets.{target_at, bound, loop_name_at}
-use Rattle.proclang.specs.Expressions.{as_int, as_bool, as_value, statement_expr}
+use Rattle.proclang_expressions.specs.declared.fault.FaultKind.TheVariants.{Shape, TypeMismatch, AbortCode, Limit}
+use Rattle.proclang_expressions.specs.declared.fault.ProcFault.{ProcFault}
+use Rattle.proclang_expressions.specs.declared.fault.ProcFault.TheVariants.{At}
+use Rattle.proclang_expressions.specs.Faults.{refuse}
+use Rattle.proclang_expressions.specs.Seen.{Seen, seen_in_loop}
+use Rattle.proclang_expressions.specs.Walk.{each_from, appended, at_most}
+use Rattle.proclang_expressions.specs.Lookups.{same_type, table_called, column_called}
+use Rattle.proclang_expressions.specs.Targets.{target_at, bound, loop_name_at}
+use Rattle.proclang_expressions.specs.Expressions.{as_int, as_bool, as_value, statement_expr}
 use Rattle.proclang_forms.specs.StmtForms.{LetParts, GetParts, PutParts, InsertParts, DeleteParts, IfParts, ForParts, EachParts, StatementForm, let_parts, get_parts, put_parts, insert_parts, delete_parts, if_parts, for_parts, each_parts, abort_code, reply_values, statement_form}
+use Rattle.proclang_expressions.specs.Values.{of_type, exprs_at, row_values_at, kinds_in, values_at}
 
 -- ---- statements: what is read, and the variables that are seen after it
 
@@ -33,58 +34,38 @@ let_at tables path scope form = do
 unfoldable pub get_at : List TableShape → List ℕ → List Seen → GetParts → Result (StmtSyntax × List Seen) ProcFault
 get_at tables path scope form = do
   target ← target_at (path ++ 1 ∷ []) scope form.variable
-  table ← table_at (path ++ 2 ∷ []) tables form.table
+  table ← table_called (path ++ 2 ∷ []) tables form.table
   e ← statement_expr tables (path ++ 3 ∷ []) scope form.key
-  column ← column_at (path ++ 4 ∷ []) tables table form.column
+  column ← column_called (path ++ 4 ∷ []) tables table form.column
   key ← as_int (path ++ 3 ∷ []) e
   variable ← bound (path ++ 4 ∷ []) scope form.variable column.1 target
   Ok (get variable.0 table key column.0, variable.1)
 
--- a value of the type that is asked for
-abbrev pub of_type : List ℕ → ColType → ValueSyntax → Result ValueSyntax ProcFault
-of_type path kind value = if same_type (kind_of value) kind then Ok value else refuse TypeMismatch path
-
 unfoldable pub put_at : List TableShape → List ℕ → List Seen → PutParts → Result StmtSyntax ProcFault
 put_at tables path scope form = do
-  table ← table_at (path ++ 1 ∷ []) tables form.table
+  table ← table_called (path ++ 1 ∷ []) tables form.table
   k ← statement_expr tables (path ++ 2 ∷ []) scope form.key
-  column ← column_at (path ++ 3 ∷ []) tables table form.column
+  column ← column_called (path ++ 3 ∷ []) tables table form.column
   e ← statement_expr tables (path ++ 4 ∷ []) scope form.value
   key ← as_int (path ++ 2 ∷ []) k
   v ← as_value (path ++ 4 ∷ []) e
   value ← of_type (path ++ 4 ∷ []) column.1 v
   Ok (put table key column.0 value)
 
--- expressions, the first at the place that is given
-abbrev pub exprs_at : List TableShape → List ℕ → ℕ → List Seen → List Data → Result (List ExprSyntax) ProcFault
-exprs_at tables path place scope ds = each_from (λ p before d. behind before (statement_expr tables p scope d)) path place [] ds
-
--- a value of a column's type
-abbrev pub stored_at : List ℕ → ColType → ExprSyntax → Result ValueSyntax ProcFault
-stored_at path kind e = as_value path e >>= of_type path kind
-
--- a value for each column, of the column's type
-abbrev pub row_at : List ℕ → List ColType → List ExprSyntax → Result (List ValueSyntax) ProcFault
-row_at path kinds es = each_from (λ p before c. behind before (stored_at p c.0 c.1)) path 0 [] (zip kinds es)
-
--- the types of a table's columns
-abbrev pub kinds_in : List TableShape → ℕ → List ColType
-kinds_in tables table = unwrap_or (column_kinds tables table) []
-
 -- the key and as many values as the table has columns, and then their types
 unfoldable pub insert_at : List TableShape → List ℕ → List Seen → InsertParts → Result StmtSyntax ProcFault
 insert_at tables path scope form = do
-  table ← table_at (path ++ 1 ∷ []) tables form.table
+  table ← table_called (path ++ 1 ∷ []) tables form.table
   k ← statement_expr tables (path ++ 2 ∷ []) scope form.key
   _ ← rule (length form.values == length (kinds_in tables table)) (At Shape (path ++ 3 ∷ []))
   es ← exprs_at tables (path ++ 3 ∷ []) 0 scope form.values
   key ← as_int (path ++ 2 ∷ []) k
-  values ← row_at (path ++ 3 ∷ []) (kinds_in tables table) es
+  values ← row_values_at (path ++ 3 ∷ []) (kinds_in tables table) es
   Ok (insert_row table key values)
 
 unfoldable pub delete_at : List TableShape → List ℕ → List Seen → DeleteParts → Result StmtSyntax ProcFault
 delete_at tables path scope form = do
-  table ← table_at (path ++ 1 ∷ []) tables form.table
+  table ← table_called (path ++ 1 ∷ []) tables form.table
   e ← statement_expr tables (path ++ 2 ∷ []) scope form.key
   key ← as_int (path ++ 2 ∷ []) e
   Ok (delete_row table key)
@@ -92,10 +73,6 @@ delete_at tables path scope form = do
 unfoldable pub abort_at : List ℕ → ℤ → Result StmtSyntax ProcFault
 abort_at path (pos n) = if nat_le 100 n && nat_le n 65535 then Ok (abort n) else refuse AbortCode (path ++ 1 ∷ [])
 abort_at path (negsuc n) = refuse AbortCode (path ++ 1 ∷ [])
-
--- the values that expressions at the places from 1 on give
-abbrev pub values_at : List ℕ → List ExprSyntax → Result (List ValueSyntax) ProcFault
-values_at path es = each_from (λ p before e. behind before (as_value p e)) path 1 [] es
 
 unfoldable pub reply_at : List TableShape → List ℕ → List Seen → List Data → Result StmtSyntax ProcFault
 reply_at tables path scope ds = do
@@ -131,10 +108,11 @@ for_at tables block path scope form = do
   Ok (for_numbers low high (block_of body))
 
 -- the name, the table, the partition and the block, and then the partition's type
-unfoldable pub each_at : List TableShape → BlockReader → List ℕ → List Seen → EachParts → Result StmtSyntax ProcFault
-each_at tables block path scope form = do
+unfoldable pub each_loop_at : List TableShape → BlockReader → List ℕ → List Seen → EachParts
+    → Result StmtSyntax ProcFault
+each_loop_at tables block path scope form = do
   _ ← loop_name_at (path ++ 1 ∷ []) scope form.variable
-  table ← table_at (path ++ 2 ∷ []) tables form.table
+  table ← table_called (path ++ 2 ∷ []) tables form.table
   e ← statement_expr tables (path ++ 3 ∷ []) scope form.number
   body ← block (path ++ 4 ∷ []) (seen_in_loop scope form.variable) form.body
   number ← as_int (path ++ 3 ∷ []) e
@@ -144,7 +122,8 @@ each_at tables block path scope form = do
 abbrev pub in_scope : List Seen → Result StmtSyntax ProcFault → Result (StmtSyntax × List Seen) ProcFault
 in_scope scope read = read >>= λ s. Ok (s, scope)
 
-unfoldable pub form_at : List TableShape → BlockReader → List ℕ → List Seen → StatementForm → Result (StmtSyntax × List Seen) ProcFault
+unfoldable pub form_at : List TableShape → BlockReader → List ℕ → List Seen → StatementForm
+    → Result (StmtSyntax × List Seen) ProcFault
 form_at tables block path scope (let_parts form) = let_at tables path scope form
 form_at tables block path scope (get_parts form) = get_at tables path scope form
 form_at tables block path scope (put_parts form) = in_scope scope (put_at tables path scope form)
@@ -152,24 +131,26 @@ form_at tables block path scope (insert_parts form) = in_scope scope (insert_at 
 form_at tables block path scope (delete_parts form) = in_scope scope (delete_at tables path scope form)
 form_at tables block path scope (if_parts form) = in_scope scope (if_at tables block path scope form)
 form_at tables block path scope (for_parts form) = in_scope scope (for_at tables block path scope form)
-form_at tables block path scope (each_parts form) = in_scope scope (each_at tables block path scope form)
+form_at tables block path scope (each_parts form) = in_scope scope (each_loop_at tables block path scope form)
 form_at tables block path scope (abort_code z) = in_scope scope (abort_at path z)
 form_at tables block path scope (reply_values ds) = in_scope scope (reply_at tables path scope ds)
 
-abbrev pub statement_at : List TableShape → BlockReader → List ℕ → List Seen → Data → Result (StmtSyntax × List Seen) ProcFault
+abbrev pub statement_at : List TableShape → BlockReader → List ℕ → List Seen → Data
+    → Result (StmtSyntax × List Seen) ProcFault
 statement_at tables block path scope d = do
   form ← formed (At Shape path) (statement_form d)
   form_at tables block path scope form
 
 -- ---- blocks
 
--- a statement, behind those before it and with the variables that are seen after them
-abbrev pub next_statement : List TableShape → BlockReader → List ℕ → List StmtSyntax × List Seen → Data → Result (List StmtSyntax × List Seen) ProcFault
+-- a statement, after those before it and with the variables that are seen after them
+abbrev pub next_statement : List TableShape → BlockReader → List ℕ → List StmtSyntax × List Seen → Data
+    → Result (List StmtSyntax × List Seen) ProcFault
 next_statement tables block path before d = do
   s ← statement_at tables block path before.1 d
   Ok (before.0 ++ s.0 ∷ [], s.1)
 
--- a block, where so many levels may still nest
+-- a block, where that many levels may still nest
 unfoldable pub block_at : List TableShape → ℕ → List ℕ → List Seen → Data → Result (List StmtSyntax) ProcFault
 block_at tables zero path scope d = do
   _ ← formed (At Shape path) (elements d)

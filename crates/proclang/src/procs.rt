@@ -8,18 +8,16 @@ ghost use Rattle.proclang_types.specs.Procedures.{proc_syntax};
 ghost use Rattle.proclang_types.specs.Syntax.{ProcSyntax};
 ghost use Rattle.proclang.specs.BrokenProcs.{procedures_faults};
 ghost use Rattle.proclang.specs.Says.{SaysProcs};
-ghost use Rattle.proclang.specs.declared.fault.ProcFault.TheVariants.{Memory};
-ghost use Rattle.proclang.specs.Paths.{places};
-ghost use Rattle.proclang.specs.Faults.{is_memory};
+ghost use Rattle.proclang_expressions.specs.declared.fault.ProcFault.TheVariants.{Memory};
+ghost use Rattle.proclang_expressions.specs.Paths.{places};
+ghost use Rattle.proclang_expressions.specs.Faults.{is_memory};
 ghost use Rattle.proclang.specs.Procs.{each_proc, procs_at};
 ghost use Rattle.requests.specs.ProcLists.{AreOver, AreProcs};
 
-use crate::fault::{FaultKind, ProcFault, fault};
-use crate::limits::at_most;
-use crate::path::Path;
 use crate::read_proc::read_proc;
 use catalogue::Catalogue;
 use documents::versioned_list;
+use proclang_expressions::{FaultKind, Path, ProcFault, at_most, fault_at};
 use requests::Procs;
 use serde_json::Value;
 use std::alloc::Global;
@@ -51,7 +49,7 @@ fn read_document(alloc: Global, document: &Value, catalogue: &Catalogue) -> Resu
     ensures exact { Reads is_memory (λ p. map proc_syntax p.procs) result (procs_at catalogue.now (view document.now)) }
 {
     let Some(values) = versioned_list("procs", document) else {
-        return Err(fault(alloc, FaultKind::Shape, &Path::Document));
+        return Err(fault_at(alloc, FaultKind::Shape, &Path::Document));
     };
     let path = Path::Element(&Path::Document, 2);
     at_most(alloc, &path, 256, values)?;

@@ -4,26 +4,22 @@ ghost use Rattle.std.specs.Prelude.{◌≡◌, OnOk, List};
 ghost use Rattle.serde_json.specs.View.{view};
 ghost use Rattle.documents.specs.Reading.{Reads};
 ghost use Rattle.proclang_types.specs.Views.{stmt_view, stmts_view};
-ghost use Rattle.proclang.specs.Paths.{places};
-ghost use Rattle.proclang.specs.Faults.{is_memory};
-ghost use Rattle.proclang.specs.Seen.{seen_in_loop};
+ghost use Rattle.proclang_expressions.specs.Paths.{places};
+ghost use Rattle.proclang_expressions.specs.Faults.{is_memory};
+ghost use Rattle.proclang_expressions.specs.Seen.{seen_in_loop};
 ghost use Rattle.proclang_forms.specs.StmtForms.{if_parts_of, for_parts_of, each_parts_of};
-ghost use Rattle.proclang.specs.Statements.{if_at, for_at, each_at, statement_at, block_at};
+ghost use Rattle.proclang.specs.Statements.{if_at, for_at, each_loop_at, statement_at, block_at};
 
-use crate::fault::{FaultKind, ProcFault, fault};
-use crate::limits::at_most;
-use crate::path::Path;
-use crate::read_expr::read_statement_expr;
-use crate::read_names::read_table;
 use crate::read_stmt::{
     read_abort, read_delete, read_get, read_insert, read_let, read_put, read_reply,
 };
-use crate::read_target::read_loop_name;
-use crate::scope::{Declaration, Scope};
-use crate::typed::paired;
 use crate::typed_stmt::{each_statement, for_statement, if_statement};
 use catalogue::Catalogue;
 use documents::elements;
+use proclang_expressions::{
+    Declaration, FaultKind, Path, ProcFault, Scope, at_most, fault_at, paired, read_loop_name,
+    read_statement_expr, read_table,
+};
 use proclang_forms::{EachForm, ForForm, IfForm, StmtForm, statement_form};
 use proclang_types::Stmt;
 use serde_json::Value;
@@ -121,7 +117,7 @@ fn read_for(
 }
 
 #[cycle(block)]
-#[tactic(auto, unfolding(crate::specs::Statements::each_at))]
+#[tactic(auto, unfolding(crate::specs::Statements::each_loop_at))]
 fn read_each(
     alloc: Global,
     catalogue: &Catalogue,
@@ -131,7 +127,8 @@ fn read_each(
     form: EachForm<'_>,
 ) -> Result<Stmt, ProcFault>
     ensures exact { Reads is_memory stmt_view result
-        (each_at catalogue.now (block_at catalogue.now room) (places path.now) scope.old (each_parts_of form.entry)) }
+        (each_loop_at catalogue.now (block_at catalogue.now room) (places path.now) scope.old
+        (each_parts_of form.entry)) }
     ensures scope { OnOk result (scope.new ≡ scope.old) }
 {
     let part_path = Path::Element(&*path, 3);
@@ -168,7 +165,7 @@ fn read_statement(
         (statement_at catalogue.now (block_at catalogue.now room) (places path.now) scope.old (view value.now)) }
 {
     let Some(form) = statement_form(value) else {
-        return Err(fault(alloc, FaultKind::Shape, path));
+        return Err(fault_at(alloc, FaultKind::Shape, path));
     };
     match form {
         StmtForm::Let(form) => read_let(alloc, catalogue, scope, &*path, form),
@@ -184,7 +181,7 @@ fn read_statement(
     }
 }
 
-/// The block that the document says where these variables are seen, and so many levels may still nest. The variables
+/// The block that the document says where these variables are seen, and `room` levels may still nest. The variables
 /// that it declares are seen in it alone.
 #[cycle(block)]
 #[tactic(auto, unfolding(crate::specs::Statements::block_at))]
@@ -201,10 +198,10 @@ pub(crate) fn read_block(
     ensures scope { OnOk result (scope.new ≡ scope.old) }
 {
     let Some(values) = elements(value) else {
-        return Err(fault(alloc, FaultKind::Shape, path));
+        return Err(fault_at(alloc, FaultKind::Shape, path));
     };
     if room == 0 {
-        return Err(fault(alloc, FaultKind::Limit, path));
+        return Err(fault_at(alloc, FaultKind::Limit, path));
     }
     at_most(alloc, path, 1024, values)?;
     let seen = scope.len();

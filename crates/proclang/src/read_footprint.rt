@@ -4,20 +4,16 @@ ghost use Rattle.std.specs.Prelude.{◌≡◌, map};
 ghost use Rattle.serde_json.specs.View.{view};
 ghost use Rattle.documents.specs.Reading.{Reads};
 ghost use Rattle.proclang_types.specs.Views.{int_view, entry_view, footprint_view};
-ghost use Rattle.proclang.specs.Paths.{places};
-ghost use Rattle.proclang.specs.Faults.{is_memory};
+ghost use Rattle.proclang_expressions.specs.Paths.{places};
+ghost use Rattle.proclang_expressions.specs.Faults.{is_memory};
 ghost use Rattle.proclang_forms.specs.ProcForms.{row_parts, rows_parts, part_parts, entry_form_view, footprint_form_view};
-ghost use Rattle.proclang.specs.Procs.{int_at, entry_of, entry_at, each_entry, footprint_of, footprint_at};
+ghost use Rattle.proclang.specs.Procs.{int_at, entry_of, entry_at, each_entry, footprint_from, footprint_at};
 
-use crate::expr_context::{DEEPEST, ExprContext};
-use crate::fault::{FaultKind, ProcFault, fault};
-use crate::limits::at_most;
-use crate::path::Path;
-use crate::read_expr::read_expr;
-use crate::read_names::read_table;
-use crate::scope::Scope;
-use crate::typed::as_int;
 use catalogue::Catalogue;
+use proclang_expressions::{
+    DEEPEST, ExprContext, FaultKind, Path, ProcFault, Scope, as_int, at_most, fault_at, read_expr,
+    read_table,
+};
 use proclang_forms::{EntryForm, FootprintForm, Section, entry_form, footprint_form};
 use proclang_types::{FootprintEntry, IntExpr, ProcFootprint, Right};
 use serde_json::Value;
@@ -148,7 +144,7 @@ fn read_entry(
     ensures { Reads is_memory entry_view result (entry_at catalogue.now scope.now (places path.now) (view value.now)) }
 {
     let Some(form) = entry_form(value) else {
-        return Err(fault(alloc, FaultKind::Shape, path));
+        return Err(fault_at(alloc, FaultKind::Shape, path));
     };
     read_parts(alloc, catalogue, scope, path, form)
 }
@@ -171,7 +167,7 @@ fn read_each(
     Ok(entries)
 }
 
-#[tactic(auto, unfolding(crate::specs::Procs::footprint_of))]
+#[tactic(auto, unfolding(crate::specs::Procs::footprint_from))]
 fn read_footprint_parts(
     alloc: Global,
     catalogue: &Catalogue,
@@ -179,7 +175,7 @@ fn read_footprint_parts(
     path: &Path<'_>,
     form: FootprintForm<'_>,
 ) -> Result<ProcFootprint, ProcFault>
-    ensures { Reads is_memory footprint_view result (footprint_of catalogue.now (places path.now) scope.now
+    ensures { Reads is_memory footprint_view result (footprint_from catalogue.now (places path.now) scope.now
         (footprint_form_view form.entry)) }
 {
     match form {
@@ -205,7 +201,7 @@ pub(crate) fn read_footprint(
         (footprint_at catalogue.now (places path.now) scope.now (view value.now)) }
 {
     let Some(form) = footprint_form(value) else {
-        return Err(fault(alloc, FaultKind::Shape, path));
+        return Err(fault_at(alloc, FaultKind::Shape, path));
     };
     read_footprint_parts(alloc, catalogue, scope, path, form)
 }

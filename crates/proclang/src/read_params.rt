@@ -6,15 +6,12 @@ ghost use Rattle.std.specs.List.{list_any};
 ghost use Rattle.serde_json.specs.View.{view};
 ghost use Rattle.documents.specs.Reading.{Reads};
 ghost use Rattle.proclang_types.specs.Procedures.{param_shape};
-ghost use Rattle.proclang.specs.Paths.{places};
-ghost use Rattle.proclang.specs.Faults.{is_memory};
+ghost use Rattle.proclang_expressions.specs.Paths.{places};
+ghost use Rattle.proclang_expressions.specs.Faults.{is_memory};
 ghost use Rattle.proclang.specs.Procs.{param_at, each_param, params_at};
 
-use crate::fault::{FaultKind, ProcFault, fault};
-use crate::limits::at_most;
-use crate::path::Path;
-use crate::read_names::declare;
 use catalogue::column_form;
+use proclang_expressions::{FaultKind, Path, ProcFault, at_most, check_name, fault_at};
 use proclang_types::Param;
 use serde_json::Value;
 use std::alloc::Global;
@@ -25,7 +22,7 @@ fn has_name(params: &[Param], name: &str) -> bool
     params.iter().any(|param| name == param.name.as_str())
 }
 
-/// A parameter, behind those before it.
+/// A parameter, after those before it.
 #[tactic(auto, using(crate::proofs::Params::used_among), unfolding(crate::specs::Procs::param_at))]
 fn read_param(
     alloc: Global,
@@ -37,12 +34,12 @@ fn read_param(
         (view value.now)) }
 {
     let Some((name, kind)) = column_form(value) else {
-        return Err(fault(alloc, FaultKind::Shape, path));
+        return Err(fault_at(alloc, FaultKind::Shape, path));
     };
     let name_path = Path::Element(&*path, 0);
-    declare(alloc, &name_path, name)?;
+    check_name(alloc, &name_path, name)?;
     if has_name(earlier, name) {
-        return Err(fault(alloc, FaultKind::DuplicateName, &name_path));
+        return Err(fault_at(alloc, FaultKind::DuplicateName, &name_path));
     }
     let name = String::from_str(alloc, name)?;
     Ok(Param { name, kind })

@@ -5,20 +5,16 @@ ghost use Rattle.serde_json.specs.View.{view};
 ghost use Rattle.documents.specs.Reading.{Reads};
 ghost use Rattle.catalogue.specs.Reading.{is_used};
 ghost use Rattle.proclang_types.specs.Procedures.{proc_syntax};
-ghost use Rattle.proclang.specs.Paths.{places};
-ghost use Rattle.proclang.specs.Faults.{is_memory};
+ghost use Rattle.proclang_expressions.specs.Paths.{places};
+ghost use Rattle.proclang_expressions.specs.Faults.{is_memory};
 ghost use Rattle.proclang_forms.specs.ProcForms.{proc_parts_of};
 ghost use Rattle.proclang.specs.Procs.{parts_view, parts_at, proc_at};
 
-use crate::expr_context::DEEPEST;
-use crate::fault::{FaultKind, ProcFault, fault};
-use crate::path::Path;
 use crate::read_block::read_block;
 use crate::read_footprint::read_footprint;
-use crate::read_names::declare;
 use crate::read_params::read_params;
-use crate::scope::Scope;
 use catalogue::Catalogue;
+use proclang_expressions::{DEEPEST, FaultKind, Path, ProcFault, Scope, check_name, fault_at};
 use proclang_forms::{ProcForm, proc_form};
 use proclang_types::{Param, Proc, ProcFootprint, Stmt};
 use requests::Procs;
@@ -62,7 +58,7 @@ fn has_proc(earlier: &Procs, name: &str) -> bool
     earlier.has(name)
 }
 
-/// A procedure, behind those before it.
+/// A procedure, after those before it.
 #[tactic(auto, unfolding(crate::specs::Procs::proc_at))]
 pub(crate) fn read_proc(
     alloc: Global,
@@ -76,12 +72,12 @@ pub(crate) fn read_proc(
     ensures tables { IfOk result (λ p. p.tables ≡ catalogue.now) }
 {
     let Some(form) = proc_form(value) else {
-        return Err(fault(alloc, FaultKind::Shape, path));
+        return Err(fault_at(alloc, FaultKind::Shape, path));
     };
     let name_path = Path::Element(&*path, 0);
-    declare(alloc, &name_path, form.name)?;
+    check_name(alloc, &name_path, form.name)?;
     if has_proc(earlier, form.name) {
-        return Err(fault(alloc, FaultKind::DuplicateName, &name_path));
+        return Err(fault_at(alloc, FaultKind::DuplicateName, &name_path));
     }
     let parts = read_parts(alloc, catalogue, path, form)?;
     let name = String::from_str(alloc, form.name)?;

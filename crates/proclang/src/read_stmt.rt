@@ -4,22 +4,18 @@ ghost use Rattle.std.specs.Prelude.{◌≡◌, map};
 ghost use Rattle.serde_json.specs.View.{view};
 ghost use Rattle.documents.specs.Reading.{Reads};
 ghost use Rattle.proclang_types.specs.Views.{stmt_view};
-ghost use Rattle.proclang.specs.Paths.{places};
-ghost use Rattle.proclang.specs.Faults.{is_memory};
+ghost use Rattle.proclang_expressions.specs.Paths.{places};
+ghost use Rattle.proclang_expressions.specs.Faults.{is_memory};
 ghost use Rattle.proclang_forms.specs.StmtForms.{let_parts_of, get_parts_of, put_parts_of, insert_parts_of, delete_parts_of};
 ghost use Rattle.proclang.specs.Statements.{let_at, get_at, put_at, insert_at, delete_at, abort_at, reply_at};
 
-use crate::fault::{FaultKind, ProcFault, fault};
-use crate::limits::{as_many, at_most};
-use crate::path::Path;
-use crate::read_expr::read_statement_expr;
-use crate::read_names::{read_column, read_table};
-use crate::read_target::{bind, read_target};
-use crate::read_values::{into_values, read_exprs, value_kind};
-use crate::scope::Scope;
-use crate::typed::{as_int, as_value, paired};
 use crate::typed_stmt::{insert_statement, put_statement};
 use catalogue::Catalogue;
+use proclang_expressions::{
+    FaultKind, Path, ProcFault, Scope, as_int, as_many, as_value, at_most, bind, fault_at,
+    into_values, paired, read_column, read_exprs, read_statement_expr, read_table, read_target,
+    value_kind,
+};
 use proclang_forms::{DeleteForm, GetForm, InsertForm, LetForm, PutForm};
 use proclang_types::Stmt;
 use serde_json::Value;
@@ -174,7 +170,7 @@ pub(crate) fn read_abort(alloc: Global, path: &Path<'_>, code: i64) -> Result<St
     ensures { Reads is_memory stmt_view result (abort_at (places path.now) code) }
 {
     if code < 100 || code > 65535 {
-        return Err(fault(alloc, FaultKind::AbortCode, &Path::Element(&*path, 1)));
+        return Err(fault_at(alloc, FaultKind::AbortCode, &Path::Element(&*path, 1)));
     }
     Ok(Stmt::Abort(code as u16))
 }

@@ -3,16 +3,13 @@
 ghost use Rattle.std.specs.Prelude.{◌≡◌, ◌<◌, length, map};
 ghost use Rattle.documents.specs.Reading.{Reads};
 ghost use Rattle.proclang_types.specs.Views.{stmt_view, stmts_view, expr_view};
-ghost use Rattle.proclang.specs.Paths.{places};
-ghost use Rattle.proclang.specs.Faults.{is_memory};
-ghost use Rattle.proclang.specs.Statements.{kinds_in};
+ghost use Rattle.proclang_expressions.specs.Paths.{places};
+ghost use Rattle.proclang_expressions.specs.Faults.{is_memory};
+ghost use Rattle.proclang_expressions.specs.Values.{kinds_in};
 ghost use Rattle.proclang.specs.StatementTypes.{typed_if, typed_for, typed_each, typed_put, typed_insert};
 
-use crate::fault::ProcFault;
-use crate::path::Path;
-use crate::read_values::{into_row, of_type};
-use crate::typed::{as_bool, as_int, as_value, paired};
 use catalogue::Catalogue;
+use proclang_expressions::{Path, ProcFault, as_bool, as_int, as_value, into_row, of_type, paired};
 use proclang_types::{Expr, Stmt};
 use std::alloc::Global;
 use values::{ColType, TableNo};

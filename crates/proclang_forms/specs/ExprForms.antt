@@ -36,7 +36,7 @@ form_view (forms.Exists e) = exists_form e.table.now (view e.key.now)
 form_view (forms.Count c) = count_form c.table.now (view c.number.now)
 form_view (forms.Sum s) = sum_form s.table.now (view s.number.now) s.column.now
 
--- ---- what stands behind each head word
+-- ---- what comes after each head word
 
 -- a text
 unfoldable pub literal_form_of : List Data → Option Form
@@ -70,7 +70,7 @@ unfoldable pub operands_form : List ℕ → List Data → Option Form
 operands_form word (a ∷ b ∷ []) = option_map (λ (op : Operator). binary_form op a b) (operator_of word)
 operands_form word parts = None
 
--- what stands behind a head word
+-- what comes after a head word
 unfoldable pub call_form : List ℕ → List Data → Option Form
 call_form word parts =
     if bytes_eq word (codes "text") then literal_form_of parts else

@@ -21,14 +21,20 @@ pub record ProcDocument : Type 0 where
   pub body : Data
 
 abbrev pub proc_parts_of : ProcForm → ProcDocument
-proc_parts_of p = record { name = p.name.now; params = map view p.params.now; footprint = view p.footprint.now; body = view p.body.now }
+proc_parts_of p = record {
+  name = p.name.now;
+  params = map view p.params.now;
+  footprint = view p.footprint.now;
+  body = view p.body.now;
+}
 
 -- a name, parameters, a footprint, and a block
 unfoldable pub proc_form : Data → Option ProcDocument
 proc_form d =
     option_and_then (λ (p : Data × Data × Data × Data).
     option_and_then (λ (name : List ℕ).
-    option_map (λ (params : List Data). record { name = name; params = params; footprint = p.2; body = p.3 }) (elements p.1))
+    option_map (λ (params : List Data). record { name = name; params = params; footprint = p.2; body = p.3 })
+    (elements p.1))
     (as_str p.0))
     (option_and_then four (elements d))
 
@@ -47,7 +53,7 @@ unfoldable pub recon_form : List Data → Option FootprintDocument
 recon_form [] = Some recon_parts
 recon_form (d ∷ ds) = None
 
--- what stands behind a head word
+-- what comes after a head word
 unfoldable pub footprint_word : List ℕ → List Data → Option FootprintDocument
 footprint_word word parts =
     if bytes_eq word (codes "declared") then Some (declared_parts parts) else
@@ -104,24 +110,24 @@ part_form (right ∷ table ∷ part ∷ []) =
     (option_and_then right_of (as_str right))
 part_form parts = None
 
-unfoldable pub table_form : List Data → Option EntryDocument
-table_form (right ∷ table ∷ []) =
+unfoldable pub whole_table_form : List Data → Option EntryDocument
+whole_table_form (right ∷ table ∷ []) =
     option_and_then (λ (r : Right).
     option_map (λ (t : List ℕ). table_parts r t) (as_str table))
     (option_and_then right_of (as_str right))
-table_form parts = None
+whole_table_form parts = None
 
 unfoldable pub db_form : List Data → Option EntryDocument
 db_form (right ∷ []) = option_map db_parts (option_and_then right_of (as_str right))
 db_form parts = None
 
--- what stands behind a head word
+-- what comes after a head word
 unfoldable pub entry_word : List ℕ → List Data → Option EntryDocument
 entry_word word parts =
     if bytes_eq word (codes "row") then row_form parts else
     (if bytes_eq word (codes "rows") then rows_form parts else
     (if bytes_eq word (codes "part") then part_form parts else
-    (if bytes_eq word (codes "table") then table_form parts else
+    (if bytes_eq word (codes "table") then whole_table_form parts else
     (if bytes_eq word (codes "db") then db_form parts else None))))
 
 abbrev pub entry_words : List Data → Option EntryDocument

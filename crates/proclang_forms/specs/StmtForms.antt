@@ -92,10 +92,12 @@ abbrev pub if_parts_of : IfForm → IfParts
 if_parts_of c = record { test = view c.test.now; first = view c.first.now; second = view c.second.now }
 
 abbrev pub for_parts_of : ForForm → ForParts
-for_parts_of f = record { variable = f.variable.now; low = view f.low.now; high = view f.high.now; body = view f.body.now }
+for_parts_of f =
+    record { variable = f.variable.now; low = view f.low.now; high = view f.high.now; body = view f.body.now }
 
 abbrev pub each_parts_of : EachForm → EachParts
-each_parts_of e = record { variable = e.variable.now; table = e.table.now; number = view e.number.now; body = view e.body.now }
+each_parts_of e =
+    record { variable = e.variable.now; table = e.table.now; number = view e.number.now; body = view e.body.now }
 
 abbrev pub stmt_form_view : StmtForm → StatementForm
 stmt_form_view (forms.Let l) = let_parts (let_parts_of l)
@@ -109,11 +111,12 @@ stmt_form_view (forms.Each e) = each_parts (each_parts_of e)
 stmt_form_view (forms.Abort z) = abort_code z
 stmt_form_view (forms.Reply vs) = reply_values (map view vs.now)
 
--- ---- what stands behind each head word
+-- ---- what comes after each head word
 
 -- x, E
 unfoldable pub let_form : List Data → Option StatementForm
-let_form (variable ∷ value ∷ []) = option_map (λ (x : List ℕ). let_parts (record { variable = x; value = value })) (as_str variable)
+let_form (variable ∷ value ∷ []) =
+    option_map (λ (x : List ℕ). let_parts (record { variable = x; value = value })) (as_str variable)
 let_form parts = None
 
 -- x, table, KEY, column
@@ -144,7 +147,8 @@ insert_form parts = None
 
 -- table, KEY
 unfoldable pub delete_form : List Data → Option StatementForm
-delete_form (table ∷ key ∷ []) = option_map (λ (t : List ℕ). delete_parts (record { table = t; key = key })) (as_str table)
+delete_form (table ∷ key ∷ []) =
+    option_map (λ (t : List ℕ). delete_parts (record { table = t; key = key })) (as_str table)
 delete_form parts = None
 
 -- COND, BLOCK, BLOCK
@@ -155,14 +159,16 @@ if_form parts = None
 -- x, LOW, HIGH, BLOCK
 unfoldable pub for_form : List Data → Option StatementForm
 for_form (variable ∷ low ∷ high ∷ body ∷ []) =
-    option_map (λ (x : List ℕ). for_parts (record { variable = x; low = low; high = high; body = body })) (as_str variable)
+    option_map (λ (x : List ℕ). for_parts (record { variable = x; low = low; high = high; body = body }))
+    (as_str variable)
 for_form parts = None
 
 -- x, table, PART, BLOCK
 unfoldable pub each_form : List Data → Option StatementForm
 each_form (variable ∷ table ∷ part ∷ body ∷ []) =
     option_and_then (λ (x : List ℕ).
-    option_map (λ (t : List ℕ). each_parts (record { variable = x; table = t; number = part; body = body })) (as_str table))
+    option_map (λ (t : List ℕ). each_parts (record { variable = x; table = t; number = part; body = body }))
+    (as_str table))
     (as_str variable)
 each_form parts = None
 
@@ -171,7 +177,7 @@ unfoldable pub abort_form : List Data → Option StatementForm
 abort_form (code ∷ []) = option_map abort_code (integer code)
 abort_form parts = None
 
--- what stands behind a head word
+-- what comes after a head word
 unfoldable pub word_form : List ℕ → List Data → Option StatementForm
 word_form word parts =
     if bytes_eq word (codes "let") then let_form parts else

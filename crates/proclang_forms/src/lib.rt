@@ -1,5 +1,5 @@
-//! The forms of the documents of procedures, one level at a time: which expression, statement, procedure or footprint entry a
-//! document is, before its parts are read and before a name in it is known.
+//! The forms of the documents of procedures, one level at a time: which expression, statement, procedure or footprint
+//! entry a document is, before its parts are read and before a name in it is known.
 #![tactic(auto)]
 
 mod expr_forms;

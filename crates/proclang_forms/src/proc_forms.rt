@@ -2,7 +2,7 @@
 
 ghost use Rattle.std.specs.Prelude.{◌≡◌, option_map, map};
 ghost use Rattle.serde_json.specs.View.{view};
-ghost use Rattle.proclang_forms.specs.ProcForms.{proc_parts_of, proc_form, footprint_form_view, recon_form, footprint_word, footprint_words, footprint_form, right_of, entry_form_view, row_form, rows_form, part_form, table_form, db_form, entry_word, entry_words, entry_form};
+ghost use Rattle.proclang_forms.specs.ProcForms.{proc_parts_of, proc_form, footprint_form_view, recon_form, footprint_word, footprint_words, footprint_form, right_of, entry_form_view, row_form, rows_form, part_form, whole_table_form, db_form, entry_word, entry_words, entry_form};
 
 use documents::{elements, four};
 use proclang_types::Right;
@@ -140,9 +140,9 @@ fn part_form(parts: &[Value]) -> Option<EntryForm<'_>>
     }
 }
 
-#[tactic(auto, unfolding(crate::specs::ProcForms::table_form))]
+#[tactic(auto, unfolding(crate::specs::ProcForms::whole_table_form))]
 fn table_form(parts: &[Value]) -> Option<EntryForm<'_>>
-    ensures { option_map entry_form_view result ≡ table_form (map view parts.now) }
+    ensures { option_map entry_form_view result ≡ whole_table_form (map view parts.now) }
 {
     match parts {
         [right, table] => {

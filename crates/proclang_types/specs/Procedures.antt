@@ -30,4 +30,5 @@ proc_parts tables parts = record {
 }
 
 abbrev pub proc_syntax : ProcParts → ProcSyntax
-proc_syntax p = record { name = p.name; params = p.params; footprint = footprint_view p.footprint; body = stmts_view p.body }
+proc_syntax p =
+    record { name = p.name; params = p.params; footprint = footprint_view p.footprint; body = stmts_view p.body }

@@ -50,9 +50,9 @@ mutual
     -- a row is no more: table, key
     delete_row : ℕ → IntSyntax → StmtSyntax
     choose : BoolSyntax → BlockSyntax → BlockSyntax → StmtSyntax
-    -- a block for each number from one to another, which is the variable behind those that are seen
+    -- a block for each number from one to another, which is the variable after those that are seen
     for_numbers : IntSyntax → IntSyntax → BlockSyntax → StmtSyntax
-    -- a block for each key of a partition, which is the variable behind those that are seen: table, partition, block
+    -- a block for each key of a partition, which is the variable after those that are seen: table, partition, block
     for_keys : ℕ → IntSyntax → BlockSyntax → StmtSyntax
     abort : ℕ → StmtSyntax
     reply : List ValueSyntax → StmtSyntax
@@ -100,6 +100,6 @@ is_recon (declared_by entries) = false
 is_recon found_by_recon = true
 
 -- the entries that declare the footprint, of which there are none where reconnaissance finds it
-abbrev pub entries_of : FootprintSyntax → List EntrySyntax
-entries_of (declared_by entries) = entries
-entries_of found_by_recon = []
+abbrev pub declared_entries : FootprintSyntax → List EntrySyntax
+declared_entries (declared_by entries) = entries
+declared_entries found_by_recon = []

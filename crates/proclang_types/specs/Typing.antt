@@ -1,5 +1,6 @@
 -- Claimed: what contracts promise to a reader rests on these words.
--- When syntax fits a scope and a catalogue: each variable, table and column is there, and has the type that is asked for.
+-- When syntax fits a scope and a catalogue: each variable, table and column is there, and has the type that is asked
+-- for.
 use Rattle.std.specs.Prelude.{◌≡◌, ◌⊎◌, ◌<◌, ◌≤◌, ℕ, List, [], ◌∷◌, ◌++◌, length, map, Option, Some, option_map, option_and_then, unwrap_or, slice_get, ⊤, ◌==◌, if◌then◌else◌}
 use Rattle.std.specs.List.{AllByRecursion}
 use Rattle.values.specs.declared.value.ColType.{ColType}
@@ -9,7 +10,8 @@ use Rattle.proclang_types.specs.Syntax.{IntSyntax, number, variable, binary, cou
 
 -- the type of a column of a table
 abbrev pub column_kind : List TableShape → ℕ → ℕ → Option ColType
-column_kind tables table column = option_and_then (λ t. option_map (λ c. c.kind) (slice_get t.columns column)) (slice_get tables table)
+column_kind tables table column =
+    option_and_then (λ t. option_map (λ c. c.kind) (slice_get t.columns column)) (slice_get tables table)
 
 -- the types of the columns of a table
 abbrev pub column_kinds : List TableShape → ℕ → Option (List ColType)
@@ -22,7 +24,8 @@ IntFits tables kinds (number z) = ⊤
 IntFits tables kinds (variable place) = slice_get kinds place ≡ Some types.Int
 IntFits tables kinds (binary op a b) = IntFits tables kinds a × IntFits tables kinds b
 IntFits tables kinds (count_rows table part) = (table < length tables) × IntFits tables kinds part
-IntFits tables kinds (sum_column table part column) = IntFits tables kinds part × (column_kind tables table column ≡ Some types.Int)
+IntFits tables kinds (sum_column table part column) =
+    IntFits tables kinds part × (column_kind tables table column ≡ Some types.Int)
 
 abbrev pub TextFits : List ColType → TextSyntax → Type 0
 TextFits kinds (literal s) = ⊤
@@ -51,7 +54,7 @@ kind_of (text_value e) = types.Text
 
 -- ---- statements
 
--- a place that takes a value of that type: behind all variables that are seen, or at one of that type
+-- a place that takes a value of that type: after all variables that are seen, or at one of that type
 abbrev pub Takes : List ColType → ℕ → ColType → Type 0
 Takes kinds place kind = (place ≡ length kinds) ⊎ (slice_get kinds place ≡ Some kind)
 
@@ -62,14 +65,16 @@ declared kinds place kind = if place == length kinds then kinds ++ kind ∷ [] e
 -- the types of the variables that are seen after a statement
 abbrev pub scope_after : List TableShape → List ColType → StmtSyntax → List ColType
 scope_after tables kinds (assign place value) = declared kinds place (kind_of value)
-scope_after tables kinds (get place table key column) = declared kinds place (unwrap_or (column_kind tables table column) types.Int)
+scope_after tables kinds (get place table key column) =
+    declared kinds place (unwrap_or (column_kind tables table column) types.Int)
 scope_after tables kinds s = kinds
 
 -- one value for each column of the table, of the column's type
 abbrev pub RowFits : List TableShape → List ColType → ℕ → List ValueSyntax → Type 0
-RowFits tables kinds table values = AllByRecursion (ValueFits tables kinds) values × (column_kinds tables table ≡ Some (map kind_of values))
+RowFits tables kinds table values =
+    AllByRecursion (ValueFits tables kinds) values × (column_kinds tables table ≡ Some (map kind_of values))
 
--- the types of the variables that are seen in the block of a loop, whose variable stands behind the others
+-- the types of the variables that are seen in the block of a loop, whose variable comes after the others
 abbrev pub in_loop : List ColType → List ColType
 in_loop kinds = kinds ++ types.Int ∷ []
 
@@ -77,24 +82,29 @@ abbrev mutual
   pub StmtFits : List TableShape → List ColType → StmtSyntax → Type 0
   StmtFits tables kinds (assign place value) = ValueFits tables kinds value × Takes kinds place (kind_of value)
   StmtFits tables kinds (get place table key column) =
-      IntFits tables kinds key × ((kind : ColType) × (column_kind tables table column ≡ Some kind) × Takes kinds place kind)
+      IntFits tables kinds key
+      × ((kind : ColType) × (column_kind tables table column ≡ Some kind) × Takes kinds place kind)
   StmtFits tables kinds (put table key column value) =
       IntFits tables kinds key × ValueFits tables kinds value × (column_kind tables table column ≡ Some (kind_of value))
   StmtFits tables kinds (insert_row table key values) = IntFits tables kinds key × RowFits tables kinds table values
   StmtFits tables kinds (delete_row table key) = (table < length tables) × IntFits tables kinds key
-  StmtFits tables kinds (choose test first second) = BoolFits tables kinds test × BlockFits tables kinds first × BlockFits tables kinds second
-  StmtFits tables kinds (for_numbers low high body) = IntFits tables kinds low × IntFits tables kinds high × BlockFits tables (in_loop kinds) body
-  StmtFits tables kinds (for_keys table part body) = (table < length tables) × IntFits tables kinds part × BlockFits tables (in_loop kinds) body
+  StmtFits tables kinds (choose test first second) =
+      BoolFits tables kinds test × BlockFits tables kinds first × BlockFits tables kinds second
+  StmtFits tables kinds (for_numbers low high body) =
+      IntFits tables kinds low × IntFits tables kinds high × BlockFits tables (in_loop kinds) body
+  StmtFits tables kinds (for_keys table part body) =
+      (table < length tables) × IntFits tables kinds part × BlockFits tables (in_loop kinds) body
   StmtFits tables kinds (abort code) = (100 ≤ code) × (code ≤ 65535)
   StmtFits tables kinds (reply values) = AllByRecursion (ValueFits tables kinds) values
 
   pub BlockFits : List TableShape → List ColType → BlockSyntax → Type 0
   BlockFits tables kinds no_statements = ⊤
-  BlockFits tables kinds (followed s rest) = StmtFits tables kinds s × BlockFits tables (scope_after tables kinds s) rest
+  BlockFits tables kinds (followed s rest) =
+      StmtFits tables kinds s × BlockFits tables (scope_after tables kinds s) rest
 
 -- ---- procedures
 
--- an expression that asks for no rows: its value hangs on the variables alone
+-- an expression that asks for no rows: its value depends on the variables alone
 abbrev pub AsksNoRows : IntSyntax → Type 0
 AsksNoRows (number z) = ⊤
 AsksNoRows (variable place) = ⊤
@@ -104,8 +114,10 @@ AsksNoRows (sum_column table part column) = ⊥
 
 abbrev pub EntryFits : List TableShape → List ColType → EntrySyntax → Type 0
 EntryFits tables kinds (row_entry right table key) = (table < length tables) × IntFits tables kinds key × AsksNoRows key
-EntryFits tables kinds (rows_entry right table low high) = (table < length tables) × IntFits tables kinds low × AsksNoRows low × IntFits tables kinds high × AsksNoRows high
-EntryFits tables kinds (part_entry right table part) = (table < length tables) × IntFits tables kinds part × AsksNoRows part
+EntryFits tables kinds (rows_entry right table low high) =
+    (table < length tables) × IntFits tables kinds low × AsksNoRows low × IntFits tables kinds high × AsksNoRows high
+EntryFits tables kinds (part_entry right table part) =
+    (table < length tables) × IntFits tables kinds part × AsksNoRows part
 EntryFits tables kinds (table_entry right table) = table < length tables
 EntryFits tables kinds (db_entry right) = ⊤
 

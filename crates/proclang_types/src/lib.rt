@@ -1,5 +1,5 @@
-//! The procedure language's typed syntax: an operand cannot have a wrong type, a variable is its place in the scope, and
-//! a table and a column are their places in the catalogue.
+//! The procedure language's typed syntax: an operand cannot have a wrong type, a variable is its place in the scope,
+//! and a table and a column are their places in the catalogue.
 #![tactic(auto)]
 
 mod expression;

@@ -28,9 +28,9 @@ struct Parts {
     body: Vec<Stmt>,
 }
 
-/// A procedure over the tables of a catalogue: its name, its parameters, how the footprint of its calls is known, and its body.
-/// Its footprint and its body are well typed and well scoped: each variable, table and column that they name is there and
-/// has the type that is asked for. It is a handle, and its clones share all that it has.
+/// A procedure over the tables of a catalogue: its name, its parameters, how the footprint of its calls is known, and
+/// its body. Its footprint and its body are well typed and well scoped: each variable, table and column that they name
+/// is there and has the type that is asked for. It is a handle, and its clones share all that it has.
 #[derive(Drop)]
 pub struct Proc {
     catalogue: Catalogue,
@@ -107,7 +107,8 @@ impl Proc {
         Ok(Proc { catalogue, parts })
     }
 
-    /// The procedure over another catalogue with the same tables and columns in the same order: what it says hangs on no split.
+    /// The procedure over another catalogue with the same tables and columns in the same order: what it says depends on
+    /// no split.
     pub fn over(self, catalogue: Catalogue) -> Proc
         requires { HaveSameSchema self.tables catalogue }
         ensures { result ≡ record self { tables = catalogue } }

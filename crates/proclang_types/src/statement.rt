@@ -43,15 +43,15 @@ pub enum Stmt {
         first: Vec<Stmt>,
         second: Vec<Stmt>,
     },
-    /// The block for each number from `low` to `high`, both included. The number is the block's first variable, behind
+    /// The block for each number from `low` to `high`, both included. The number is the block's first variable, after
     /// all that are seen.
     For {
         low: IntExpr,
         high: IntExpr,
         body: Vec<Stmt>,
     },
-    /// The block for each key that the partition holds when the statement begins, ascending. The key is the block's first
-    /// variable, behind all that are seen.
+    /// The block for each key that the partition holds when the statement begins, ascending. The key is the block's
+    /// first variable, after all that are seen.
     Each {
         table: TableNo,
         part: IntExpr,

@@ -9,8 +9,8 @@ use Rattle.crossbeam_utils.specs.Register.{Turns, Forks, Merges}
 use Rattle.atomic_table.proofs.Lists.{at_set}
 use Rattle.progress.specs.declared.tally.Tally.{Tally}
 use Rattle.progress.specs.declared.view.View.{View}
-use Rattle.progress.specs.Tallies.{opening, AddsUp, NoneBelow, latest, StartsWith}
-use Rattle.progress.specs.Rule.{view, first_view, watching, handed, taken, Fits, Kept, Gained, Read}
+use Rattle.progress.specs.Tallies.{zero_tally, AddsUp, NoneBelow, latest, StartsWith}
+use Rattle.progress.specs.Rule.{view, first_view, watching, handed, taken, FitsList, Kept, Gained, Read}
 
 -- lists of tallies
 
@@ -42,12 +42,12 @@ all_one P t h zero d lt = h
 all_one P t h (suc k) d lt = absurd (omega arith)
 
 -- what holds of four zeros and of each tally of a list holds of the last one of each beginning
-of_latest : (P : Tally → Type 0) (first rest : List Tally) → P opening → All P (first ++ rest) → P (latest first)
+of_latest : (P : Tally → Type 0) (first rest : List Tally) → P zero_tally → All P (first ++ rest) → P (latest first)
 of_latest P [] rest zeros h = zeros
 of_latest P (t ∷ []) rest zeros h = h 0 t (omega arith)
 of_latest P (t ∷ u ∷ ts) rest zeros h = of_latest P (u ∷ ts) rest zeros (λ k d lt. h (suc k) d (omega arith))
 
-of_start : (P : Tally → Type 0) (ts first : List Tally) → StartsWith ts first → P opening → All P ts → P (latest first)
+of_start : (P : Tally → Type 0) (ts first : List Tally) → StartsWith ts first → P zero_tally → All P ts → P (latest first)
 of_start P ts first s zeros h = of_latest P first s.0 zeros (subst (λ (l : List Tally). All P l) s.1 h)
 
 -- lists of views
@@ -79,18 +79,18 @@ push_each P views w here there j u e =
 
 -- the steps
 
-pub begins : Kept opening (first_view ∷ [])
+pub begins : Kept zero_tally (first_view ∷ [])
 begins = record {
   writer = 0;
-  list = opening ∷ [];
+  list = zero_tally ∷ [];
   last = refl;
-  add_up = all_one AddsUp opening refl;
-  rise = all_one (λ t. NoneBelow t opening) opening (none_below_self opening);
+  add_up = all_one AddsUp zero_tally refl;
+  rise = all_one (λ t. NoneBelow t zero_tally) zero_tally (none_below_self zero_tally);
   each = push_each
-      (Fits 0 (opening ∷ []))
+      (FitsList 0 (zero_tally ∷ []))
       []
       first_view
-      (record { alone = λ _. refl; whole = λ _. refl; seen = whole_starts (opening ∷ []); also = none_starts (opening ∷ []) })
+      (record { alone = λ _. refl; whole = λ _. refl; seen = whole_starts (zero_tally ∷ []); also = none_starts (zero_tally ∷ []) })
       (λ j u e. absurd (some-ne-none u (sym e)));
 }
 
@@ -115,7 +115,7 @@ gains by v tally writes adds_up rises x views h at =
             (all_mono (λ t. NoneBelow t x) (λ t. NoneBelow t tally) h.list (λ t b. none_below_trans t x tally b above) h.rise)
             (all_one (λ t. NoneBelow t tally) tally (none_below_self tally));
         each = set_each
-            (Fits h.writer list)
+            (FitsList h.writer list)
             views
             by
             w
@@ -142,7 +142,7 @@ reads by v x views h at =
         add_up = h.add_up;
         rise = h.rise;
         each = set_each
-            (Fits h.writer h.list)
+            (FitsList h.writer h.list)
             views
             by
             w
@@ -167,7 +167,7 @@ hands by v x views h at = go v.writes refl
     left : View
     left = watching v.seen
 
-    mine : Fits h.writer h.list by v
+    mine : FitsList h.writer h.list by v
     mine = h.each by v at
 
     to : (writer : ℕ) → (v.writes ≡ true → length (set views by left) ≡ writer) → ((j : ℕ) (u : View) → j ≢ by → get_elem? views j ≡ some u → u.writes ≡ true → j ≡ writer) → Kept x (set views by left ++ handed v ∷ [])
@@ -178,12 +178,12 @@ hands by v x views h at = go v.writes refl
       add_up = h.add_up;
       rise = h.rise;
       each = push_each
-          (Fits writer h.list)
+          (FitsList writer h.list)
           (set views by left)
           (handed v)
           (record { alone = new; whole = mine.whole; seen = mine.seen; also = none_starts h.list })
           (set_each
-          (Fits writer h.list)
+          (FitsList writer h.list)
           views
           by
           left
@@ -201,10 +201,10 @@ takes by v other u x views h at apart there = go u.writes refl
     both : View
     both = taken v u
 
-    mine : Fits h.writer h.list by v
+    mine : FitsList h.writer h.list by v
     mine = h.each by v at
 
-    theirs : Fits h.writer h.list other u
+    theirs : FitsList h.writer h.list other u
     theirs = ⊎_elim (λ (t : (other ≡ by) × (both ≡ u)). absurd (apart t.0)) (λ (t : (other ≢ by) × (get_elem? views other ≡ some u)). h.each other u t.1) (at_set views by other both u there)
 
     to : (writer : ℕ) → (u.writes ≡ true → by ≡ writer) → ((j : ℕ) (y : View) → j ≢ other → get_elem? views j ≡ some y → y.writes ≡ true → j ≡ writer) → Kept x (set (set views by both) other (watching []))
@@ -215,13 +215,13 @@ takes by v other u x views h at apart there = go u.writes refl
       add_up = h.add_up;
       rise = h.rise;
       each = set_each
-          (Fits writer h.list)
+          (FitsList writer h.list)
           (set views by both)
           other
           (watching [])
           (record { alone = λ k. absurd (off k); whole = λ k. absurd (off k); seen = none_starts h.list; also = none_starts h.list })
           (λ j y away e. set_each
-          (λ i z. i ≢ other → Fits writer h.list i z)
+          (λ i z. i ≢ other → FitsList writer h.list i z)
           views
           by
           both

@@ -1,3 +1,4 @@
 pub mod Tallies
 pub mod Rule
 pub mod Passes
+pub mod Accounts

@@ -17,8 +17,8 @@ abbrev pub seen : WatchPass → List Tally
 seen p = (cell_view p.pass).seen
 
 -- where a list is published: no two lists that stand at a time have one place
-abbrev pub place_of : Progress → TableId
-place_of progress = progress.cell.table.shared.table_id
+abbrev pub progress_place : Progress → TableId
+progress_place progress = progress.cell.table.shared.table_id
 
 -- where the list of a pass is published
 abbrev pub writer_place : WriterPass → TableId
@@ -28,10 +28,10 @@ abbrev pub watch_place : WatchPass → TableId
 watch_place p = p.pass.table_id
 
 abbrev pub IsWriterOf : Progress → WriterPass → Type 0
-IsWriterOf progress w = writer_place w ≡ place_of progress
+IsWriterOf progress w = writer_place w ≡ progress_place progress
 
 abbrev pub IsWatchOf : Progress → WatchPass → Type 0
-IsWatchOf progress p = watch_place p ≡ place_of progress
+IsWatchOf progress p = watch_place p ≡ progress_place progress
 
 abbrev pub IsSameWriter : WriterPass → WriterPass → Type 0
 IsSameWriter v w = writer_place w ≡ writer_place v

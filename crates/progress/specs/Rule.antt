@@ -1,12 +1,12 @@
 -- Claimed: what contracts promise to a reader rests on these words.
--- The rule of the published list: what holds of the cell's tally and of all passes' views between any two steps; and what the two
--- kinds of step tell, a swap by the writer's pass and a load by a watch pass.
+-- The rule of the published list: what holds of the cell's tally and of all passes' views between any two steps; and
+-- what the two kinds of step tell, a swap by the writer's pass and a load by a watch pass.
 use Rattle.std.specs.Prelude.{◌≡◌, ℕ, List, [], ◌∷◌, ◌++◌, Bool, true, false, All}
 use mathlib.Core.Option.{some}
 use lib.ListN.{get_elem?}
 use Rattle.progress.specs.declared.tally.Tally.{Tally}
 use Rattle.progress.specs.declared.view.View.{View}
-use Rattle.progress.specs.Tallies.{opening, AddsUp, NoneBelow, latest, StartsWith}
+use Rattle.progress.specs.Tallies.{zero_tally, AddsUp, NoneBelow, latest, StartsWith}
 
 -- ---- views
 
@@ -15,7 +15,7 @@ view writes seen also = record { writes = writes; seen = seen; also = also }
 
 -- the one view that there is at first
 abbrev pub first_view : View
-first_view = view true (opening ∷ []) []
+first_view = view true (zero_tally ∷ []) []
 
 -- a watcher's
 abbrev pub watching : List Tally → View
@@ -30,7 +30,7 @@ abbrev pub taken : View → View → View
 taken v w = view w.writes w.seen v.seen
 
 -- what the rule says of the pass of a number: the list begins with what it knows, and the one writer knows it whole
-pub record Fits (writer : ℕ) (list : List Tally) (by : ℕ) (v : View) : Type 0 where
+pub record FitsList (writer : ℕ) (list : List Tally) (by : ℕ) (v : View) : Type 0 where
   pub alone : v.writes ≡ true → by ≡ writer
   pub whole : v.writes ≡ true → v.seen ≡ list
   pub seen : StartsWith list v.seen
@@ -43,7 +43,7 @@ pub record Kept (tally : Tally) (views : List View) : Type 0 where
   pub last : latest list ≡ tally
   pub add_up : All AddsUp list
   pub rise : All (λ t. NoneBelow t tally) list
-  pub each : (by : ℕ) (v : View) → get_elem? views by ≡ some v → Fits writer list by v
+  pub each : (by : ℕ) (v : View) → get_elem? views by ≡ some v → FitsList writer list by v
 
 -- the list has one more tally
 abbrev pub Gained : View → Tally → Tally → View → Type 0

@@ -8,8 +8,8 @@ abbrev pub words_of : Tally → List ℕ
 words_of t = t.settled ∷ t.committed ∷ t.aborted ∷ t.stale ∷ []
 
 -- the first tally of every published list
-abbrev pub opening : Tally
-opening = record { settled = 0; committed = 0; aborted = 0; stale = 0 }
+abbrev pub zero_tally : Tally
+zero_tally = record { settled = 0; committed = 0; aborted = 0; stale = 0 }
 
 -- each transaction that is settled has committed, has aborted or is stale
 abbrev pub AddsUp : Tally → Type 0
@@ -21,7 +21,7 @@ NoneBelow s t = (s.settled ≤ t.settled) × (s.committed ≤ t.committed) × (s
 
 -- the last tally of a list
 abbrev pub latest : List Tally → Tally
-latest [] = opening
+latest [] = zero_tally
 latest (t ∷ []) = t
 latest (t ∷ u ∷ ts) = latest (u ∷ ts)
 

@@ -3,10 +3,14 @@
 
 mod passes;
 mod progress;
+mod publisher;
 mod rule;
 mod tally;
 mod view;
+mod watcher;
 
 pub use passes::{WatchPass, WriterPass};
 pub use progress::Progress;
+pub use publisher::Publisher;
 pub use tally::Tally;
+pub use watcher::Watcher;

@@ -1,7 +1,7 @@
 //! The published tally.
 
 ghost use Rattle.std.specs.Prelude.{◌≡◌, [], ◌∷◌, ◌++◌, IfOk, IsOk};
-ghost use Rattle.progress.specs.Tallies.{opening, AddsUp, NoneBelow, latest, StartsWith};
+ghost use Rattle.progress.specs.Tallies.{zero_tally, AddsUp, NoneBelow, latest, StartsWith};
 ghost use Rattle.progress.specs.Passes.{published, seen, IsWriterOf, IsWatchOf, IsSameWriter, IsSameWatch};
 
 use crate::passes::{WatchPass, WriterPass};
@@ -20,8 +20,8 @@ impl Progress {
     /// A published list of one tally, whose counts are 0, the writer's pass and a watcher's, which both know it.
     pub fn new(alloc: Global) -> Result<(Progress, WriterPass, WatchPass), AllocError>
         ensures own { IfOk result (λ r. IsWriterOf r.0 r.1 × IsWatchOf r.0 r.2) }
-        ensures writer { IfOk result (λ r. published r.1 ≡ opening ∷ []) }
-        ensures watch { IfOk result (λ r. seen r.2 ≡ opening ∷ []) }
+        ensures writer { IfOk result (λ r. published r.1 ≡ zero_tally ∷ []) }
+        ensures watch { IfOk result (λ r. seen r.2 ≡ zero_tally ∷ []) }
     {
         let nothing = Tally {
             settled: 0,
@@ -49,8 +49,8 @@ impl Progress {
         self.cell.swap_as::<Gains, R>(rt, &mut writer.pass, tally);
     }
 
-    /// One tally of the published list, whole: its parts add up, and it is at no place below anything that this pass has
-    /// seen or was told. It may wait.
+    /// One tally of the published list, whole: its parts add up, and it is at no place below anything that this pass
+    /// has seen or was told. It may wait.
     pub fn watch<R: Wait>(&self, rt: &R, watch: &mut WatchPass) -> Tally
         requires own { IsWatchOf self.now watch.old }
         ensures own { IsSameWatch watch.old watch.new }
@@ -73,14 +73,14 @@ impl Progress {
         WatchPass { pass }
     }
 
-    /// Tells a watch pass all that the writer's pass has published. What the watch pass had seen is a beginning of that. It
-    /// may wait.
+    /// Tells a watch pass all that the writer's pass has published. What the watch pass had seen is a beginning of
+    /// that. It may wait.
     pub fn tell<R: Wait>(&self, rt: &R, writer: &mut WriterPass, to: &mut WatchPass)
         requires own { IsWriterOf self.now writer.old × IsWatchOf self.now to.old }
         ensures own { IsSameWriter writer.old writer.new × IsSameWatch to.old to.new }
         ensures kept { published writer.new ≡ published writer.old }
         ensures told { seen to.new ≡ published writer.old }
-        ensures behind { StartsWith (published writer.old) (seen to.old) }
+        ensures onward { StartsWith (published writer.old) (seen to.old) }
     {
         let right = self.cell.split_pass::<HandOver>(&mut writer.pass);
         self.cell.join_pass::<HandOver>(&mut to.pass, right);

@@ -53,16 +53,16 @@ apart a b e = grind (arith, nat_tests)
 same_key : (a b : ℕ) → eq_by_cmp nat_cmp a b ≡ true → a ≡ b
 same_key a b e = grind (arith, nat_tests)
 
-found_behind : (e : ℕ × RowOf) (es all : Keyed) → AllByRecursion (λ y. nat_cmp e.0 y ≡ Less) (keys es) → AllByRecursion (λ x. find nat_cmp x.0 all ≡ Some x.1) es
+found_after : (e : ℕ × RowOf) (es all : Keyed) → AllByRecursion (λ y. nat_cmp e.0 y ≡ Less) (keys es) → AllByRecursion (λ x. find nat_cmp x.0 all ≡ Some x.1) es
     → AllByRecursion (λ x. find nat_cmp x.0 (e ∷ all) ≡ Some x.1) es
-found_behind e [] all h f = tt
-found_behind e (x ∷ es) all h f = (ap (λ b. cond b (Some e.1) (find nat_cmp x.0 all)) (apart e.0 x.0 h.0) ∙ f.0, found_behind e es all h.1 f.1)
+found_after e [] all h f = tt
+found_after e (x ∷ es) all h f = (ap (λ b. cond b (Some e.1) (find nat_cmp x.0 all)) (apart e.0 x.0 h.0) ∙ f.0, found_after e es all h.1 f.1)
 
 all_found : (es : Keyed) → IsStrictlySortedBy nat_cmp (keys es) → AllByRecursion (λ e. find nat_cmp e.0 es ≡ Some e.1) es
 all_found [] s = tt
 all_found (e ∷ es) s = (
   ap (λ (o : Ordering). cond (is_eq o) (Some e.1) (find nat_cmp e.0 es)) (tied_itself nat_cmp_total e.0),
-  found_behind e es es (head_sorted e es s) (all_found es (tail_sorted e es s)),
+  found_after e es es (head_sorted e es s) (all_found es (tail_sorted e es s)),
 )
 
 carried : (q : ℕ) (row : RowOf) (es all : Keyed) → AllByRecursion (λ e. find nat_cmp e.0 all ≡ Some e.1) es → find nat_cmp q es ≡ Some row → find nat_cmp q all ≡ Some row

@@ -16,8 +16,9 @@ IsFed feed all = (given : List ℕ) × Holds256 feed.hasher given × (given ++ f
 -- the lines of rows of a table
 abbrev pub table_lines : List TableShape → ℕ → List (ℕ × Bor RowOf) → List ℕ
 table_lines tables table [] = []
-table_lines tables table (row ∷ rows) = row_line tables (record { table = table; key = row.0 }) row.1.now ++ table_lines tables table rows
+table_lines tables table (row ∷ rows) =
+    row_line tables (record { table = table; key = row.0 }) row.1.now ++ table_lines tables table rows
 
--- what stands in a row line behind the table's name
+-- what stands in a row line after the table's name
 abbrev pub row_words : ℕ → RowOf → List ℕ
 row_words key row = ((codes " " ++ decimal key) ++ values_text row) ++ line_end

@@ -36,11 +36,13 @@ resource_text tables (Table table below) = table_name tables table ++ in_table_t
 
 -- NO MODE RESOURCE
 unfoldable pub request_line : List TableShape → ℕ → Resource × Mode → List ℕ
-request_line tables number request = decimal number ++ codes " " ++ mode_word request.1 ++ codes " " ++ resource_text tables request.0 ++ codes "\n"
+request_line tables number request =
+    decimal number ++ codes " " ++ mode_word request.1 ++ codes " " ++ resource_text tables request.0 ++ codes "\n"
 
 abbrev pub request_lines : List TableShape → ℕ → List (Resource × Mode) → List ℕ
 request_lines tables number [] = []
-request_lines tables number (request ∷ requests) = request_line tables number request ++ request_lines tables number requests
+request_lines tables number (request ∷ requests) =
+    request_line tables number request ++ request_lines tables number requests
 
 -- a line a request, or NO none for a plan without requests
 unfoldable pub plan_lines : List TableShape → ℕ → List (Resource × Mode) → List ℕ

@@ -30,25 +30,30 @@ all_transactions (batch ∷ batches) = batch ++ all_transactions batches
 abbrev pub next_batch : ℕ → ℕ
 next_batch batch = min (batch + 1) (2 ^ 64 - 1)
 
--- the text of a batch that runs on a database: its reply lines, and its batch line with the digests of the rows after it
--- and of those lines
+-- the text of a batch that runs on a database: its reply lines, and its batch line with the digests of the rows after
+-- it and of those lines
 unfoldable pub batch_text : List TableShape → ℕ → ℕ → Database → List Transaction → List ℕ
 batch_text tables batch number db transactions =
     reply_lines number transactions (serial_replies (entries_in transactions) db)
-    ++ batch_line batch (digest (row_text tables (serial_end (entries_in transactions) db))) (digest (reply_lines number transactions (serial_replies (entries_in transactions) db)))
+    ++ batch_line batch (digest (row_text tables (serial_end (entries_in transactions) db)))
+    (digest (reply_lines number transactions (serial_replies (entries_in transactions) db)))
 
 -- the texts of batches, each from the database that the one before it left
 abbrev pub batch_texts : List TableShape → ℕ → ℕ → Database → List (List Transaction) → List ℕ
 batch_texts tables batch number db [] = []
 batch_texts tables batch number db (transactions ∷ rest) =
-    batch_text tables batch number db transactions ++ batch_texts tables (next_batch batch) (number + length transactions) (serial_end (entries_in transactions) db) rest
+    batch_text tables batch number db transactions
+    ++ batch_texts tables (next_batch batch) (number + length transactions) (serial_end (entries_in transactions) db)
+    rest
 
 -- the end line over all transactions at once; nothing after a fault
 abbrev pub end_text : Bool → List TableShape → Database → List Transaction → List ℕ
 end_text true tables db transactions = []
 end_text false tables db transactions =
-    end_line (length transactions) (digest (row_text tables (serial_end (entries_in transactions) db))) (digest (reply_lines 0 transactions (serial_replies (entries_in transactions) db)))
+    end_line (length transactions) (digest (row_text tables (serial_end (entries_in transactions) db)))
+    (digest (reply_lines 0 transactions (serial_replies (entries_in transactions) db)))
 
 -- the report of batches on starting rows, where the input ended with a fault or without one
 unfoldable pub report : List TableShape → Database → List (List Transaction) → Bool → List ℕ
-report tables db batches faulty = batch_texts tables 1 0 db batches ++ end_text faulty tables db (all_transactions batches)
+report tables db batches faulty =
+    batch_texts tables 1 0 db batches ++ end_text faulty tables db (all_transactions batches)

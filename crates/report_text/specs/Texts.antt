@@ -21,7 +21,7 @@ unfoldable pub value_text : Value → List ℕ
 value_text (Int z) = signed_decimal z
 value_text (Text s) = codes "x" ++ encode_lower s
 
--- each value behind a space
+-- each value after a space
 abbrev pub values_text : List Value → List ℕ
 values_text [] = []
 values_text (v ∷ vs) = (codes " " ++ value_text v) ++ values_text vs
@@ -45,13 +45,13 @@ rows_in_order tables db = filter (λ e. nat_lt e.0.table (length tables)) (entri
 abbrev pub row_text : List TableShape → Database → List ℕ
 row_text tables db = row_lines tables (rows_in_order tables db)
 
--- what stands behind a transaction's number: `commit V1 .. Vn`, `abort CODE` or `stale`
+-- what stands after a transaction's number: `commit V1 .. Vn`, `abort CODE` or `stale`
 unfoldable pub reply_words : Reply → List ℕ
 reply_words (commit values) = codes " commit" ++ values_text values
 reply_words (aborted code) = codes " abort " ++ decimal (number_of code)
 reply_words stale = codes " stale"
 
--- behind a later attempt's number: the number of the request's first attempt
+-- after a later attempt's number: the number of the request's first attempt
 abbrev pub of_words : Option ℕ → List ℕ
 of_words None = []
 of_words (Some first) = codes " of " ++ decimal first
@@ -66,8 +66,10 @@ digest text = encode_lower (sha256 text)
 
 -- batch B rows R replies Q
 unfoldable pub batch_line : ℕ → List ℕ → List ℕ → List ℕ
-batch_line batch rows replies = codes "batch " ++ decimal batch ++ codes " rows " ++ rows ++ codes " replies " ++ replies ++ line_end
+batch_line batch rows replies =
+    codes "batch " ++ decimal batch ++ codes " rows " ++ rows ++ codes " replies " ++ replies ++ line_end
 
 -- end N rows R replies A
 unfoldable pub end_line : ℕ → List ℕ → List ℕ → List ℕ
-end_line count rows replies = codes "end " ++ decimal count ++ codes " rows " ++ rows ++ codes " replies " ++ replies ++ line_end
+end_line count rows replies =
+    codes "end " ++ decimal count ++ codes " rows " ++ rows ++ codes " replies " ++ replies ++ line_end

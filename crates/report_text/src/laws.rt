@@ -27,8 +27,8 @@ pub fn row_text_hangs_on_no_split()
     ensures { (ts us : List TableShape) (db : Database) → HaveSameSchema ts us → row_text ts db ≡ row_text us db }
 {}
 
-/// From rows of the columns' types, calls of procedures that fit the tables leave rows of the columns' types, each with its
-/// line in the row text.
+/// From rows of the columns' types, calls of procedures that fit the tables leave rows of the columns' types, each with
+/// its line in the row text.
 pub fn every_row_left_by_calls_has_its_line()
     ensures types { (tables : List TableShape) (calls : List EntryShape) (db : Database) → AreCallsOver tables calls →
         HasTypes tables db → HasTypes tables (serial_end calls db) }

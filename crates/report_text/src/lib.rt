@@ -1,5 +1,5 @@
-//! The texts of a report: values, row lines, reply lines, batch and end lines, and their digests; the digest of all rows, from
-//! a view; and the lines of a plan.
+//! The texts of a report: values, row lines, reply lines, batch and end lines, and their digests; the digest of all
+//! rows, from a view; and the lines of a plan.
 #![tactic(auto)]
 
 mod digest;

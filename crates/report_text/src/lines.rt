@@ -8,7 +8,7 @@ use crate::values_text::push_values;
 use meaning::Outcome;
 use std::alloc::{AllocError, Global};
 
-/// Appends what stands behind a transaction's number.
+/// Appends what stands after a transaction's number.
 #[tactic(auto, unfolding(crate::specs::Texts::reply_words))]
 fn push_reply_words(alloc: Global, text: &mut String, outcome: &Outcome) -> Result<(), AllocError>
     ensures { OnOk result (string_bytes text.new ≡ string_bytes text.old ++ reply_words (as_reply outcome.now)) }
@@ -26,7 +26,8 @@ fn push_reply_words(alloc: Global, text: &mut String, outcome: &Outcome) -> Resu
     }
 }
 
-/// Appends what stands behind a later attempt's number: the number of the request's first attempt. Nothing for a first attempt.
+/// Appends what stands after a later attempt's number: the number of the request's first attempt. Nothing for a first
+/// attempt.
 fn push_of_words(text: &mut String, of: Option<u64>) -> Result<(), AllocError>
     ensures { OnOk result (string_bytes text.new ≡ string_bytes text.old ++ of_words of) }
 {
@@ -36,8 +37,8 @@ fn push_of_words(text: &mut String, of: Option<u64>) -> Result<(), AllocError>
     }
 }
 
-/// Appends a reply line: the transaction's number, for a later attempt of a request the number of its first attempt, the
-/// outcome, and a newline.
+/// Appends a reply line: the transaction's number, for a later attempt of a request the number of its first attempt,
+/// the outcome, and a newline.
 #[tactic(auto, unfolding(crate::specs::Texts::reply_line))]
 pub fn push_reply_line(
     alloc: Global,

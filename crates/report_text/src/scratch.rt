@@ -18,7 +18,7 @@ pub(crate) struct Scratch {
     line: String,
 }
 
-/// Appends a table's name and the words behind it.
+/// Appends a table's name and the words after it.
 fn push_words(text: &mut Vec<u8>, name: &str, words: &[u8]) -> Result<(), AllocError>
     ensures { OnOk result (text.new.items ≡ text.old.items ++ (name.now ++ words.now)) }
 {

@@ -21,7 +21,7 @@ pub fn push_value(alloc: Global, text: &mut String, value: &Value) -> Result<(),
     }
 }
 
-/// Appends values, each behind a space.
+/// Appends values, each after a space.
 pub(crate) fn push_values(
     alloc: Global,
     text: &mut String,

@@ -3,7 +3,7 @@ use Rattle.std.proofs.Common.{◌≡◌, ◌≢◌, ℕ, ◌<◌, inl, inr, true
 use Rattle.std.specs.List.{list_any}
 use Rattle.request_arena.specs.declared.node.Held.{Held}
 use Rattle.request_arena.specs.declared.node.Request.{Request}
-use Rattle.request_arena.specs.Chains.{link, step, held_at, holds, behind_or, place_or, chain, chain_from}
+use Rattle.request_arena.specs.Chains.{link, step, held_at, holds, successor_or, place_or, chain, chain_from}
 use Rattle.request_arena.specs.Linked.{IsChained}
 use Rattle.request_arena.specs.Walks.{Walk}
 use Rattle.request_arena.proofs.Walks.{same_or_not, true_false}
@@ -17,7 +17,7 @@ Goes hs a xs = Walk (step hs) (held_at hs) a xs (length hs)
 
 -- where as many nodes are there, what stands at a place settles where its chain leads
 same_step : (hs now : List (Option Held)) → length now ≡ length hs → (a : ℕ) → slice_get now a ≡ slice_get hs a → step now a ≡ step hs a
-same_step hs now long a same = ap (λ n. behind_or n (slice_get now a)) long ∙ ap (behind_or (length hs)) same
+same_step hs now long a same = ap (λ n. successor_or n (slice_get now a)) long ∙ ap (successor_or (length hs)) same
 
 as_long : (hs now : List (Option Held)) → length now ≡ length hs → (a : ℕ) (xs : List ℕ) → Walk (step now) (held_at now) a xs (length hs) → Goes now a xs
 as_long hs now long a xs w = subst (λ n. Walk (step now) (held_at now) a xs n) (sym long) w
@@ -57,11 +57,11 @@ module _ (hs : List (Option Held)) (was : IsChained hs) (x : ℕ) (on : held_at 
   begins_with [] w b to = absurd (true_false (held_at hs x) on w.1)
   begins_with (y ∷ ys) w b to = (λ i. sym w.0 i ∷ sym (rest_of ys b to w.2) i)
 
-  -- what is left of its chain begins with the node behind it
+  -- what is left of its chain begins with the node after it
   pub chain_rest : (b : Option ℕ) → step hs x ≡ place_or (length hs) b → chain hs x ≡ x ∷ chain_from left b
   chain_rest b to = let w = was x on in goes_is hs w.0 x w.1 ∙ begins_with w.0 w.1 b to
 
--- ---- what comes behind the first node of a chain is the chain of the next one
+-- ---- what comes after the first node of a chain is the chain of the next one
 
 module _ (hs : List (Option Held)) (was : IsChained hs) (x : ℕ) (on : held_at hs x ≡ true) where
   rest_goes : (ys : List ℕ) (b : Option ℕ) → step hs x ≡ place_or (length hs) b → Goes hs (step hs x) ys → chain_from hs b ≡ ys
@@ -76,11 +76,11 @@ module _ (hs : List (Option Held)) (was : IsChained hs) (x : ℕ) (on : held_at 
   pub chain_goes_on : (b : Option ℕ) → step hs x ≡ place_or (length hs) b → chain hs x ≡ x ∷ chain_from hs b
   chain_goes_on b to = let w = was x on in goes_is hs w.0 x w.1 ∙ goes_with w.0 w.1 b to
 
--- ---- a free node v is filled, and nothing comes behind it
+-- ---- a free node v is filled, and nothing comes after it
 
-module _ (hs now : List (Option Held)) (was : IsChained hs) (v : ℕ) (r : Request) (long : length now ≡ length hs) (there : slice_get now v ≡ Some (Some (record { request = r; behind = None }))) where
+module _ (hs now : List (Option Held)) (was : IsChained hs) (v : ℕ) (r : Request) (long : length now ≡ length hs) (there : slice_get now v ≡ Some (Some (record { request = r; successor = None }))) where
   last : step now v ≡ length now
-  last = ap (behind_or (length now)) there
+  last = ap (successor_or (length now)) there
 
   goes_alone : Goes now v (v ∷ [])
   goes_alone = (refl, ap holds there, (last, ap (held_at now) last ∙ past now))
@@ -98,11 +98,11 @@ module _ (hs now : List (Option Held)) (was : IsChained hs) (v : ℕ) (r : Reque
     pub chain_grown : (a : ℕ) → held_at hs a ≡ true → (xs : List ℕ) × Goes hs a xs × (chain hs a ≡ xs) × (chain now a ≡ grow xs)
     chain_grown a h = let w = was a h in (w.0, w.1, goes_is hs w.0 a w.1, goes_is now (grow w.0) a (goes w.0 a w.1))
 
--- behind the tail t, which ends its chain
+-- after the tail t, which ends its chain
 module _ (hs : List (Option Held)) (was : IsChained hs) (v : ℕ) (free : slice_get hs v ≡ Some None) (room : v < length hs) (r : Request)
-    (t : ℕ) (old : Request) (ends : slice_get hs t ≡ Some (Some (record { request = old; behind = None }))) where
+    (t : ℕ) (old : Request) (ends : slice_get hs t ≡ Some (Some (record { request = old; successor = None }))) where
   abbrev pub ps : List (Option Held)
-  ps = slice_set (link hs t v) v (Some (record { request = r; behind = None }))
+  ps = slice_set (link hs t v) v (Some (record { request = r; successor = None }))
 
   pub off : held_at hs v ≡ false
   off = ap holds free
@@ -116,10 +116,10 @@ module _ (hs : List (Option Held)) (was : IsChained hs) (v : ℕ) (free : slice_
   pub grown : length ps ≡ length hs
   grown = length_set (link hs t v) v _ ∙ length_link hs t v
 
-  pub there : slice_get ps v ≡ Some (Some (record { request = r; behind = None }))
+  pub there : slice_get ps v ≡ Some (Some (record { request = r; successor = None }))
   there = get_same (link hs t v) v _ (rw (length_link hs t v) room)
 
-  pub at_t : slice_get ps t ≡ Some (Some (record { request = old; behind = Some v }))
+  pub at_t : slice_get ps t ≡ Some (Some (record { request = old; successor = Some v }))
   at_t = get_other (link hs t v) v t _ t_apart ∙ link_same hs t v _ ends
 
   pub elsewhere : (a : ℕ) → a ≢ v → a ≢ t → slice_get ps a ≡ slice_get hs a
@@ -132,13 +132,13 @@ module _ (hs : List (Option Held)) (was : IsChained hs) (v : ℕ) (free : slice_
   ]
 
   t_last : step hs t ≡ length hs
-  t_last = ap (behind_or (length hs)) ends
+  t_last = ap (successor_or (length hs)) ends
 
   v_last : step ps v ≡ length hs
-  v_last = ap (behind_or (length ps)) there ∙ grown
+  v_last = ap (successor_or (length ps)) there ∙ grown
 
   t_leads : step ps t ≡ v
-  t_leads = ap (behind_or (length ps)) at_t
+  t_leads = ap (successor_or (length ps)) at_t
 
   others : (a : ℕ) → a ≢ v → a ≢ t → step ps a ≡ step hs a
   others a z y = same_step hs ps grown a (elsewhere a z y)
@@ -160,12 +160,12 @@ module _ (hs : List (Option Held)) (was : IsChained hs) (v : ℕ) (free : slice_
 -- with no tail
 module _ (hs : List (Option Held)) (was : IsChained hs) (v : ℕ) (free : slice_get hs v ≡ Some None) (room : v < length hs) (r : Request) where
   abbrev pub fs : List (Option Held)
-  fs = slice_set hs v (Some (record { request = r; behind = None }))
+  fs = slice_set hs v (Some (record { request = r; successor = None }))
 
   pub fs_long : length fs ≡ length hs
   fs_long = length_set hs v _
 
-  pub fs_there : slice_get fs v ≡ Some (Some (record { request = r; behind = None }))
+  pub fs_there : slice_get fs v ≡ Some (Some (record { request = r; successor = None }))
   fs_there = get_same hs v _ room
 
   pub fs_off : held_at hs v ≡ false

@@ -5,7 +5,7 @@ use Rattle.std.proofs.lemmas.Bool.Decides.{eqb_tells}
 use Rattle.request_arena.specs.Walks.{Walk}
 use Rattle.request_arena.proofs.Walks.{true_false}
 
--- y right behind t
+-- y right after t
 abbrev pub extend : ℕ → ℕ → List ℕ → List ℕ
 extend t y [] = []
 extend t y (x ∷ xs) = cond (eqb x t) (x ∷ y ∷ xs) (x ∷ extend t y xs)
@@ -42,7 +42,7 @@ module _ (next next2 : ℕ → ℕ) (live live2 : ℕ → Bool) (t n e : ℕ) (o
         subst (λ l. Walk next2 live2 a l e) (sym (ap (λ b. cond b (y ∷ n ∷ ys) (y ∷ extend t n ys)) h.0)) (w.0, kept a (not_n a w.1) ∙ w.1, go)
   ]
 
-  -- right behind the last node of a chain is at its end
+  -- right after the last node of a chain is at its end
   pub extended_is : (xs : List ℕ) (a : ℕ) → Walk next live a xs e → extend t n xs ≡ cond (list_any (eqb t) xs) (xs ++ n ∷ []) xs
   extended_is [] a w = refl
   extended_is (y ∷ ys) a w = elim (eqb_tells y t) [

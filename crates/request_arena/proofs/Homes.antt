@@ -3,8 +3,8 @@ use Rattle.std.proofs.Common.{◌≡◌, ◌≢◌, ℕ, zero, suc, ◌⊎◌, i
 use Rattle.request_arena.specs.declared.node.Node.{Node}
 use Rattle.request_arena.specs.declared.node.Held.{Held}
 use Rattle.request_arena.specs.Following.{without}
-use Rattle.request_arena.specs.Nodes.{home, home_of, with_next, with_prev, with_home, with_held, with_behind, with_tail}
-use Rattle.request_arena.specs.Chains.{behind_it}
+use Rattle.request_arena.specs.Nodes.{home, home_of, with_next, with_prev, with_home, with_held, with_successor_at, with_tail}
+use Rattle.request_arena.specs.Chains.{with_successor}
 use Rattle.request_arena.specs.Linked.{spread, queue_of, AreHome}
 use Rattle.request_arena.proofs.Changed.{none_some, some_same, item_at, changed_here, changed_else, changed_unseen}
 use Rattle.request_arena.proofs.Walks.{left_out}
@@ -26,12 +26,12 @@ module _ (ns : List Node) (i : ℕ) where
     pub home_of_held : (v : Option Held) → home (with_held ns i v) a ≡ home ns a
     home_of_held v = changed_unseen home_of (λ n. record n { held = v }) (λ n. refl) ns i a
 
-    home_of_behind : (id : ℕ) → home (with_behind ns i id) a ≡ home ns a
-    home_of_behind id = changed_unseen home_of (λ n. record n { held = behind_it n.held id }) (λ n. refl) ns i a
+    home_of_successor : (id : ℕ) → home (with_successor_at ns i id) a ≡ home ns a
+    home_of_successor id = changed_unseen home_of (λ n. record n { held = with_successor n.held id }) (λ n. refl) ns i a
 
 pub home_of_tail : (ns : List Node) (tail : Option ℕ) (id a : ℕ) → home (with_tail ns tail id) a ≡ home ns a
 home_of_tail ns None id a = refl
-home_of_tail ns (Some t) id a = home_of_behind ns t a id
+home_of_tail ns (Some t) id a = home_of_successor ns t a id
 
 in_longer : (xs : List ℕ) (v j a : ℕ) → slice_get (xs ++ v ∷ []) j ≡ Some a → (a ≡ v) ⊎ (slice_get xs j ≡ Some a)
 in_longer [] v zero a e = inl (sym (some_same v a e))

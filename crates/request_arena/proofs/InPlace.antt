@@ -4,7 +4,7 @@ use Rattle.request_arena.specs.declared.node.Node.{Node}
 use Rattle.request_arena.specs.declared.node.Held.{Held}
 use Rattle.request_arena.specs.declared.node.Request.{Request}
 use Rattle.request_arena.specs.declared.packed.Packed.{Packed}
-use Rattle.request_arena.specs.Chains.{behind_it}
+use Rattle.request_arena.specs.Chains.{with_successor}
 use Rattle.request_arena.specs.Following.{changed}
 use Rattle.request_arena.specs.Packed.{unpacked}
 use Rattle.request_arena.specs.Places.{index_of, at_place, laid, IsRoomy}
@@ -29,11 +29,11 @@ module _ (nodes queues : ℕ) (was : List Packed) (shown : List Node) (show : la
       ∙ laid_changed nodes queues ws place p v f (place_low nodes queues was place low) (omega (arith, far, is)) (ap (slice_get ws) (sym is) ∙ read) as_f
       ∙ ap (λ l. changed l place f) (tabulated_same (at_place nodes ws) (at_place nodes was) same 0 (nodes + queues) ∙ show)
 
-held_with : (live : Bool) (r : Request) (o : Option ℕ) (id : ℕ) → (if live then Some (record { request = r; behind = Some id }) else None) ≡ behind_it (if live then Some (record { request = r; behind = o }) else None) id
+held_with : (live : Bool) (r : Request) (o : Option ℕ) (id : ℕ) → (if live then Some (record { request = r; successor = Some id }) else None) ≡ with_successor (if live then Some (record { request = r; successor = o }) else None) id
 held_with true r o id = refl
 held_with false r o id = refl
 
--- a node that another is behind
-pub unpacked_behind : (p : Packed) (id : ℕ) → unpacked (record p { behind = id; leads = true }) ≡ record (unpacked p) { held = behind_it (unpacked p).held id }
-unpacked_behind p id =
-    ap (λ (h : Option Held). record (unpacked p) { held = h }) (held_with p.live (record { no = p.no; mode = p.mode }) (if p.leads then Some p.behind else None) id)
+-- a node that another is after
+pub unpacked_successor : (p : Packed) (id : ℕ) → unpacked (record p { successor = id; leads = true }) ≡ record (unpacked p) { held = with_successor (unpacked p).held id }
+unpacked_successor p id =
+    ap (λ (h : Option Held). record (unpacked p) { held = h }) (held_with p.live (record { no = p.no; mode = p.mode }) (if p.leads then Some p.successor else None) id)

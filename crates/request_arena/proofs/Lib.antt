@@ -4,7 +4,6 @@ pub mod Chains
 pub mod Changed
 pub mod Deeds
 pub mod Extending
-pub mod Firsts
 pub mod Holding
 pub mod Homes
 pub mod InPlace

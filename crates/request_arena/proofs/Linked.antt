@@ -6,11 +6,11 @@ use Rattle.request_arena.specs.Chains.{linked}
 use Rattle.request_arena.specs.Following.{follow}
 use Rattle.request_arena.specs.Linked.{spread, held_in, queue_of, IsLinked}
 use Rattle.request_arena.specs.Lists.{free_nodes}
-use Rattle.request_arena.specs.Nodes.{next, prev, live, next_of, prev_of, is_live, with_home, with_behind, with_tail}
+use Rattle.request_arena.specs.Nodes.{next, prev, live, next_of, prev_of, is_live, with_home, with_successor_at, with_tail}
 use Rattle.request_arena.specs.Walks.{Walk, Used, IsRing}
 use Rattle.request_arena.proofs.Walks.{followed_walk}
 use Rattle.request_arena.proofs.Changed.{changed_length, changed_unseen}
-use Rattle.request_arena.proofs.Nodes.{long_behind, next_of_behind, prev_of_behind, live_of_behind, held_of_behind, held_of_home, node_there, few_free_nodes, as_many_free}
+use Rattle.request_arena.proofs.Nodes.{long_successor, next_of_successor, prev_of_successor, live_of_successor, held_of_successor, held_of_home, node_there, few_free_nodes, as_many_free}
 use Rattle.request_arena.proofs.Spread.{spread_same}
 use Rattle.request_arena.proofs.Stacks.{stack_same}
 
@@ -34,29 +34,29 @@ module _ (ns : List Node) (c k v free : ℕ) (was : IsLinked ns c k v free) wher
   -- a link in a chain changes no queue
   module _ (t id : ℕ) where
     abbrev ms : List Node
-    ms = with_behind ns t id
+    ms = with_successor_at ns t id
 
     nexts : next ms ≡ next ns
-    nexts = λ i a. next_of_behind ns t a id i
+    nexts = λ i a. next_of_successor ns t a id i
 
     prevs : prev ms ≡ prev ns
-    prevs = λ i a. prev_of_behind ns t a id i
+    prevs = λ i a. prev_of_successor ns t a id i
 
     lives : live ms ≡ live ns
-    lives = λ i a. live_of_behind ns t a id i
+    lives = λ i a. live_of_successor ns t a id i
 
-    linked_behind : IsLinked ms c k v free
-    linked_behind = record {
-      long = long_behind ns t id ∙ was.long;
+    linked_successor : IsLinked ms c k v free
+    linked_successor = record {
+      long = long_successor ns t id ∙ was.long;
       fits = was.fits;
       ring = subst (λ (g : ℕ → ℕ). IsRing c (c + k) g (prev ms) (live ms)) (sym nexts) (subst (λ (g : ℕ → ℕ). IsRing c (c + k) (next ns) g (live ms)) (sym prevs)
           (subst (λ (g : ℕ → Bool). IsRing c (c + k) (next ns) (prev ns) g) (sym lives) was.ring));
-      stack = (was.stack.0, (stack_same ns ms c (λ a. next_of_behind ns t a id) (λ a. live_of_behind ns t a id) was.stack.0 v was.stack.1.0, was.stack.1.1));
-      count = ap free_nodes (held_of_behind c ns t id) ∙ as_many_free (held_in c ns) t id ∙ was.count;
+      stack = (was.stack.0, (stack_same ns ms c (λ a. next_of_successor ns t a id) (λ a. live_of_successor ns t a id) was.stack.0 v was.stack.1.0, was.stack.1.1));
+      count = ap free_nodes (held_of_successor c ns t id) ∙ as_many_free (held_in c ns) t id ∙ was.count;
     }
 
-    queues_behind : spread (queue_of ms c) c k ≡ spread (queue_of ns c) c k
-    queues_behind = spread_same (queue_of ns c) (queue_of ms c) c k (λ j low high. (λ i. follow (nexts i) (lives i) c (nexts i j)))
+    queues_successor : spread (queue_of ms c) c k ≡ spread (queue_of ns c) c k
+    queues_successor = spread_same (queue_of ns c) (queue_of ms c) c k (λ j low high. (λ i. follow (nexts i) (lives i) c (nexts i j)))
 
   -- nor does the note of a queue
   module _ (t id : ℕ) where
@@ -87,15 +87,15 @@ module _ (ns : List Node) (c k v free : ℕ) (was : IsLinked ns c k v free) wher
 
   pub linked_tail : (tail : Option ℕ) (id : ℕ) → IsLinked (with_tail ns tail id) c k v free
   linked_tail None id = was
-  linked_tail (Some t) id = linked_behind t id
+  linked_tail (Some t) id = linked_successor t id
 
   pub queues_tail : (tail : Option ℕ) (id : ℕ) → spread (queue_of (with_tail ns tail id) c) c k ≡ spread (queue_of ns c) c k
   queues_tail None id = refl
-  queues_tail (Some t) id = queues_behind t id
+  queues_tail (Some t) id = queues_successor t id
 
 pub held_tail : (c : ℕ) (ns : List Node) (tail : Option ℕ) (id : ℕ) → held_in c (with_tail ns tail id) ≡ linked tail id (held_in c ns)
 held_tail c ns None id = refl
-held_tail c ns (Some t) id = held_of_behind c ns t id
+held_tail c ns (Some t) id = held_of_successor c ns t id
 
 pub one_off : (free : ℕ) → free ≢ 0 → free ≡ suc (free - 1)
 one_off zero z = absurd (z refl)

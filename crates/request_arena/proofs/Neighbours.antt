@@ -1,4 +1,4 @@
--- The first place of a walk, and the place behind one of it.
+-- The first place of a walk, and the place after one of it.
 use Rattle.std.proofs.Common.{◌≡◌, ℕ, zero, suc, ◌<◌, ◌≤◌, Bool, true, List, [], ◌∷◌, Some, None, slice_get, refl, sym, ◌∙◌, ap, subst, arith}
 use Rattle.request_arena.specs.Walks.{Walk}
 use Rattle.request_arena.proofs.Changed.{none_some, some_same}

@@ -2,16 +2,16 @@
 use Rattle.std.proofs.Common.{◌+◌, ◌≡◌, ◌≢◌, ℕ, zero, suc, ◌<◌, ◌≤◌, false, List, [], ◌∷◌, length, Option, Some, None, is_some, IsSome, slice_get, slice_set, refl, sym, ◌∙◌, ap, arith}
 use Rattle.request_arena.specs.declared.node.Node.{Node}
 use Rattle.request_arena.specs.declared.node.Held.{Held}
-use Rattle.request_arena.specs.Chains.{behind_it, link}
+use Rattle.request_arena.specs.Chains.{with_successor, link}
 use Rattle.request_arena.specs.Following.{changed}
 use Rattle.request_arena.specs.Linked.{held_in}
 use Rattle.request_arena.specs.Lists.{free_nodes, live_nodes}
-use Rattle.request_arena.specs.Nodes.{next, prev, live, next_of, prev_of, is_live, with_next, with_prev, with_home, with_held, with_behind}
+use Rattle.request_arena.specs.Nodes.{next, prev, live, next_of, prev_of, is_live, with_next, with_prev, with_home, with_held, with_successor_at}
 use Rattle.request_arena.proofs.Changed.{none_some, some_same, item_at, changed_length, changed_here, changed_else, changed_unseen, written_over}
 
-behind_live : (o : Option Held) (id : ℕ) → is_some (behind_it o id) ≡ is_some o
-behind_live None id = refl
-behind_live (Some h) id = refl
+successor_live : (o : Option Held) (id : ℕ) → is_some (with_successor o id) ≡ is_some o
+successor_live None id = refl
+successor_live (Some h) id = refl
 
 -- a write to the i-th place, seen from the place a
 module _ (ns : List Node) (i : ℕ) where
@@ -24,8 +24,8 @@ module _ (ns : List Node) (i : ℕ) where
   pub long_held : (v : Option Held) → length (with_held ns i v) ≡ length ns
   long_held v = changed_length ns i (λ n. record n { held = v })
 
-  pub long_behind : (id : ℕ) → length (with_behind ns i id) ≡ length ns
-  long_behind id = changed_length ns i (λ n. record n { held = behind_it n.held id })
+  pub long_successor : (id : ℕ) → length (with_successor_at ns i id) ≡ length ns
+  long_successor id = changed_length ns i (λ n. record n { held = with_successor n.held id })
 
   pub next_put : (v : ℕ) → i < length ns → next (with_next ns i v) i ≡ v
   next_put v p = let it = item_at ns i p in ap next_of (changed_here ns i (λ n. record n { next = v }) it.0 it.1)
@@ -64,14 +64,14 @@ module _ (ns : List Node) (i : ℕ) where
     pub prev_of_held : (v : Option Held) → prev (with_held ns i v) a ≡ prev ns a
     prev_of_held v = changed_unseen prev_of (λ n. record n { held = v }) (λ n. refl) ns i a
 
-    pub next_of_behind : (id : ℕ) → next (with_behind ns i id) a ≡ next ns a
-    next_of_behind id = changed_unseen next_of (λ n. record n { held = behind_it n.held id }) (λ n. refl) ns i a
+    pub next_of_successor : (id : ℕ) → next (with_successor_at ns i id) a ≡ next ns a
+    next_of_successor id = changed_unseen next_of (λ n. record n { held = with_successor n.held id }) (λ n. refl) ns i a
 
-    pub prev_of_behind : (id : ℕ) → prev (with_behind ns i id) a ≡ prev ns a
-    prev_of_behind id = changed_unseen prev_of (λ n. record n { held = behind_it n.held id }) (λ n. refl) ns i a
+    pub prev_of_successor : (id : ℕ) → prev (with_successor_at ns i id) a ≡ prev ns a
+    prev_of_successor id = changed_unseen prev_of (λ n. record n { held = with_successor n.held id }) (λ n. refl) ns i a
 
-    pub live_of_behind : (id : ℕ) → live (with_behind ns i id) a ≡ live ns a
-    live_of_behind id = changed_unseen is_live (λ n. record n { held = behind_it n.held id }) (λ n. behind_live n.held id) ns i a
+    pub live_of_successor : (id : ℕ) → live (with_successor_at ns i id) a ≡ live ns a
+    live_of_successor id = changed_unseen is_live (λ n. record n { held = with_successor n.held id }) (λ n. successor_live n.held id) ns i a
 
 -- what the nodes hold is changed as the node is
 held_changed : (f : Node → Node) (g : Option Held → Option Held) → ((n : Node) → (f n).held ≡ g n.held) → (c : ℕ) (ns : List Node) (i : ℕ) → held_in c (changed ns i f) ≡ changed (held_in c ns) i g
@@ -98,8 +98,8 @@ module _ (c : ℕ) (ns : List Node) (i : ℕ) where
   pub held_set : (v : Option Held) → held_in c (with_held ns i v) ≡ slice_set (held_in c ns) i v
   held_set v = held_changed (λ n. record n { held = v }) (λ _. v) (λ n. refl) c ns i ∙ sym (written_over (held_in c ns) i v)
 
-  pub held_of_behind : (id : ℕ) → held_in c (with_behind ns i id) ≡ link (held_in c ns) i id
-  held_of_behind id = held_changed (λ n. record n { held = behind_it n.held id }) (λ h. behind_it h id) (λ n. refl) c ns i
+  pub held_of_successor : (id : ℕ) → held_in c (with_successor_at ns i id) ≡ link (held_in c ns) i id
+  held_of_successor id = held_changed (λ n. record n { held = with_successor n.held id }) (λ h. with_successor h id) (λ n. refl) c ns i
 
 pub node_there : (c : ℕ) (ns : List Node) (a : ℕ) (o : Option Held) → slice_get (held_in c ns) a ≡ Some o → (n : Node) × (slice_get ns a ≡ Some n) × (n.held ≡ o) × (a < c)
 node_there zero ns a o e = absurd (none_some o e)

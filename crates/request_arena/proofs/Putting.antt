@@ -72,11 +72,11 @@ module _ (ns : List Node) (c k v m : ℕ) (was : IsLinked ns c k v (suc m)) (q :
   abbrev both_ways : List Node
   both_ways = with_prev onward v l
 
-  abbrev behind_last : List Node
-  behind_last = with_next both_ways l v
+  abbrev after_last : List Node
+  after_last = with_next both_ways l v
 
   abbrev pub put : List Node
-  put = with_prev behind_last s v
+  put = with_prev after_last s v
 
   long1 : length filled ≡ length ns
   long1 = long_held ns v (Some h)
@@ -87,24 +87,24 @@ module _ (ns : List Node) (c k v m : ℕ) (was : IsLinked ns c k v (suc m)) (q :
   long3 : length both_ways ≡ length ns
   long3 = long_prev onward v l ∙ long2
 
-  long4 : length behind_last ≡ length ns
+  long4 : length after_last ≡ length ns
   long4 = long_next both_ways l v ∙ long3
 
   nexts : (a : ℕ) → a ≢ l → next put a ≡ next onward a
-  nexts a z = next_of_prev behind_last s a v ∙ next_beside both_ways l a v z ∙ next_of_prev onward v a l
+  nexts a z = next_of_prev after_last s a v ∙ next_beside both_ways l a v z ∙ next_of_prev onward v a l
 
   prevs : (a : ℕ) → a ≢ s → prev put a ≡ prev both_ways a
-  prevs a z = prev_beside behind_last s a v z ∙ prev_of_next both_ways l a v
+  prevs a z = prev_beside after_last s a v z ∙ prev_of_next both_ways l a v
 
   lives : (a : ℕ) → live put a ≡ live filled a
-  lives a = live_of_prev behind_last s a v ∙ live_of_next both_ways l a v ∙ live_of_prev onward v a l ∙ live_of_next filled v a s
+  lives a = live_of_prev after_last s a v ∙ live_of_next both_ways l a v ∙ live_of_prev onward v a l ∙ live_of_next filled v a s
 
   enters : Enters (next ns) (prev ns) (live ns) v l s (next put) (prev put) (live put)
   enters = record {
-    next_at = λ a e. next_of_prev behind_last s a v ∙ ap (next behind_last) e ∙ next_put both_ways l v (rw long3 last_in);
+    next_at = λ a e. next_of_prev after_last s a v ∙ ap (next after_last) e ∙ next_put both_ways l v (rw long3 last_in);
     next_new = nexts v (not_last v top.1.room top.1.off) ∙ next_put filled v s (rw long1 new_in);
     next_else = λ a z y. nexts a y ∙ next_beside filled v a s z ∙ next_of_held ns v a (Some h);
-    prev_at = λ a e. ap (prev put) e ∙ prev_put behind_last s v (rw long4 head_in);
+    prev_at = λ a e. ap (prev put) e ∙ prev_put after_last s v (rw long4 head_in);
     prev_new = prevs v (λ e. omega (arith, e, top.1.room, low)) ∙ prev_put onward v l (rw long2 new_in);
     prev_else = λ a z y. prevs a y ∙ prev_beside onward v a l z ∙ prev_of_next filled v a s ∙ prev_of_held ns v a (Some h);
     live_at = lives v ∙ live_put ns v (Some h) new_in;
@@ -115,14 +115,14 @@ module _ (ns : List Node) (c k v m : ℕ) (was : IsLinked ns c k v (suc m)) (q :
   ring = ring_pushed c (c + k) (next ns) (prev ns) (live ns) was.ring v s top.1.off top.1.room low high (next put) (prev put) (live put) enters
 
   pub held_put : held_in c put ≡ slice_set (held_in c ns) v (Some h)
-  held_put = held_of_prev c behind_last s v ∙ held_of_next c both_ways l v ∙ held_of_prev c onward v l ∙ held_of_next c filled v s ∙ held_set c ns v (Some h)
+  held_put = held_of_prev c after_last s v ∙ held_of_next c both_ways l v ∙ held_of_prev c onward v l ∙ held_of_next c filled v s ∙ held_set c ns v (Some h)
 
   pub was_free : slice_get (held_in c ns) v ≡ Some None
   was_free = free_there c ns v top.1.room new_in top.1.off
 
   pub linked_put : IsLinked put c k (next ns v) m
   linked_put = record {
-    long = long_prev behind_last s v ∙ long4 ∙ was.long;
+    long = long_prev after_last s v ∙ long4 ∙ was.long;
     fits = was.fits;
     ring = ring;
     stack = (top.0, (stack_kept ns put c v (λ a less dead z. (enters.next_else a z (not_last a less dead), enters.live_else a z ∙ dead)) top.0 (next ns v) top.1.apart top.1.stack, top.1.many));
@@ -142,7 +142,7 @@ module _ (ns : List Node) (c k v m : ℕ) (was : IsLinked ns c k v (suc m)) (q :
       ∙ ap (λ xs. xs ++ v ∷ []) (sym (spread_at (queue_of ns c) c k q in_range)))
 
   pub homes_put : (a : ℕ) → home put a ≡ home ns a
-  homes_put a = home_of_prev behind_last s a v ∙ home_of_next both_ways l a v ∙ home_of_prev onward v a l ∙ home_of_next filled v a s ∙ home_of_held ns v a (Some h)
+  homes_put a = home_of_prev after_last s a v ∙ home_of_next both_ways l a v ∙ home_of_prev onward v a l ∙ home_of_next filled v a s ∙ home_of_held ns v a (Some h)
 
   -- the writes, where `push_back` has read the last place
   pub put_by : (b1 b2 b3 : List Node) (a : ℕ) → a ≡ l → b1 ≡ slice_set ns v (record { next = s; prev = a; home = q; held = Some h }) → b2 ≡ with_next b1 a v → b3 ≡ with_prev b2 s v → b3 ≡ with_home put v q

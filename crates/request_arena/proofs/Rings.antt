@@ -120,7 +120,7 @@ module _ (c e : ℕ) (next prev : ℕ → ℕ) (live : ℕ → Bool) (was : IsRi
     not_gone a (inl h) = gone a h
     not_gone a (inr head) = λ z. omega (arith, was.low x on, z, head.0)
 
-    -- of the places that lead on, one that led to x leads to what was behind it, and any other where it led
+    -- of the places that lead on, one that led to x leads to what was after it, and any other where it led
     hop : (a : ℕ) → Used c e live a → next a ≡ x → next2 a ≡ next x
     hop a used to = step.next_at a (sym (was.onward a used).1 ∙ ap prev to)
 

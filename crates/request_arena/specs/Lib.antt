@@ -1,5 +1,4 @@
 pub mod Chains
-pub mod Firsts
 pub mod Following
 pub mod Linked
 pub mod Lists
@@ -8,6 +7,7 @@ pub mod Nodes
 pub mod Packed
 pub mod Places
 pub mod Pushes
+pub mod Removals
 pub mod Rows
 pub mod Small
 pub mod Walks

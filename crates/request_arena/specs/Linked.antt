@@ -1,13 +1,13 @@
 -- Of the code: invariants and steps; no promise rests on these words.
--- How the nodes of the block are linked, and the lists that they say. The nodes are the first c places of the block, and the
--- heads of the k queues lie behind them.
+-- How the nodes of the block are linked, and the lists that they say. The nodes are the first c places of the block,
+-- and the heads of the k queues lie after them.
 use Rattle.std.specs.Prelude.{◌≡◌, ℕ, zero, suc, ◌+◌, ◌<◌, ◌^◌, true, false, eqb, IfSome, List, [], ◌∷◌, length, Option, Some, slice_get, slice_index_or}
 use Rattle.std.specs.List.{list_any}
 use Rattle.request_arena.specs.declared.node.Node.{Node}
 use Rattle.request_arena.specs.declared.node.Held.{Held}
 use Rattle.request_arena.specs.Following.{follow}
 use Rattle.request_arena.specs.Walks.{Walk, IsRing}
-use Rattle.request_arena.specs.Chains.{step, held_at, behind_of}
+use Rattle.request_arena.specs.Chains.{step, held_at, successor_of}
 use Rattle.request_arena.specs.Nodes.{next, prev, home, live}
 use Rattle.request_arena.specs.Lists.{Lists, free_nodes}
 
@@ -32,7 +32,8 @@ lists_of ns c k = record { queues = spread (queue_of ns c) c k; held = held_in c
 -- the free nodes from v on
 abbrev pub Stack : List Node → ℕ → ℕ → List ℕ → Type 0
 Stack ns c v [] = Unit {0}
-Stack ns c v (x ∷ xs) = (v ≡ x) × (x < c) × (live ns x ≡ false) × (list_any (eqb x) xs ≡ false) × Stack ns c (next ns x) xs
+Stack ns c v (x ∷ xs) =
+    (v ≡ x) × (x < c) × (live ns x ≡ false) × (list_any (eqb x) xs ≡ false) × Stack ns c (next ns x) xs
 
 pub record IsLinked (ns : List Node) (c k vacant free : ℕ) : Type 0 where
   pub long : length ns ≡ c + k
@@ -49,15 +50,16 @@ AreHome ns c k = (q i a : ℕ) → slice_get (slice_index_or (spread (queue_of n
 abbrev pub IsChained : List (Option Held) → Type 0
 IsChained held = (a : ℕ) → held_at held a ≡ true → (xs : List ℕ) × Walk (step held) (held_at held) a xs (length held)
 
--- no two nodes have one node behind them
+-- no two nodes have one node after them
 abbrev pub IsApart : List (Option Held) → Type 0
-IsApart held = (a b : ℕ) → held_at held a ≡ true → held_at held b ≡ true → step held a ≡ step held b → held_at held (step held a) ≡ true → a ≡ b
+IsApart held = (a b : ℕ) → held_at held a ≡ true → held_at held b ≡ true → step held a ≡ step held b
+    → held_at held (step held a) ≡ true → a ≡ b
 
--- what is behind a node is live
-abbrev pub IsBehindLive : List (Option Held) → Type 0
-IsBehindLive held = (a : ℕ) → IfSome (behind_of (slice_get held a)) (λ b. held_at held b ≡ true)
+-- what is after a node is live
+abbrev pub AreSuccessorsLive : List (Option Held) → Type 0
+AreSuccessorsLive held = (a : ℕ) → IfSome (successor_of (slice_get held a)) (λ b. held_at held b ≡ true)
 
 pub record AreChains (held : List (Option Held)) : Type 0 where
   pub end : IsChained held
   pub apart : IsApart held
-  pub behind : IsBehindLive held
+  pub successor : AreSuccessorsLive held

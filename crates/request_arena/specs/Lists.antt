@@ -5,7 +5,8 @@ use Rattle.request_arena.specs.declared.node.Held.{Held}
 use Rattle.request_arena.specs.declared.node.Request.{Request}
 use Rattle.request_arena.specs.Chains.{held_at, step}
 
--- the nodes of each queue, front first, and what each node holds: nothing where it is free. A node is named by its place
+-- the nodes of each queue, front first, and what each node holds: nothing where it is free.
+-- A node is named by its place
 pub record Lists : Type 0 where
   pub queues : List (List ℕ)
   pub held : List (Option Held)
@@ -26,11 +27,12 @@ IsLive lists a = (h : Held) × (slice_get lists.held a ≡ Some (Some h))
 
 -- the node at a is live, with that request
 abbrev pub HoldsRequest : Lists → ℕ → Request → Type 0
-HoldsRequest lists a request = (b : Option ℕ) × (slice_get lists.held a ≡ Some (Some (record { request = request; behind = b })))
+HoldsRequest lists a request =
+    (b : Option ℕ) × (slice_get lists.held a ≡ Some (Some (record { request = request; successor = b })))
 
 -- the node at a is live, and the last of its chain
 abbrev pub EndsChain : Lists → ℕ → Type 0
-EndsChain lists a = (r : Request) × (slice_get lists.held a ≡ Some (Some (record { request = r; behind = None })))
+EndsChain lists a = (r : Request) × (slice_get lists.held a ≡ Some (Some (record { request = r; successor = None })))
 
 -- no node comes before a in its chain
 abbrev pub BeginsChain : Lists → ℕ → Type 0

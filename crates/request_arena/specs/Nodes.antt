@@ -3,7 +3,7 @@
 use Rattle.std.specs.Prelude.{ℕ, Bool, false, List, Option, Some, None, is_some, slice_get}
 use Rattle.request_arena.specs.declared.node.Node.{Node}
 use Rattle.request_arena.specs.declared.node.Held.{Held}
-use Rattle.request_arena.specs.Chains.{behind_it}
+use Rattle.request_arena.specs.Chains.{with_successor}
 use Rattle.request_arena.specs.Following.{changed}
 
 abbrev pub next_of : Option Node → ℕ
@@ -48,10 +48,10 @@ with_home ns i queue = changed ns i (λ n. record n { home = queue })
 abbrev pub with_held : List Node → ℕ → Option Held → List Node
 with_held ns i held = changed ns i (λ n. record n { held = held })
 
-abbrev pub with_behind : List Node → ℕ → ℕ → List Node
-with_behind ns i id = changed ns i (λ n. record n { held = behind_it n.held id })
+abbrev pub with_successor_at : List Node → ℕ → ℕ → List Node
+with_successor_at ns i id = changed ns i (λ n. record n { held = with_successor n.held id })
 
 -- the same where there may be no tail to write to
 abbrev pub with_tail : List Node → Option ℕ → ℕ → List Node
 with_tail ns None id = ns
-with_tail ns (Some tail) id = with_behind ns tail id
+with_tail ns (Some tail) id = with_successor_at ns tail id

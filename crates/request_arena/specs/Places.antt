@@ -5,14 +5,17 @@ use Rattle.request_arena.specs.declared.node.Node.{Node}
 use Rattle.request_arena.specs.declared.packed.Packed.{Packed}
 use Rattle.request_arena.specs.Packed.{unpacked}
 
--- what stands at a place that nothing was written to: a free node, which leads to the next place, or the head of an empty queue
+-- what stands at a place that nothing was written to: a free node, which leads to the next
+-- place, or the head of an empty queue
 abbrev pub fresh : ℕ → ℕ → Node
-fresh nodes place = record { next = if nat_lt place nodes then place + 1 else place; prev = place; home = 0; held = None }
+fresh nodes place =
+    record { next = if nat_lt place nodes then place + 1 else place; prev = place; home = 0; held = None }
 
--- Nodes lie in runs of 64, and behind each run the heads of as many queues: so what is used first lies first, and nodes that
--- are used one after another lie side by side.
+-- Nodes lie in runs of 64, and after each run the heads of as many queues: so what is used first lies first, and nodes
+-- that are used one after another lie side by side.
 abbrev pub index_of : ℕ → ℕ → ℕ
-index_of nodes place = if nat_lt place nodes then place / 64 * 128 + place % 64 else (place - nodes) / 64 * 128 + 64 + (place - nodes) % 64
+index_of nodes place =
+    if nat_lt place nodes then place / 64 * 128 + place % 64 else (place - nodes) / 64 * 128 + 64 + (place - nodes) % 64
 
 abbrev pub at_place : ℕ → List Packed → ℕ → Node
 at_place nodes written place = slice_index_or (map unpacked written) (index_of nodes place) (fresh nodes place)

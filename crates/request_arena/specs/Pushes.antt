@@ -16,8 +16,8 @@ pub record Pushed (was : Lists) (queue : ℕ) (tail : Option ℕ) (request : Req
   pub fresh : slice_get was.held id ≡ Some None
   -- it stands at the back of the queue
   pub queues : now.queues ≡ slice_set was.queues queue (slice_index_or was.queues queue [] ++ id ∷ [])
-  -- it holds the request, and comes behind the tail: no other node holds anything else than before
-  pub held : now.held ≡ slice_set (linked tail id was.held) id (Some (record { request = request; behind = None }))
+  -- it holds the request, and comes after the tail: no other node holds anything else than before
+  pub held : now.held ≡ slice_set (linked tail id was.held) id (Some (record { request = request; successor = None }))
   -- it is at the end of each chain that the tail is in, and every other chain is as it was
   pub chains : (a : ℕ) → held_at was.held a ≡ true → chain now.held a ≡ appended tail id (chain was.held a)
   pub alone : chain now.held id ≡ id ∷ []

@@ -11,4 +11,5 @@ pub record RowOf : Type 0 where
   pub room : ℕ
 
 abbrev pub row_code : Coded RowOf
-row_code = code_by (List Packed × ℕ) (coded× (coded_list packed.the_row.coded) coded_ℕ) (λ r. (r.items, r.room)) (λ p. record { items = p.0; room = p.1 }) (λ _. refl)
+row_code = code_by (List Packed × ℕ) (coded× (coded_list packed.the_row.coded) coded_ℕ) (λ r. (r.items, r.room))
+    (λ p. record { items = p.0; room = p.1 }) (λ _. refl)

@@ -6,7 +6,7 @@ use Rattle.request_arena.specs.declared.node.Held.{Held}
 
 abbrev pub IsSmallHeld : Option Held → Type 0
 IsSmallHeld None = ⊤
-IsSmallHeld (Some h) = IfSome h.behind (λ place. place < 2 ^ 32)
+IsSmallHeld (Some h) = IfSome h.successor (λ place. place < 2 ^ 32)
 
 pub record IsSmall (n : Node) : Type 0 where
   pub next : n.next < 2 ^ 32

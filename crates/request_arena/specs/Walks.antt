@@ -7,7 +7,8 @@ abbrev pub Walk : (ℕ → ℕ) → (ℕ → Bool) → ℕ → List ℕ → ℕ 
 Walk onward live a [] end = (a ≡ end) × (live a ≡ false)
 Walk onward live a (x ∷ xs) end = (a ≡ x) × (live a ≡ true) × Walk onward live (onward a) xs end
 
--- places below `nodes` are nodes, and those from there up to `all` are heads of queues. A head is linked, and a node where it is live
+-- places below `nodes` are nodes, and those from there up to `all` are heads of queues. A head is linked, and a node
+-- where it is live
 abbrev pub Used : ℕ → ℕ → (ℕ → Bool) → ℕ → Type 0
 Used nodes all live x = (live x ≡ true) ⊎ ((nodes ≤ x) × (x < all))
 

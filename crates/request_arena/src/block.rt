@@ -15,8 +15,8 @@ use values::NoMemory;
 /// The most places that there can be: links are numbers of 32 bits.
 const MOST_PLACES: usize = 1 << 30;
 
-/// One block of memory with a place for each node, and for the head of each queue. Contracts see what stands at each place.
-/// Nothing is written to a place before it is used, so a large block costs as much as is used of it.
+/// One block of memory with a place for each node, and for the head of each queue. Contracts see what stands at each
+/// place. Nothing is written to a place before it is used, so a large block costs as much as is used of it.
 #[derive(Drop)]
 pub(crate) struct Block {
     pub(crate) written: Row,

@@ -1,10 +1,8 @@
-//! Queues of requests as linked lists in one block of memory: a request is a node, linked in its queue and in the chain of
-//! its transaction.
+//! Queues of requests as linked lists in one block of memory: a request is a node, linked in its queue and in the chain
+//! of its transaction.
 #![tactic(auto)]
 
 mod block;
-#[cfg(test)]
-mod comparison;
 mod deed;
 mod links;
 mod memory;
@@ -13,8 +11,6 @@ mod packed;
 mod queues;
 mod room;
 mod row;
-#[cfg(test)]
-mod rows;
 
 pub use node::{Held, NodeId, Request};
 pub use queues::{Full, Queues};

@@ -1,7 +1,7 @@
 //! Writes to one node of a block: each to the fields that change.
 
 ghost use Rattle.std.specs.Prelude.{◌≡◌, ◌<◌, ◌^◌, length, None, IfSome};
-ghost use Rattle.request_arena.specs.Nodes.{with_next, with_prev, with_held, with_behind, with_tail};
+ghost use Rattle.request_arena.specs.Nodes.{with_next, with_prev, with_held, with_successor_at, with_tail};
 
 use crate::block::{Block, reach};
 use crate::node::NodeId;
@@ -50,27 +50,27 @@ impl Block {
     }
 
     #[inline(always)]
-    fn set_behind(&mut self, tail: usize, place: usize)
+    fn set_successor(&mut self, tail: usize, place: usize)
         requires there { tail < length self.old }
         requires small { place < 2 ^ 32 }
-        ensures nodes { self.new ≡ with_behind self.old tail place }
+        ensures nodes { self.new ≡ with_successor_at self.old tail place }
         ensures long { length self.new ≡ length self.old }
     {
         let index = reach(&mut self.written, self.nodes, tail);
         let node = self.written.get(index);
-        let behind = place as u32;
+        let successor = place as u32;
         let leads = true;
         self.written.set(
             index,
             Packed {
-                behind,
+                successor,
                 leads,
                 ..node
             },
         );
     }
 
-    /// Puts the node at a place behind the tail of its chain, if there is one.
+    /// Puts the node at a place after the tail of its chain, if there is one.
     #[inline(always)]
     pub(crate) fn link_tail(&mut self, tail: Option<NodeId>, place: usize)
         requires there { IfSome tail (λ t. t < length self.old) }
@@ -79,7 +79,7 @@ impl Block {
         ensures long { length self.new ≡ length self.old }
     {
         if let Some(tail) = tail {
-            self.set_behind(tail.place as usize, place);
+            self.set_successor(tail.place as usize, place);
         }
     }
 }

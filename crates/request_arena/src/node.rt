@@ -47,15 +47,16 @@ impl NodeId {
     }
 }
 
-/// What a live node holds: its request, and the node behind it in the chain of its transaction.
+/// What a live node holds: its request, and the node after it in the chain of its transaction.
 #[derive(Clone, Copy)]
 pub struct Held {
     pub request: Request,
-    pub behind: Option<NodeId>,
+    pub successor: Option<NodeId>,
 }
 
-/// A node, or the head of a queue, which holds nothing. Its links are places of the block that it lies in: from the back of
-/// a queue they go on to its head, and a free node's `next` is the next free one. A live node's `home` is its queue.
+/// A node, or the head of a queue, which holds nothing. Its links are places of the block that it lies in: from the
+/// back of a queue they go on to its head, and a free node's `next` is the next free one. A live node's `home` is its
+/// queue.
 #[derive(Clone, Copy)]
 pub(crate) struct Node {
     pub(crate) next: usize,

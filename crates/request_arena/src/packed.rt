@@ -1,20 +1,21 @@
 //! Nodes as they lie in memory.
 
 ghost use Rattle.std.specs.Prelude.{◌≡◌, ◌<◌, ◌^◌, IfSome, Some, None};
-ghost use Rattle.request_arena.specs.Packed.{unpacked, behind_it, held_there};
+ghost use Rattle.request_arena.specs.Packed.{unpacked, packed_successor, held_there};
 ghost use Rattle.request_arena.specs.Small.{IsSmall, IsSmallHeld};
 
 use crate::node::{Held, Node, NodeId, Request};
 use modes::Mode;
 
-/// A node, in few bytes: `no` and `mode` say nothing where it is not live, and `behind` nothing where no node is behind it.
+/// A node, in few bytes: `no` and `mode` say nothing where it is not live, and `successor`
+/// nothing where no node is after it.
 #[derive(Clone, Copy)]
 pub(crate) struct Packed {
     pub(crate) no: u64,
     pub(crate) next: u32,
     pub(crate) prev: u32,
     pub(crate) home: u32,
-    pub(crate) behind: u32,
+    pub(crate) successor: u32,
     pub(crate) mode: Mode,
     pub(crate) live: bool,
     pub(crate) leads: bool,
@@ -34,7 +35,7 @@ impl Packed {
             next: next as u32,
             prev: prev as u32,
             home: home as u32,
-            behind: 0,
+            successor: 0,
             mode: Mode::IntentionShared,
             live: false,
             leads: false,
@@ -47,7 +48,7 @@ impl Packed {
         requires { IsSmallHeld (Some held) }
         ensures { unpacked result ≡ record (unpacked self) { held = Some held } }
     {
-        let Held { request, behind } = held;
+        let Held { request, successor } = held;
         let Request { no, mode } = request;
         let last = Packed {
             no,
@@ -56,10 +57,10 @@ impl Packed {
             leads: false,
             ..self
         };
-        match behind {
+        match successor {
             None => last,
             Some(NodeId { place }) => Packed {
-                behind: place,
+                successor: place,
                 leads: true,
                 ..last
             },
@@ -80,12 +81,12 @@ impl Packed {
     }
 
     #[inline(always)]
-    fn behind(&self) -> Option<NodeId>
-        ensures is { result ≡ behind_it self.now }
+    fn successor(&self) -> Option<NodeId>
+        ensures is { result ≡ packed_successor self.now }
         ensures small { IfSome result (λ place. place < 2 ^ 32) }
     {
         if self.leads {
-            let place = self.behind as usize;
+            let place = self.successor as usize;
             Some(NodeId {
                 place: place as u32,
             })
@@ -104,8 +105,8 @@ impl Packed {
                 no: self.no,
                 mode: self.mode,
             };
-            let behind = self.behind();
-            Some(Held { request, behind })
+            let successor = self.successor();
+            Some(Held { request, successor })
         } else {
             None
         }

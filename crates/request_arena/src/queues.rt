@@ -1,10 +1,10 @@
 //! The queues.
 
-ghost use Rattle.std.specs.Prelude.{◌≡◌, ◌≢◌, ◌+◌, ◌<◌, ◌^◌, [], ◌∷◌, length, replicate, map, Some, None, slice_get, slice_set, slice_index_or, ℕ, true, IfOk, IfErr, IfSome};
-ghost use Rattle.request_arena.specs.Following.{without};
-ghost use Rattle.request_arena.specs.Chains.{chain, chain_from, held_at};
+ghost use Rattle.std.specs.Prelude.{◌≡◌, ◌+◌, ◌<◌, ◌^◌, [], ◌∷◌, length, replicate, Some, None, slice_get, slice_index_or, ℕ, IfOk, IfErr, IfSome};
+ghost use Rattle.request_arena.specs.Chains.{chain, chain_from};
 ghost use Rattle.request_arena.specs.Lists.{IsLive, EndsChain, BeginsChain, HoldsRequest, free_nodes};
 ghost use Rattle.request_arena.specs.Pushes.{Pushed};
+ghost use Rattle.request_arena.specs.Removals.{IsRemoved};
 
 use crate::block::Block;
 use crate::node::{Held, Node, NodeId, Request, content};
@@ -18,11 +18,11 @@ use values::NoMemory;
 #[error("no free node is left")]
 pub struct Full;
 
-/// Queues of requests, and the chains of transactions. Contracts see the nodes of each queue, and what each node holds, from
-/// which the chains follow. The nodes lie in one block of memory, which is given back when the queues are dropped.
+/// Queues of requests, and the chains of transactions. Contracts see the nodes of each queue, and what each node holds,
+/// from which the chains follow. The nodes lie in one block of memory, which is given back when the queues are dropped.
 #[derive(Drop)]
 pub struct Queues {
-    // The nodes, and behind them the heads of the queues.
+    // The nodes, and after them the heads of the queues.
     block: Block,
     nodes: usize,
     queues: usize,
@@ -59,8 +59,8 @@ impl Queues {
         })
     }
 
-    /// Adds a node at the back of the queue, and behind the tail in the chain of its transaction. Full exactly where no node
-    /// is free; then nothing has changed.
+    /// Adds a node at the back of the queue, and after the tail in the chain of its transaction. Full exactly where no
+    /// node is free; then nothing has changed.
     pub fn push_back(
         &mut self,
         queue: usize,
@@ -79,7 +79,7 @@ impl Queues {
         let head = self.nodes + queue;
         let held = Held {
             request,
-            behind: None,
+            successor: None,
         };
         self.block.link_tail(tail, place);
         let rest = self.block.get(place).next;
@@ -100,29 +100,23 @@ impl Queues {
         })
     }
 
-    /// Takes a node, which is the first of its chain, and it alone, out of its queue and its chain: its request, and the next
-    /// of its chain, which is its first then.
+    /// Takes a node, which is the first of its chain, and it alone, out of its queue and its chain: its request, and
+    /// the next of its chain, which is its first then.
     pub fn remove(&mut self, id: NodeId) -> (Request, Option<NodeId>)
         requires live { IsLive self.old id }
         requires first { BeginsChain self.old id }
         ensures held { slice_get self.old.held id
-            ≡ Some (Some (record { request = result.0; behind = result.1 })) }
-        ensures gone { self.new.held ≡ slice_set self.old.held id None }
-        ensures queues { self.new.queues ≡ map (without id) self.old.queues }
-        ensures rest { chain self.old.held id ≡ id ∷ chain_from self.new.held result.1 }
-        ensures chains { (a : ℕ) → a ≢ id → held_at self.old.held a ≡ true →
-            chain self.new.held a ≡ chain self.old.held a }
-        ensures begins { IfSome result.1 (λ b. IsLive self.new b × BeginsChain self.new b) }
-        ensures firsts { (a : ℕ) → BeginsChain self.old a → BeginsChain self.new a }
+            ≡ Some (Some (record { request = result.0; successor = result.1 })) }
+        ensures removed { IsRemoved self.old id result.1 self.new }
     {
         let node = self.block.get(id.place as usize);
-        let Held { request, behind } = content(node.held);
+        let Held { request, successor } = content(node.held);
         self.block.set_next(node.prev, node.next);
         self.block.set_prev(node.next, node.prev);
         self.block.set_free(id.place as usize, self.vacant);
         self.vacant = id.place as usize;
         self.free += 1;
-        (request, behind)
+        (request, successor)
     }
 
     /// The first node of the queue.
@@ -172,12 +166,12 @@ impl Queues {
 
     /// The next node of its chain.
     #[inline]
-    pub fn behind(&self, id: NodeId) -> Option<NodeId>
+    pub fn successor(&self, id: NodeId) -> Option<NodeId>
         requires { IsLive self.now id }
         ensures rest { chain self.now.held id ≡ id ∷ chain_from self.now.held result }
         ensures live { IfSome result (λ next. IsLive self.now next) }
     {
-        content(self.block.get(id.place as usize).held).behind
+        content(self.block.get(id.place as usize).held).successor
     }
 
     /// The request of a node.

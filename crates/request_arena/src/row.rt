@@ -14,8 +14,8 @@ use values::NoMemory;
 /// The most nodes that a block has room for.
 const MOST: usize = isize::MAX as usize / size_of::<Packed>();
 
-/// Nodes one behind another in one block of raw memory, which is given back with them. Contracts see the nodes, and how many there
-/// is room for.
+/// Nodes one after another in one block of raw memory, which is given back with them. Contracts see the nodes, and how
+/// many there is room for.
 pub(crate) struct Row {
     alloc: Global,
     places: Slots<Packed>,
@@ -36,7 +36,8 @@ impl Model for Row {
 
     ghost view = { λ r. record { items = first r.len (slots_items r.places); room = slots_len r.places } };
 
-    ghost invariant = { λ r. (r.len ≤ slots_len r.places) × Filled (slots_filled r.places) 0 r.len × IsDeedOf r.deed r.places r.alloc };
+    ghost invariant = { λ r. (r.len ≤ slots_len r.places) × Filled (slots_filled r.places) 0 r.len ×
+        IsDeedOf r.deed r.places r.alloc };
 }
 
 impl Row {
@@ -52,7 +53,7 @@ impl Row {
             next: 0,
             prev: 0,
             home: 0,
-            behind: 0,
+            successor: 0,
             mode: Mode::IntentionShared,
             live: false,
             leads: false,
@@ -92,7 +93,7 @@ impl Row {
         self.places.put(index, node);
     }
 
-    /// Puts a node behind the others. There is room for it.
+    /// Puts a node after the others. There is room for it.
     pub(crate) fn push(&mut self, node: Packed)
         requires { length self.old.items < self.old.room }
         ensures { self.new ≡ record self.old { items = self.old.items ++ node ∷ [] } }

@@ -67,8 +67,8 @@ impl Procs {
         }
     }
 
-    /// Appends a procedure over these tables, whose name obeys the rule of names and is new. Where memory is refused nothing
-    /// changes.
+    /// Appends a procedure over these tables, whose name obeys the rule of names and is new. If allocation fails,
+    /// nothing changes.
     pub fn push(&mut self, alloc: Global, proc: Proc) -> Result<(), NoMemory>
         requires tables { proc.tables ≡ self.old.tables }
         requires name { is_name proc.name ≡ true }

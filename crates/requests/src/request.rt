@@ -113,8 +113,8 @@ impl Request {
         &self.proc
     }
 
-    /// The request over another catalogue with the same tables and columns in the same order: a request that was made before tables were split
-    /// anew goes on so. It takes no memory.
+    /// The request over another catalogue with the same tables and columns in the same order: a request that was made
+    /// before tables were split anew goes on so. It takes no memory.
     pub fn over(self, catalogue: Catalogue) -> Request
         requires { HaveSameSchema self.proc.tables catalogue }
         ensures { result ≡ record self { proc = record self.proc { tables = catalogue } } }

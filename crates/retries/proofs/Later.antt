@@ -11,7 +11,7 @@ use Rattle.sequencer.specs.Attempts.{Attempt, Earlier, Numbered, again, own, att
 use Rattle.sequencer.specs.Batches.{RequestItem, items_from}
 use Rattle.sequencer.specs.declared.attempts.Carried.{Carried}
 use Rattle.sequencer.proofs.Carryings.{left_next}
-use Rattle.retries.specs.Standings.{Standing, start_of, attempts_at, transaction_of, transactions_at, transactions_in, replies_at, behind, in_turn, is_of}
+use Rattle.retries.specs.Standings.{Standing, start_of, attempts_at, transaction_of, transactions_at, transactions_in, replies_at, after_batch, in_turn, is_of}
 use Rattle.retries.proofs.Few.{AreWithin, left_within, one_if, tried_few}
 
 -- of the request whose first attempt has the number `first`
@@ -82,15 +82,15 @@ module _ (retries first : ℕ) where
 
   -- ---- the attempts of a batch
 
-  -- what is left of one attempt, and of those behind it
+  -- what is left of one attempt, and of those after it
   spent_next : (n : ℕ) (a : Attempt) (attempts : List Attempt) (db : Database) (left head rest : ℕ) → left ≤ head + rest
       → later (map (transaction_of db) attempts) + rest + to_come (n + 1 + length attempts) ≤ has attempts + to_come (n + 1)
       → one_if (is_of first (transaction_of db a).of) + head + to_come (n + 1) ≤ one_has a + to_come n
       → later (map (transaction_of db) (a ∷ attempts)) + left + to_come (n + length (a ∷ attempts)) ≤ has (a ∷ attempts) + to_come n
-  spent_next n a attempts db left head rest both behind first_one =
+  spent_next n a attempts db left head rest both after_batch first_one =
       added _ _ _ _ _ _ _ _ _ _
       (sum_by-cons (λ (t : Transaction). one_if (is_of first t.of)) (transaction_of db a) (map (transaction_of db) attempts))
-      (sum_by-cons one_has a attempts) (ap to_come (further n (length attempts))) both behind first_one
+      (sum_by-cons one_has a attempts) (ap to_come (further n (length attempts))) both after_batch first_one
     where
       further : (a b : ℕ) → a + suc b ≡ a + 1 + b
       further a b = omega arith
@@ -131,12 +131,12 @@ module _ (retries first : ℕ) where
       → later (all_transactions (in_turn retries s batches)) ≤ may s.carried + to_come s.next
   in_batches s [] h = omega arith
   in_batches s (calls ∷ batches) h =
-      let rest = all_transactions (in_turn retries (behind retries s calls) batches) in
+      let rest = all_transactions (in_turn retries (after_batch retries s calls) batches) in
       added _ _ _ _ _ _ _ _
       (sum_by-append (λ (t : Transaction). one_if (is_of first t.of)) (transactions_at s calls) rest)
       (spent s.next (attempts_at s calls) (replies_at s calls) s.rows (tried_few retries s.carried (items_from 0 calls) h))
       (have s.carried calls)
-      (in_batches (behind retries s calls) batches (left_within retries s calls))
+      (in_batches (after_batch retries s calls) batches (left_within retries s calls))
     where
       added : (all ts us held old left last now : ℕ) → all ≡ ts + us → ts + left + last ≤ held + now → held ≡ old → us ≤ left + last → all ≤ old + now
       added all ts us held old left last now e f g h = omega arith

@@ -7,7 +7,7 @@ use Rattle.meaning.specs.Entries.{EntryShape, Reply, meaning}
 use Rattle.meaning.specs.Serial.{serial_end, serial_replies}
 use Rattle.report_text.specs.Report.{Transaction, entries_in, reply_lines, all_transactions}
 use Rattle.report_text.specs.Texts.{reply_line}
-use Rattle.retries.specs.Standings.{Standing, start_of, attempts_at, transaction_of, transactions_at, transactions_in, replies_at, behind, behind_all, in_turn}
+use Rattle.retries.specs.Standings.{Standing, start_of, attempts_at, transaction_of, transactions_at, transactions_in, replies_at, after_batch, after_batches, in_turn}
 use Rattle.retries.proofs.Followed.{in_turn-append}
 
 -- ---- entries one after another
@@ -52,30 +52,30 @@ all_transactions-append : (xs ys : List (List Transaction)) → all_transactions
 all_transactions-append [] ys = refl
 all_transactions-append (x ∷ xs) ys = ap (λ rest. x ++ rest) (all_transactions-append xs ys) ∙ sym (append_assoc x (all_transactions xs) (all_transactions ys))
 
-rows_from : (retries : ℕ) (s : Standing) (batches : List (List Call)) → (behind_all retries s batches).rows ≡ serial_end (entries_in (all_transactions (in_turn retries s batches))) s.rows
+rows_from : (retries : ℕ) (s : Standing) (batches : List (List Call)) → (after_batches retries s batches).rows ≡ serial_end (entries_in (all_transactions (in_turn retries s batches))) s.rows
 rows_from retries s [] = refl
 rows_from retries s (calls ∷ batches) =
     let ts = transactions_at s calls in
-    let us = all_transactions (in_turn retries (behind retries s calls) batches) in
-    rows_from retries (behind retries s calls) batches
+    let us = all_transactions (in_turn retries (after_batch retries s calls) batches) in
+    rows_from retries (after_batch retries s calls) batches
     ∙ sym (serial_end-append (entries_in ts) (entries_in us) s.rows)
     ∙ ap (λ (es : List EntryShape). serial_end es s.rows) (sym (entries_in-append ts us))
 
-next_from : (retries : ℕ) (s : Standing) (batches : List (List Call)) → (behind_all retries s batches).next ≡ s.next + length (all_transactions (in_turn retries s batches))
+next_from : (retries : ℕ) (s : Standing) (batches : List (List Call)) → (after_batches retries s batches).next ≡ s.next + length (all_transactions (in_turn retries s batches))
 next_from retries s [] = omega arith
 next_from retries s (calls ∷ batches) =
     let ts = transactions_at s calls in
-    let us = all_transactions (in_turn retries (behind retries s calls) batches) in
+    let us = all_transactions (in_turn retries (after_batch retries s calls) batches) in
     let mine : length ts ≡ length (attempts_at s calls) = length-map (attempts_at s calls) (transaction_of s.rows) in
     let long : length (ts ++ us) ≡ length ts + length us = length-append ts us in
-    counted _ _ _ _ _ _ (next_from retries (behind retries s calls) batches) mine long
+    counted _ _ _ _ _ _ (next_from retries (after_batch retries s calls) batches) mine long
   where
     counted : (m n a t u all : ℕ) → m ≡ (n + a) + u → t ≡ a → all ≡ t + u → m ≡ n + all
     counted m n a t u all e f g = omega arith
 
 module _ (retries : ℕ) (db : Database) (batches : List (List Call)) where
   abbrev s : Standing
-  s = behind_all retries (start_of db) batches
+  s = after_batches retries (start_of db) batches
 
   abbrev before : List Transaction
   before = transactions_in retries db batches

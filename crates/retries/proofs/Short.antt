@@ -12,7 +12,7 @@ use Rattle.sequencer.specs.Attempts.{Attempt, Numbered, again, own, attempts_of,
 use Rattle.sequencer.specs.Batches.{RequestItem, items_from}
 use Rattle.sequencer.specs.declared.attempts.Carried.{Carried}
 use Rattle.sequencer.proofs.Carryings.{left_next}
-use Rattle.retries.specs.Standings.{Standing, start_of, attempts_at, replies_at, behind, behind_all}
+use Rattle.retries.specs.Standings.{Standing, start_of, attempts_at, replies_at, after_batch, after_batches}
 use Rattle.retries.proofs.Few.{AreFew, AreWithin, few, few_within, left_few, one_if}
 use Rattle.retries.proofs.Spent.{attempts_count, own_count}
 
@@ -79,8 +79,8 @@ none_within retries (one ∷ carried) h =
 abbrev IsShort : ℕ → List Carried → Type 0
 IsShort most carried = (k : ℕ) → within k carried ≤ k * most
 
-short_next : (retries most : ℕ) (s : Standing) (calls : List Call) → length calls ≤ most → IsShort most s.carried → IsShort most (behind retries s calls).carried
-short_next retries most s calls small h zero = let none = none_within retries (behind retries s calls).carried (left_few retries s calls) in omega (arith, none)
+short_next : (retries most : ℕ) (s : Standing) (calls : List Call) → length calls ≤ most → IsShort most s.carried → IsShort most (after_batch retries s calls).carried
+short_next retries most s calls small h zero = let none = none_within retries (after_batch retries s calls).carried (left_few retries s calls) in omega (arith, none)
 short_next retries most s calls small h (suc k) =
     counted _ _ _ _ _ _
     (left_count k retries s.next (attempts_at s calls) (replies_at s calls))
@@ -91,9 +91,9 @@ short_next retries most s calls small h (suc k) =
     counted left all carried own n most e f g a b = omega arith
 
 short_from : (retries most : ℕ) (s : Standing) (batches : List (List Call)) → AllByRecursion (λ (b : List Call). length b ≤ most) batches → IsShort most s.carried
-    → IsShort most (behind_all retries s batches).carried
+    → IsShort most (after_batches retries s batches).carried
 short_from retries most s [] small h = h
-short_from retries most s (calls ∷ batches) small h = short_from retries most (behind retries s calls) batches small.1 (short_next retries most s calls small.0 h)
+short_from retries most s (calls ∷ batches) small h = short_from retries most (after_batch retries s calls) batches small.1 (short_next retries most s calls small.0 h)
 
 all_within : (retries : ℕ) (carried : List Carried) → AreWithin retries carried → length carried ≤ within retries carried
 all_within retries [] h = omega arith
@@ -102,9 +102,9 @@ all_within retries (one ∷ carried) h =
     omega (arith, is, sum_by-cons (one_within retries) one carried, all_within retries carried h.1)
 
 pub attempts_short : (retries most : ℕ) (db : Database) (batches : List (List Call)) (calls : List Call) → AllByRecursion (λ (b : List Call). length b ≤ most) batches
-    → length calls ≤ most → length (attempts_at (behind_all retries (start_of db) batches) calls) ≤ (retries + 1) * most
+    → length calls ≤ most → length (attempts_at (after_batches retries (start_of db) batches) calls) ≤ (retries + 1) * most
 attempts_short retries most db batches calls small own_small =
-    let s = behind_all retries (start_of db) batches in
+    let s = after_batches retries (start_of db) batches in
     counted _ _ _ _ (attempts_count s calls) (all_within retries s.carried (few_within retries s.carried (few retries db batches)))
     (short_from retries most (start_of db) batches small (λ k. omega arith) retries) own_small
   where

@@ -11,7 +11,7 @@ use Rattle.sequencer.specs.Attempts.{Attempt, Numbered, again, own, attempts_of,
 use Rattle.sequencer.specs.Batches.{RequestItem, items_from}
 use Rattle.sequencer.specs.declared.attempts.Carried.{Carried}
 use Rattle.sequencer.proofs.Carryings.{left_next}
-use Rattle.retries.specs.Standings.{Standing, start_of, attempts_at, replies_at, behind, behind_all, may_have, call_count}
+use Rattle.retries.specs.Standings.{Standing, start_of, attempts_at, replies_at, after_batch, after_batches, may_have, call_count}
 use Rattle.retries.proofs.Few.{AreWithin, few, few_within, left_within, tried_few}
 
 -- the attempts that a carried request may still have
@@ -81,17 +81,17 @@ have retries (one ∷ carried) calls =
 abbrev numbers : ℕ → Standing → ℕ
 numbers retries s = s.next + may_have retries s.carried
 
-pub in_batch : (retries : ℕ) (s : Standing) (calls : List Call) → AreWithin retries s.carried → numbers retries (behind retries s calls) ≤ numbers retries s + (retries + 1) * length calls
+pub in_batch : (retries : ℕ) (s : Standing) (calls : List Call) → AreWithin retries s.carried → numbers retries (after_batch retries s calls) ≤ numbers retries s + (retries + 1) * length calls
 in_batch retries s calls h =
     added _ _ _ _ _ _ (have retries s.carried calls) (spent retries s.next (attempts_at s calls) (replies_at s calls) (tried_few retries s.carried (items_from 0 calls) h))
   where
     added : (n l left all may new : ℕ) → all ≡ may + new → l + left ≤ all → (n + l) + left ≤ (n + may) + new
     added n l left all may new e f = omega arith
 
-in_batches : (retries : ℕ) (s : Standing) (batches : List (List Call)) → AreWithin retries s.carried → numbers retries (behind_all retries s batches) ≤ numbers retries s + (retries + 1) * call_count batches
+in_batches : (retries : ℕ) (s : Standing) (batches : List (List Call)) → AreWithin retries s.carried → numbers retries (after_batches retries s batches) ≤ numbers retries s + (retries + 1) * call_count batches
 in_batches retries s [] h = omega arith
 in_batches retries s (calls ∷ batches) h =
-    added _ _ _ _ _ _ _ (sum_by-cons (λ (c : List Call). length c) calls batches) (in_batch retries s calls h) (in_batches retries (behind retries s calls) batches (left_within retries s calls))
+    added _ _ _ _ _ _ _ (sum_by-cons (λ (c : List Call). length c) calls batches) (in_batch retries s calls h) (in_batches retries (after_batch retries s calls) batches (left_within retries s calls))
   where
     added : (r old mid new first rest all : ℕ) → all ≡ first + rest → mid ≤ old + (r + 1) * first → new ≤ mid + (r + 1) * rest → new ≤ old + (r + 1) * all
     added r old mid new first rest all e f g = rw e (omega arith)
@@ -106,9 +106,9 @@ each_may retries (one ∷ carried) h =
     one_more r tries l rest all e f g = omega arith
 
 pub at_most : (retries : ℕ) (db : Database) (batches : List (List Call)) →
-    (behind_all retries (start_of db) batches).next + length (behind_all retries (start_of db) batches).carried ≤ (retries + 1) * call_count batches
+    (after_batches retries (start_of db) batches).next + length (after_batches retries (start_of db) batches).carried ≤ (retries + 1) * call_count batches
 at_most retries db batches =
-    let s = behind_all retries (start_of db) batches in
+    let s = after_batches retries (start_of db) batches in
     counted _ _ _ _ (in_batches retries (start_of db) batches tt) (each_may retries s.carried (few_within retries s.carried (few retries db batches)))
   where
     counted : (next may l all : ℕ) → next + may ≤ (0 + 0) + all → l ≤ may → next + l ≤ all
@@ -127,14 +127,14 @@ attempts_count s calls =
     ∙ ap (λ n. length s.carried + n) (length-map (items_from 0 calls) own ∙ own_count 0 calls)
 
 pub at_most_next : (retries : ℕ) (db : Database) (batches : List (List Call)) (calls : List Call) →
-    (behind_all retries (start_of db) batches).next + length (attempts_at (behind_all retries (start_of db) batches) calls) ≤ (retries + 1) * (call_count batches + length calls)
-at_most_next retries db batches calls = added _ _ _ _ _ _ (attempts_count (behind_all retries (start_of db) batches) calls) (at_most retries db batches)
+    (after_batches retries (start_of db) batches).next + length (attempts_at (after_batches retries (start_of db) batches) calls) ≤ (retries + 1) * (call_count batches + length calls)
+at_most_next retries db batches calls = added _ _ _ _ _ _ (attempts_count (after_batches retries (start_of db) batches) calls) (at_most retries db batches)
   where
     added : (r next carried all attempts new : ℕ) → attempts ≡ carried + new → next + carried ≤ (r + 1) * all → next + attempts ≤ (r + 1) * (all + new)
     added r next carried all attempts new e f = omega arith
 
 pub fits : (retries : ℕ) (db : Database) (batches : List (List Call)) (calls : List Call) → retries ≤ 3 → call_count batches + length calls ≤ 2 ^ 46 →
-    (behind_all retries (start_of db) batches).next + length (attempts_at (behind_all retries (start_of db) batches) calls) ≤ 2 ^ 48
+    (after_batches retries (start_of db) batches).next + length (attempts_at (after_batches retries (start_of db) batches) calls) ≤ 2 ^ 48
 fits retries db batches calls few small = within _ _ _ few small (at_most_next retries db batches calls)
   where
     within : (r calls n : ℕ) → r ≤ 3 → calls ≤ 2 ^ 46 → n ≤ (r + 1) * calls → n ≤ 2 ^ 48

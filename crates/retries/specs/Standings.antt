@@ -49,8 +49,8 @@ abbrev pub replies_at : Standing → List Call → List Reply
 replies_at s calls = serial_replies (entries_in (transactions_at s calls)) s.rows
 
 -- what a batch of these calls leaves
-abbrev pub behind : ℕ → Standing → List Call → Standing
-behind retries s calls = record {
+abbrev pub after_batch : ℕ → Standing → List Call → Standing
+after_batch retries s calls = record {
   next = s.next + length (attempts_at s calls);
   rows = serial_end (entries_in (transactions_at s calls)) s.rows;
   carried = left_of retries s.next (attempts_at s calls) (replies_at s calls);
@@ -59,14 +59,14 @@ behind retries s calls = record {
 -- ---- batches one after another
 
 -- what batches leave, one after another
-abbrev pub behind_all : ℕ → Standing → List (List Call) → Standing
-behind_all retries s [] = s
-behind_all retries s (calls ∷ rest) = behind_all retries (behind retries s calls) rest
+abbrev pub after_batches : ℕ → Standing → List (List Call) → Standing
+after_batches retries s [] = s
+after_batches retries s (calls ∷ rest) = after_batches retries (after_batch retries s calls) rest
 
 -- the transactions of batches, one after another
 abbrev pub in_turn : ℕ → Standing → List (List Call) → List (List Transaction)
 in_turn retries s [] = []
-in_turn retries s (calls ∷ rest) = transactions_at s calls ∷ in_turn retries (behind retries s calls) rest
+in_turn retries s (calls ∷ rest) = transactions_at s calls ∷ in_turn retries (after_batch retries s calls) rest
 
 -- the transactions of batches from the start on, all in one list
 abbrev pub transactions_in : ℕ → Database → List (List Call) → List Transaction
@@ -87,12 +87,12 @@ abbrev pub while_carried : List Carried → List (List Call) → List (List Call
 while_carried [] rest = []
 while_carried (c ∷ cs) rest = [] ∷ rest
 
--- the batches without calls behind a log's last one; no request is tried again more often than `most` says
+-- the batches without calls after a log's last one; no request is tried again more often than `most` says
 abbrev pub closing : ℕ → ℕ → Standing → List (List Call)
 closing retries zero s = []
-closing retries (suc most) s = while_carried s.carried (closing retries most (behind retries s []))
+closing retries (suc most) s = while_carried s.carried (closing retries most (after_batch retries s []))
 
--- the batches of a log: those of its calls, and behind them, where it ends without a fault, those that close it
+-- the batches of a log: those of its calls, and after them, where it ends without a fault, those that close it
 abbrev pub closed : ℕ → Bool → Standing → List (List Call) → List (List Call)
 closed retries faulty s [] = cond faulty [] (closing retries retries s)
-closed retries faulty s (calls ∷ rest) = calls ∷ closed retries faulty (behind retries s calls) rest
+closed retries faulty s (calls ∷ rest) = calls ∷ closed retries faulty (after_batch retries s calls) rest

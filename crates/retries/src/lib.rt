@@ -1,12 +1,12 @@
-//! The serial run of batches one after another, where stale requests are tried again. The definitions stand in `specs/`; here
-//! are the laws that follow from them, each as the contract of a function.
+//! The serial run of batches one after another, where stale requests are tried again. The definitions stand in
+//! `specs/`; here are the laws that follow from them, each as the contract of a function.
 #![tactic(auto)]
 
 mod laws;
 
 pub use laws::{
     attempts_are_few, batches_are_short, batches_follow_one_another, first_attempt_is_never_stale,
-    log_is_closed_behind_its_batches, nothing_is_left_at_the_end,
+    log_is_closed_after_its_batches, nothing_is_left_at_the_end,
     nothing_is_tried_again_without_retries, numbers_are_few, report_grows_batch_by_batch,
     serial_run_is_one_run, stale_attempts_are_tried_again,
 };

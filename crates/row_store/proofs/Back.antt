@@ -13,14 +13,16 @@ use Rattle.coarsen.specs.Subtrees.{Requests}
 use Rattle.coarsen.specs.Plans.{IsPlanOver}
 use Rattle.coarsen.specs.Clashes.{locks_row}
 use Rattle.coarsen.specs.Laws.{LockedRowsConflict}
-use Rattle.row_store.specs.Places.{Shelves, PlaceOf, has_shelf, is_away, has_place, settled, full}
-use Rattle.row_store.specs.Shelving.{shelf_of}
-use Rattle.row_store.specs.Locked.{among, is_named, locks_shelf, locks_itself}
-use Rattle.row_store.specs.Views.{found, rows_of, lent_at, IsRowStore, IsLoan}
+use Rattle.shelves.specs.Places.{Shelves, PlaceOf, has_shelf, is_away, has_place, as_it_stands, full, among, is_named}
+use Rattle.shelves.specs.Shelving.{shelf_of}
+use Rattle.row_store.specs.Locked.{locks_shelf, locks_itself}
+use Rattle.shelves.specs.Rows.{found, rows_of}
+use Rattle.row_store.specs.Views.{lent_at, IsRowStore, IsLoan}
 use Rattle.row_store.proofs.Locks.{locks_either}
-use Rattle.row_store.proofs.Rows.{get-rows_of}
+use Rattle.shelves.proofs.Rows.{get-rows_of}
 use Rattle.row_store.proofs.Numbers.{lent_left, lent_before}
-use Rattle.row_store.proofs.Kept.{or_left, neither, cases, write_reads}
+use Rattle.shelves.proofs.Booleans.{or_left, neither, cases}
+use Rattle.row_store.proofs.Kept.{write_reads}
 
 or_turn : (a b : Bool) → a || b ≡ b || a
 or_turn true true = refl
@@ -28,10 +30,10 @@ or_turn true false = refl
 or_turn false true = refl
 or_turn false false = refl
 
-settled_back : (p : PlaceOf) → p.row ≡ p.counts_as → p ≡ settled p
+settled_back : (p : PlaceOf) → p.row ≡ p.counts_as → p ≡ as_it_stands p
 settled_back p h i = record { row = p.row; counts_as = sym h i }
 
-back_place : (a n : Bool) (h s : PlaceOf) → h.row ≡ h.counts_as → a || n ≡ true → (if a then h else (if n then full h.row else s)) ≡ settled h
+back_place : (a n : Bool) (h s : PlaceOf) → h.row ≡ h.counts_as → a || n ≡ true → (if a then h else (if n then full h.row else s)) ≡ as_it_stands h
 back_place true n h s here on = settled_back h here
 back_place false true h s here on = refl
 back_place false false h s here on = absurd (cc)
@@ -64,7 +66,7 @@ loan_locks tables plan from at ns loan q =
 
 pub found_back : (tables : List TableShape) (plan : Requests) (old new : Shelves) (from : RowName → PlaceOf) (at : List Resource) (ns : List RowName)
     → IsBack tables old new from at ns → Gives tables plan from at ns → (q : RowName)
-    → found tables new q ≡ (if locks_row tables plan q Write then settled (from q) else found tables old q)
+    → found tables new q ≡ (if locks_row tables plan q Write then as_it_stands (from q) else found tables old q)
 found_back tables plan old new from at ns back loan q =
     let a : Bool = among at (shelf_of tables q) in
     let n : Bool = is_named ns q in
@@ -72,10 +74,10 @@ found_back tables plan old new from at ns back loan q =
     let s : PlaceOf = found tables old q in
     back.seen q
     ∙ elim (cases (a || n)) [
-      | inl on ↦ back_place a n h s (loan.here q) on ∙ ap (λ b. if b then settled h else s) (sym on)
-      | inr off ↦ other_place a n h s off ∙ ap (λ b. if b then settled h else s) (sym off)
+      | inl on ↦ back_place a n h s (loan.here q) on ∙ ap (λ b. if b then as_it_stands h else s) (sym on)
+      | inr off ↦ other_place a n h s off ∙ ap (λ b. if b then as_it_stands h else s) (sym off)
     ]
-    ∙ ap (λ b. if b then settled h else s) (sym (loan_locks tables plan from at ns loan q))
+    ∙ ap (λ b. if b then as_it_stands h else s) (sym (loan_locks tables plan from at ns loan q))
 
 pub out_and_back : (tables : List TableShape) (plan : Requests) (old new held : Shelves) (at : List Resource) (ns : List RowName) (lent : BTreeMap ℕ (Snapshot Requests)) (number : ℕ)
     → IsLoan tables plan held at ns → lent_at lent number ≡ Some plan → IsRowStore tables old lent
@@ -97,7 +99,7 @@ out_and_back tables plan old new held at ns lent number loan out kept seen place
       ∙ ap (λ b. if among at (shelf_of tables q) then b else is_away old (shelf_of tables q)) (loan.whole q);
 }
 
-settled_counts : (b : Bool) (h s : PlaceOf) → h.row ≡ h.counts_as → (if b then settled h else s).counts_as ≡ (if b then h.counts_as else s.counts_as)
+settled_counts : (b : Bool) (h s : PlaceOf) → h.row ≡ h.counts_as → (if b then as_it_stands h else s).counts_as ≡ (if b then h.counts_as else s.counts_as)
 settled_counts true h s here = here
 settled_counts false h s here = refl
 
@@ -111,7 +113,7 @@ shown_back tables plan old new from at ns back loan rows q shown =
     ∙ ap (λ o. if w then o else (found tables old q).counts_as) (sym shown)
     ∙ ap (λ o. if w then get rows q else o) (sym (get-rows_of tables old q))
 
-settled_here : (b : Bool) (h s : PlaceOf) → (b ≡ false → s.row ≡ s.counts_as) → (if b then settled h else s).row ≡ (if b then settled h else s).counts_as
+settled_here : (b : Bool) (h s : PlaceOf) → (b ≡ false → s.row ≡ s.counts_as) → (if b then as_it_stands h else s).row ≡ (if b then as_it_stands h else s).counts_as
 settled_here true h s here = refl
 settled_here false h s here = here refl
 

@@ -13,16 +13,17 @@ use Rattle.coarsen.specs.Plans.{IsPlanOver}
 use Rattle.coarsen.specs.Clashes.{locks_row}
 use Rattle.workspace.specs.Overlay.{applied}
 use Rattle.row_store.specs.declared.held.HeldRows.{HeldRows}
-use Rattle.row_store.specs.Places.{Shelves, PlaceOf, full, written}
-use Rattle.row_store.specs.Shelving.{shelf_of}
-use Rattle.row_store.specs.Locked.{gives, name_of, is_of, is_named, locks_shelf, locks_itself}
+use Rattle.shelves.specs.Places.{Shelves, PlaceOf, full, written, is_named}
+use Rattle.shelves.specs.Shelving.{shelf_of}
+use Rattle.row_store.specs.Locked.{gives, name_of, is_of, locks_shelf, locks_itself}
 use Rattle.row_store.specs.Named.{listed, is_listed, names_listed, row_in, reads_itself, AreDistinct}
 use Rattle.row_store.specs.Held.{row_by_name, rows_by_name, IsLoanByName, AreRowsReady, AreRowsBack}
-use Rattle.row_store.specs.Views.{found}
+use Rattle.shelves.specs.Rows.{found}
 use Rattle.row_store.proofs.Lists.{listed_names, none_listed, some_test}
 use Rattle.row_store.proofs.Locks.{locks_either}
-use Rattle.row_store.proofs.Rows.{get-rows_at, get-applied, named_append, same_database}
-use Rattle.row_store.proofs.Kept.{cases, neither, none_written}
+use Rattle.shelves.proofs.Rows.{get-rows_at, get-applied, named_append, same_database}
+use Rattle.shelves.proofs.Booleans.{cases, neither}
+use Rattle.row_store.proofs.Kept.{none_written}
 use Rattle.row_store.proofs.Back.{IsBack, Gives}
 
 read_step : (r w x l m n : Bool) → (r && x) || l ≡ true → (w && x) || m ≡ false → (l ≡ true → m ≡ false → n ≡ true) → ((r && not w) && x) || n ≡ true

@@ -14,15 +14,16 @@ use Rattle.coarsen.specs.Laws.{LockedRowsConflict}
 use Rattle.row_store.specs.declared.held.HeldShelves.{HeldShelves}
 use Rattle.row_store.specs.declared.held.Holdings.{Holdings}
 use Rattle.row_store.specs.declared.held.Holdings.TheVariants.{Rows, Shelves}
-use Rattle.row_store.specs.Places.{Shelves as AllShelves, has_shelf, full}
-use Rattle.row_store.specs.Shelving.{shelf_of}
+use Rattle.shelves.specs.Places.{Shelves as AllShelves, has_shelf, full}
+use Rattle.shelves.specs.Shelving.{shelf_of}
 use Rattle.row_store.specs.Held.{row_by_name, rows_by_name, rows_held, IsLoanOf, CanGoBack, AreShelvesBack, IsBackFrom}
 use Rattle.row_store.specs.Named.{names_listed}
-use Rattle.row_store.specs.Views.{found, rows_of, lent_at, IsRowStore}
+use Rattle.shelves.specs.Rows.{found, rows_of}
+use Rattle.row_store.specs.Views.{lent_at, IsRowStore}
 use Rattle.row_store.proofs.Back.{IsBack, Gives, out_and_back, kept_back, shown_back}
 use Rattle.row_store.proofs.ByName.{gives_rows, rows_back, get-rows_by_name}
 use Rattle.row_store.proofs.Kept.{none_written}
-use Rattle.row_store.proofs.Rows.{get-rows_of}
+use Rattle.shelves.proofs.Rows.{get-rows_of}
 
 pub can_go_back : (tables : List TableShape) (plan : Requests) (shelves : AllShelves) (held : Holdings) (lent : BTreeMap ℕ (Snapshot Requests)) (number : ℕ)
     → IsLoanOf tables plan held → lent_at lent number ≡ Some plan → IsRowStore tables shelves lent → CanGoBack tables shelves held

@@ -1,8 +1,7 @@
 -- What a plan locks to write it locks to read; and what writes keep.
-use Rattle.std.proofs.Common.{◌≡◌, ◌⊎◌, inl, inr, ℕ, zero, suc, take, Bool, true, false, ◌||◌, ◌&&◌, nat_le, List, [], ◌∷◌, refl, sym, ap, ◌∙◌, Option, Some, None, Result, Ok, Err, OnErr, arith}
+use Rattle.std.proofs.Common.{◌≡◌, inl, inr, ℕ, Bool, true, false, ◌||◌, ◌&&◌, nat_le, List, [], ◌∷◌, refl, sym, ap, ◌∙◌, Option, Some, None, Result, Ok, Err, OnErr, arith}
 use Rattle.std.proofs.lemmas.Bool.Decides.{nat_tests}
 use Rattle.std.specs.BTreeMap.{BTreeMap}
-use Rattle.std.specs.List.{list_any}
 use Rattle.std.specs.declared.snapshot.Snapshot.{Snapshot}
 use Rattle.values.specs.declared.name.RowName.{RowName}
 use Rattle.catalogue.specs.Shapes.{TableShape}
@@ -13,36 +12,12 @@ use Rattle.footprint.specs.Tree.{row_resource}
 use Rattle.modes.specs.Modes.{own}
 use Rattle.coarsen.specs.Subtrees.{Requests, own_over, holds}
 use Rattle.coarsen.specs.Clashes.{locks_row}
-use Rattle.row_store.specs.Places.{Shelves, PlaceOf, has_shelf, is_away, has_place, seen_at, written}
-use Rattle.row_store.specs.Shelving.{shelf_of}
+use Rattle.shelves.specs.Places.{Shelves, PlaceOf, has_shelf, is_away, has_place, seen_at, written}
+use Rattle.shelves.specs.Shelving.{shelf_of}
 use Rattle.row_store.specs.Locked.{gives, name_of, is_of, locks_shelf, locks_itself}
-use Rattle.row_store.specs.Views.{found, IsRowStore, IsLoan}
-
--- ---- tests
-
-pub or_left : (a b : Bool) → a ≡ true → a || b ≡ true
-or_left a b h = ap (λ x. x || b) h
-
-pub or_right : (a b : Bool) → b ≡ true → a || b ≡ true
-or_right true b h = refl
-or_right false b h = h
-
-pub neither : (a b : Bool) → a || b ≡ false → (a ≡ false) × (b ≡ false)
-neither true b h = absurd (cc)
-neither false b h = (refl, h)
-
--- what is in no element is in none of the first
-pub none_first : {X : Type 0} (p : X → Bool) (xs : List X) (i : ℕ) → list_any p xs ≡ false → list_any p (take i xs) ≡ false
-none_first p [] zero h = refl
-none_first p [] (suc i) h = refl
-none_first p (x ∷ xs) zero h = refl
-none_first p (x ∷ xs) (suc i) h =
-    let both = neither (p x) (list_any p xs) h in
-    ap (λ b. b || list_any p (take i xs)) both.0 ∙ none_first p xs i both.1
-
-pub cases : (b : Bool) → (b ≡ true) ⊎ (b ≡ false)
-cases true = inl refl
-cases false = inr refl
+use Rattle.shelves.specs.Rows.{found}
+use Rattle.row_store.specs.Views.{IsRowStore, IsLoan}
+use Rattle.shelves.proofs.Booleans.{or_left, or_right, cases}
 
 -- a lock to write is a lock to read
 gives_both : (n : ℕ) → nat_le 2 n ≡ true → nat_le 1 n ≡ true

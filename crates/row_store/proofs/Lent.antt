@@ -12,15 +12,18 @@ use Rattle.coarsen.specs.Subtrees.{Requests}
 use Rattle.coarsen.specs.Plans.{IsWellFormed, IsPlanOver}
 use Rattle.coarsen.specs.Clashes.{locks_row, ModesClash}
 use Rattle.coarsen.specs.Laws.{LockedRowsConflict, ClashEitherWay}
-use Rattle.row_store.specs.Places.{Shelves, PlaceOf, shelf_on, has_shelf, is_away, has_place, seen_at, seen_on, has_on, is_out_on, settled, emptied, gone}
-use Rattle.row_store.specs.Shelving.{shelf_of}
-use Rattle.row_store.specs.Locked.{among, is_named, locks_shelf, locks_itself}
-use Rattle.row_store.specs.Moving.{is_ready, AreShelvesLent, AreEmptied}
-use Rattle.row_store.specs.Views.{found, rows_of, lent_at, IsRowStore, IsLoan}
+use Rattle.shelves.specs.Places.{Shelves, PlaceOf, shelf_on, has_shelf, is_away, has_place, seen_at, seen_on, has_on, is_out_on, as_it_stands, emptied, gone, among, is_named}
+use Rattle.shelves.specs.Shelving.{shelf_of}
+use Rattle.row_store.specs.Locked.{locks_shelf, locks_itself}
+use Rattle.shelves.specs.Exchange.{is_ready, AreShelvesLent}
+use Rattle.row_store.specs.Moving.{AreEmptied}
+use Rattle.shelves.specs.Rows.{found, rows_of}
+use Rattle.row_store.specs.Views.{lent_at, IsRowStore, IsLoan}
 use Rattle.row_store.proofs.Locks.{locks_either}
-use Rattle.row_store.proofs.Rows.{get-rows_of}
+use Rattle.shelves.proofs.Rows.{get-rows_of}
 use Rattle.row_store.proofs.Numbers.{lent_after, lent_new, lent_still}
-use Rattle.row_store.proofs.Kept.{or_left, or_right, neither, cases, write_reads, name_reads, none_written}
+use Rattle.shelves.proofs.Booleans.{or_left, or_right, neither, cases}
+use Rattle.row_store.proofs.Kept.{write_reads, name_reads, none_written}
 
 -- what becomes of a store, and of what is held for a loan, when the shelves and the rows that are lent to be written go out
 pub record IsOut (tables : List TableShape) (old mid new before held : Shelves) (at : List Resource) (ns : List RowName) : Type 0 where
@@ -201,13 +204,13 @@ loan_made tables old mid new before held lent plan at ns law sound over free kep
       (λ h. away (shelf_of tables q) ∙ lent_whole tables old lent plan law sound over free kept q (sym (at_is q) ∙ h)) (whole (shelf_of tables q));
 }
 
-shown_either : (a : Bool) (p o : PlaceOf) → p.row ≡ p.counts_as → (a ≡ false → o ≡ settled p) → (if a then p else o).counts_as ≡ p.counts_as
+shown_either : (a : Bool) (p o : PlaceOf) → p.row ≡ p.counts_as → (a ≡ false → o ≡ as_it_stands p) → (if a then p else o).counts_as ≡ p.counts_as
 shown_either true p o here h = refl
 shown_either false p o here h = ap (λ x. x.counts_as) (h refl) ∙ here
 
 pub shown_lent : (tables : List TableShape) (old mid new before held : Shelves) (lent : BTreeMap ℕ (Snapshot Requests)) (plan : Requests) (at : List Resource) (ns : List RowName)
     → LockedRowsConflict → IsWellFormed plan → ((i : ℕ) (p : Requests) → lent_at lent i ≡ Some p → ModesClash p plan → ⊥) → IsRowStore tables old lent
-    → ((q : RowName) → locks_row tables plan q Read ≡ true → among at (shelf_of tables q) ≡ false → found tables before q ≡ settled (found tables old q))
+    → ((q : RowName) → locks_row tables plan q Read ≡ true → among at (shelf_of tables q) ≡ false → found tables before q ≡ as_it_stands (found tables old q))
     → IsOut tables old mid new before held at ns
     → (q : RowName) → locks_row tables plan q Read ≡ true → get (rows_of tables held) q ≡ get (rows_of tables old) q
 shown_lent tables old mid new before held lent plan at ns law sound free kept rows out q reads =

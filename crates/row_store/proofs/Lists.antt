@@ -5,13 +5,12 @@ use Rattle.std.specs.Cmp.{eq_by_cmp_equiv}
 use Rattle.values.specs.declared.name.RowName.{RowName}
 use Rattle.values.specs.Database.{RowOf}
 use Rattle.row_store.specs.declared.named.NamedRow.{NamedRow}
-use Rattle.row_store.specs.Places.{PlaceOf, full, written, shared_row, is_name}
-use Rattle.row_store.specs.Locked.{is_named}
+use Rattle.shelves.specs.Places.{PlaceOf, full, written, shared_row, is_same_name, is_named}
 use Rattle.row_store.specs.Named.{listed, names_listed, is_listed, AreDistinct}
-use Rattle.row_store.proofs.Exact.{names_total, same_name}
-use Rattle.row_store.proofs.Rows.{named_append}
+use Rattle.shelves.proofs.Exact.{names_total, same_name}
+use Rattle.shelves.proofs.Rows.{named_append}
 
-pub turned_name : (a b : RowName) → is_name a b ≡ is_name b a
+pub turned_name : (a b : RowName) → is_same_name a b ≡ is_same_name b a
 turned_name a b = (eq_by_cmp_equiv names_total).symm a b
 
 some_if : (b c : Bool) (x : Option RowOf) (o : Option (Option RowOf)) → is_some o ≡ c → is_some (if b then Some x else o) ≡ (b || c)
@@ -20,7 +19,7 @@ some_if false c x o h = h
 
 pub listed_names : (es : List NamedRow) (q : RowName) → is_some (listed es q) ≡ is_listed es q
 listed_names [] q = refl
-listed_names (e ∷ es) q = some_if (is_name e.name q) (is_listed es q) (shared_row e.row) (listed es q) (listed_names es q)
+listed_names (e ∷ es) q = some_if (is_same_name e.name q) (is_listed es q) (shared_row e.row) (listed es q) (listed_names es q)
 
 pub some_test : (b : Bool) (r : Option RowOf) → is_some (if b then Some r else None) ≡ b
 some_test true r = refl
@@ -38,10 +37,10 @@ or_step true x o p r h = refl
 or_step false x o p r h = h
 
 pub listed_push : (es : List NamedRow) (x : NamedRow) (q : RowName)
-    → listed (es ++ x ∷ []) q ≡ option_or (listed es q) (if is_name x.name q then Some (shared_row x.row) else None)
+    → listed (es ++ x ∷ []) q ≡ option_or (listed es q) (if is_same_name x.name q then Some (shared_row x.row) else None)
 listed_push [] x q = refl
 listed_push (e ∷ es) x q =
-    or_step (is_name e.name q) (shared_row e.row) (listed (es ++ x ∷ []) q) (listed es q) (if is_name x.name q then Some (shared_row x.row) else None) (listed_push es x q)
+    or_step (is_same_name e.name q) (shared_row e.row) (listed (es ++ x ∷ []) q) (listed es q) (if is_same_name x.name q then Some (shared_row x.row) else None) (listed_push es x q)
 
 neither_now : (a b : Bool) → a ≡ false → b ≡ false → a || (b || false) ≡ false
 neither_now true b h k = absurd (cc)
@@ -55,18 +54,18 @@ or_split false b h = (refl, h)
 pub distinct_push : (ns : List RowName) (n : RowName) → AreDistinct ns → is_named ns n ≡ false → AreDistinct (ns ++ n ∷ [])
 distinct_push [] n d f = (refl, tt)
 distinct_push (m ∷ ms) n d f =
-    let both = or_split (is_name m n) (is_named ms n) f in
-    (named_append ms (n ∷ []) m ∙ neither_now (is_named ms m) (is_name n m) d.0 (turned_name n m ∙ both.0), distinct_push ms n d.1 both.1)
+    let both = or_split (is_same_name m n) (is_named ms n) f in
+    (named_append ms (n ∷ []) m ∙ neither_now (is_named ms m) (is_same_name n m) d.0 (turned_name n m ∙ both.0), distinct_push ms n d.1 both.1)
 
 -- the first entry of a name
 pub found_at : (es : List NamedRow) (i : ℕ) (e : NamedRow) (q : RowName) → i < length es → e ≡ get_or es i e
-    → is_listed (take i es) q ≡ false → is_name e.name q ≡ true → Some (shared_row e.row) ≡ listed es q
+    → is_listed (take i es) q ≡ false → is_same_name e.name q ≡ true → Some (shared_row e.row) ≡ listed es q
 found_at [] i e q l is none here = absurd (omega (arith, l))
 found_at (x ∷ es) zero e q l is none here =
     ap (λ (y : NamedRow). Some (shared_row y.row)) is
-    ∙ ap (λ b. if b then Some (shared_row x.row) else listed es q) (sym here ∙ ap (λ (y : NamedRow). is_name y.name q) is)
+    ∙ ap (λ b. if b then Some (shared_row x.row) else listed es q) (sym here ∙ ap (λ (y : NamedRow). is_same_name y.name q) is)
 found_at (x ∷ es) (suc i) e q l is none here =
-    let both = or_split (is_name x.name q) (is_listed (take i es) q) none in
+    let both = or_split (is_same_name x.name q) (is_listed (take i es) q) none in
     found_at es i e q (omega (arith, l)) is both.1 here
     ∙ ap (λ b. if b then Some (shared_row x.row) else listed es q) (sym both.0)
 
@@ -87,19 +86,19 @@ set_later n true c r x o s other h = ap (λ b. if b then Some r else Some x) (sy
 set_later n false c r x o s other h = h
 
 pub set_listed : (es : List NamedRow) (i : ℕ) (e : NamedRow) (row : _) (n q : RowName) → i < length es → e ≡ get_or es i e
-    → is_listed (take i es) n ≡ false → is_name e.name n ≡ true
-    → listed (set es i (record { name = e.name; row = row })) q ≡ (if is_name n q && is_listed es q then Some (shared_row row) else listed es q)
+    → is_listed (take i es) n ≡ false → is_same_name e.name n ≡ true
+    → listed (set es i (record { name = e.name; row = row })) q ≡ (if is_same_name n q && is_listed es q then Some (shared_row row) else listed es q)
 set_listed [] i e row n q l is none here = absurd (omega (arith, l))
 set_listed (x ∷ es) zero e row n q l is none here =
     let same : e.name ≡ n = same_name e.name n here in
     let mine : x.name ≡ n = ap (λ (y : NamedRow). y.name) (sym is) ∙ same in
-    ap (λ m. if is_name m q then Some (shared_row row) else listed es q) same
-    ∙ set_first (is_name n q) (is_listed es q) (shared_row row) (shared_row x.row) (listed es q)
-    ∙ ap (λ m. if is_name n q && (is_name m q || is_listed es q) then Some (shared_row row) else (if is_name m q then Some (shared_row x.row) else listed es q)) (sym mine)
+    ap (λ m. if is_same_name m q then Some (shared_row row) else listed es q) same
+    ∙ set_first (is_same_name n q) (is_listed es q) (shared_row row) (shared_row x.row) (listed es q)
+    ∙ ap (λ m. if is_same_name n q && (is_same_name m q || is_listed es q) then Some (shared_row row) else (if is_same_name m q then Some (shared_row x.row) else listed es q)) (sym mine)
 set_listed (x ∷ es) (suc i) e row n q l is none here =
-    let both = or_split (is_name x.name n) (is_listed (take i es) n) none in
-    set_later (is_name n q) (is_name x.name q) (is_listed es q) (shared_row row) (shared_row x.row) (listed es q) (listed (set es i (record { name = e.name; row = row })) q)
-    (λ h. turned_name n q ∙ ap (λ m. is_name m n) (sym (same_name x.name q h)) ∙ both.0)
+    let both = or_split (is_same_name x.name n) (is_listed (take i es) n) none in
+    set_later (is_same_name n q) (is_same_name x.name q) (is_listed es q) (shared_row row) (shared_row x.row) (listed es q) (listed (set es i (record { name = e.name; row = row })) q)
+    (λ h. turned_name n q ∙ ap (λ m. is_same_name m n) (sym (same_name x.name q h)) ∙ both.0)
     (set_listed es i e row n q (omega (arith, l)) is both.1 here)
 
 -- ---- steps of loops

@@ -5,11 +5,10 @@ use Rattle.values.specs.declared.name.RowName.{RowName}
 use Rattle.catalogue.specs.Shapes.{TableShape}
 use Rattle.proclang_types.specs.declared.right.Right.TheVariants.{Read}
 use Rattle.coarsen.specs.Subtrees.{Requests}
-use Rattle.row_store.specs.Shelving.{is_end}
+use Rattle.shelves.specs.Shelving.{is_end}
 use Rattle.row_store.specs.Locked.{gives, name_of, is_of, is_end_among, is_an_end, locks_itself}
-use Rattle.row_store.proofs.Exact.{same_name}
-use Rattle.row_store.proofs.Kept.{cases}
-use Rattle.row_store.proofs.Locks.{second}
+use Rattle.shelves.proofs.Exact.{same_name}
+use Rattle.shelves.proofs.Booleans.{cases, second}
 
 not_last : (tables : List TableShape) (found : Option RowName) (q : RowName) → is_end_among tables found ≡ false → is_of found q ≡ true → is_end tables q ≡ false
 not_last tables None q none is = absurd (cc)

@@ -24,9 +24,10 @@ use Rattle.coarsen.specs.Clashes.{locks_row}
 use Rattle.std.proofs.lemmas.Option.{slice_get_cases}
 use Rattle.std.proofs.lemmas.List.Elements.{Contains-append_left, Contains-append_right, Contains-push}
 use Rattle.row_store.proofs.Shelved.{same_number, eq_table, both_eq, and_false, and_true, or_false, under_table, no_row}
-use Rattle.row_store.specs.Places.{is_name}
-use Rattle.row_store.specs.Shelving.{shelf_of, shelf_at, shelf_in, numbered}
+use Rattle.shelves.specs.Places.{is_same_name}
+use Rattle.shelves.specs.Shelving.{shelf_of, shelf_at, shelf_in, shelf_numbered}
 use Rattle.row_store.specs.Locked.{gives, name_of, is_of, locks_shelf, locks_itself}
+use Rattle.shelves.proofs.Booleans.{itself, second}
 
 le_max : (n a b : ℕ) → nat_le n (max a b) ≡ (nat_le n a || nat_le n b)
 le_max n a b = grind (arith, nat_tests)
@@ -35,9 +36,6 @@ at_least : (right : Right) (b : Bool) (n : ℕ) → nat_le (rank_of right) (if b
 at_least right true n = sym (and_true (nat_le (rank_of right) n))
 at_least Read false n = sym (and_false (nat_le 1 n))
 at_least Write false n = sym (and_false (nat_le 2 n))
-
-pub itself : (n : ℕ) → (n == n) ≡ true
-itself n = grind (arith, nat_tests)
 
 none_least : (right : Right) → nat_le (rank_of right) 0 ≡ false
 none_least Read = refl
@@ -105,14 +103,14 @@ over_row tables (Table t (Part p WholePart)) of q =
     elim (slice_get tables q.table) as (λ (s : Option TableShape). slice_get tables q.table ≡ s → ((t == q.table) && ((p == part) && true)) ≡ holds (Table t (Part p WholePart)) (shelf_in tables q.table part s)) [
       | None ↦ λ is. not_one (t == q.table) ((p == part) && true) (λ e. no_part (slice_get tables t) p of (ap (slice_get tables) (same_number t q.table e) ∙ is))
       | Some s ↦ λ is.
-          elim (nat_lt part (partitions s.split)) as (λ (b : Bool). nat_lt part (partitions s.split) ≡ b → ((t == q.table) && ((p == part) && true)) ≡ holds (Table t (Part p WholePart)) (numbered q.table (if b then Some part else None))) [
+          elim (nat_lt part (partitions s.split)) as (λ (b : Bool). nat_lt part (partitions s.split) ≡ b → ((t == q.table) && ((p == part) && true)) ≡ holds (Table t (Part p WholePart)) (shelf_numbered q.table (if b then Some part else None))) [
             | true ↦ λ on. refl
             | false ↦ λ on. not_both (t == q.table) (p == part) (λ e f.
                 true_false (nat_lt p (partitions s.split))
                 (part_below (slice_get tables t) s p of (ap (slice_get tables) (same_number t q.table e) ∙ is))
                 (ap (λ n. nat_lt n (partitions s.split)) (same_number p part f) ∙ on))
           ] refl
-          ∙ ap (λ o. holds (Table t (Part p WholePart)) (numbered q.table (option_and_then (λ (x : TableShape). if nat_lt part (partitions x.split) then Some part else None) o))) (sym is)
+          ∙ ap (λ o. holds (Table t (Part p WholePart)) (shelf_numbered q.table (option_and_then (λ (x : TableShape). if nat_lt part (partitions x.split) then Some part else None) o))) (sym is)
     ] refl
 over_row tables (Table t (Part p (Row k))) of q =
     let part : ℕ = unwrap_or (partition_of tables q.table q.key) 0 in
@@ -123,8 +121,8 @@ over_row tables (Table t (Part p (Row k))) of q =
     ∙ sym (ap (λ b. b && (k == q.key)) (eq_table t q.table) ∙ refl)
     ∙ ap (λ b. is_eq (nat_cmp t q.table) && b) (sym (eq_table k q.key))
     ∙ sym (both_eq (nat_cmp t q.table) (nat_cmp k q.key))
-    ∙ sym (or_false (is_name (record { table = t; key = k }) q))
-    ∙ ap (λ b. is_name (record { table = t; key = k }) q || b) (sym (no_row tables q t p k))
+    ∙ sym (or_false (is_same_name (record { table = t; key = k }) q))
+    ∙ ap (λ b. is_same_name (record { table = t; key = k }) q || b) (sym (no_row tables q t p k))
     ∙ ap (λ b. is_of (if b then Some (record { table = t; key = k }) else None) q || holds (Table t (Part p (Row k))) (shelf_of tables q)) (sym fits)
 
 or_and : (g a b : Bool) → g && (a || b) ≡ (g && a) || (g && b)
@@ -156,10 +154,6 @@ locks_either tables requests over right q = covers_any requests right (row_resou
 pub first : (a b : Bool) → a && b ≡ true → a ≡ true
 first true b h = refl
 first false b h = h
-
-pub second : (a b : Bool) → a && b ≡ true → b ≡ true
-second true b h = h
-second false b h = absurd (cc)
 
 -- what locks a partition locks the row names in it
 under_part : (r : Resource) (t p k : ℕ) → holds r (Table t (Part p WholePart)) ≡ true → holds r (Table t (Part p (Row k))) ≡ true

@@ -22,7 +22,7 @@ use Rattle.modes.specs.declared.mode.Mode.{Mode}
 use Rattle.coarsen.specs.Subtrees.{Requests}
 use Rattle.coarsen.specs.Plans.{IsPlanOver}
 use Rattle.row_store.specs.Locked.{gives, name_of, is_of, locks_itself}
-use Rattle.row_store.proofs.Exact.{same_name}
+use Rattle.shelves.proofs.Exact.{same_name}
 
 some_name : (a b : RowName) → Some a ≡ Some b → a ≡ b
 some_name a b h = cc
@@ -30,8 +30,8 @@ some_name a b h = cc
 some_part : (a b : ℕ) → Some a ≡ Some b → a ≡ b
 some_part a b h = cc
 
-fits : (k : ℕ) → k < 2 ^ 63 → nat_lt k (2 ^ 63) ≡ true
-fits k l = grind (arith, nat_tests)
+below_bound : (k : ℕ) → k < 2 ^ 63 → nat_lt k (2 ^ 63) ≡ true
+below_bound k l = grind (arith, nat_tests)
 
 rows_alike : (t u p r k l : ℕ) → t ≡ u → p ≡ r → k ≡ l → Table t (Part p (Row k)) ≡ Table u (Part r (Row l))
 rows_alike t u p r k l a b c = ap (λ x. Table x (Part p (Row k))) a ∙ ap (λ x. Table u (Part x (Row k))) b ∙ ap (λ x. Table u (Part r (Row x))) c
@@ -48,8 +48,8 @@ same_row tables (Table t (Part p (Row k))) (Table u (Part r WholePart)) of_a of_
 same_row tables (Table t (Part p (Row k))) (Table u (Part r (Row l))) of_a of_b n h g =
     let a : RowName = record { table = t; key = k } in
     let b : RowName = record { table = u; key = l } in
-    let is_a : a ≡ n = same_name a n (ap (λ (c : Bool). is_of (if c then Some a else None) n) (sym (fits k of_a.0)) ∙ h) in
-    let is_b : b ≡ n = same_name b n (ap (λ (c : Bool). is_of (if c then Some b else None) n) (sym (fits l of_b.0)) ∙ g) in
+    let is_a : a ≡ n = same_name a n (ap (λ (c : Bool). is_of (if c then Some a else None) n) (sym (below_bound k of_a.0)) ∙ h) in
+    let is_b : b ≡ n = same_name b n (ap (λ (c : Bool). is_of (if c then Some b else None) n) (sym (below_bound l of_b.0)) ∙ g) in
     let same : a ≡ b = is_a ∙ sym is_b in
     rows_alike t u p r k l (ap (λ (x : RowName). x.table) same)
     (some_part p r (sym of_a.1 ∙ ap (λ (x : RowName). partition_of tables x.table x.key) same ∙ of_b.1)) (ap (λ (x : RowName). x.key) same)

@@ -16,16 +16,17 @@ use Rattle.row_store.specs.declared.held.HeldRows.{HeldRows}
 use Rattle.row_store.specs.declared.held.HeldShelves.{HeldShelves}
 use Rattle.row_store.specs.declared.held.Holdings.{Holdings}
 use Rattle.row_store.specs.declared.held.Holdings.TheVariants.{Rows, Shelves}
-use Rattle.row_store.specs.Places.{Shelves as AllShelves, has_shelf, is_away, has_place, seen_at}
-use Rattle.row_store.specs.Shelving.{shelf_of}
+use Rattle.shelves.specs.Places.{Shelves as AllShelves, has_shelf, is_away, has_place, seen_at}
+use Rattle.shelves.specs.Shelving.{shelf_of}
 use Rattle.row_store.specs.Locked.{locks_shelf, locks_itself}
 use Rattle.row_store.specs.Held.{AreHere, rows_held, IsLoanOf, IsReady, AreRowsReady, AreShelvesReady, IsTaken, AreShelvesTaken}
-use Rattle.row_store.specs.Views.{found, rows_of, lent_at, IsRowStore, IsLoan}
+use Rattle.shelves.specs.Rows.{found, rows_of}
+use Rattle.row_store.specs.Views.{lent_at, IsRowStore, IsLoan}
 use Rattle.row_store.proofs.ByName.{loan_ready, row_ready, locked_alone, get-rows_by_name}
 use Rattle.row_store.proofs.Kept.{none_written}
 use Rattle.row_store.proofs.Lent.{IsOut, is_lent_out, ready, lent_here, lent_whole, lent_there, apart_place, counts_after, loan_made, shown_lent, kept_lend}
 use Rattle.row_store.proofs.Numbers.{lent_after, lent_still}
-use Rattle.row_store.proofs.Rows.{get-rows_of}
+use Rattle.shelves.proofs.Rows.{get-rows_of}
 
 -- a plan is to be lent, and all that it needs was made ready
 pub record IsLending (tables : List TableShape) (old mid : AllShelves) (lent : BTreeMap ℕ (Snapshot Requests)) (plan : Requests) : Type 0 where

@@ -1,9 +1,9 @@
 -- What is shown stands there.
-use Rattle.std.proofs.Common.{◌≡◌, ℕ, Bool, true, false, not, ◌||◌, cond, List, [], ◌∷◌, refl, sym, ap, ◌∙◌, inl, inr, Some, length, arith}
+use Rattle.std.proofs.Common.{◌≡◌, ℕ, Bool, true, false, not, ◌||◌, cond, List, [], ◌∷◌, refl, sym, ap, ◌∙◌, inl, inr, Some, None, length, arith}
 use Rattle.std.specs.Ordering.{nat_cmp, eq_by_cmp}
 use Rattle.std.specs.List.{list_any}
 use Rattle.std.specs.BTreeMap.{BTreeMap}
-use Rattle.std.specs.FinMap.{FinMap, empty, find, entries, get, get-entries, len-entries, len-empty}
+use Rattle.std.specs.FinMap.{FinMap, empty, find, entries, get, get-entries, len-entries, len-empty, get-empty}
 use Rattle.std.specs.declared.snapshot.Snapshot.{Snapshot}
 use Rattle.values.specs.declared.name.RowName.{RowName}
 use Rattle.catalogue.specs.Shapes.{TableShape}
@@ -12,11 +12,12 @@ use Rattle.coarsen.specs.Subtrees.{Requests}
 use Rattle.coarsen.specs.Clashes.{locks_row}
 use Rattle.coarsen.specs.Laws.{LockedRowsConflict}
 use Rattle.row_store.specs.Laws.{AreLentAlone}
-use Rattle.row_store.specs.Places.{Shelves}
+use Rattle.shelves.specs.Places.{Shelves}
 use Rattle.row_store.specs.Stock.{Stock, is_free}
-use Rattle.row_store.specs.Views.{found, rows_of, lent_of, lent_at, IsRowStore}
+use Rattle.shelves.specs.Rows.{found, rows_of}
+use Rattle.row_store.specs.Views.{lent_of, lent_at, IsRowStore}
 use Rattle.row_store.proofs.Numbers.{get-lent_of}
-use Rattle.row_store.proofs.Kept.{cases}
+use Rattle.shelves.proofs.Booleans.{cases}
 
 either_not : (a b : Bool) → a || b ≡ false → (a ≡ false) × (b ≡ false)
 either_not true b h = absurd (cc)
@@ -82,3 +83,10 @@ unfolding nothing
 all_free tables name =
     ap (λ es. not (list_any (λ (e : ℕ × Requests). locks_row tables e.1 name Write) es))
     (none_of_len (entries nothing) (sym (len-entries nothing) ∙ len-empty nat_cmp Requests))
+
+-- where nothing is lent, the rows that count stand
+pub all_here : (tables : List TableShape) (shelves : Shelves) (lent : BTreeMap ℕ (Snapshot Requests)) → lent_of lent ≡ empty → IsRowStore tables shelves lent
+    → (q : RowName) → (found tables shelves q).row ≡ (found tables shelves q).counts_as
+all_here tables shelves lent none kept q = kept.here q (λ i plan h.
+    let clash : None ≡ Some plan = sym (get-empty nat_cmp i) ∙ ap (λ (f : FinMap nat_cmp Requests). get f i) (sym none) ∙ get-lent_of lent i ∙ h in
+    absurd (cc))

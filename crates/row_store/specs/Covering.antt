@@ -8,4 +8,5 @@ use Rattle.coarsen.specs.Subtrees.{Requests, covers_by_requests}
 
 -- what the footprint covers is covered by the plan's requests
 abbrev pub Covers : Requests → FootprintOf → Type 0
-Covers plan footprint = (resource : Resource) (right : Right) → covers footprint resource right ≡ true → covers_by_requests plan resource right ≡ true
+Covers plan footprint = (resource : Resource) (right : Right) → covers footprint resource right ≡ true
+    → covers_by_requests plan resource right ≡ true

@@ -12,12 +12,15 @@ use Rattle.row_store.specs.Stock.{is_free}
 
 -- where nothing is lent, every name is free
 abbrev pub AllIsFree : Type 0
-AllIsFree = (tables : List TableShape) (lent : FinMap nat_cmp Requests) → lent ≡ empty → (name : RowName) → is_free tables lent name ≡ true
+AllIsFree = (tables : List TableShape) (lent : FinMap nat_cmp Requests) → lent ≡ empty → (name : RowName)
+    → is_free tables lent name ≡ true
 
--- a row name that a plan which is lent locks to write is that loan's alone: it is not free, and no other plan that is lent
--- locks it
+-- a row name that a plan which is lent locks to write is that loan's alone: it is not free,
+-- and no other plan that is lent locks it
 abbrev pub AreLentAlone : List TableShape → FinMap nat_cmp Requests → Type 0
 AreLentAlone tables lent =
-    (number : ℕ) (plan : Requests) → get lent number ≡ Some plan → (name : RowName) → locks_row tables plan name Write ≡ true
+    (number : ℕ) (plan : Requests) → get lent number ≡ Some plan → (name : RowName)
+    → locks_row tables plan name Write ≡ true
     → (is_free tables lent name ≡ false)
-    × ((other : ℕ) (others : Requests) → get lent other ≡ Some others → (number ≡ other → ⊥) → locks_row tables others name Read ≡ false)
+    × ((other : ℕ) (others : Requests) → get lent other ≡ Some others → (number ≡ other → ⊥)
+    → locks_row tables others name Read ≡ false)

@@ -13,8 +13,8 @@ use Rattle.modes.specs.Rights.{rank_of}
 use Rattle.modes.specs.Modes.{own}
 use Rattle.coarsen.specs.Subtrees.{Requests, holds}
 use Rattle.catalogue.specs.Shapes.{TableShape}
-use Rattle.row_store.specs.Places.{is_name, is_shelf}
-use Rattle.row_store.specs.Shelving.{is_end}
+use Rattle.shelves.specs.Places.{is_same_name}
+use Rattle.shelves.specs.Shelving.{is_end}
 
 -- the mode gives the right on the resource itself
 abbrev pub gives : Right → Mode → Bool
@@ -25,11 +25,12 @@ abbrev pub name_of : Resource → Option RowName
 name_of Db = None
 name_of (Table table WholeTable) = None
 name_of (Table table (Part part WholePart)) = None
-name_of (Table table (Part part (Row key))) = if nat_lt key (2 ^ 63) then Some (record { table = table; key = key }) else None
+name_of (Table table (Part part (Row key))) =
+    if nat_lt key (2 ^ 63) then Some (record { table = table; key = key }) else None
 
 abbrev pub is_of : Option RowName → RowName → Bool
 is_of None name = false
-is_of (Some found) name = is_name found name
+is_of (Some found) name = is_same_name found name
 
 abbrev pub is_end_among : List TableShape → Option RowName → Bool
 is_end_among tables None = false
@@ -46,12 +47,6 @@ locks_shelf requests right at = list_any (λ e. gives right e.1 && holds e.0 at)
 -- a request with the right, on the row name itself
 abbrev pub locks_itself : Requests → Right → RowName → Bool
 locks_itself requests right name = list_any (λ e. gives right e.1 && is_of (name_of e.0) name) requests
-
-abbrev pub among : List Resource → Resource → Bool
-among shelves at = list_any (λ r. is_shelf r at) shelves
-
-abbrev pub is_named : List RowName → RowName → Bool
-is_named names name = list_any (λ n. is_name n name) names
 
 -- the resource is one of the first so many partitions of the table
 abbrev pub is_part_below : ℕ → ℕ → Resource → Bool

@@ -9,14 +9,14 @@ use Rattle.proclang_types.specs.declared.right.Right.TheVariants.{Read, Write}
 use Rattle.modes.specs.declared.mode.Mode.{Mode}
 use Rattle.coarsen.specs.Subtrees.{Requests}
 use Rattle.row_store.specs.declared.named.NamedRow.{NamedRow}
-use Rattle.row_store.specs.Places.{Shelves, shared_row, seen_at, is_name}
-use Rattle.row_store.specs.Shelving.{shelf_of}
-use Rattle.row_store.specs.Locked.{gives, name_of, is_of, is_named}
+use Rattle.shelves.specs.Places.{Shelves, shared_row, seen_at, is_same_name, is_named}
+use Rattle.shelves.specs.Shelving.{shelf_of}
+use Rattle.row_store.specs.Locked.{gives, name_of, is_of}
 
 -- what a list says of a name: its row or that it has none; nothing of a name that isn't listed
 abbrev pub listed : List NamedRow → RowName → Option (Option RowOf)
 listed [] name = None
-listed (e ∷ es) name = if is_name e.name name then Some (shared_row e.row) else listed es name
+listed (e ∷ es) name = if is_same_name e.name name then Some (shared_row e.row) else listed es name
 
 abbrev pub names_listed : List NamedRow → List RowName
 names_listed rows = map (λ (e : NamedRow). e.name) rows

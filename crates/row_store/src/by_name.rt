@@ -8,19 +8,18 @@ ghost use Rattle.footprint.specs.declared.resource.Resource.{Resource as AnyReso
 ghost use Rattle.footprint.specs.Tree.{resource_cmp};
 ghost use Rattle.proclang_types.specs.declared.right.Right.TheVariants.{Read, Write};
 ghost use Rattle.coarsen.specs.Plans.{IsPlanOver};
-ghost use Rattle.row_store.specs.Places.{seen_at, has_shelf, is_away, has_place, written};
-ghost use Rattle.row_store.specs.Shelving.{shelf_of};
+ghost use Rattle.shelves.specs.Places.{seen_at, has_shelf, is_away, has_place, written};
+ghost use Rattle.shelves.specs.Shelving.{shelf_of};
 ghost use Rattle.row_store.specs.Locked.{gives, name_of, locks_itself};
 ghost use Rattle.row_store.specs.Named.{listed, is_listed, names_listed, reads_only, reads_itself, AreDistinct, AreListed};
-ghost use Rattle.row_store.specs.Views.{found};
+ghost use Rattle.shelves.specs.Rows.{found};
 
 use crate::locked::{gives, name_of};
 use crate::named::NamedRow;
-use crate::shelves::{Shelves, lend_row, put_row, share_row};
-use crate::shelving::shelf_of;
 use catalogue::Catalogue;
 use footprint::{Resource, Right};
 use modes::Mode;
+use shelves::{Shelves, lend_row, put_row, share_row, shelf_of};
 use std::alloc::Global;
 use values::{NoMemory, RowName};
 
@@ -46,7 +45,8 @@ fn read_name(resource: &Resource, mode: Mode) -> Option<RowName>
     }
 }
 
-/// The rows at the names that requests lock by themselves to write, shared with the store, where each name gets a place.
+/// The rows at the names that requests lock by themselves to write, shared with the store,
+/// where each name gets a place.
 pub(crate) fn written_rows(
     alloc: Global,
     catalogue: &Catalogue,
@@ -60,7 +60,8 @@ pub(crate) fn written_rows(
         has_place shelves.new d q ≡ true }
     ensures shelves { (d : AnyResource) → has_shelf shelves.old d ≡ true → has_shelf shelves.new d ≡ true }
     ensures away { (d : AnyResource) → is_away shelves.new d ≡ is_away shelves.old d }
-    ensures rows { IfOk result (λ rows. AreListed catalogue.now rows.items (locks_itself requests.now Write) shelves.old) }
+    ensures rows { IfOk result
+        (λ rows. AreListed catalogue.now rows.items (locks_itself requests.now Write) shelves.old) }
     ensures there { IfOk result (λ rows. (q : AnyName) → locks_itself requests.now Write q ≡ true →
         has_place shelves.new (shelf_of catalogue.now q) q ≡ true) }
     ensures distinct { IfOk result (λ rows. AreDistinct (names_listed rows.items)) }

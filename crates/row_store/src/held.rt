@@ -9,14 +9,14 @@ ghost use Rattle.row_store.specs.Named.{listed, is_listed, names_listed};
 ghost use Rattle.row_store.specs.Held.{row_by_name};
 
 use crate::named::{NamedRow, entry_of, listed_writes, set_rows};
-use crate::shelves::Shelves;
 use footprint::Resource;
+use shelves::Shelves;
 use std::alloc::Global;
 use std::collections::BTreeMap;
 use values::{NoMemory, Row, RowName};
 
-/// The rows of a plan that locks no shelf whole and no row name at which a partition ends, each at a name that the plan locks by
-/// itself.
+/// The rows of a plan that locks no shelf whole and no row name at which a partition ends, each at a name that the plan
+/// locks by itself.
 #[derive(Drop)]
 pub(crate) struct HeldRows {
     /// The rows at names that the plan locks to write: they are given back.
@@ -40,7 +40,8 @@ impl HeldRows {
         }
     }
 
-    /// Makes writes at names that are to be given back. All memory is taken first: an `Err` leaves the rows as they were.
+    /// Makes writes at names that are to be given back. All memory is taken first: an `Err`
+    /// leaves the rows as they were.
     pub(crate) fn apply(
         &mut self,
         alloc: Global,
@@ -74,8 +75,8 @@ pub(crate) struct HeldShelves {
 /// What a loan holds.
 #[derive(Drop)]
 pub(crate) enum Holdings {
-    /// Of a plan that locks no shelf whole, and few rows, none of which ends a partition at a bound: the rows by their names.
-    /// Those that are lent to be written stay in the store, too, where nobody is shown them.
+    /// Of a plan that locks no shelf whole, and few rows, none of which ends a partition at a bound: the rows by their
+    /// names. Those that are lent to be written stay in the store, too, where nobody is shown them.
     Rows(HeldRows),
     /// Of any other plan: shelves.
     Shelves(HeldShelves),

@@ -9,23 +9,22 @@ ghost use Rattle.footprint.specs.declared.resource.Resource.{Resource as AnyReso
 ghost use Rattle.footprint.specs.Tree.{resource_cmp};
 ghost use Rattle.coarsen.specs.Plans.{IsPlanOver};
 ghost use Rattle.coarsen.specs.Clashes.{locks_row};
-ghost use Rattle.row_store.specs.Places.{seen_at, full, settled, has_shelf, is_away, has_place};
-ghost use Rattle.row_store.specs.Shelving.{shelf_of};
-ghost use Rattle.row_store.specs.Locked.{among, is_named, locks_shelf, locks_itself};
+ghost use Rattle.shelves.specs.Places.{seen_at, full, as_it_stands, has_shelf, is_away, has_place, among, is_named};
+ghost use Rattle.shelves.specs.Shelving.{shelf_of};
+ghost use Rattle.row_store.specs.Locked.{locks_shelf, locks_itself};
 ghost use Rattle.row_store.specs.Named.{names_listed, reads_itself, AreDistinct, AreListed};
 ghost use Rattle.row_store.specs.Held.{AreHere, AreReadShelves, IsReady, IsTaken, AreShelvesTaken, CanGoBack, IsBackFrom};
-ghost use Rattle.row_store.specs.Views.{found};
+ghost use Rattle.shelves.specs.Rows.{found};
 
 use crate::by_name::{put_listed, read_rows, written_rows};
-use crate::exchange::{make_shelves, put_shelves, share_shelves, take_shelves};
 use crate::held::{HeldRows, HeldShelves, Holdings};
 use crate::locked::{locked_names, locked_shelves, locks_an_end};
 use crate::moving::{empty_places, make_places, put_rows, share_rows};
-use crate::shelves::Shelves;
 use catalogue::Catalogue;
 use coarsen::Plan;
 use footprint::{Resource, Right};
 use modes::Mode;
+use shelves::{Shelves, make_shelves, put_shelves, share_shelves, take_shelves};
 use std::alloc::Global;
 use std::collections::BTreeMap;
 use values::NoMemory;
@@ -33,8 +32,8 @@ use values::NoMemory;
 /// How many requests a plan has at most whose rows are lent by their names: a name is looked for among all of them.
 const FEW_REQUESTS: usize = 64;
 
-/// The shelves that requests lock whole to read, shared with the store, and an empty shelf for each of those that will be
-/// moved here, which isn't shared.
+/// The shelves that requests lock whole to read, shared with the store, and an empty shelf for each of those that will
+/// be moved here, which isn't shared.
 fn share(
     alloc: Global,
     catalogue: &Catalogue,
@@ -76,26 +75,25 @@ fn hold_shelves(
         has_place shelves.new (shelf_of catalogue.now q) q ≡ true }
     ensures shelves { (d : AnyResource) → has_shelf shelves.old d ≡ true → has_shelf shelves.new d ≡ true }
     ensures away { (d : AnyResource) → is_away shelves.new d ≡ is_away shelves.old d }
-    ensures with_shelf { IfOk result (λ held. (q : AnyName) →
+    ensures in_store { IfOk result (λ held. ((q : AnyName) →
         among held.written_shelves.items (shelf_of catalogue.now q) ≡ true →
-        has_shelf shelves.new (shelf_of catalogue.now q) ≡ true) }
-    ensures with_place { IfOk result (λ held. (q : AnyName) → is_named held.written_names.items q ≡ true →
-        has_place shelves.new (shelf_of catalogue.now q) q ≡ true) }
-    ensures written_shelves { IfOk result (λ held. (q : AnyName) →
+        has_shelf shelves.new (shelf_of catalogue.now q) ≡ true)
+        × ((q : AnyName) → is_named held.written_names.items q ≡ true →
+        has_place shelves.new (shelf_of catalogue.now q) q ≡ true)) }
+    ensures written { IfOk result (λ held. ((q : AnyName) →
         among held.written_shelves.items (shelf_of catalogue.now q)
-        ≡ locks_shelf plan.now Write (shelf_of catalogue.now q)) }
-    ensures written_names { IfOk result (λ held. (q : AnyName) →
-        is_named held.written_names.items q ≡ locks_itself plan.now Write q) }
-    ensures rows { IfOk result (λ held. (q : AnyName) → locks_row catalogue.now plan.now q Read ≡ true →
+        ≡ locks_shelf plan.now Write (shelf_of catalogue.now q))
+        × ((q : AnyName) → is_named held.written_names.items q ≡ locks_itself plan.now Write q)) }
+    ensures shown { IfOk result (λ held. ((q : AnyName) → locks_row catalogue.now plan.now q Read ≡ true →
         among held.written_shelves.items (shelf_of catalogue.now q) ≡ false →
-        found catalogue.now held.shelves q ≡ settled (found catalogue.now shelves.old q)) }
-    ensures here { IfOk result (λ held. (q : AnyName) →
-        (found catalogue.now held.shelves q).row ≡ (found catalogue.now held.shelves q).counts_as) }
-    ensures held_shelf { IfOk result (λ held. (d : AnyResource) → among held.written_shelves.items d ≡ true →
-        has_shelf held.shelves d ≡ true) }
-    ensures held_place { IfOk result (λ held. (q : AnyName) → locks_itself plan.now Read q ≡ true →
-        has_place held.shelves (shelf_of catalogue.now q) q ≡ true) }
-    ensures whole { IfOk result (λ held. (d : AnyResource) → is_away held.shelves d ≡ false) }
+        found catalogue.now held.shelves q ≡ as_it_stands (found catalogue.now shelves.old q))
+        × ((q : AnyName) →
+        (found catalogue.now held.shelves q).row ≡ (found catalogue.now held.shelves q).counts_as)) }
+    ensures in_loan { IfOk result (λ held. ((d : AnyResource) → among held.written_shelves.items d ≡ true →
+        has_shelf held.shelves d ≡ true)
+        × ((q : AnyName) → locks_itself plan.now Read q ≡ true →
+        has_place held.shelves (shelf_of catalogue.now q) q ≡ true)
+        × ((d : AnyResource) → is_away held.shelves d ≡ false)) }
 {
     let requests = plan.requests();
     let written_shelves = locked_shelves(alloc, catalogue, requests, Right::Write)?;
@@ -112,8 +110,8 @@ fn hold_shelves(
     })
 }
 
-/// The rows at the names that requests lock by themselves, shared with the store. Those names that are locked to write have
-/// their places in the store then.
+/// The rows at the names that requests lock by themselves, shared with the store. Those names that are locked to write
+/// have their places in the store then.
 fn hold_rows(
     alloc: Global,
     catalogue: &Catalogue,
@@ -129,7 +127,8 @@ fn hold_rows(
     ensures away { (d : AnyResource) → is_away shelves.new d ≡ is_away shelves.old d }
     ensures written { IfOk result (λ held.
         AreListed catalogue.now held.written.items (locks_itself requests.now Write) shelves.old) }
-    ensures read { IfOk result (λ held. AreListed catalogue.now held.read.items (reads_itself requests.now) shelves.old) }
+    ensures read { IfOk result
+        (λ held. AreListed catalogue.now held.read.items (reads_itself requests.now) shelves.old) }
     ensures there { IfOk result (λ held. (q : AnyName) → locks_itself requests.now Write q ≡ true →
         has_place shelves.new (shelf_of catalogue.now q) q ≡ true) }
     ensures distinct { IfOk result (λ held. AreDistinct (names_listed held.written.items)) }
@@ -139,8 +138,8 @@ fn hold_rows(
     Ok(HeldRows { written, read })
 }
 
-/// What a loan of a plan holds, but for what it will write: that still stands in the store, and has its place there. All
-/// memory for the loan is taken then.
+/// What a loan of a plan holds, but for what it will write: that still stands in the store, and has its place there.
+/// All memory for the loan is taken then.
 pub(crate) fn hold(
     alloc: Global,
     catalogue: &Catalogue,
@@ -193,8 +192,8 @@ fn take_out_shelves(
     }
 }
 
-/// Takes what is lent to be written out of the store. A row that is lent by its name stays, and counts until another is given
-/// back in its place. It takes no memory.
+/// Takes what is lent to be written out of the store. A row that is lent by its name stays, and counts until another is
+/// given back in its place. It takes no memory.
 pub(crate) fn take_out(
     alloc: Global,
     catalogue: &Catalogue,

@@ -9,9 +9,9 @@ ghost use Rattle.coarsen.specs.Clashes.{locks_row};
 ghost use Rattle.workspace.specs.Overlay.{applied};
 
 use crate::held::Holdings;
-use crate::writing::write;
 use catalogue::Catalogue;
 use coarsen::Plan;
+use shelves::write;
 use std::alloc::Global;
 use std::collections::BTreeMap;
 use std::marker::Model;
@@ -42,8 +42,8 @@ impl Model for Loan {
 }
 
 impl Loan {
-    /// Makes the writes of a transaction: puts each row in place of what has its name, and takes away the row of each name
-    /// without one. All memory is taken first: an `Err` leaves the loan as it was.
+    /// Makes the writes of a transaction: puts each row in place of what has its name, and takes away the row of each
+    /// name without one. All memory is taken first: an `Err` leaves the loan as it was.
     pub fn apply(&mut self, writes: BTreeMap<RowName, Option<Row>>) -> Result<(), NoMemory>
         requires { (name : AnyName) → IsSome (tree.get name_cmp writes name) →
             locks_row self.old.tables self.old.plan name Write ≡ true }

@@ -8,13 +8,14 @@ ghost use Rattle.footprint.specs.declared.resource.InTable.TheVariants.{WholeTab
 ghost use Rattle.footprint.specs.OfCatalogue.{IsResourceOf};
 ghost use Rattle.coarsen.specs.Subtrees.{holds};
 ghost use Rattle.coarsen.specs.Plans.{IsPlanOver};
-ghost use Rattle.row_store.specs.Shelving.{shelf_of};
-ghost use Rattle.row_store.specs.Locked.{gives, name_of, is_an_end, among, is_named, locks_shelf, locks_itself};
+ghost use Rattle.shelves.specs.Shelving.{shelf_of};
+ghost use Rattle.row_store.specs.Locked.{gives, name_of, is_an_end, locks_shelf, locks_itself};
+ghost use Rattle.shelves.specs.Places.{among, is_named};
 
-use crate::shelving::ends_partition;
 use catalogue::Catalogue;
 use footprint::{InPart, InTable, Resource, Right};
 use modes::Mode;
+use shelves::ends_partition;
 use std::alloc::Global;
 use values::{Key, NoMemory, RowName, TableNo};
 

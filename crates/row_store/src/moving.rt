@@ -3,15 +3,13 @@
 ghost use Rattle.std.specs.Prelude.{◌≡◌, true, false, ◌&&◌, ◌||◌, OnOk};
 ghost use Rattle.values.specs.declared.name.RowName.{RowName as AnyName};
 ghost use Rattle.footprint.specs.declared.resource.Resource.{Resource as AnyResource};
-ghost use Rattle.row_store.specs.Places.{has_shelf, is_away, has_place, seen_at, is_shelf, is_name};
-ghost use Rattle.row_store.specs.Shelving.{shelf_of};
-ghost use Rattle.row_store.specs.Locked.{is_named};
+ghost use Rattle.shelves.specs.Places.{has_shelf, is_away, has_place, seen_at, is_same_shelf, is_same_name, is_named};
+ghost use Rattle.shelves.specs.Shelving.{shelf_of};
 ghost use Rattle.row_store.specs.Moving.{AreEmptied, IsShared, AreShared, IsRowPut, AreOthersKept, AreRowsPut};
 
-use crate::shelves::{Shelves, add_row, empty_place, make_place, put_row, share_row, take_row};
-use crate::shelving::shelf_of;
 use catalogue::Catalogue;
 use footprint::Resource;
+use shelves::{Shelves, add_row, empty_place, make_place, put_row, share_row, shelf_of, take_row};
 use std::alloc::Global;
 use values::{NoMemory, RowName};
 
@@ -88,14 +86,14 @@ pub(crate) fn share_rows(
     Ok(())
 }
 
-/// Moves the row of a name from a loan into the place in the store, if both have a place of that name. Without a row the
-/// place goes.
+/// Moves the row of a name from a loan into the place in the store, if both have a place of that name. Without a row
+/// the place goes.
 fn put_one_row(shelves: &mut Shelves, from: &mut Shelves, at: &Resource, name: &RowName)
     ensures seen { IsRowPut at.now name.now from.old shelves.old shelves.new }
     ensures others { AreOthersKept at.now name.now shelves.old shelves.new }
     ensures shelves { (d : AnyResource) → has_shelf shelves.new d ≡ has_shelf shelves.old d }
     ensures away { (d : AnyResource) → is_away shelves.new d ≡ is_away shelves.old d }
-    ensures left { (d : AnyResource) (q : AnyName) → (is_shelf at.now d && is_name name.now q) ≡ true →
+    ensures left { (d : AnyResource) (q : AnyName) → (is_same_shelf at.now d && is_same_name name.now q) ≡ true →
         has_place from.new d q ≡ false }
     ensures left_others { AreOthersKept at.now name.now from.old from.new }
 {

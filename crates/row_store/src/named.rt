@@ -5,10 +5,10 @@ ghost use Rattle.std.specs.Option.{option_or};
 ghost use Rattle.std.specs.BTreeMap as tree;
 ghost use Rattle.values.specs.declared.name.RowName.{RowName as AnyName};
 ghost use Rattle.values.specs.Database.{name_cmp};
-ghost use Rattle.row_store.specs.Places.{shared_row, is_name};
+ghost use Rattle.shelves.specs.Places.{shared_row, is_same_name};
 ghost use Rattle.row_store.specs.Named.{listed, is_listed, names_listed};
 
-use crate::writing::shared;
+use shelves::shared;
 use std::alloc::Global;
 use std::collections::BTreeMap;
 use std::sync::Arc;
@@ -22,8 +22,8 @@ pub(crate) struct NamedRow {
 }
 
 /// Whether two names are one.
-fn is_name(a: &RowName, b: &RowName) -> bool
-    ensures { result ≡ is_name a.now b.now }
+fn is_same_name(a: &RowName, b: &RowName) -> bool
+    ensures { result ≡ is_same_name a.now b.now }
 {
     a == b
 }
@@ -33,7 +33,7 @@ pub(crate) fn entry_of<'a>(rows: &'a [NamedRow], name: &RowName) -> Option<&'a N
     ensures { option_map (λ e. shared_row e.now.row) result ≡ listed rows.now name.now }
 {
     for entry in rows {
-        if is_name(&entry.name, name) {
+        if is_same_name(&entry.name, name) {
             return Some(entry);
         }
     }
@@ -44,11 +44,11 @@ pub(crate) fn entry_of<'a>(rows: &'a [NamedRow], name: &RowName) -> Option<&'a N
 fn set_row(rows: &mut Vec<NamedRow>, name: &RowName, row: Option<Arc<Row>>)
     ensures names { names_listed rows.new.items ≡ names_listed rows.old.items }
     ensures rows { (q : AnyName) →
-        listed rows.new.items q ≡ (if is_name name.now q && is_listed rows.old.items q then Some (shared_row row)
+        listed rows.new.items q ≡ (if is_same_name name.now q && is_listed rows.old.items q then Some (shared_row row)
         else listed rows.old.items q) }
 {
     for place in 0..rows.len() {
-        if is_name(&rows[place].name, name) {
+        if is_same_name(&rows[place].name, name) {
             rows[place].row = row;
             return;
         }

@@ -1,33 +1,31 @@
 //! The row store.
 
-ghost use Rattle.std.specs.Prelude.{◌≡◌, ℕ, true, Some, None, if◌then◌else◌, IfOk, OnOk, OnErr};
+ghost use Rattle.std.specs.Prelude.{◌≡◌, ℕ, Some, None, if◌then◌else◌, IfOk, OnOk, OnErr};
 ghost use Rattle.std.specs.FinMap as map;
 ghost use Rattle.values.specs.declared.name.RowName.{RowName as AnyName};
 ghost use Rattle.catalogue.specs.Schemas.{HaveSameSchema};
-ghost use Rattle.proclang_types.specs.declared.right.Right.TheVariants.{Read, Write};
+ghost use Rattle.proclang_types.specs.declared.right.Right.TheVariants.{Write};
 ghost use Rattle.coarsen.specs.Subtrees.{Requests};
 ghost use Rattle.coarsen.specs.Plans.{IsPlanOver};
 ghost use Rattle.coarsen.specs.Clashes.{locks_row, ModesClash};
 ghost use Rattle.workspace.specs.Overlay.{applied};
 ghost use Rattle.row_store.specs.Laws.{AreLentAlone};
-ghost use Rattle.row_store.specs.Stock.{with_rows};
+ghost use Rattle.row_store.specs.Stock.{IsLoanFrom};
+ghost use Rattle.shelves.specs.Rows.{with_rows};
 
-use crate::filling::filled;
 use crate::lending::{hold, put_back, take_out};
 use crate::loan::Loan;
-use crate::rebuilding::rebuilt;
-use crate::shelves::Shelves;
-use crate::writing::write;
 use catalogue::Catalogue;
 use coarsen::{Plan, clashes_are_either_way, locked_rows_conflict};
+use shelves::{Shelves, filled, rebuilt, write};
 use std::alloc::Global;
 use std::collections::BTreeMap;
 use std::marker::Model;
 use std::snapshot::Snapshot;
 use values::{Key, NoMemory, Row, RowName, TableNo};
 
-/// The rows of a database over the tables of a catalogue, and the plans for which rows are lent, by numbers. Rows that are
-/// lent count as they were lent.
+/// The rows of a database over the tables of a catalogue, and the plans for which rows are lent, by numbers. Rows that
+/// are lent count as they were lent.
 #[derive(Drop)]
 pub struct RowStore {
     pub(crate) alloc: Global,
@@ -38,7 +36,8 @@ pub struct RowStore {
 
 impl Model for RowStore {
     ghost use Rattle.row_store.specs.Stock.{Stock, stock_code};
-    ghost use Rattle.row_store.specs.Views.{rows_of, lent_of, IsRowStore};
+    ghost use Rattle.shelves.specs.Rows.{rows_of};
+    ghost use Rattle.row_store.specs.Views.{lent_of, IsRowStore};
 
     ghost Value = { Stock };
 
@@ -71,8 +70,8 @@ impl RowStore {
         })
     }
 
-    /// The same rows over another catalogue, whose tables have the same names and columns in the same order: how keys are split
-    /// may differ. Nothing is lent.
+    /// The same rows over another catalogue, whose tables have the same names and columns in the same order: how keys
+    /// are split may differ. Nothing is lent.
     pub fn rebuild(&self, catalogue: &Catalogue) -> Result<RowStore, NoMemory>
         requires same { HaveSameSchema self.now.tables catalogue.now }
         requires unlent { self.now.lent ≡ map.empty }
@@ -91,8 +90,8 @@ impl RowStore {
         })
     }
 
-    /// Lends the rows that a plan locks under a number. No loan is out under that number, and none is out whose plan is in
-    /// conflict with the plan. An `Err` leaves the store as it was.
+    /// Lends the rows that a plan locks under a number. No loan is out under that number, and none is out whose plan is
+    /// in conflict with the plan. An `Err` leaves the store as it was.
     pub fn lend(&mut self, no: u64, plan: &Plan) -> Result<Loan, NoMemory>
         requires over { IsPlanOver self.old.tables plan.now }
         requires unlent { map.get self.old.lent no ≡ None }
@@ -102,11 +101,9 @@ impl RowStore {
         ensures rows { self.new.rows ≡ self.old.rows }
         ensures lent { OnOk result (self.new.lent ≡ map.insert self.old.lent no plan.now) }
         ensures err { OnErr result (self.new ≡ self.old) }
-        ensures loan_tables { IfOk result (λ loan. loan.tables ≡ self.old.tables) }
-        ensures loan_plan { IfOk result (λ loan. loan.plan ≡ plan.now) }
-        ensures loan_rows { IfOk result (λ loan. (name : AnyName) →
-            locks_row self.old.tables plan.now name Read ≡ true → map.get loan.rows name ≡ map.get self.old.rows name) }
+        ensures loan { IfOk result (IsLoanFrom self.old plan.now) }
     {
+        // proof: plans that lock one row name, one of them to write, are in conflict.
         locked_rows_conflict();
         clashes_are_either_way();
         // What holds of plans says that none of the rows that the plan locks is away.
@@ -123,8 +120,8 @@ impl RowStore {
         })
     }
 
-    /// Takes back what was lent under a number: the loan's rows at the names that its plan locks to write; every other name
-    /// keeps its row. It takes no memory.
+    /// Takes back what was lent under a number: the loan's rows at the names that its plan locks to write; every other
+    /// name keeps its row. It takes no memory.
     pub fn give_back(&mut self, no: u64, loan: Loan)
         requires lent { map.get self.old.lent no ≡ Some loan.plan }
         requires tables { loan.tables ≡ self.old.tables }
@@ -133,6 +130,7 @@ impl RowStore {
             then map.get loan.rows name else map.get self.old.rows name) }
         ensures lent { self.new.lent ≡ map.remove self.old.lent no }
     {
+        // proof: plans that lock one row name, one of them to write, are in conflict.
         locked_rows_conflict();
         let Loan {
             alloc: _,
@@ -144,8 +142,8 @@ impl RowStore {
         self.lent.remove(&no);
     }
 
-    /// Makes the writes of a transaction: puts each row in place of what has its name, and takes away the row of each name
-    /// without one. An `Err` leaves the store as it was.
+    /// Makes the writes of a transaction: puts each row in place of what has its name, and takes away the row of each
+    /// name without one. An `Err` leaves the store as it was.
     pub fn apply(&mut self, writes: BTreeMap<RowName, Option<Row>>) -> Result<(), NoMemory>
         ensures tables { self.new.tables ≡ self.old.tables }
         ensures rows { OnOk result (self.new.rows ≡ applied writes.entries self.old.rows) }
@@ -156,13 +154,14 @@ impl RowStore {
         Ok(())
     }
 
-    /// A law; nothing is done. A row that a plan locks to write is its loan's alone while it is lent: the store doesn't show
-    /// it, and no other plan that is lent locks its name.
+    /// A law; nothing is done. A row that a plan locks to write is its loan's alone while it is lent: the store doesn't
+    /// show it, and no other plan that is lent locks its name.
     pub fn written_rows_are_lent_alone(&self)
         ensures { AreLentAlone self.now.tables self.now.lent }
     {
         // What holds of the plans that are lent says it.
         let _lent = &self.lent;
+        // proof: plans that lock one row name, one of them to write, are in conflict.
         locked_rows_conflict();
     }
 

@@ -2,10 +2,8 @@
 
 use crate::held::Holdings;
 use crate::loan::Loan;
-use crate::scan::{next_row, push_rows};
-use crate::shelves::row_at;
-use crate::shelving::{has_ends, shelf_of};
 use crate::store::RowStore;
+use shelves::{has_ends, next_row, push_rows, row_at, shelf_of};
 use std::alloc::AllocError;
 use values::{Key, Row, RowName, TableNo};
 use workspace::RowView;
@@ -59,6 +57,7 @@ impl RowView for Loan {
     }
 
     fn next_row(&self, table: TableNo, part: u32, after: Option<Key>) -> Option<(Key, &Row)> {
+        // proof: a partition with a name has a last one.
         has_ends(&self.catalogue);
         match &self.held {
             // The plan locks no shelf whole and no last name of a partition, so that the loan shows no partition.
@@ -75,6 +74,7 @@ impl RowView for Loan {
         part: u32,
         gathered: &mut Vec<(Key, &'a Row)>,
     ) -> Result<(), AllocError> {
+        // proof: a partition with a name has a last one.
         has_ends(&self.catalogue);
         match &self.held {
             // The plan locks no shelf whole and no last name of a partition, so that the loan shows no partition.

@@ -11,7 +11,7 @@ use Rattle.requests.specs.Requests.{Call}
 use Rattle.sequencer.specs.declared.attempts.Carried.{Carried}
 use Rattle.report_text.specs.Texts.{digest, end_line, row_text}
 use Rattle.report_text.specs.Report.{end_text}
-use Rattle.retries.specs.Standings.{behind, closing, transactions_in, while_carried, Standing}
+use Rattle.retries.specs.Standings.{after_batch, closing, transactions_in, while_carried, Standing}
 use Rattle.retries.proofs.Reported.{end_is}
 use Rattle.engine.specs.Engines.{EngineParts, tables_of}
 use Rattle.running.specs.declared.run_fault.RunFault.{RunFault}
@@ -21,7 +21,7 @@ use Rattle.running.specs.Hashers.{said_of}
 use Rattle.running.specs.Reported.{lines_of, with_closing, with_drained, HasClosed, HasReported, IsClosing, IsCutAt}
 use Rattle.running.specs.Standings.{standing_of}
 use Rattle.running.specs.Stops.{IsNotOfThread}
-use Rattle.running.specs.Stopped.{at_end, in_closing, standing_behind}
+use Rattle.running.specs.Stopped.{at_end, in_closing, standing_after}
 use Rattle.running.proofs.Reported.{next_text_is, standing_next, HasReported-next}
 
 -- ---- the batches that are still to come
@@ -37,7 +37,7 @@ one_to_come (c ∷ cs) rest h = refl
 -- where nothing is carried, no batch is to come, however many might
 closing_none : (retries most : ℕ) (s : Standing) → length s.carried ≡ 0 → closing retries most s ≡ []
 closing_none retries zero s h = refl
-closing_none retries (suc most) s h = none_to_come s.carried (closing retries most (behind retries s [])) h
+closing_none retries (suc most) s h = none_to_come s.carried (closing retries most (after_batch retries s [])) h
 
 -- ---- what a sink has given on before
 
@@ -71,7 +71,7 @@ pub HasClosed-none : (procs : ProcsParts) (retries most : ℕ) (db : Database) (
 HasClosed-none procs retries most db ran engine transcript sink gave e h = record {
   closers = [];
   reported = rw (append-nil ran) h;
-  first = ap (λ n. closing retries n (standing_behind retries db ran)) (sym e) ∙ ap (λ (batches : List (List Call)). closing retries most (standing_behind retries db batches)) (sym (append-nil ran));
+  first = ap (λ n. closing retries n (standing_after retries db ran)) (sym e) ∙ ap (λ (batches : List (List Call)). closing retries most (standing_after retries db batches)) (sym (append-nil ran));
 }
 
 -- after the first of the batches that close a log, something is carried, so that one without calls is next
@@ -80,33 +80,33 @@ module _ (procs : ProcsParts) (retries most left n : ℕ) (db : Database) (ran :
   abbrev before : List (List Call)
   before = ran ++ h.closers
 
-  carries : ¬ (length (standing_behind retries db before).carried ≡ 0)
+  carries : ¬ (length (standing_after retries db before).carried ≡ 0)
   carries none = some (e ∙ ap (λ (s : Standing). length s.carried) h.reported.standing_is ∙ none)
 
   all : before ++ [] ∷ [] ≡ ran ++ (h.closers ++ [] ∷ [])
   all = append_assoc ran h.closers ([] ∷ [])
 
-  next : closing retries most (standing_behind retries db before) ≡ [] ∷ closing retries left (standing_behind retries db (before ++ [] ∷ []))
+  next : closing retries most (standing_after retries db before) ≡ [] ∷ closing retries left (standing_after retries db (before ++ [] ∷ []))
   next =
-      ap (λ k. closing retries k (standing_behind retries db before)) (more ∙ one_more left)
-      ∙ one_to_come (standing_behind retries db before).carried (closing retries left (behind retries (standing_behind retries db before) [])) carries
+      ap (λ k. closing retries k (standing_after retries db before)) (more ∙ one_more left)
+      ∙ one_to_come (standing_after retries db before).carried (closing retries left (after_batch retries (standing_after retries db before) [])) carries
       ∙ ap (λ (s : Standing). [] ∷ closing retries left s) (sym (standing_next retries db before []))
     where
       one_more : (k : ℕ) → k + 1 ≡ suc k
       one_more k = omega arith
 
-  first_with : closing retries retries (standing_behind retries db ran) ≡ (h.closers ++ [] ∷ []) ++ closing retries left (standing_behind retries db (ran ++ (h.closers ++ [] ∷ [])))
+  first_with : closing retries retries (standing_after retries db ran) ≡ (h.closers ++ [] ∷ []) ++ closing retries left (standing_after retries db (ran ++ (h.closers ++ [] ∷ [])))
   first_with =
       h.first ∙ ap (λ (rest : List (List Call)). h.closers ++ rest) next
-      ∙ sym (append_assoc h.closers ([] ∷ []) (closing retries left (standing_behind retries db (before ++ [] ∷ []))))
-      ∙ ap (λ (batches : List (List Call)). (h.closers ++ [] ∷ []) ++ closing retries left (standing_behind retries db batches)) all
+      ∙ sym (append_assoc h.closers ([] ∷ []) (closing retries left (standing_after retries db (before ++ [] ∷ []))))
+      ∙ ap (λ (batches : List (List Call)). (h.closers ++ [] ∷ []) ++ closing retries left (standing_after retries db batches)) all
 
   -- it was run and reported
-  pub HasClosed-next : (after : EngineParts) (behind_it : Transcript) (given : Option (List ℕ)) → after.procs ≡ engine.procs → after.retries ≡ engine.retries →
-      IsReported engine after transcript behind_it gave given [] → HasClosed procs retries db ran left after behind_it sink given
-  HasClosed-next after behind_it given same same_retries reported = record {
+  pub HasClosed-next : (after : EngineParts) (after_it : Transcript) (given : Option (List ℕ)) → after.procs ≡ engine.procs → after.retries ≡ engine.retries →
+      IsReported engine after transcript after_it gave given [] → HasClosed procs retries db ran left after after_it sink given
+  HasClosed-next after after_it given same same_retries reported = record {
     closers = h.closers ++ [] ∷ [];
-    reported = rw all at (HasReported-next procs retries db before [] engine after transcript behind_it sink gave given h.reported same same_retries reported);
+    reported = rw all at (HasReported-next procs retries db before [] engine after transcript after_it sink gave given h.reported same same_retries reported);
     first = first_with;
   }
 
@@ -116,7 +116,7 @@ module _ (procs : ProcsParts) (retries most left n : ℕ) (db : Database) (ran :
     closers = h.closers;
     ends = refl;
     closed = (
-      closing retries left (standing_behind retries db (before ++ [] ∷ [])),
+      closing retries left (standing_after retries db (before ++ [] ∷ [])),
       h.first ∙ ap (λ (rest : List (List Call)). h.closers ++ rest) next,
     );
     written = (gave, h.reported.text_is, rw (next_text_is procs retries db before [] engine transcript sink gave h.reported) at front);
@@ -124,22 +124,22 @@ module _ (procs : ProcsParts) (retries most left n : ℕ) (db : Database) (ran :
 
 -- nothing is carried any more, or no batch may be to come
 pub HasClosed-end : (procs : ProcsParts) (retries most : ℕ) (db : Database) (ran : List (List Call)) (engine : EngineParts) (transcript : Transcript) (sink gave : Option (List ℕ))
-    (h : HasClosed procs retries db ran most engine transcript sink gave) → closing retries most (standing_behind retries db (ran ++ h.closers)) ≡ [] →
+    (h : HasClosed procs retries db ran most engine transcript sink gave) → closing retries most (standing_after retries db (ran ++ h.closers)) ≡ [] →
     HasReported procs retries db (with_closing retries db ran) engine transcript sink gave
 HasClosed-end procs retries most db ran engine transcript sink gave h none =
-    let closers : closing retries retries (standing_behind retries db ran) ≡ h.closers = h.first ∙ ap (λ (rest : List (List Call)). h.closers ++ rest) none ∙ append-nil h.closers in
+    let closers : closing retries retries (standing_after retries db ran) ≡ h.closers = h.first ∙ ap (λ (rest : List (List Call)). h.closers ++ rest) none ∙ append-nil h.closers in
     rw closers h.reported
 
 pub HasClosed-uncarried : (procs : ProcsParts) (retries most n : ℕ) (db : Database) (ran : List (List Call)) (engine : EngineParts) (transcript : Transcript) (sink gave : Option (List ℕ)) →
     HasClosed procs retries db ran most engine transcript sink gave → n ≡ length engine.carried → n ≡ 0 → HasReported procs retries db (with_closing retries db ran) engine transcript sink gave
 HasClosed-uncarried procs retries most n db ran engine transcript sink gave h e none =
     HasClosed-end procs retries most db ran engine transcript sink gave h
-    (closing_none retries most (standing_behind retries db (ran ++ h.closers)) (sym (e ∙ ap (λ (s : Standing). length s.carried) h.reported.standing_is) ∙ none))
+    (closing_none retries most (standing_after retries db (ran ++ h.closers)) (sym (e ∙ ap (λ (s : Standing). length s.carried) h.reported.standing_is) ∙ none))
 
 pub HasClosed-spent : (procs : ProcsParts) (retries most : ℕ) (db : Database) (ran : List (List Call)) (engine : EngineParts) (transcript : Transcript) (sink gave : Option (List ℕ)) →
     HasClosed procs retries db ran most engine transcript sink gave → most ≡ 0 → HasReported procs retries db (with_closing retries db ran) engine transcript sink gave
 HasClosed-spent procs retries most db ran engine transcript sink gave h none =
-    HasClosed-end procs retries most db ran engine transcript sink gave h (ap (λ n. closing retries n (standing_behind retries db (ran ++ h.closers))) none)
+    HasClosed-end procs retries most db ran engine transcript sink gave h (ap (λ n. closing retries n (standing_after retries db (ran ++ h.closers))) none)
 
 -- ---- the end line
 
@@ -171,7 +171,7 @@ ended (Err fault) procs retries db ran engine transcript sink gave given h count
     stage = at_end;
     all_read = tt;
     cut = record {
-      closers = closing retries retries (standing_behind retries db ran);
+      closers = closing retries retries (standing_after retries db ran);
       ends = (refl, threadless);
       closed = refl;
       written = (gave, h.text_is, front);

@@ -10,9 +10,9 @@ use Rattle.batch_log.specs.Lines.{Lines}
 use Rattle.batch_log.specs.declared.fault.LogFault.{LogFault}
 use Rattle.batch_log.specs.Log.{batches_of, first_fault, IsEnd}
 use Rattle.report_text.specs.Report.{end_text}
-use Rattle.retries.specs.Standings.{behind, closed, closing, transactions_in, Standing}
+use Rattle.retries.specs.Standings.{after_batch, closed, closing, transactions_in, Standing}
 use Rattle.running.specs.Reports.{report_of}
-use Rattle.running.specs.Stopped.{at_end, in_batch, in_closing, next_text, reading, said_behind, standing_behind, text_at, texts_of, AppendsAndFront, HaveClosed, IsStoppedAt, IsTakenAt, Stage}
+use Rattle.running.specs.Stopped.{at_end, in_batch, in_closing, next_text, reading, said_after, standing_after, text_at, texts_of, AppendsAndFront, HaveClosed, IsStoppedAt, IsTakenAt, Stage}
 use Rattle.running.proofs.Reported.{texts_further, texts_next}
 use Rattle.running.proofs.SoFar.{calls_are, report_is}
 
@@ -43,12 +43,12 @@ begins_next procs retries db faulty ran calls more all e =
       ap (λ text. text ++ end) (ap (texts_of procs retries db) e ∙ further.1) ∙ append_assoc (texts_of procs retries db ran ++ next_text procs retries db ran calls) further.0 end,
     )
 
--- the batches of a log, where its lines behind some batches are these
-abbrev behind_with : ℕ → Database → List (List Call) → Lines → List (List Call)
-behind_with retries db reported lines = reported ++ closed retries (is_some (first_fault lines)) (standing_behind retries db reported) (batches_of lines)
+-- the batches of a log, where its lines after some batches are these
+abbrev after_with : ℕ → Database → List (List Call) → Lines → List (List Call)
+after_with retries db reported lines = reported ++ closed retries (is_some (first_fault lines)) (standing_after retries db reported) (batches_of lines)
 
-abbrev report_behind : ProcsParts → ℕ → Database → List (List Call) → Lines → List ℕ
-report_behind procs retries db reported lines = whole_text procs retries db (is_some (first_fault lines)) (behind_with retries db reported lines)
+abbrev report_after : ProcsParts → ℕ → Database → List (List Call) → Lines → List ℕ
+report_after procs retries db reported lines = whole_text procs retries db (is_some (first_fault lines)) (after_with retries db reported lines)
 
 -- where these lines are none
 closes : (retries : ℕ) (lines : Lines) (s : Standing) → IsEnd lines → closed retries (is_some (first_fault lines)) s (batches_of lines) ≡ closing retries retries s
@@ -56,29 +56,29 @@ closes retries lines s h = ap (λ (bs : List (List Call)). closed retries (is_so
 
 -- the report begins with what is written by each stage
 begins_at : (stage : Stage) (procs : ProcsParts) (retries : ℕ) (db : Database) (reported closers : List (List Call)) (bytes taken rest : List ℕ) →
-    IsTakenAt stage procs retries reported bytes taken rest → HaveClosed stage retries (standing_behind retries db reported) closers →
-    Begins (report_behind procs retries db reported (said_behind procs retries bytes reported (taken ++ rest))) (texts_of procs retries db (reported ++ closers) ++ text_at stage procs retries db (reported ++ closers))
+    IsTakenAt stage procs retries reported bytes taken rest → HaveClosed stage retries (standing_after retries db reported) closers →
+    Begins (report_after procs retries db reported (said_after procs retries bytes reported (taken ++ rest))) (texts_of procs retries db (reported ++ closers) ++ text_at stage procs retries db (reported ++ closers))
 begins_at reading procs retries db reported closers bytes taken rest at none =
-    let lines : Lines = said_behind procs retries bytes reported (taken ++ rest) in
-    let more : List (List Call) = closed retries (is_some (first_fault lines)) (standing_behind retries db reported) (batches_of lines) in
-    rw (none, append-nil reported) (begins_further procs retries db (is_some (first_fault lines)) reported more (behind_with retries db reported lines) refl)
+    let lines : Lines = said_after procs retries bytes reported (taken ++ rest) in
+    let more : List (List Call) = closed retries (is_some (first_fault lines)) (standing_after retries db reported) (batches_of lines) in
+    rw (none, append-nil reported) (begins_further procs retries db (is_some (first_fault lines)) reported more (after_with retries db reported lines) refl)
 begins_at (in_batch calls) procs retries db reported closers bytes taken rest at none =
-    let lines : Lines = said_behind procs retries bytes reported (taken ++ rest) in
+    let lines : Lines = said_after procs retries bytes reported (taken ++ rest) in
     let f : Bool = is_some (first_fault lines) in
-    let s : Standing = standing_behind retries db reported in
-    let left : List (List Call) = batches_of (said_behind procs retries (bytes ++ taken) (reported ++ calls ∷ []) rest) in
+    let s : Standing = standing_after retries db reported in
+    let left : List (List Call) = batches_of (said_after procs retries (bytes ++ taken) (reported ++ calls ∷ []) rest) in
     rw (none, append-nil reported)
-    (begins_next procs retries db f reported calls (closed retries f (behind retries s calls) left) (behind_with retries db reported lines)
+    (begins_next procs retries db f reported calls (closed retries f (after_batch retries s calls) left) (after_with retries db reported lines)
     (ap (λ (bs : List (List Call)). reported ++ closed retries f s bs) at.batches))
 begins_at in_closing procs retries db reported closers bytes taken rest at closing_is =
-    let lines : Lines = said_behind procs retries bytes reported (taken ++ rest) in
-    begins_next procs retries db (is_some (first_fault lines)) (reported ++ closers) [] closing_is.0 (behind_with retries db reported lines)
-    (ap (λ (bs : List (List Call)). reported ++ bs) (closes retries lines (standing_behind retries db reported) at.0 ∙ closing_is.1) ∙ sym (append_assoc reported closers ([] ∷ closing_is.0)))
+    let lines : Lines = said_after procs retries bytes reported (taken ++ rest) in
+    begins_next procs retries db (is_some (first_fault lines)) (reported ++ closers) [] closing_is.0 (after_with retries db reported lines)
+    (ap (λ (bs : List (List Call)). reported ++ bs) (closes retries lines (standing_after retries db reported) at.0 ∙ closing_is.1) ∙ sym (append_assoc reported closers ([] ∷ closing_is.0)))
 begins_at at_end procs retries db reported closers bytes taken rest at closing_is =
-    let lines : Lines = said_behind procs retries bytes reported (taken ++ rest) in
-    let all : behind_with retries db reported lines ≡ reported ++ closers = ap (λ (bs : List (List Call)). reported ++ bs) (closes retries lines (standing_behind retries db reported) at.0 ∙ closing_is) in (
+    let lines : Lines = said_after procs retries bytes reported (taken ++ rest) in
+    let all : after_with retries db reported lines ≡ reported ++ closers = ap (λ (bs : List (List Call)). reported ++ bs) (closes retries lines (standing_after retries db reported) at.0 ∙ closing_is) in (
       [],
-      ap (λ (o : Option LogFault). whole_text procs retries db (is_some o) (behind_with retries db reported lines)) at.0.fault
+      ap (λ (o : Option LogFault). whole_text procs retries db (is_some o) (after_with retries db reported lines)) at.0.fault
           ∙ ap (whole_text procs retries db false) all ∙ sym (append-nil (whole_text procs retries db false (reported ++ closers))),
     )
 
@@ -93,7 +93,7 @@ front_of sink filled front text all h b = (
 front_known : (stage : Stage) (procs : ProcsParts) (retries : ℕ) (db : Database) (failed : Bool) (log : List ℕ) (sink filled : Option (List ℕ)) (line : ℕ) →
     IsStoppedAt stage procs retries db failed log sink filled line → AppendsFront sink filled (report_of procs retries db log)
 front_known stage procs retries db failed log sink filled line s =
-    let lines : Lines = said_behind procs retries s.bytes s.reported (s.taken ++ s.rest) in
+    let lines : Lines = said_after procs retries s.bytes s.reported (s.taken ++ s.rest) in
     let begins = begins_at stage procs retries db s.reported s.closers s.bytes s.taken s.rest s.at s.closed in
     let report : report_of procs retries db log ≡ (texts_of procs retries db (s.reported ++ s.closers) ++ text_at stage procs retries db (s.reported ++ s.closers)) ++ begins.0 =
     report_is procs retries db log _ (first_fault lines) (calls_are procs retries db log s.reported (batches_of lines) (first_fault lines) s.batches s.fault) s.fault ∙ begins.1 in

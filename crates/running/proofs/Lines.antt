@@ -14,7 +14,7 @@ use Rattle.sequencer.specs.Attempts.{attempts_of, Attempt}
 use Rattle.sequencer.specs.Batches.{items_of, items_from, RequestItem}
 use Rattle.sequencer.specs.Entries.{prepared}
 use Rattle.report_text.specs.Report.{batch_text, entries_in, reply_lines, Transaction}
-use Rattle.retries.specs.Standings.{attempts_at, behind, replies_at, transaction_of, transactions_at}
+use Rattle.retries.specs.Standings.{attempts_at, after_batch, replies_at, transaction_of, transactions_at}
 use Rattle.engine.specs.declared.replies.BatchDone.{BatchDone}
 use Rattle.engine.specs.declared.replies.Reply.{Reply}
 use Rattle.engine.specs.Batches.{entries_of, next_attempts}
@@ -72,7 +72,7 @@ module _ (old new : EngineParts) (batch : Batch) (run : BatchDone) (calls : List
   pub rows_are : new.rows ≡ serial_end (entries_in (transactions_at (standing_of old) calls)) old.rows
   rows_are = ran.rows ∙ ap (λ (es : List EntryShape). serial_end es old.rows) entries
 
-  pub standing_is : standing_of new ≡ behind old.retries (standing_of old) calls
+  pub standing_is : standing_of new ≡ after_batch old.retries (standing_of old) calls
   standing_is = rw (ran.next, rows_are, ran.carried, entries) refl
 
 pub text_is : (tables given : List TableShape) (batch n : ℕ) (db after : Database) (transactions : List Transaction) (lines : List ℕ) →

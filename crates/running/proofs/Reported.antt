@@ -10,8 +10,8 @@ use Rattle.requests.specs.ProcLists.{ProcsParts}
 use Rattle.requests.specs.Requests.{Call}
 use Rattle.batch_log.specs.Log.{most_calls}
 use Rattle.report_text.specs.Report.{batch_text, next_batch, reply_lines}
-use Rattle.retries.specs.Standings.{attempts_at, behind, call_count, replies_at, start_of, transactions_at, Standing}
-use Rattle.retries.proofs.Followed.{behind_all-append}
+use Rattle.retries.specs.Standings.{attempts_at, after_batch, call_count, replies_at, start_of, transactions_at, Standing}
+use Rattle.retries.proofs.Followed.{after_batches-append}
 use Rattle.retries.proofs.Reported.{texts_grown}
 use Rattle.retries.proofs.Serial.{lines_grown}
 use Rattle.retries.proofs.Spent.{at_most_next, fits}
@@ -19,9 +19,9 @@ use Rattle.engine.specs.Engines.{EngineParts}
 use Rattle.running.specs.declared.transcript.Transcript.{Transcript}
 use Rattle.running.specs.Batches.{due_text, IsReported}
 use Rattle.running.specs.Hashers.{batch_of, said_of}
-use Rattle.running.specs.Reported.{lines_of, HasReported, IsBehindLog}
+use Rattle.running.specs.Reported.{lines_of, HasReported, IsAfterLog}
 use Rattle.running.specs.Standings.{standing_of}
-use Rattle.running.specs.Stopped.{next_text, standing_behind, texts_of}
+use Rattle.running.specs.Stopped.{next_text, standing_after, texts_of}
 
 -- ---- nothing has run
 
@@ -47,8 +47,8 @@ HasReported-none engine transcript sink e f b h = record {
 number_next : (b n m : ℕ) → b ≡ next_batch n → m ≡ n + 1 → next_batch b ≡ next_batch m
 number_next b n m e f = omega arith
 
-pub standing_next : (retries : ℕ) (db : Database) (ran : List (List Call)) (calls : List Call) → standing_behind retries db (ran ++ calls ∷ []) ≡ behind retries (standing_behind retries db ran) calls
-standing_next retries db ran calls = behind_all-append retries (start_of db) ran (calls ∷ [])
+pub standing_next : (retries : ℕ) (db : Database) (ran : List (List Call)) (calls : List Call) → standing_after retries db (ran ++ calls ∷ []) ≡ after_batch retries (standing_after retries db ran) calls
+standing_next retries db ran calls = after_batches-append retries (start_of db) ran (calls ∷ [])
 
 abbrev text_from : List TableShape → ℕ → Standing → List Call → List ℕ
 text_from tables batch standing calls = batch_text tables batch standing.next standing.rows (transactions_at standing calls)
@@ -65,10 +65,10 @@ next_text_is procs retries db ran calls engine transcript sink gave h =
     ∙ ap (λ (s : Standing). text_from procs.tables (next_batch (length ran)) s calls) h.standing_is
 
 -- a batch ran and was reported
-pub HasReported-next : (procs : ProcsParts) (retries : ℕ) (db : Database) (ran : List (List Call)) (calls : List Call) (engine after : EngineParts) (transcript behind_it : Transcript) (sink gave given : Option (List ℕ)) →
+pub HasReported-next : (procs : ProcsParts) (retries : ℕ) (db : Database) (ran : List (List Call)) (calls : List Call) (engine after : EngineParts) (transcript after_it : Transcript) (sink gave given : Option (List ℕ)) →
     HasReported procs retries db ran engine transcript sink gave → after.procs ≡ engine.procs → after.retries ≡ engine.retries →
-    IsReported engine after transcript behind_it gave given calls → HasReported procs retries db (ran ++ calls ∷ []) after behind_it sink given
-HasReported-next procs retries db ran calls engine after transcript behind_it sink gave given h e r reported =
+    IsReported engine after transcript after_it gave given calls → HasReported procs retries db (ran ++ calls ∷ []) after after_it sink given
+HasReported-next procs retries db ran calls engine after transcript after_it sink gave given h e r reported =
     let grown : lines_of retries db ran ++ reply_lines engine.next (transactions_at (standing_of engine) calls) (replies_at (standing_of engine) calls) ≡ lines_of retries db (ran ++ calls ∷ []) =
     ap (λ (s : Standing). lines_of retries db ran ++ lines_from s calls) h.standing_is ∙ sym (lines_grown retries db ran calls) in
     let texts : texts_of procs retries db ran ++ due_text engine transcript calls ≡ texts_of procs retries db (ran ++ calls ∷ []) =
@@ -76,7 +76,7 @@ HasReported-next procs retries db ran calls engine after transcript behind_it si
     record {
       procs_are = e ∙ h.procs_are;
       retries_are = r ∙ h.retries_are;
-      standing_is = reported.standing ∙ ap (λ k. behind k (standing_of engine) calls) h.retries_are ∙ ap (λ (s : Standing). behind retries s calls) h.standing_is ∙ sym (standing_next retries db ran calls);
+      standing_is = reported.standing ∙ ap (λ k. after_batch k (standing_of engine) calls) h.retries_are ∙ ap (λ (s : Standing). after_batch retries s calls) h.standing_is ∙ sym (standing_next retries db ran calls);
       batch_is = reported.batch ∙ number_next (batch_of transcript) (length ran) _ h.batch_is (length-append ran (calls ∷ []));
       said_is = rw grown at (reported.said _ h.said_is);
       text_is = rw texts at (Appends-trans sink gave given _ _ h.text_is reported.text);
@@ -107,31 +107,31 @@ pub calls_grown : (ran : List (List Call)) (calls : List Call) → call_count (r
 calls_grown ran calls = sum_by-append (λ (calls : List Call). length calls) ran (calls ∷ []) ∙ omega arith
 
 -- a log has room for its next batch, whatever is carried to it
-pub room_behind : (retries : ℕ) (db : Database) (ran : List (List Call)) (calls : List Call) → retries ≤ 2 → call_count ran + length calls ≤ most_calls retries →
-    (standing_behind retries db ran).next + length (attempts_at (standing_behind retries db ran) calls) ≤ 2 ^ 48
-room_behind zero db ran calls few h = let most = at_most_next 0 db ran calls in omega (arith, most, h)
-room_behind (suc retries) db ran calls few h = fits (suc retries) db ran calls (omega arith) h
+pub room_after : (retries : ℕ) (db : Database) (ran : List (List Call)) (calls : List Call) → retries ≤ 2 → call_count ran + length calls ≤ most_calls retries →
+    (standing_after retries db ran).next + length (attempts_at (standing_after retries db ran) calls) ≤ 2 ^ 48
+room_after zero db ran calls few h = let most = at_most_next 0 db ran calls in omega (arith, most, h)
+room_after (suc retries) db ran calls few h = fits (suc retries) db ran calls (omega arith) h
 
-pub room_at : (retries : ℕ) (standing : Standing) (db : Database) (ran : List (List Call)) (calls : List Call) → standing ≡ standing_behind retries db ran → retries ≤ 2 →
+pub room_at : (retries : ℕ) (standing : Standing) (db : Database) (ran : List (List Call)) (calls : List Call) → standing ≡ standing_after retries db ran → retries ≤ 2 →
     call_count ran + length calls ≤ most_calls retries → standing.next + length (attempts_at standing calls) ≤ 2 ^ 48
-room_at retries standing db ran calls e few h = rw e (room_behind retries db ran calls few h)
+room_at retries standing db ran calls e few h = rw e (room_after retries db ran calls few h)
 
-pub room_behind_log : (retries : ℕ) (standing : Standing) → retries ≤ 2 → IsBehindLog retries standing → standing.next + length (attempts_at standing []) ≤ 2 ^ 48
-room_behind_log retries standing few h = let calls = h.few in room_at retries standing h.db h.ran [] h.standing_is few (omega (arith, calls))
+pub room_after_log : (retries : ℕ) (standing : Standing) → retries ≤ 2 → IsAfterLog retries standing → standing.next + length (attempts_at standing []) ≤ 2 ^ 48
+room_after_log retries standing few h = let calls = h.few in room_at retries standing h.db h.ran [] h.standing_is few (omega (arith, calls))
 
 -- a batch without calls
-pub IsBehindLog-next : (retries : ℕ) (standing after : Standing) → IsBehindLog retries standing → after ≡ behind retries standing [] → IsBehindLog retries after
-IsBehindLog-next retries standing after h e = record {
+pub IsAfterLog-next : (retries : ℕ) (standing after : Standing) → IsAfterLog retries standing → after ≡ after_batch retries standing [] → IsAfterLog retries after
+IsAfterLog-next retries standing after h e = record {
   db = h.db;
   ran = h.ran ++ [] ∷ [];
-  standing_is = e ∙ ap (λ (s : Standing). behind retries s []) h.standing_is ∙ sym (standing_next retries h.db h.ran []);
+  standing_is = e ∙ ap (λ (s : Standing). after_batch retries s []) h.standing_is ∙ sym (standing_next retries h.db h.ran []);
   few = let few = h.few in omega (arith, calls_grown h.ran []);
 }
 
 -- the log's own batches
-pub log_behind : (retries total most : ℕ) (standing : Standing) (db : Database) (ran : List (List Call)) → standing ≡ standing_behind retries db ran → total ≡ call_count ran → total ≤ most → most ≡ most_calls retries → IsBehindLog retries standing
-log_behind retries total most standing db ran e f few g = record { db = db; ran = ran; standing_is = e; few = omega arith }
+pub log_after : (retries total most : ℕ) (standing : Standing) (db : Database) (ran : List (List Call)) → standing ≡ standing_after retries db ran → total ≡ call_count ran → total ≤ most → most ≡ most_calls retries → IsAfterLog retries standing
+log_after retries total most standing db ran e f few g = record { db = db; ran = ran; standing_is = e; few = omega arith }
 
-pub room_in_log : (retries total total2 most : ℕ) (standing : Standing) (db : Database) (ran : List (List Call)) (calls : List Call) → standing ≡ standing_behind retries db ran → retries ≤ 2 → total ≡ call_count ran →
+pub room_in_log : (retries total total2 most : ℕ) (standing : Standing) (db : Database) (ran : List (List Call)) (calls : List Call) → standing ≡ standing_after retries db ran → retries ≤ 2 → total ≡ call_count ran →
     total2 ≡ total + length calls → total2 ≤ most → most ≡ most_calls retries → standing.next + length (attempts_at standing calls) ≤ 2 ^ 48
 room_in_log retries total total2 most standing db ran calls e tries f n few g = room_at retries standing db ran calls e tries (omega arith)

@@ -11,7 +11,7 @@ use Rattle.requests.specs.ProcLists.{ProcsParts}
 use Rattle.requests.specs.Requests.{Call}
 use Rattle.batch_log.specs.declared.fault.LogFaultKind.TheVariants.{Memory}
 use Rattle.batch_log.specs.declared.fault.LogFault.{LogFault}
-use Rattle.batch_log.specs.Faults.{is_io, place_of, IsOfLine}
+use Rattle.batch_log.specs.Faults.{is_io, line_named, IsOfLine}
 use Rattle.batch_log.specs.Log.{log_said, IsEnd, IsFault}
 use Rattle.batch_log.specs.Moves.{Moves}
 use Rattle.batch_log.proofs.Moves.{Moves-none}
@@ -40,7 +40,7 @@ or_nothing false = refl
 
 -- ---- a fault ends a run
 
--- a fault of a machine, with the reader behind a batch
+-- a fault of a machine, with the reader after a batch
 pub run_stops : (stage : Stage) (e : RunFault) (procs : ProcsParts) (retries : ℕ) (db : Database) (left last taken given : Option (List ℕ)) (came : List ℕ) (at : Position) (line : ℕ) (f f2 k mid k2 : Bool) →
     IsMachineFault line e → IsEndedBy stage false e → f2 ≡ f → mid ≡ k → k2 ≡ (mid || is_of_device e) → line ≡ at.begun → Moves left (prepend_known came last) start at →
     IfSome left (λ log. IsStoppedAt stage procs retries db false log taken given line) →
@@ -64,7 +64,7 @@ fault_of_line : (fault : LogFault) (procs : ProcsParts) (retries : ℕ) (db : Da
     IfSome left (λ log. fault_in procs retries log ≡ Some fault) × IfSome left (λ log. Appends taken gave (report_of procs retries db log))
 fault_of_line fault procs retries db m total engine transcript left now after taken gave s p =
     let P : List ℕ → List ℕ → Type 0 = λ x y. (fault_in procs retries x ≡ Some fault) × Appends taken gave (report_of procs retries db x) in
-    let joined : Passes P left after = Passes-trans _ _ P left now after s.behind p
+    let joined : Passes P left after = Passes-trans _ _ P left now after s.after p
     (λ x y z g h. (g.fault ∙ h.first, rw (report_at_fault procs retries m total db s.ran x y fault g h) s.reported.text_is)) in
     (Passes-first P _ left after joined (λ x y g. g.0), Passes-first P _ left after joined (λ x y g. g.1))
 
@@ -73,7 +73,7 @@ pub run_faults : (fault : LogFault) (procs : ProcsParts) (retries : ℕ) (db : D
     (left now last taken gave : Option (List ℕ)) (came : List ℕ) (at : Position) (f mid f2 k k2 : Bool) →
     SoFar procs retries db m total engine transcript left now taken gave →
     (IsOfLine fault.kind → Passes (λ xs ys. IsFault (log_said retries procs.procs m total xs) fault) now (prepend_known came last)) →
-    fault.line ≡ place_of fault.kind at → (is_io fault.kind ≡ true → came ≡ []) → mid ≡ f → f2 ≡ (mid || is_io fault.kind) → k2 ≡ k → Moves left (prepend_known came last) start at →
+    fault.line ≡ line_named fault.kind at → (is_io fault.kind ≡ true → came ≡ []) → mid ≡ f → f2 ≡ (mid || is_io fault.kind) → k2 ≡ k → Moves left (prepend_known came last) start at →
     IfSome left (λ log. IsStoppedAt reading procs retries db (is_io fault.kind) log taken gave fault.line) →
     IsRunOfLog (start_at procs retries db) (device_with left f) (device_with last f2) (device_with taken k) (device_with gave k2) (Err (runs.Log fault))
 run_faults fault procs retries db m total engine transcript left now last taken gave came at f mid f2 k k2 s first place spent same_f fails same_k moves stopped =
@@ -108,7 +108,7 @@ closed_well : (n : ℕ) (procs : ProcsParts) (retries : ℕ) (db : Database) (m 
     Passes (λ xs ys. IsEnd (log_said retries procs.procs m total xs) × (ys ≡ [])) now after →
     Passes (λ x y. (n ≡ length (all_transactions (batches_in procs retries db x))) × (fault_in procs retries x ≡ None) × Appends taken given (report_of procs retries db x) × (y ≡ [])) left after
 closed_well n procs retries db m total engine transcript left now after taken gave given s h p =
-    Passes-trans _ _ _ left now after s.behind p (λ x y z g e. (
+    Passes-trans _ _ _ left now after s.after p (λ x y z g e. (
       h.count ∙ next_is retries db (with_closing retries db s.ran)
           ∙ ap (λ (bs : List (List Call)). length (all_transactions (in_turn retries (start_of db) bs))) (sym (calls_at_end procs retries m total db s.ran x y g e.0)),
       g.fault ∙ e.0.fault,

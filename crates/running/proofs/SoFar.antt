@@ -17,23 +17,23 @@ use Rattle.running.specs.Batches.{IsReported}
 use Rattle.running.specs.Hashers.{batch_of, said_of}
 use Rattle.running.specs.Reported.{with_closing, HasReported}
 use Rattle.running.specs.Reports.{calls_in_turn, fault_in, report_of, whole_log}
-use Rattle.running.specs.Stopped.{standing_behind, texts_of}
+use Rattle.running.specs.Stopped.{standing_after, texts_of}
 use Rattle.running.proofs.Reported.{calls_grown, HasReported-next, HasReported-none}
 
--- ---- the log behind some batches
+-- ---- the log after some batches
 
 -- these are the first batches of the log, and the rest of them are in what is not read
-pub record Behind (procs : ProcsParts) (retries m total : ℕ) (ran : List (List Call)) (log rest : List ℕ) : Type 0 where
+pub record After (procs : ProcsParts) (retries m total : ℕ) (ran : List (List Call)) (log rest : List ℕ) : Type 0 where
   pub batches : batches_of (whole_log procs retries log) ≡ ran ++ batches_of (log_said retries procs.procs m total rest)
   pub fault : fault_in procs retries log ≡ first_fault (log_said retries procs.procs m total rest)
 
-pub Behind-start : (procs : ProcsParts) (retries : ℕ) (log : List ℕ) → Behind procs retries 0 0 [] log log
-Behind-start procs retries log = record { batches = refl; fault = refl }
+pub After-start : (procs : ProcsParts) (retries : ℕ) (log : List ℕ) → After procs retries 0 0 [] log log
+After-start procs retries log = record { batches = refl; fault = refl }
 
-pub Behind-next : (procs : ProcsParts) (retries m total next total2 : ℕ) (ran : List (List Call)) (calls : List Call) (log mid rest : List ℕ) →
-    Behind procs retries m total ran log mid → IsNextBatch (log_said retries procs.procs m total mid) calls (log_said retries procs.procs next total2 rest) →
-    Behind procs retries next total2 (ran ++ calls ∷ []) log rest
-Behind-next procs retries m total next total2 ran calls log mid rest g h = record {
+pub After-next : (procs : ProcsParts) (retries m total next total2 : ℕ) (ran : List (List Call)) (calls : List Call) (log mid rest : List ℕ) →
+    After procs retries m total ran log mid → IsNextBatch (log_said retries procs.procs m total mid) calls (log_said retries procs.procs next total2 rest) →
+    After procs retries next total2 (ran ++ calls ∷ []) log rest
+After-next procs retries m total next total2 ran calls log mid rest g h = record {
   batches = g.batches ∙ ap (λ (bs : List (List Call)). ran ++ bs) h.batches ∙ sym (append_assoc ran (calls ∷ []) _);
   fault = g.fault ∙ h.fault;
 }
@@ -42,7 +42,7 @@ Behind-next procs retries m total next total2 ran calls log mid rest g h = recor
 
 pub calls_are : (procs : ProcsParts) (retries : ℕ) (db : Database) (log : List ℕ) (ran more : List (List Call)) (fault : Option LogFault) →
     batches_of (whole_log procs retries log) ≡ ran ++ more → fault_in procs retries log ≡ fault →
-    calls_in_turn procs retries db log ≡ ran ++ closed retries (is_some fault) (standing_behind retries db ran) more
+    calls_in_turn procs retries db log ≡ ran ++ closed retries (is_some fault) (standing_after retries db ran) more
 calls_are procs retries db log ran more fault e f =
     ap (λ (o : Option LogFault). closed retries (is_some o) (start_of db) (batches_of (whole_log procs retries log))) f
     ∙ ap (λ (bs : List (List Call)). closed retries (is_some fault) (start_of db) bs) e ∙ closed-append retries (is_some fault) (start_of db) ran more
@@ -55,20 +55,20 @@ report_is procs retries db log batches fault e f =
     ap (λ (bs : List (List Call)). report procs.tables db (in_turn retries (start_of db) bs) (is_some (fault_in procs retries log))) e
     ∙ ap (λ (o : Option LogFault). report procs.tables db (in_turn retries (start_of db) batches) (is_some o)) f
 
--- behind the last batch of a log without a fault stand those that close it
-pub calls_at_end : (procs : ProcsParts) (retries m total : ℕ) (db : Database) (ran : List (List Call)) (log rest : List ℕ) → Behind procs retries m total ran log rest →
+-- after the last batch of a log without a fault stand those that close it
+pub calls_at_end : (procs : ProcsParts) (retries m total : ℕ) (db : Database) (ran : List (List Call)) (log rest : List ℕ) → After procs retries m total ran log rest →
     IsEnd (log_said retries procs.procs m total rest) → calls_in_turn procs retries db log ≡ with_closing retries db ran
 calls_at_end procs retries m total db ran log rest g h =
     calls_are procs retries db log ran [] None (g.batches ∙ ap (λ (bs : List (List Call)). ran ++ bs) h.batches) (g.fault ∙ h.fault)
 
-pub report_at_end : (procs : ProcsParts) (retries m total : ℕ) (db : Database) (ran : List (List Call)) (log rest : List ℕ) → Behind procs retries m total ran log rest →
+pub report_at_end : (procs : ProcsParts) (retries m total : ℕ) (db : Database) (ran : List (List Call)) (log rest : List ℕ) → After procs retries m total ran log rest →
     IsEnd (log_said retries procs.procs m total rest) →
     report_of procs retries db log ≡ texts_of procs retries db (with_closing retries db ran) ++ end_text false procs.tables db (transactions_in retries db (with_closing retries db ran))
 report_at_end procs retries m total db ran log rest g h =
     report_is procs retries db log (with_closing retries db ran) None (calls_at_end procs retries m total db ran log rest g h) (g.fault ∙ h.fault)
 
--- a fault is behind the last batch, and nothing closes the log
-pub report_at_fault : (procs : ProcsParts) (retries m total : ℕ) (db : Database) (ran : List (List Call)) (log rest : List ℕ) (fault : LogFault) → Behind procs retries m total ran log rest →
+-- a fault is after the last batch, and nothing closes the log
+pub report_at_fault : (procs : ProcsParts) (retries m total : ℕ) (db : Database) (ran : List (List Call)) (log rest : List ℕ) (fault : LogFault) → After procs retries m total ran log rest →
     IsFault (log_said retries procs.procs m total rest) fault → report_of procs retries db log ≡ texts_of procs retries db ran
 report_at_fault procs retries m total db ran log rest fault g h =
     report_is procs retries db log ran (Some fault)
@@ -83,28 +83,28 @@ pub record SoFar (procs : ProcsParts) (retries : ℕ) (db : Database) (m total :
   pub ran : List (List Call)
   pub reported : HasReported procs retries db ran engine transcript taken gave
   pub total_is : total ≡ call_count ran
-  pub behind : Passes (Behind procs retries m total ran) left now
+  pub after : Passes (After procs retries m total ran) left now
 
 pub SoFar-start : (m total : ℕ) (engine : EngineParts) (transcript : Transcript) (left now taken : Option (List ℕ)) → m ≡ 0 → total ≡ 0 → now ≡ left → engine.next ≡ 0 → engine.carried ≡ [] →
     batch_of transcript ≡ 1 → Holds256 (said_of transcript) [] → SoFar engine.procs engine.retries engine.rows m total engine transcript left now taken taken
 SoFar-start m total engine transcript left now taken e f g n c b h =
-    let none : Passes (Behind engine.procs engine.retries 0 0 []) left left = Passes-refl _ left (λ x. Behind-start engine.procs engine.retries x) in
+    let none : Passes (After engine.procs engine.retries 0 0 []) left left = Passes-refl _ left (λ x. After-start engine.procs engine.retries x) in
     record {
       ran = [];
       reported = HasReported-none engine transcript taken n c b h;
       total_is = f;
-      behind = rw (e, f, g) none;
+      after = rw (e, f, g) none;
     }
 
 -- a batch ran and was reported
-pub SoFar-next : (procs : ProcsParts) (retries : ℕ) (db : Database) (m total next total2 : ℕ) (calls : List Call) (engine after : EngineParts) (transcript behind_it : Transcript)
+pub SoFar-next : (procs : ProcsParts) (retries : ℕ) (db : Database) (m total next total2 : ℕ) (calls : List Call) (engine after : EngineParts) (transcript after_it : Transcript)
     (left now later taken gave given : Option (List ℕ)) → SoFar procs retries db m total engine transcript left now taken gave →
     Passes (λ xs ys. IsNextBatch (log_said retries procs.procs m total xs) calls (log_said retries procs.procs next total2 ys)) now later → total2 ≡ total + length calls →
-    after.procs ≡ engine.procs → after.retries ≡ engine.retries → IsReported engine after transcript behind_it gave given calls →
-    SoFar procs retries db next total2 after behind_it left later taken given
-SoFar-next procs retries db m total next total2 calls engine after transcript behind_it left now later taken gave given s p n e r reported = record {
+    after.procs ≡ engine.procs → after.retries ≡ engine.retries → IsReported engine after transcript after_it gave given calls →
+    SoFar procs retries db next total2 after after_it left later taken given
+SoFar-next procs retries db m total next total2 calls engine after transcript after_it left now later taken gave given s p n e r reported = record {
   ran = s.ran ++ calls ∷ [];
-  reported = HasReported-next procs retries db s.ran calls engine after transcript behind_it taken gave given s.reported e r reported;
+  reported = HasReported-next procs retries db s.ran calls engine after transcript after_it taken gave given s.reported e r reported;
   total_is = n ∙ ap (λ k. k + length calls) s.total_is ∙ sym (calls_grown s.ran calls);
-  behind = Passes-trans _ _ _ _ _ _ s.behind p (λ x y z g h. Behind-next _ _ _ _ _ _ _ _ _ _ _ g h);
+  after = Passes-trans _ _ _ _ _ _ s.after p (λ x y z g h. After-next _ _ _ _ _ _ _ _ _ _ _ g h);
 }

@@ -25,9 +25,9 @@ use Rattle.running.specs.Hashers.{batch_of}
 use Rattle.running.specs.Reported.{HasReadAll}
 use Rattle.running.specs.Standings.{standing_of}
 use Rattle.running.specs.Stops.{IfOfMachine, IsMachineFault, last_line}
-use Rattle.running.specs.Stopped.{at_end, in_batch, in_closing, line_behind, reading, standing_behind, text_at, texts_of, AppendsAndFront, HaveClosed, IsEndedBy, IsStop, IsStoppedAt, IsTakenAt, Stage}
+use Rattle.running.specs.Stopped.{at_end, in_batch, in_closing, line_after, reading, standing_after, text_at, texts_of, AppendsAndFront, HaveClosed, IsEndedBy, IsStop, IsStoppedAt, IsTakenAt, Stage}
 use Rattle.running.proofs.Reported.{calls_grown, next_text_is}
-use Rattle.running.proofs.SoFar.{Behind, Behind-start, SoFar}
+use Rattle.running.proofs.SoFar.{After, After-start, SoFar}
 use Rattle.running.proofs.Stopping.{at_line, begun_after, newlines_after, next_of_number, start}
 
 -- ---- bytes taken in two calls
@@ -40,7 +40,7 @@ joined_bytes log xs ys bytes taken all e f g =
 abbrev pub line_at : Bool → Position → ℕ
 line_at failed at = if failed then next_number at.newlines else at.begun
 
-line_of_bytes : (failed : Bool) (at : Position) (bytes : List ℕ) → at.newlines ≡ line_number (newlines_in bytes) → at.begun ≡ last_line bytes → line_at failed at ≡ line_behind failed bytes
+line_of_bytes : (failed : Bool) (at : Position) (bytes : List ℕ) → at.newlines ≡ line_number (newlines_in bytes) → at.begun ≡ last_line bytes → line_at failed at ≡ line_after failed bytes
 line_of_bytes true at bytes e f = ap next_number e ∙ next_of_number (newlines_in bytes)
 line_of_bytes false at bytes e f = f
 
@@ -53,7 +53,7 @@ calls_at (in_batch calls) = length calls
 calls_at in_closing = 0
 calls_at at_end = 0
 
--- what the reader promises of a stage: from a place behind so many newlines and calls to another
+-- what the reader promises of a stage: from a place after so many newlines and calls to another
 abbrev pub Reads : Stage → ProcsParts → ℕ → ℕ → ℕ → ℕ → ℕ → List ℕ → List ℕ → Type 0
 Reads reading procs retries m total next total2 xs ys = ⊤
 Reads (in_batch calls) procs retries m total next total2 xs ys = IsNextBatch (log_said retries procs.procs m total xs) calls (log_said retries procs.procs next total2 ys)
@@ -87,13 +87,13 @@ taken_at at_end procs retries m total next total2 ran bytes taken rest xs e0 e1 
 -- ---- where a run stopped
 
 stopped_known : (stage : Stage) (procs : ProcsParts) (retries : ℕ) (db : Database) (failed : Bool) (m total next total2 line : ℕ) (ran closers : List (List Call)) (log xs ys bytes taken : List ℕ) (sink filled : Option (List ℕ)) →
-    Behind procs retries m total ran log xs → log ≡ bytes ++ xs → xs ≡ taken ++ ys →
+    After procs retries m total ran log xs → log ≡ bytes ++ xs → xs ≡ taken ++ ys →
     m ≡ line_number (newlines_in bytes) → next ≡ line_number (newlines_in (bytes ++ taken)) → total ≡ call_count ran → total2 ≡ total + calls_at stage →
-    TakesCalls retries procs.procs total failed xs ys → Reads stage procs retries m total next total2 xs ys → HaveClosed stage retries (standing_behind retries db ran) closers →
-    AppendsAndFront sink filled (texts_of procs retries db (ran ++ closers)) (text_at stage procs retries db (ran ++ closers)) → line ≡ line_behind failed (bytes ++ taken) →
+    TakesCalls retries procs.procs total failed xs ys → Reads stage procs retries m total next total2 xs ys → HaveClosed stage retries (standing_after retries db ran) closers →
+    AppendsAndFront sink filled (texts_of procs retries db (ran ++ closers)) (text_at stage procs retries db (ran ++ closers)) → line ≡ line_after failed (bytes ++ taken) →
     IsStoppedAt stage procs retries db failed log sink filled line
 stopped_known stage procs retries db failed m total next total2 line ran closers log xs ys bytes taken sink filled g e f en ex et ec takes reads closed written line_is =
-    let behind : Behind procs retries (line_number (newlines_in bytes)) (call_count ran) ran log (taken ++ ys) = rw (f, en, et) at g in
+    let after : After procs retries (line_number (newlines_in bytes)) (call_count ran) ran log (taken ++ ys) = rw (f, en, et) at g in
     record {
       reported = ran;
       closers = closers;
@@ -101,8 +101,8 @@ stopped_known stage procs retries db failed m total next total2 line ran closers
       taken = taken;
       rest = ys;
       whole = e ∙ ap (λ x. bytes ++ x) f;
-      batches = behind.batches;
-      fault = behind.fault;
+      batches = after.batches;
+      fault = after.fault;
       calls = rw (f, et) at takes;
       at = taken_at stage procs retries m total next total2 ran bytes taken ys xs f en et ex ec reads;
       closed = closed;
@@ -110,12 +110,12 @@ stopped_known stage procs retries db failed m total next total2 line ran closers
       line_is = line_is;
     }
 
--- a run stopped behind the batches so far, after one more call of the reader
+-- a run stopped after the batches so far, after one more call of the reader
 pub SoFar-stopped : (stage : Stage) (failed : Bool) (procs : ProcsParts) (retries : ℕ) (db : Database) (m total next total2 line : ℕ) (engine : EngineParts) (transcript : Transcript) (closers : List (List Call))
     (left now after taken gave given : Option (List ℕ)) (p q : Position) →
     (s : SoFar procs retries db m total engine transcript left now taken gave) → Moves left now start p → Moves now after p q → m ≡ p.newlines → next ≡ q.newlines →
     total2 ≡ total + calls_at stage → Passes (TakesCalls retries procs.procs total failed) now after → Passes (Reads stage procs retries m total next total2) now after →
-    HaveClosed stage retries (standing_behind retries db s.ran) closers →
+    HaveClosed stage retries (standing_after retries db s.ran) closers →
     AppendsAndFront taken given (texts_of procs retries db (s.ran ++ closers)) (text_at stage procs retries db (s.ran ++ closers)) → line ≡ line_at failed q →
     IfSome left (λ log. IsStoppedAt stage procs retries db failed log taken given line)
 unfolding Passes
@@ -127,7 +127,7 @@ SoFar-stopped stage failed procs retries db m total next total2 line engine tran
     let same : all.bytes ≡ h.bytes ++ t.bytes = joined_bytes log xs ys h.bytes t.bytes all.bytes h.takes.0 t.takes.0 all.takes.0 in
     let newlines : q.newlines ≡ line_number (newlines_in (h.bytes ++ t.bytes)) = ap (λ (r : Position). r.newlines) all.takes.1 ∙ newlines_after all.bytes ∙ ap (λ l. line_number (newlines_in l)) same in
     let begun : q.begun ≡ last_line (h.bytes ++ t.bytes) = ap (λ (r : Position). r.begun) all.takes.1 ∙ begun_after all.bytes ∙ ap last_line same in
-    stopped_known stage procs retries db failed m total next total2 line s.ran closers log xs ys h.bytes t.bytes taken given s.behind h.takes.0 t.takes.0
+    stopped_known stage procs retries db failed m total next total2 line s.ran closers log xs ys h.bytes t.bytes taken given s.after h.takes.0 t.takes.0
     (em ∙ ap (λ (r : Position). r.newlines) h.takes.1 ∙ newlines_after h.bytes) (en ∙ newlines) s.total_is ec takes reads closed
     written (line_is ∙ line_of_bytes failed q (h.bytes ++ t.bytes) newlines begun)
 
@@ -170,7 +170,7 @@ SoFar-stopped_in_batch procs retries db m total next total2 line calls engine tr
 pub nothing_stopped : (procs : ProcsParts) (retries : ℕ) (db : Database) (left taken : Option (List ℕ)) → IfSome left (λ log. IsStoppedAt reading procs retries db false log taken taken 0)
 nothing_stopped procs retries db None taken = tt
 nothing_stopped procs retries db (Some log) taken =
-    stopped_known reading procs retries db false 0 0 0 0 0 [] [] log log log [] [] taken taken (Behind-start procs retries log) refl refl refl refl refl refl
+    stopped_known reading procs retries db false 0 0 0 0 0 [] [] log log log [] [] taken taken (After-start procs retries log) refl refl refl refl refl refl
     (TakesCalls-none procs.procs 0 false log (omega arith)) tt refl (taken, Appends-nil taken, nothing_at taken) refl
 
 -- ---- the fault that it stopped with

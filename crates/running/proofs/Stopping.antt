@@ -6,7 +6,7 @@ use Rattle.devices.specs.LineReader.{Position, position_after}
 use Rattle.batch_log.specs.declared.fault.LogFaultKind.{LogFaultKind}
 use Rattle.batch_log.specs.declared.fault.LogFaultKind.TheVariants.{NotJson, Shape, UnknownProc, Args, BatchTooLong, Io, Memory}
 use Rattle.batch_log.specs.declared.fault.LogFault.{LogFault}
-use Rattle.batch_log.specs.Faults.{is_io, IsOfLine, place_of}
+use Rattle.batch_log.specs.Faults.{is_io, IsOfLine, line_named}
 use Rattle.batch_log.specs.Moves.{Moves}
 use Rattle.running.specs.declared.run_fault.RunFault.{RunFault}
 use Rattle.running.specs.declared.run_fault.RunFault.TheVariants as runs
@@ -32,7 +32,7 @@ pub at_line : (fault : RunFault) (line : ℕ) (P : ℕ → Type 0) → IsMachine
 at_line (runs.Log fault) line P h p = λ _. subst P (sym h.1) p
 at_line (runs.Spawn at) line P h p = subst P (sym h) p
 
--- ---- where a reader stands behind the bytes that it took
+-- ---- where a reader stands after the bytes that it took
 
 abbrev pub start : Position
 start = record { newlines = 0; begun = 0 }
@@ -74,7 +74,7 @@ line_by false old left came p line e spent m =
     (m.bytes, came, taken_and_came old left m.bytes came m.takes.0, e ∙ begun)
 
 -- the line of the fault of a read, or of memory
-pub line_of_fault : (kind : LogFaultKind) (failed : Bool) (old left : Option (List ℕ)) (came : List ℕ) (p : Position) (line : ℕ) → failed ≡ is_io kind → line ≡ place_of kind p → (is_io kind ≡ true → came ≡ []) →
+pub line_of_fault : (kind : LogFaultKind) (failed : Bool) (old left : Option (List ℕ)) (came : List ℕ) (p : Position) (line : ℕ) → failed ≡ is_io kind → line ≡ line_named kind p → (is_io kind ≡ true → came ≡ []) →
     Moves old (prepend_known came left) start p → IsLineOf failed old left line
 line_of_fault kind failed old left came p line f e spent m = rw f (line_by (is_io kind) old left came p line e spent m)
 

@@ -7,14 +7,14 @@ use Rattle.sha2.specs.Hashers.{Holds256}
 use Rattle.requests.specs.Requests.{Call}
 use Rattle.report_text.specs.Texts.{digest, row_text}
 use Rattle.report_text.specs.Report.{batch_text, next_batch, reply_lines}
-use Rattle.retries.specs.Standings.{attempts_at, behind, replies_at, transactions_at}
+use Rattle.retries.specs.Standings.{attempts_at, after_batch, replies_at, transactions_at}
 use Rattle.engine.specs.Engines.{EngineParts, is_busy, tables_of}
 use Rattle.running.specs.declared.transcript.Transcript.{Transcript}
 use Rattle.running.specs.Hashers.{batch_of, rows_digest_of, said_of}
 use Rattle.running.specs.Standings.{standing_of}
 
--- An idle engine can run these calls as its next batch: they are over its tables, no more than a batch may have, and with what is
--- carried to them they have numbers.
+-- An idle engine can run these calls as its next batch: they are over its tables, no more than a batch may have, and
+-- with what is carried to them they have numbers.
 pub record IsDue (engine : EngineParts) (calls : List Call) : Type 0 where
   pub over : AllByRecursion (λ call. call.proc.tables ≡ tables_of engine) calls
   pub few : length calls ≤ 4096
@@ -24,7 +24,8 @@ pub record IsDue (engine : EngineParts) (calls : List Call) : Type 0 where
 -- the text of a batch of these calls, the next one after what was reported
 abbrev pub due_text : EngineParts → Transcript → List Call → List ℕ
 due_text engine transcript calls =
-    batch_text (tables_of engine) (batch_of transcript) engine.next engine.rows (transactions_at (standing_of engine) calls)
+    batch_text (tables_of engine) (batch_of transcript) engine.next engine.rows
+    (transactions_at (standing_of engine) calls)
 
 -- the digest of the rows that a transcript keeps, if it keeps one, is that of the engine's rows
 abbrev pub KeepsDigest : EngineParts → Transcript → Type 0
@@ -32,10 +33,11 @@ KeepsDigest engine transcript =
     IfSome (rows_digest_of transcript) (λ text. text ≡ digest (row_text (tables_of engine) engine.rows))
 
 -- these calls were run as the next batch, and reported
-pub record IsReported (old new : EngineParts) (before after : Transcript) (sink filled : Option (List ℕ)) (calls : List Call)
+pub record IsReported (old new : EngineParts) (before after : Transcript) (sink filled : Option (List ℕ))
+    (calls : List Call)
     : Type 0 where
   pub idle : is_busy new ≡ false
-  pub standing : standing_of new ≡ behind old.retries (standing_of old) calls
+  pub standing : standing_of new ≡ after_batch old.retries (standing_of old) calls
   pub batch : batch_of after ≡ next_batch (batch_of before)
   pub said : (m : List ℕ) → Holds256 (said_of before) m →
       Holds256 (said_of after)

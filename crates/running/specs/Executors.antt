@@ -24,7 +24,8 @@ pub record IsExecution (old : EngineParts) (batch : Batch) (result : Result Batc
 
 -- a call that an executor is: on each engine it takes any batch over the engine's tables, and executes it there
 pub record Executes {X E : Type 0} (parts : E → EngineParts)
-    (calls : Shared X (MutBor E × (Batch × Unit {0})) (Result BatchDone ExecFault × (MutBor E × Unit {0}))) (executor : X)
+    (calls : Shared X (MutBor E × (Batch × Unit {0})) (Result BatchDone ExecFault × (MutBor E × Unit {0})))
+    (executor : X)
     : Type 0 where
   pub takes : (engine : MutBor E) (batch : Batch) → AreOver (tables_of (parts engine.now)) (items_of batch) →
       calls.pre executor (engine, (batch, tt))
@@ -34,7 +35,8 @@ pub record Executes {X E : Type 0} (parts : E → EngineParts)
 
 -- the call has answered so, given some engine and some batch; `left` is that engine afterwards
 pub record HasAnswered {X E : Type 0}
-    (calls : Shared X (MutBor E × (Batch × Unit {0})) (Result BatchDone ExecFault × (MutBor E × Unit {0}))) (executor : X)
+    (calls : Shared X (MutBor E × (Batch × Unit {0})) (Result BatchDone ExecFault × (MutBor E × Unit {0})))
+    (executor : X)
     (fault : ExecFault) : Type 0 where
   pub engine : MutBor E
   pub batch : Batch

@@ -12,6 +12,6 @@ batch_of t = t.batch
 abbrev pub said_of : Transcript → Sha256
 said_of t = t.said
 
--- the digest of the rows behind the last batch that was reported
+-- the digest of the rows after the last batch that was reported
 abbrev pub rows_digest_of : Transcript → Option (List ℕ)
 rows_digest_of t = option_map string_bytes t.rows

@@ -1,5 +1,5 @@
 -- Claimed: what contracts promise to a reader rests on these words.
--- What was reported of batches one after another, and how a log is closed behind them.
+-- What was reported of batches one after another, and how a log is closed after them.
 use Rattle.std.specs.Prelude.{◌≡◌, ℕ, ◌≤◌, List, ◌++◌, length, false, Option, Some, None, Result, IfOk, IfErr, OnOk, ⊤}
 use Rattle.std.specs.Io.KnownBytes.{Appends}
 use Rattle.sha2.specs.Hashers.{Holds256}
@@ -16,7 +16,7 @@ use Rattle.running.specs.declared.transcript.Transcript.{Transcript}
 use Rattle.running.specs.Batches.{KeepsDigest}
 use Rattle.running.specs.Hashers.{batch_of, said_of}
 use Rattle.running.specs.Standings.{standing_of}
-use Rattle.running.specs.Stopped.{at_end, in_batch, in_closing, reading, standing_behind, text_at, texts_of, AppendsAndFront, HaveClosed, IsEndedBy, Stage}
+use Rattle.running.specs.Stopped.{at_end, in_batch, in_closing, reading, standing_after, text_at, texts_of, AppendsAndFront, HaveClosed, IsEndedBy, Stage}
 
 -- all reply lines of batches from starting rows
 abbrev pub lines_of : ℕ → Database → List (List Call) → List ℕ
@@ -29,7 +29,7 @@ pub record HasReported (procs : ProcsParts) (retries : ℕ) (db : Database) (ran
     (engine : EngineParts) (transcript : Transcript) (sink filled : Option (List ℕ)) : Type 0 where
   pub procs_are : engine.procs ≡ procs
   pub retries_are : engine.retries ≡ retries
-  pub standing_is : standing_of engine ≡ standing_behind retries db ran
+  pub standing_is : standing_of engine ≡ standing_after retries db ran
   pub batch_is : batch_of transcript ≡ next_batch (length ran)
   pub said_is : Holds256 (said_of transcript) (lines_of retries db ran)
   pub text_is : Appends sink filled (texts_of procs retries db ran)
@@ -40,29 +40,29 @@ with_drained drained None = None
 with_drained drained (Some waiting) = Some (drained ++ waiting)
 
 -- a standing is that after batches that have no more calls than a log may have
-pub record IsBehindLog (retries : ℕ) (standing : Standing) : Type 0 where
+pub record IsAfterLog (retries : ℕ) (standing : Standing) : Type 0 where
   pub db : Database
   pub ran : List (List Call)
-  pub standing_is : standing ≡ standing_behind retries db ran
+  pub standing_is : standing ≡ standing_after retries db ran
   pub few : call_count ran ≤ most_calls retries
 
 -- an engine that has run such batches of a log, whichever these are, and what was reported of them
 pub record IsBetweenBatches (engine : EngineParts) (transcript : Transcript) : Type 0 where
   pub idle : is_busy engine ≡ false
   pub digest_kept : KeepsDigest engine transcript
-  pub log : ∥ IsBehindLog engine.retries (standing_of engine) ∥₁
+  pub log : ∥ IsAfterLog engine.retries (standing_of engine) ∥₁
 
--- batches, and behind them those that close a log
+-- batches, and after them those that close a log
 abbrev pub with_closing : ℕ → Database → List (List Call) → List (List Call)
-with_closing retries db ran = ran ++ closing retries retries (standing_behind retries db ran)
+with_closing retries db ran = ran ++ closing retries retries (standing_after retries db ran)
 
 -- Of the batches that close a log after these, the first ones are reported too, and at most n are left.
 pub record HasClosed (procs : ProcsParts) (retries : ℕ) (db : Database) (ran : List (List Call)) (most : ℕ)
     (engine : EngineParts) (transcript : Transcript) (sink filled : Option (List ℕ)) : Type 0 where
   pub closers : List (List Call)
   pub reported : HasReported procs retries db (ran ++ closers) engine transcript sink filled
-  pub first : closing retries retries (standing_behind retries db ran)
-      ≡ closers ++ closing retries most (standing_behind retries db (ran ++ closers))
+  pub first : closing retries retries (standing_after retries db ran)
+      ≡ closers ++ closing retries most (standing_after retries db (ran ++ closers))
 
 -- all of the log is read
 abbrev pub HasReadAll : Stage → Type 0
@@ -76,7 +76,7 @@ pub record IsCutAt (stage : Stage) (procs : ProcsParts) (retries : ℕ) (db : Da
     (sink filled : Option (List ℕ)) (fault : RunFault) : Type 0 where
   pub closers : List (List Call)
   pub ends : IsEndedBy stage false fault
-  pub closed : HaveClosed stage retries (standing_behind retries db ran) closers
+  pub closed : HaveClosed stage retries (standing_after retries db ran) closers
   pub written : AppendsAndFront sink filled (texts_of procs retries db (ran ++ closers))
       (text_at stage procs retries db (ran ++ closers))
 
@@ -87,18 +87,20 @@ pub record IsCutShort (procs : ProcsParts) (retries : ℕ) (db : Database) (ran 
   pub all_read : HasReadAll stage
   pub cut : IsCutAt stage procs retries db ran sink filled fault
 
--- What comes of running the batches without calls that close a log after these: each was reported, or a fault stopped one of them.
+-- What comes of running the batches without calls that close a log after these: each was reported, or a fault stopped
+-- one of them.
 pub record ReportsClosing (procs : ProcsParts) (retries : ℕ) (db : Database) (ran : List (List Call))
-    (engine : EngineParts) (transcript : Transcript) (sink filled : Option (List ℕ)) (result : Result (Unit {0}) RunFault)
+    (engine : EngineParts) (transcript : Transcript) (sink filled : Option (List ℕ))
+    (result : Result (Unit {0}) RunFault)
     : Type 0 where
   pub reported : OnOk result (HasReported procs retries db (with_closing retries db ran) engine transcript sink filled)
   pub stop : IfErr result (IsCutAt in_closing procs retries db ran sink filled)
 
--- What comes of closing a log behind these batches: the batches without calls that close it were reported and the end line was
--- written, or a fault stopped it.
+-- What comes of closing a log after these batches: the batches without calls that close it were reported and the end
+-- line was written, or a fault stopped it.
 pub record IsClosing (procs : ProcsParts) (retries : ℕ) (db : Database) (ran : List (List Call))
     (sink filled : Option (List ℕ)) (result : Result ℕ RunFault) : Type 0 where
-  pub count : IfOk result (λ n. n ≡ (standing_behind retries db (with_closing retries db ran)).next)
+  pub count : IfOk result (λ n. n ≡ (standing_after retries db (with_closing retries db ran)).next)
   pub text : OnOk result (Appends sink filled (texts_of procs retries db (with_closing retries db ran)
       ++ end_text false procs.tables db (transactions_in retries db (with_closing retries db ran))))
   pub stop : IfErr result (IsCutShort procs retries db ran sink filled)

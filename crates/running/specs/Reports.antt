@@ -19,15 +19,18 @@ whole_log procs retries log = log_said retries procs.procs 0 0 log
 abbrev pub fault_in : ProcsParts → ℕ → List ℕ → Option LogFault
 fault_in procs retries log = first_fault (whole_log procs retries log)
 
--- the calls of the batches of a run: those that are whole before the log's first fault, and where it has none, those without calls
--- that close it
+-- the calls of the batches of a run: those that are whole before the log's first fault, and where it has none, those
+-- without calls that close it
 abbrev pub calls_in_turn : ProcsParts → ℕ → Database → List ℕ → List (List Call)
-calls_in_turn procs retries db log = closed retries (is_some (fault_in procs retries log)) (start_of db) (batches_of (whole_log procs retries log))
+calls_in_turn procs retries db log =
+    closed retries (is_some (fault_in procs retries log)) (start_of db) (batches_of (whole_log procs retries log))
 
--- the transactions of these batches: what is carried to a batch, and behind it the batch's calls
+-- the transactions of these batches: what is carried to a batch, and after it the batch's calls
 abbrev pub batches_in : ProcsParts → ℕ → Database → List ℕ → List (List Transaction)
 batches_in procs retries db log = in_turn retries (start_of db) (calls_in_turn procs retries db log)
 
--- what is written for a log on procedures and starting rows: the texts of its batches, and the end line if it has no fault
+-- what is written for a log on procedures and starting rows: the texts of its batches, and the end line if it has no
+-- fault
 abbrev pub report_of : ProcsParts → ℕ → Database → List ℕ → List ℕ
-report_of procs retries db log = texts.report procs.tables db (batches_in procs retries db log) (is_some (fault_in procs retries log))
+report_of procs retries db log =
+    texts.report procs.tables db (batches_in procs retries db log) (is_some (fault_in procs retries log))

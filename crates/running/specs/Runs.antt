@@ -20,7 +20,8 @@ device_with bytes failed = record { bytes = bytes; failed = failed }
 
 -- A run of the log that a source has left, into a sink, from a start: devices before and after it, and how it ended.
 pub record IsRunOfLog (start : Start) (source spent sink filled : Device) (result : Result ℕ RunFault) : Type 0 where
-  -- Where it ended well, the log has no fault, all of it was read, its report was written, and the transactions were counted.
+  -- Where it ended well, the log has no fault, all of it was read, its report was written, and the transactions were
+  -- counted.
   pub count : IfOk result (λ n. IfSome source.bytes (λ log.
       n ≡ length (all_transactions (batches_in start.procs start.retries start.rows log))))
   pub sound : OnOk result (IfSome source.bytes (λ log. fault_in start.procs start.retries log ≡ None))

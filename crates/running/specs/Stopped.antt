@@ -11,105 +11,120 @@ use Rattle.batch_log.specs.Lines.{Lines}
 use Rattle.batch_log.specs.Log.{batches_of, first_fault, log_said, IsEnd, IsNextBatch}
 use Rattle.batch_log.specs.Taken.{TakesCalls}
 use Rattle.report_text.specs.Report.{all_transactions, batch_text, batch_texts, end_text, next_batch}
-use Rattle.retries.specs.Standings.{behind_all, closing, call_count, in_turn, start_of, transactions_at, Standing}
+use Rattle.retries.specs.Standings.{after_batches, closing, call_count, in_turn, start_of, transactions_at, Standing}
 use Rattle.running.specs.declared.run_fault.RunFault.{RunFault}
 use Rattle.running.specs.Reports.{fault_in, whole_log}
 use Rattle.running.specs.Stops.{is_of_device, IfOfThread, last_line, line_of_read}
 
--- ---- behind some batches
+-- ---- after some batches
 
 -- what batches leave, one after another, from starting rows
-abbrev pub standing_behind : ℕ → Database → List (List Call) → Standing
-standing_behind retries db batches = behind_all retries (start_of db) batches
+abbrev pub standing_after : ℕ → Database → List (List Call) → Standing
+standing_after retries db batches = after_batches retries (start_of db) batches
 
 -- the texts of batches from starting rows
 abbrev pub texts_of : ProcsParts → ℕ → Database → List (List Call) → List ℕ
 texts_of procs retries db batches = batch_texts procs.tables 1 0 db (in_turn retries (start_of db) batches)
 
--- the text of the next batch behind some, of these calls
+-- the text of the next batch after some, of these calls
 abbrev pub next_text : ProcsParts → ℕ → Database → List (List Call) → List Call → List ℕ
 next_text procs retries db batches calls =
-    batch_text procs.tables (next_batch (length batches)) (standing_behind retries db batches).next (standing_behind retries db batches).rows
-    (transactions_at (standing_behind retries db batches) calls)
+    batch_text procs.tables (next_batch (length batches)) (standing_after retries db batches).next
+    (standing_after retries db batches).rows
+    (transactions_at (standing_after retries db batches) calls)
 
--- what the rest of a log says behind the bytes and the calls of some batches
-abbrev pub said_behind : ProcsParts → ℕ → List ℕ → List (List Call) → List ℕ → Lines
-said_behind procs retries bytes batches rest = log_said retries procs.procs (line_number (newlines_in bytes)) (call_count batches) rest
+-- what the rest of a log says after the bytes and the calls of some batches
+abbrev pub said_after : ProcsParts → ℕ → List ℕ → List (List Call) → List ℕ → Lines
+said_after procs retries bytes batches rest =
+    log_said retries procs.procs (line_number (newlines_in bytes)) (call_count batches) rest
 
 -- ---- what a run was at
 
--- A run is reading a batch; or it has read one, of these calls, whose report isn't written whole yet; or it has read the end of
--- the log, and the report of a batch without calls that closes it, or else the end line, isn't written whole yet.
+-- A run is reading a batch; or it has read one, of these calls, whose report isn't written whole yet; or it has read
+-- the end of the log, and the report of a batch without calls that closes it, or else the end line, isn't written whole
+-- yet.
 pub data Stage : Type 0 where
   reading : Stage
   in_batch : List Call → Stage
   in_closing : Stage
   at_end : Stage
 
--- Which fault can end a run at a stage, and whether a read failed there. Reading ends with a failed read, or where memory is
--- refused; a batch, also one that closes the log, with a failed write, or where memory or a thread is refused; the end, with a
--- failed write, or where memory is refused.
+-- Which fault can end a run at a stage, and whether a read failed there. Reading ends with a failed read, or where
+-- memory is refused; a batch, also one that closes the log, with a failed write, or where memory or a thread is
+-- refused; the end, with a failed write, or if allocation fails.
 abbrev pub IsEndedBy : Stage → Bool → RunFault → Type 0
 IsEndedBy reading failed fault = (is_of_device fault ≡ failed) × IfOfThread fault ⊥
 IsEndedBy (in_batch calls) failed fault = failed ≡ false
 IsEndedBy in_closing failed fault = failed ≡ false
 IsEndedBy at_end failed fault = (failed ≡ false) × IfOfThread fault ⊥
 
--- What is taken of a log behind the batches that are reported: where a batch was read, that whole batch and no more, and at the
--- end all.
+-- What is taken of a log after the batches that are reported: where a batch was read, that whole batch and no more,
+-- and at the end all.
 abbrev pub IsTakenAt : Stage → ProcsParts → ℕ → List (List Call) → List ℕ → List ℕ → List ℕ → Type 0
 IsTakenAt reading procs retries reported bytes taken rest = ⊤
 IsTakenAt (in_batch calls) procs retries reported bytes taken rest =
-    IsNextBatch (said_behind procs retries bytes reported (taken ++ rest)) calls (said_behind procs retries (bytes ++ taken) (reported ++ calls ∷ []) rest)
-IsTakenAt in_closing procs retries reported bytes taken rest = IsEnd (said_behind procs retries bytes reported (taken ++ rest)) × (rest ≡ [])
-IsTakenAt at_end procs retries reported bytes taken rest = IsEnd (said_behind procs retries bytes reported (taken ++ rest)) × (rest ≡ [])
+    IsNextBatch (said_after procs retries bytes reported (taken ++ rest)) calls
+    (said_after procs retries (bytes ++ taken) (reported ++ calls ∷ []) rest)
+IsTakenAt in_closing procs retries reported bytes taken rest =
+    IsEnd (said_after procs retries bytes reported (taken ++ rest)) × (rest ≡ [])
+IsTakenAt at_end procs retries reported bytes taken rest =
+    IsEnd (said_after procs retries bytes reported (taken ++ rest)) × (rest ≡ [])
 
--- The batches without calls that are reported behind those of a log: none before its end is read; while one of them runs, those
--- before it; and before the end line all that close the log.
+-- The batches without calls that are reported after those of a log: none before its end is read; while one of them
+-- runs, those before it; and before the end line all that close the log.
 abbrev pub HaveClosed : Stage → ℕ → Standing → List (List Call) → Type 0
 HaveClosed reading retries s closers = closers ≡ []
 HaveClosed (in_batch calls) retries s closers = closers ≡ []
-HaveClosed in_closing retries s closers = (later : List (List Call)) × (closing retries retries s ≡ closers ++ [] ∷ later)
+HaveClosed in_closing retries s closers =
+    (later : List (List Call)) × (closing retries retries s ≡ closers ++ [] ∷ later)
 HaveClosed at_end retries s closers = closing retries retries s ≡ closers
 
--- what a stage writes behind the reports of some batches: the text of its batch, or the end line
+-- what a stage writes after the reports of some batches: the text of its batch, or the end line
 abbrev pub text_at : Stage → ProcsParts → ℕ → Database → List (List Call) → List ℕ
 text_at reading procs retries db reported = []
 text_at (in_batch calls) procs retries db reported = next_text procs retries db reported calls
 text_at in_closing procs retries db reported = next_text procs retries db reported []
-text_at at_end procs retries db reported = end_text false procs.tables db (all_transactions (in_turn retries (start_of db) reported))
+text_at at_end procs retries db reported =
+    end_text false procs.tables db (all_transactions (in_turn retries (start_of db) reported))
 
 -- the text is written, and then a beginning of the next one
 abbrev pub AppendsAndFront : Option (List ℕ) → Option (List ℕ) → List ℕ → List ℕ → Type 0
-AppendsAndFront old new text next = (between : Option (List ℕ)) × Appends old between text × AppendsFront between new next
+AppendsAndFront old new text next =
+    (between : Option (List ℕ)) × Appends old between text × AppendsFront between new next
 
--- the line of a fault behind the bytes that were taken, by whether a read failed
-abbrev pub line_behind : Bool → List ℕ → ℕ
-line_behind true taken = line_of_read taken
-line_behind false taken = last_line taken
+-- the line of a fault after the bytes that were taken, by whether a read failed
+abbrev pub line_after : Bool → List ℕ → ℕ
+line_after true taken = line_of_read taken
+line_after false taken = last_line taken
 
 -- ---- where a run stopped
 
--- A run stopped at this stage, and names this line. The report of some batches was written whole. Behind their bytes nothing was
--- taken but of the next batch, and behind their text nothing was written but a beginning of what the stage writes.
-pub record IsStoppedAt (stage : Stage) (procs : ProcsParts) (retries : ℕ) (db : Database) (failed : Bool) (log : List ℕ) (sink filled : Option (List ℕ)) (line : ℕ) : Type 0 where
-  -- the log's batches that are reported, and those without calls behind them; the bytes of the log's, the bytes taken behind them,
-  -- and the rest of the log
+-- A run stopped at this stage, and names this line. The report of some batches was written whole. After their bytes
+-- nothing was taken but of the next batch, and after their text nothing was written but a beginning of what the stage
+-- writes.
+pub record IsStoppedAt (stage : Stage) (procs : ProcsParts) (retries : ℕ) (db : Database) (failed : Bool) (log : List ℕ)
+    (sink filled : Option (List ℕ)) (line : ℕ) : Type 0 where
+  -- the log's batches that are reported, and those without calls after them; the bytes of the log's, the bytes taken
+  -- after them, and the rest of the log
   pub reported : List (List Call)
   pub closers : List (List Call)
   pub bytes : List ℕ
   pub taken : List ℕ
   pub rest : List ℕ
   pub whole : log ≡ bytes ++ (taken ++ rest)
-  pub batches : batches_of (whole_log procs retries log) ≡ reported ++ batches_of (said_behind procs retries bytes reported (taken ++ rest))
-  pub fault : fault_in procs retries log ≡ first_fault (said_behind procs retries bytes reported (taken ++ rest))
-  -- Behind them whole lines of calls were taken, and then one more line, or a beginning of it.
+  pub batches : batches_of (whole_log procs retries log)
+      ≡ reported ++ batches_of (said_after procs retries bytes reported (taken ++ rest))
+  pub fault : fault_in procs retries log ≡ first_fault (said_after procs retries bytes reported (taken ++ rest))
+  -- After them whole lines of calls were taken, and then one more line, or a beginning of it.
   pub calls : TakesCalls retries procs.procs (call_count reported) failed (taken ++ rest) rest
   pub at : IsTakenAt stage procs retries reported bytes taken rest
-  pub closed : HaveClosed stage retries (standing_behind retries db reported) closers
-  pub written : AppendsAndFront sink filled (texts_of procs retries db (reported ++ closers)) (text_at stage procs retries db (reported ++ closers))
-  pub line_is : line ≡ line_behind failed (bytes ++ taken)
+  pub closed : HaveClosed stage retries (standing_after retries db reported) closers
+  pub written : AppendsAndFront sink filled (texts_of procs retries db (reported ++ closers))
+      (text_at stage procs retries db (reported ++ closers))
+  pub line_is : line ≡ line_after failed (bytes ++ taken)
 
 -- a run stopped with this fault at this line, at a stage that such a fault can end
-abbrev pub IsStop : ProcsParts → ℕ → Database → Bool → RunFault → List ℕ → Option (List ℕ) → Option (List ℕ) → ℕ → Type 0
-IsStop procs retries db failed fault log sink filled line = (stage : Stage) × IsEndedBy stage failed fault × IsStoppedAt stage procs retries db failed log sink filled line
+abbrev pub IsStop : ProcsParts → ℕ → Database → Bool → RunFault → List ℕ → Option (List ℕ) → Option (List ℕ) → ℕ
+    → Type 0
+IsStop procs retries db failed fault log sink filled line =
+    (stage : Stage) × IsEndedBy stage failed fault × IsStoppedAt stage procs retries db failed log sink filled line

@@ -52,14 +52,15 @@ IsHeld (LogFull batch) = ⊥
 IsHeld Spawn = ⊤
 IsHeld NoMemory = ⊤
 
--- how a run tells, at this line, what was refused to the engine that holds its batch: a thread as a thread, and memory as memory
+-- how a run tells, at this line, what was refused to the engine that holds its batch: a thread as a thread, and memory
+-- as memory
 abbrev pub IsRefusedBy : ℕ → ExecFault → RunFault → Type 0
 IsRefusedBy line (Busy batch) told = ⊥
 IsRefusedBy line (LogFull batch) told = ⊥
 IsRefusedBy line Spawn told = told ≡ runs.Spawn line
 IsRefusedBy line NoMemory told = told ≡ runs.Log (record { kind = Memory; line = line })
 
--- the line that a read failed in, behind these bytes: that of their newlines, plus 1
+-- the line that a read failed in, after these bytes: that of their newlines, plus 1
 abbrev pub line_of_read : List ℕ → ℕ
 line_of_read taken = next_number (newlines_in taken)
 
@@ -67,8 +68,9 @@ line_of_read taken = next_number (newlines_in taken)
 abbrev pub last_line : List ℕ → ℕ
 last_line taken = line_number (length (lines_of taken))
 
--- The line of a fault, by what the source gave. Where a read failed, all that it gave was taken. Otherwise some bytes may have
--- come that were not taken.
+-- The line of a fault, by what the source gave. Where a read failed, all that it gave was taken. Otherwise some bytes
+-- may have come that were not taken.
 abbrev pub IsLineOf : Bool → Option (List ℕ) → Option (List ℕ) → ℕ → Type 0
 IsLineOf true old new line = (taken : List ℕ) × Consumes old new taken × (line ≡ line_of_read taken)
-IsLineOf false old new line = (taken : List ℕ) × (came : List ℕ) × Consumes old new (taken ++ came) × (line ≡ last_line taken)
+IsLineOf false old new line =
+    (taken : List ℕ) × (came : List ℕ) × Consumes old new (taken ++ came) × (line ≡ last_line taken)

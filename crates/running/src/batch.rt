@@ -50,8 +50,8 @@ fn execute<E: BatchEngine, X: Fn(&mut E, Batch) -> Result<BatchDone, ExecFault>>
     executor(engine, batch)
 }
 
-/// Executes the requests of a batch, after those that are carried to it, and writes its report. Each fault is a failed write (36), a
-/// failed allocation (37) or a refused thread (38), at this line, the last one read.
+/// Executes the requests of a batch, after those that are carried to it, and writes its report. Each fault is a failed
+/// write (36), a failed allocation (37) or a refused thread (38), at this line, the last one read.
 pub fn run_batch<E: BatchEngine, X: Fn(&mut E, Batch) -> Result<BatchDone, ExecFault>, K: Sink>(
     alloc: Global,
     executor: &X,

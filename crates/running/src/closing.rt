@@ -23,8 +23,9 @@ use engine::{BatchDone, BatchEngine, ExecFault};
 use sequencer::Batch;
 use std::alloc::Global;
 
-/// Runs the batches without calls that close a log after its last batch, as long as requests are carried, and writes their reports.
-/// Each fault is a failed write (36), a failed allocation (37) or a refused thread (38), at this line, the last one read.
+/// Runs the batches without calls that close a log after its last batch, as long as requests are carried, and writes
+/// their reports. Each fault is a failed write (36), a failed allocation (37) or a refused thread (38), at this line,
+/// the last one read.
 pub fn run_closing_batches<
     E: BatchEngine,
     X: Fn(&mut E, Batch) -> Result<BatchDone, ExecFault>,
@@ -94,8 +95,8 @@ pub fn finish<E: BatchEngine, K: Sink>(
     }
 }
 
-/// Closes a log after its last batch: runs batches without calls while requests are carried, and writes their reports and then the
-/// end line. The line is the last one read.
+/// Closes a log after its last batch: runs batches without calls while requests are carried, and writes their reports
+/// and then the end line. The line is the last one read.
 pub(crate) fn close<E: BatchEngine, X: Fn(&mut E, Batch) -> Result<BatchDone, ExecFault>, K: Sink>(
     alloc: Global,
     executor: &X,

@@ -9,15 +9,15 @@ ghost use Rattle.engine.specs.Batches.{next_attempts};
 ghost use Rattle.engine.specs.Engines.{EngineParts};
 ghost use Rattle.engine.specs.Executions.{IsExecutionOf};
 ghost use Rattle.engine.specs.Replies.{reply_of};
-ghost use Rattle.retries.specs.Standings.{behind, replies_at};
+ghost use Rattle.retries.specs.Standings.{after_batch, replies_at};
 ghost use Rattle.running.specs.Standings.{standing_of};
 
-/// An engine that has run a batch of calls is where the serial run is behind a batch of these calls: it has the same next number, the
-/// same rows and the same carried requests. The replies are those of the serial run too.
+/// An engine that has run a batch of calls is where the serial run is after a batch of these calls: it has the same
+/// next number, the same rows and the same carried requests. The replies are those of the serial run too.
 pub fn engine_goes_on_as_the_serial_run()
     ensures standing { (old new : EngineParts) (batch : Batch) (run : BatchDone) (calls : List Call) →
         items_of batch ≡ items_from 0 calls → IsExecutionOf old new (next_attempts old batch) run →
-        standing_of new ≡ behind old.retries (standing_of old) calls }
+        standing_of new ≡ after_batch old.retries (standing_of old) calls }
     ensures replies { (old new : EngineParts) (batch : Batch) (run : BatchDone) (calls : List Call) →
         items_of batch ≡ items_from 0 calls → IsExecutionOf old new (next_attempts old batch) run →
         map reply_of run.replies.items ≡ replies_at (standing_of old) calls }

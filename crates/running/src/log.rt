@@ -108,13 +108,14 @@ pub fn run_log_on<
 }
 
 /// Runs the log that a source gives on a setup, and writes its report into a sink: for each batch a reply line for each
-/// request that it tries and a batch line, and then the end line. Each batch is executed by `executor`, which decides on how
-/// many threads. The answer is the number of transactions.
+/// request that it tries and a batch line, and then the end line. Each batch is executed by `executor`, which decides
+/// on how many threads. The answer is the number of transactions.
 ///
-/// A batch is read whole before it runs, and its report is written after it ended. A stale request is tried again in the next
-/// batch, as often as the setup says. Behind the last batch of a log without a fault, batches without calls run while there are
-/// such requests. A fault ends the run: one of a line of the log (31 to 35), a failed device (36), want of memory (37), or a
-/// thread that was refused to the executor (38). What was written then is a beginning of the report.
+/// A batch is read whole before it runs, and its report is written after it ended. A stale request is tried again in
+/// the next batch, as often as the setup says. After the last batch of a log without a fault, batches without calls
+/// run while there are such requests. A fault ends the run: one of a line of the log (31 to 35), a failed device (36),
+/// want of memory (37), or a thread that was refused to the executor (38). What was written then is a beginning of the
+/// report.
 pub fn run_log<
     R: Wait,
     X: Fn(&mut Engine, Batch) -> Result<BatchDone, ExecFault>,

@@ -25,7 +25,7 @@ pub struct Transcript {
     batch: u64,
     /// All reply lines, by their hasher.
     said: Sha256,
-    /// The digest of the rows behind the last batch, `None` where no batch was reported.
+    /// The digest of the rows after the last batch, `None` where no batch was reported.
     rows: Option<String>,
 }
 
@@ -49,7 +49,7 @@ fn digest_of_rows(alloc: Global, rows: &RowStore) -> Result<String, AllocError>
     rows_digest(alloc, rows.catalogue(), rows)
 }
 
-/// The digest of the rows, and reply lines with the batch line behind them.
+/// The digest of the rows, and reply lines with the batch line after them.
 #[tactic(auto, unfolding(crate::specs::Transcripts::with_batch_line))]
 fn batch_text(
     alloc: Global,
@@ -158,8 +158,8 @@ impl Transcript {
         Ok(())
     }
 
-    /// Writes the end line, for so many transactions, over the rows that the last batch left, if there was one: their digest
-    /// is then the one in its batch line, and is not made anew.
+    /// Writes the end line, for so many transactions, over the rows that the last batch left, if there was one: their
+    /// digest is then the one in its batch line, and is not made anew.
     pub(crate) fn write_last<K: Sink>(
         self,
         alloc: Global,

@@ -13,12 +13,12 @@ use Rattle.meaning.specs.Entries.{footprint_of}
 use Rattle.meaning.specs.Frame.{may_touch}
 use Rattle.interp.specs.Entries.{EntryParts, entry_shape}
 use Rattle.scheduler_core.specs.Transactions.{Transaction, IsPlanned}
-use Rattle.scheduler.specs.Logs.{transactions_of, Serves, IsPlannedFor, ArePlannedFor}
+use Rattle.scheduler.specs.Logs.{transactions_of, SufficesFor, IsPlannedFor, ArePlannedFor}
 use Rattle.interp.specs.Over.{locked_for, IsEntryOver, AreEntriesOver}
 use Rattle.scheduler.specs.Schedules.{Work}
 use Rattle.scheduler.specs.Scheduled.{IsFitting}
 
-covered : (tables : List TableShape) (arena : ℕ) (o : Option FootprintOf) (plan : Requests) → Serves arena (locked_for o) plan
+covered : (tables : List TableShape) (arena : ℕ) (o : Option FootprintOf) (plan : Requests) → SufficesFor arena (locked_for o) plan
     → (name : RowName) (right : Right) → may_touch tables o name right ≡ true → locks_row tables plan name right ≡ true
 covered tables arena None plan s name right e = absurd (cc)
 covered tables arena (Some f) plan s name right e = s.covered (row_resource tables name) right e

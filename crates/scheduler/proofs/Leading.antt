@@ -36,7 +36,7 @@ settled_pushed slots n s = record {
   within = let w : n ≤ length slots = s.within in let e = length_pushed slots Idle in omega (arith, e, w);
 }
 
--- what is not settled stands behind the leading ones
+-- what is not settled stands after the leading ones
 apart : (slots : List Slot) (n place : ℕ) (old : Slot) → AreSettledBefore slots n → slice_get slots place ≡ Some old → is_settled (Some (phase_in old)) ≡ false → (k : ℕ) → k < n → k ≢ place
 apart slots n place old s is open_yet k less e =
     let settled : is_settled (Some (phase_in old)) ≡ true = sym (ap is_settled (phase_at slots place old is)) ∙ ap (λ (i : ℕ). is_settled (slice_get (map phase_in slots) i)) (sym e) ∙ s.before k less in

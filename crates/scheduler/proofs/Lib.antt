@@ -8,7 +8,7 @@ pub mod Restored
 pub mod Admitting
 pub mod Leading
 pub mod Known
-pub mod Openings
+pub mod Lendables
 pub mod Returns
 pub mod Fitting
 pub mod Starts

@@ -36,8 +36,8 @@ LocksTouched entry loan =
 abbrev pub transaction_of : JobOf → Transaction
 transaction_of job = record { entry = entry_shape job.entry; plan = job.loan.plan }
 
--- what comes of a job: the job as it was lent, or the same job with its outcome, its loan showing the rows that it
--- leaves
+-- what comes of a job: the job as it was lent, or the same job with its outcome, its loan
+-- showing the rows that it leaves
 abbrev pub ComesOf : JobOf → Option Outcome → JobOf → Type 0
 ComesOf job None back = back ≡ job
 ComesOf job (Some outcome) back =

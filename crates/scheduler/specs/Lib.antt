@@ -3,6 +3,7 @@ pub mod Logs
 pub mod Schedules
 pub mod Moments
 pub mod Jobs
+pub mod Lending
 pub mod Scheduled
 pub mod Replies
 pub mod Settling

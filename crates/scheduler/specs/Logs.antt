@@ -42,9 +42,9 @@ abbrev pub plans_for : ℕ → ℕ → List EntryParts → List Requests
 plans_for threshold arena =
     map (λ entry. plan_for threshold arena (locked_for (footprint_of (entry_shape entry).footing)))
 
--- a plan that serves a footprint: it is sound, it covers what the footprint covers, it is over each tables that the
--- footprint is over, and it is not larger than the room
-pub record Serves (arena : ℕ) (touched : FootprintOf) (plan : Requests) : Type 0 where
+-- a plan that suffices for a footprint: it is sound, it covers what the footprint covers, it is over each tables that
+-- the footprint is over, and it is not larger than the room
+pub record SufficesFor (arena : ℕ) (touched : FootprintOf) (plan : Requests) : Type 0 where
   pub sound : IsWellFormed plan
   pub covered : (resource : Resource) (right : Right) → covers touched resource right ≡ true
       → covers_by_requests plan resource right ≡ true
@@ -52,7 +52,7 @@ pub record Serves (arena : ℕ) (touched : FootprintOf) (plan : Requests) : Type
   pub size : length plan ≤ arena
 
 abbrev pub IsPlannedFor : ℕ → EntryParts → Requests → Type 0
-IsPlannedFor arena entry plan = Serves arena (locked_for (footprint_of (entry_shape entry).footing)) plan
+IsPlannedFor arena entry plan = SufficesFor arena (locked_for (footprint_of (entry_shape entry).footing)) plan
 
 abbrev pub ArePlannedFor : ℕ → List EntryParts → List Requests → Type 0
 ArePlannedFor arena = Paired (IsPlannedFor arena)

@@ -36,8 +36,8 @@ plan_out (Some t) p = if is_out p then Some t.plan else None
 abbrev pub lent_to : Work → List Phase → ℕ → Option Requests
 lent_to w phases number = plan_out (at_number w.first (log_of w) number) (at_number w.first phases number)
 
--- the log fits: each entry and each plan is over the tables, each plan locks what its entry touches, and fits in the
--- room
+-- the log fits: each entry and each plan is over the tables, each plan locks what its entry
+-- touches, and fits in the room
 pub record IsFitting (w : Work) : Type 0 where
   pub over : (place : ℕ) (t : Transaction) → slice_get (log_of w) place ≡ Some t
       → (t.entry.tables ≡ w.tables) × IsPlanOver w.tables t.plan

@@ -26,7 +26,7 @@ fn next_step(slot: &Slot, no: u64) -> Option<Event>
     }
 }
 
-/// Puts an event behind the others, if there is one.
+/// Puts an event after the others, if there is one.
 fn push(events: &mut Vec<Event>, event: Option<Event>) -> Result<(), NoMemory>
     ensures { OnOk result (events.new.items ≡ events.old.items ++ steps_of event) }
 {
@@ -48,13 +48,14 @@ fn chosen(events: &[Event], n: u64) -> Option<Event>
 }
 
 impl Scheduler {
-    /// The next step of the least transaction that is admitted and not settled, or to admit one more where there is none;
-    /// `None` exactly where all is done. It is enabled. No job is with the caller, and no memory is taken.
+    /// The next step of the least transaction that is admitted and not settled, or to admit one more where there is
+    /// none; `None` exactly where all is done. It is enabled. No job is with the caller, and no memory is taken.
     pub fn next_event(&self) -> Option<Event>
         requires { KeepsItsJobs self.now }
         ensures event { result ≡ next_event self.now.work.first (log_of self.now.work) (phases_of self.now) }
         ensures enabled { IsNextAt self.now result }
     {
+        // proof: what events do, by places of the log.
         events_by_places();
         next_event_is_enabled();
         let admitted = self.slots.len();
@@ -98,6 +99,7 @@ impl Scheduler {
         requires { place < length self.now.slots }
         ensures { steps_of result ≡ filter (can_make self.now) (next_step_at self.now place) }
     {
+        // proof: what events do, by places of the log.
         events_by_places();
         if self.waits(place) {
             return None;
@@ -109,6 +111,7 @@ impl Scheduler {
     fn enabled_events(&self) -> Result<Vec<Event>, NoMemory>
         ensures { IfOk result (λ events. events.items ≡ events_at self.now) }
     {
+        // proof: what events do, by places of the log.
         events_by_places();
         let mut events = Vec::new(self.alloc);
         if self.can_admit() {
@@ -120,13 +123,14 @@ impl Scheduler {
         Ok(events)
     }
 
-    /// The event at place `n` modulo their count of the enabled events, to admit first and then by transaction number; `None`
-    /// exactly where all is done. No job is with the caller.
+    /// The event at place `n` modulo their count of the enabled events, to admit first and then by transaction number;
+    /// `None` exactly where all is done. No job is with the caller.
     pub fn choose(&self, n: u64) -> Result<Option<Event>, NoMemory>
         requires { KeepsItsJobs self.now }
         ensures event { IfOk result (λ event. event ≡ chosen n (events_at self.now)) }
         ensures enabled { IfOk result (IsChoiceAt self.now) }
     {
+        // proof: the enabled events are listed, each once.
         enabled_events_are_listed();
         let _slots = &self.slots;
         let events = self.enabled_events()?;

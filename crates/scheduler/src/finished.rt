@@ -98,6 +98,7 @@ impl Scheduler {
         ensures outcomes { map as_reply result.outcomes
             ≡ serial_replies (map entry_shape self.work.entries) self.work.start }
     {
+        // proof: the rows are those of the serial run.
         rows_are_serial();
         serial_run_by_places();
         let Scheduler {
@@ -116,9 +117,9 @@ impl Scheduler {
         }
     }
 
-    /// What holds at every moment: no more are admitted than the log has; each job that is here shows, as it was lent, the rows of
-    /// the serial run at its place, on the row names that its plan locks; no two plans that are out are in conflict, and each
-    /// transaction that is out is ready.
+    /// What holds at every moment: no more are admitted than the log has; each job that is here shows, as it was lent,
+    /// the rows of the serial run at its place, on the row names that its plan locks; no two plans that are out are in
+    /// conflict, and each transaction that is out is ready.
     pub fn observe(&self)
         ensures within { length self.now.slots ≤ length self.now.work.entries }
         ensures jobs { (place : ℕ) (job : JobOf) → slice_get self.now.slots place ≡ Some (Slot.Held job) →
@@ -129,6 +130,7 @@ impl Scheduler {
             ModesClash t.plan u.plan → ⊥ }
         ensures ready { OutAreReady self.now.work.first (log_of self.now.work) (phases_of self.now) }
     {
+        // proof: the rows are those of the serial run.
         rows_are_serial();
         let _slots = &self.slots;
     }

@@ -10,8 +10,8 @@ use row_store::Loan;
 use std::alloc::Global;
 use std::marker::Model;
 
-/// A transaction that is out: its number, its entry, and a loan of the rows that its plan locks. It is a handle: to move it is to
-/// move a word.
+/// A transaction that is out: its number, its entry, and a loan of the rows that its plan locks. It is a handle: to
+/// move it is to move a word.
 #[derive(Drop)]
 pub struct Job {
     parts: Box<Parts>,
@@ -28,8 +28,8 @@ impl Model for Job {
 }
 
 impl Job {
-    /// A job of these. The entry is over the loan's tables, and the loan's plan locks each row name that it may touch. Where memory
-    /// is refused the loan comes back.
+    /// A job of these. The entry is over the loan's tables, and the loan's plan locks each row name that it may touch.
+    /// If allocation fails, the loan comes back.
     pub(crate) fn new(alloc: Global, no: u64, entry: Entry, loan: Loan) -> Result<Job, Loan>
         requires tables { entry.request.proc.tables ≡ loan.tables }
         requires locks { LocksTouched entry loan }
@@ -59,7 +59,8 @@ impl Job {
     }
 }
 
-/// A job that came back: with the outcome of its run and the rows that it leaves, or, for want of memory, as it was lent.
+/// A job that came back: with the outcome of its run and the rows that it leaves, or, for
+/// want of memory, as it was lent.
 #[derive(Drop)]
 pub struct Done {
     job: Job,

@@ -1,16 +1,15 @@
 //! Lending rows to a transaction, and taking them back.
 
-ghost use Rattle.std.specs.Prelude.{◌≡◌, ℕ, true, false, if◌then◌else◌, Some, None, IfOk, OnOk, OnErr, IsSome};
+ghost use Rattle.std.specs.Prelude.{◌≡◌, true, false, if◌then◌else◌, Some, IfOk, OnOk, OnErr, IsSome};
 ghost use Rattle.std.specs.FinMap as map;
 ghost use Rattle.values.specs.declared.name.RowName.{RowName as Name};
 ghost use Rattle.proclang_types.specs.declared.right.Right.{Right};
-ghost use Rattle.coarsen.specs.Subtrees.{Requests};
-ghost use Rattle.coarsen.specs.Plans.{IsPlanOver};
-ghost use Rattle.coarsen.specs.Clashes.{locks_row, ModesClash};
+ghost use Rattle.coarsen.specs.Clashes.{locks_row};
 ghost use Rattle.meaning.specs.Frame.{touches};
 ghost use Rattle.interp.specs.Entries.{entry_shape};
 ghost use Rattle.lock_tree.specs.Locks.{plan_of, with_mark, without};
 ghost use Rattle.lock_tree.specs.Ready.{ready};
+ghost use Rattle.scheduler.specs.Lending.{CanBeLent, IsJobFor};
 
 use crate::job::Job;
 use coarsen::Plan;
@@ -30,7 +29,8 @@ pub(crate) fn is_ready(locks: &LockTree, no: u64) -> bool
     }
 }
 
-/// The job of a transaction: the rows that its plan locks are lent to it, and it is marked. On an error nothing has changed.
+/// The job of a transaction: the rows that its plan locks are lent to it, and it is marked.
+/// On an error nothing has changed.
 pub(crate) fn lend_to(
     alloc: Global,
     store: &mut RowStore,
@@ -42,23 +42,14 @@ pub(crate) fn lend_to(
     requires tables { entry.now.request.proc.tables ≡ store.old.tables }
     requires locks { (name : Name) (right : Right) → touches (entry_shape entry.now) name right ≡ true →
         locks_row store.old.tables plan.now name right ≡ true }
-    requires over { IsPlanOver store.old.tables plan.now }
-    requires unlent { map.get store.old.lent no ≡ None }
-    requires apart { (other : ℕ) (requests : Requests) → map.get store.old.lent other ≡ Some requests →
-        ModesClash requests plan.now → ⊥ }
+    requires can { CanBeLent store.old no plan.now }
     requires there { IsSome (plan_of locks.old.waiting no) }
     ensures tables { store.new.tables ≡ store.old.tables }
     ensures rows { store.new.rows ≡ store.old.rows }
     ensures lent { OnOk result (store.new.lent ≡ map.insert store.old.lent no plan.now) }
     ensures marked { OnOk result (locks.new ≡ record locks.old { waiting = with_mark no true locks.old.waiting }) }
-    ensures err_store { OnErr result (store.new ≡ store.old) }
-    ensures err_locks { OnErr result (locks.new ≡ locks.old) }
-    ensures number { IfOk result (λ job. job.no ≡ no) }
-    ensures entry { IfOk result (λ job. job.entry ≡ entry.now) }
-    ensures plan { IfOk result (λ job. job.loan.plan ≡ plan.now) }
-    ensures loan_tables { IfOk result (λ job. job.loan.tables ≡ store.old.tables) }
-    ensures shows { IfOk result (λ job. (name : Name) → locks_row store.old.tables plan.now name Right.Read ≡ true →
-        map.get job.loan.rows name ≡ map.get store.old.rows name) }
+    ensures err { OnErr result ((store.new ≡ store.old) × (locks.new ≡ locks.old)) }
+    ensures job { IfOk result (IsJobFor store.old no entry.now plan.now) }
 {
     let entry = entry.clone()?;
     let loan = store.lend(no, plan)?;

@@ -1,4 +1,5 @@
-//! The scheduler: admits the entries of a log in its order, lends each its rows, and settles it, in whatever order jobs come back.
+//! The scheduler: admits the entries of a log in its order, lends each its rows, and
+//! settles it, in whatever order jobs come back.
 #![tactic(auto)]
 
 mod choosing;

@@ -11,8 +11,8 @@ use interp::Entry;
 use std::alloc::Global;
 use values::NoMemory;
 
-/// The plan of an entry, coarsened above `threshold`, with at most `arena` requests. An entry whose declaration faults asks for
-/// nothing.
+/// The plan of an entry, coarsened above `threshold`, with at most `arena` requests. An entry whose declaration faults
+/// asks for nothing.
 pub fn plan_of(
     alloc: Global,
     entry: &Entry,
@@ -58,6 +58,7 @@ pub(crate) fn make_plans(
     ensures made { OnOk result (IsMade (plans_for threshold arena entries.now) plans.new) }
     ensures err { OnErr result (plans.new ≡ plans.old) }
 {
+    // proof: a footprint has one plan.
     plan_is_one();
     if plans.is_none() {
         *plans = Some(plans_of(alloc, entries, threshold, arena)?);

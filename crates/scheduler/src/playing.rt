@@ -20,7 +20,7 @@ use values::NoMemory;
 
 impl Scheduler {
     /// The place of an admitted transaction, `None` exactly where the number is of no such transaction.
-    fn place_of(&self, no: u64) -> Option<usize>
+    fn place_numbered(&self, no: u64) -> Option<usize>
         ensures some { IfSome result (λ place. (no ≡ self.now.work.first + place) ×
             (place < length self.now.slots)) }
         ensures none { result ≡ None → phase_of self.now.work.first (phases_of self.now) no ≡ None }
@@ -56,11 +56,12 @@ impl Scheduler {
         ensures work { self.new.work ≡ self.old.work }
         ensures keeps { KeepsItsJobs self.new }
     {
+        // proof: who waits in the lock tree, and what the rows are.
         admitted_and_unsettled_wait();
         rows_are_serial();
         events_by_places();
         clashes_are_either_way();
-        let Some(place) = self.place_of(no) else {
+        let Some(place) = self.place_numbered(no) else {
             return StepAnswer::Refused;
         };
         if !is_idle(&self.slots, place) {
@@ -92,10 +93,11 @@ impl Scheduler {
         ensures work { self.new.work ≡ self.old.work }
         ensures keeps { KeepsItsJobs self.new }
     {
+        // proof: who waits in the lock tree, and what the rows are.
         admitted_and_unsettled_wait();
         rows_are_serial();
         events_by_places();
-        let Some(place) = self.place_of(no) else {
+        let Some(place) = self.place_numbered(no) else {
             return StepAnswer::Refused;
         };
         let Some(job) = take_held(&mut self.slots, place) else {
@@ -122,10 +124,11 @@ impl Scheduler {
         ensures work { self.new.work ≡ self.old.work }
         ensures keeps { KeepsItsJobs self.new }
     {
+        // proof: who waits in the lock tree, and what the rows are.
         admitted_and_unsettled_wait();
         rows_are_serial();
         events_by_places();
-        let Some(place) = self.place_of(no) else {
+        let Some(place) = self.place_numbered(no) else {
             return StepAnswer::Refused;
         };
         let Some((job, outcome)) = take_run(&mut self.slots, place) else {
@@ -137,8 +140,8 @@ impl Scheduler {
         StepAnswer::Made
     }
 
-    /// Makes an event, if it is enabled. Where it isn't, or where memory is refused, nothing has changed. A Settle takes no
-    /// memory. No job is with the caller.
+    /// Makes an event, if it is enabled. If it isn't, or if allocation fails, nothing has changed. A Settle
+    /// takes no memory. No job is with the caller.
     pub fn step(&mut self, event: Event) -> StepAnswer
         requires { KeepsItsJobs self.old }
         ensures answer { AnswersAt self.old event result self.new }
@@ -155,8 +158,8 @@ impl Scheduler {
         }
     }
 
-    /// Makes one event after the other, each if it is enabled, and says of each what came of it. An error comes before anything
-    /// is played. No job is with the caller.
+    /// Makes one event after the other, each if it is enabled, and says of each what came of it. An error comes before
+    /// anything is played. No job is with the caller.
     pub fn play(&mut self, events: &[Event]) -> Result<Vec<StepAnswer>, NoMemory>
         requires { KeepsItsJobs self.old }
         ensures played { IfOk result (λ answers. PlaysAt self.old events.now answers.items self.new) }

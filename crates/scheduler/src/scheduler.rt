@@ -39,8 +39,8 @@ pub enum AdmitFault {
     NoMemory,
 }
 
-/// The entries of a log on their way: each is admitted, lent its rows, run and settled. Whatever the order of these steps, what
-/// comes of each is what the log gives run one by one.
+/// The entries of a log on their way: each is admitted, lent its rows, run and settled. Whatever the order of these
+/// steps, what comes of each is what the log gives run one by one.
 #[derive(Drop)]
 pub struct Scheduler {
     pub(crate) alloc: Global,
@@ -91,10 +91,10 @@ impl Model for Scheduler {
 pub type Unmade = (Catalogue, RowStore, Vec<Entry>, NoMemory);
 
 impl Scheduler {
-    /// A scheduler of these entries on these rows, with nothing admitted. The entries are over the catalogue, nothing is lent of
-    /// the rows, and the numbers, from the first one on, are below 2^48. More than `threshold` rows of a partition, or
-    /// partitions of a table, are locked as one; the lock tree has room for `arena` requests. Where memory is refused, all comes
-    /// back.
+    /// A scheduler of these entries on these rows, with nothing admitted. The entries are over the catalogue, nothing
+    /// is lent of the rows, and the numbers, from the first one on, are below 2^48. More than `threshold` rows of a
+    /// partition, or partitions of a table, are locked as one; the lock tree has room for `arena` requests. Where
+    /// memory is refused, all comes back.
     pub fn new(
         alloc: Global,
         catalogue: Catalogue,
@@ -119,6 +119,7 @@ impl Scheduler {
         ensures back { IfErr result (λ unmade. (unmade.0 ≡ catalogue) × (unmade.1 ≡ store) ×
             (unmade.2.items ≡ entries.items)) }
     {
+        // proof: who waits in the lock tree, and what the rows are.
         admitted_and_unsettled_wait();
         rows_are_serial();
         plan_is_one();
@@ -144,8 +145,8 @@ impl Scheduler {
         })
     }
 
-    /// Admits the next transaction: makes its lock requests, and room for its reply; and for the first one, the plans of all. On an
-    /// error nothing has changed.
+    /// Admits the next transaction: makes its lock requests, and room for its reply; and for the first one, the plans
+    /// of all. On an error nothing has changed.
     pub fn admit(&mut self) -> Result<u64, AdmitFault>
         ensures enabled { OnOk result (can_make self.old AnyEvent.Admit ≡ true) }
         ensures number { IfOk result (λ number. number ≡ self.old.work.first + length self.old.slots) }
@@ -157,6 +158,7 @@ impl Scheduler {
         ensures last { result ≡ Err AdmitFault.AllAdmitted → can_make self.old AnyEvent.Admit ≡ false }
         ensures err { OnErr result (self.new ≡ self.old) }
     {
+        // proof: who waits in the lock tree, and what the rows are.
         admitted_and_unsettled_wait();
         rows_are_serial();
         let place = self.slots.len();
@@ -188,15 +190,16 @@ impl Scheduler {
         }
     }
 
-    /// Lends its rows to the ready transaction of the least number that is not out, if there is one. On an error nothing has
-    /// changed.
+    /// Lends its rows to the ready transaction of the least number that is not out, if there is one. On an error
+    /// nothing has changed.
     pub fn lend(&mut self) -> Result<Option<Job>, NoMemory>
         ensures least { IfOk result (λ found. IsLeastLendAt self.old (number_of_job found)) }
-        // The job shows the rows of the serial run at its place, on the row names that its plan locks, and its plan is in
-        // conflict with none that is out.
+        // The job shows the rows of the serial run at its place, on the row names that its plan locks, and its plan is
+        // in conflict with none that is out.
         ensures lent { IfOk result (λ found. LendsTo self.old found self.new) }
         ensures err { OnErr result (self.new ≡ self.old) }
     {
+        // proof: who waits in the lock tree, and what the rows are.
         admitted_and_unsettled_wait();
         rows_are_serial();
         clashes_are_either_way();
@@ -216,8 +219,8 @@ impl Scheduler {
         Ok(Some(job))
     }
 
-    /// Settles a job that came back: its transaction is settled with its outcome, or, where it was not run, is not out any
-    /// more, and is ready: it can be lent its rows again. It takes no memory.
+    /// Settles a job that came back: its transaction is settled with its outcome, or, where it was not run, is not out
+    /// any more, and is ready: it can be lent its rows again. It takes no memory.
     pub fn settle(&mut self, done: Done)
         requires { ComesBack self.old done }
         ensures settled { IfSome done.outcome (λ outcome.
@@ -232,6 +235,7 @@ impl Scheduler {
             } }
         ensures ready { done.outcome ≡ None → can_make self.new (AnyEvent.Lend done.job.no) ≡ true }
     {
+        // proof: who waits in the lock tree, and what the rows are.
         admitted_and_unsettled_wait();
         rows_are_serial();
         events_by_places();

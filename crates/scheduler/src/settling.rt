@@ -23,6 +23,7 @@ impl Scheduler {
         ensures keeps { KeepsItsJobs self.new }
         ensures count { length self.new.slots ≡ length self.old.slots }
     {
+        // proof: who waits in the lock tree, and what the rows are.
         admitted_and_unsettled_wait();
         rows_are_serial();
         if let Some(job) = take_held(&mut self.slots, place) {
@@ -41,14 +42,15 @@ impl Scheduler {
         ensures keeps { KeepsItsJobs self.new }
         ensures count { length self.new.slots ≡ length self.old.slots }
     {
+        // proof: what events do, by places of the log.
         events_by_places();
         let no = self.first + place as u64;
         self.play_settle(no);
         self.take_back_held(place);
     }
 
-    /// Settles each job that is here and was run, and takes back the rows of each that was only lent. No memory is taken. No job
-    /// is with the caller.
+    /// Settles each job that is here and was run, and takes back the rows of each that was only lent. No memory is
+    /// taken. No job is with the caller.
     pub fn settle_held(&mut self)
         requires { KeepsItsJobs self.old }
         ensures phases { phases_of self.new ≡ map after_settling (phases_of self.old) }

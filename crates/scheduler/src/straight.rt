@@ -19,7 +19,8 @@ use scheduler_core::{admitted_and_unsettled_wait, rows_are_serial, run_on_shown_
 use std::alloc::Global;
 use values::NoMemory;
 
-/// Runs an entry on the rows of a store of which nothing is lent, and makes its writes there. On an error nothing has changed.
+/// Runs an entry on the rows of a store of which nothing is lent, and makes its writes
+/// there. On an error nothing has changed.
 fn run_on_store(alloc: Global, entry: &Entry, store: &mut RowStore) -> Result<Outcome, NoMemory>
     requires tables { entry.now.request.proc.tables ≡ store.old.tables }
     requires unlent { store.old.lent ≡ finite.empty }
@@ -29,6 +30,7 @@ fn run_on_store(alloc: Global, entry: &Entry, store: &mut RowStore) -> Result<Ou
         meaning (entry_shape entry.now) store.old.rows ≡ (as_reply outcome, store.new.rows)) }
     ensures err { OnErr result (store.new ≡ store.old) }
 {
+    // proof: every row of the store is free.
     all_is_free_with_nothing_lent();
     let Effect { outcome, writes } = run(alloc, store.catalogue(), entry, &*store)?;
     store.apply(writes)?;
@@ -43,10 +45,10 @@ impl Scheduler {
         self.entries.get(self.slots.len())
     }
 
-    /// Runs the next transaction on the rows themselves and settles it at once, where all that are admitted are settled: there is
-    /// nobody to keep it apart from, so it asks for no locks and is lent nothing, and it comes to what its four steps would. The
-    /// transaction's number, `None` exactly where one that is admitted isn't settled, or all are admitted. On an error nothing has
-    /// changed.
+    /// Runs the next transaction on the rows themselves and settles it at once, where all that are admitted are
+    /// settled: there is nobody to keep it apart from, so it asks for no locks and is lent nothing, and it comes to
+    /// what its four steps would. The transaction's number, `None` exactly where one that is admitted isn't settled, or
+    /// all are admitted. On an error nothing has changed.
     pub fn run_next(&mut self) -> Result<Option<u64>, NoMemory>
         ensures ran { IfOk result (λ number. IfSome number (λ no.
             (no ≡ self.old.work.first + length self.old.slots) × (outcome : AnyOutcome) ×
@@ -56,6 +58,7 @@ impl Scheduler {
         ensures keeps { KeepsItsJobs self.old → KeepsItsJobs self.new }
         ensures err { OnErr result (self.new ≡ self.old) }
     {
+        // proof: who waits in the lock tree, and what the rows are.
         admitted_and_unsettled_wait();
         rows_are_serial();
         run_on_shown_rows_is_run();

@@ -44,28 +44,28 @@ progress_more p phases = omega (
   sum_by-cons (λ q. cond (is_settled (Some q)) 1 0) p phases,
 )
 
-further : (p : Phase) (phases : List Phase) → progress (p ∷ phases) ≡ far p + progress phases
-further p phases = progress_more p phases ∙ ap (λ (n : ℕ). n + progress phases) (one_counts p)
+progress_first : (p : Phase) (phases : List Phase) → progress (p ∷ phases) ≡ far p + progress phases
+progress_first p phases = progress_more p phases ∙ ap (λ (n : ℕ). n + progress phases) (one_counts p)
 
 raised : (phases : List Phase) (place : ℕ) (p q : Phase) → slice_get phases place ≡ Some p → far q ≡ far p + 1 → progress (slice_set phases place q) ≡ progress phases + 1
 raised [] place p q is up = absurd (none_some p is)
 raised (r ∷ phases) zero p q is up =
     let same : far r ≡ far p = ap far (some_is r p is) in
-    let one = further r phases in
-    let two = further q phases in
+    let one = progress_first r phases in
+    let two = progress_first q phases in
     omega (arith, same, one, two, up)
 raised (r ∷ phases) (suc place) p q is up =
     let rest = raised phases place p q is up in
-    let one = further r phases in
-    let two = further r (slice_set phases place q) in
+    let one = progress_first r phases in
+    let two = progress_first r (slice_set phases place q) in
     omega (arith, rest, one, two)
 
 pushed : (phases : List Phase) → progress (phases ++ Idle ∷ []) ≡ progress phases + 1
 pushed [] = refl
 pushed (p ∷ phases) =
     let rest = pushed phases in
-    let one = further p phases in
-    let two = further p (phases ++ Idle ∷ []) in
+    let one = progress_first p phases in
+    let two = progress_first p (phases ++ Idle ∷ []) in
     omega (arith, rest, one, two)
 
 raised_number : (first : ℕ) (phases : List Phase) (number : ℕ) (p q : Phase) → phase_of first phases number ≡ Some p → far q ≡ far p + 1
@@ -106,7 +106,7 @@ module _ (arena first : ℕ) (log : List Transaction) where
 four_each : (phases : List Phase) → list_all (λ p. is_settled (Some p)) phases ≡ true → progress phases ≡ 4 * length phases
 unfolding far
 four_each [] every = refl
-four_each (Settled ∷ phases) every = let rest = four_each phases every in let one = further Settled phases in omega (arith, rest, one)
+four_each (Settled ∷ phases) every = let rest = four_each phases every in let one = progress_first Settled phases in omega (arith, rest, one)
 four_each (Idle ∷ phases) every = absurd (cc)
 four_each (Out ∷ phases) every = absurd (cc)
 four_each (Ran ∷ phases) every = absurd (cc)
@@ -130,7 +130,7 @@ one_most Settled = omega arith
 pub progress_most : (phases : List Phase) → progress phases ≤ 4 * length phases
 progress_most [] = omega arith
 progress_most (p ∷ phases) =
-    let rest = progress_most phases in let one = further p phases in let most = one_most p in omega (arith, rest, one, most)
+    let rest = progress_most phases in let one = progress_first p phases in let most = one_most p in omega (arith, rest, one, most)
 
 pub four_steps_each : FourStepsEach
 four_steps_each = record { counted = made_count; four = four_steps }

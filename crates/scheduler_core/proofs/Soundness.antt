@@ -43,12 +43,12 @@ module _ (tables : List TableShape) (log : List Transaction) (start : Database) 
       → ((k : ℕ) → has_begun (slice_get new k) ≡ true → IsFree phases k) → Sound phases rows → Sound new rows
   same_settled phases new rows within same begun s = record {
     within = within;
-    behind = λ i k t u less at_i at_k has conflicts. same i ∙ begun k has i t u less at_i at_k conflicts;
+    conflicts_settled = λ i k t u less at_i at_k has conflicts. same i ∙ begun k has i t u less at_i at_k conflicts;
     current = λ name place below above. s.current name place (λ i less written. sym (same i) ∙ below i less written) (λ i more written. sym (same i) ∙ above i more written);
   }
 
   begun_free : (phases : List Phase) (rows : Database) (k : ℕ) → Sound phases rows → has_begun (slice_get phases k) ≡ true → IsFree phases k
-  begun_free phases rows k s has i t u less at_i at_k conflicts = s.behind i k t u less at_i at_k has conflicts
+  begun_free phases rows k s has i t u less at_i at_k conflicts = s.conflicts_settled i k t u less at_i at_k has conflicts
 
   pub sound_admit : (phases : List Phase) (rows : Database) → Sound phases rows → length phases < length log → Sound (phases ++ Idle ∷ []) rows
   sound_admit phases rows s room =
@@ -82,7 +82,7 @@ module _ (tables : List TableShape) (log : List Transaction) (start : Database) 
   sound_run phases rows place s is = sound_phase phases rows place Out Ran s is refl refl (λ h. out_free phases rows place s (ap is_out is))
 
   pub same_rows : (phases : List Phase) (rows new : Database) → Sound phases rows → ((name : RowName) → get new name ≡ get rows name) → Sound phases new
-  same_rows phases rows new s same = record { within = s.within; behind = s.behind; current = λ name place below above. same name ∙ s.current name place below above }
+  same_rows phases rows new s same = record { within = s.within; conflicts_settled = s.conflicts_settled; current = λ name place below above. same name ∙ s.current name place below above }
 
   module _ (laws : LowerLaws) (planned : ArePlanned tables log) where
     known : IsLog get (reads tables log) (writes tables log) (InConflict tables log) (serial_rows log start)
@@ -91,13 +91,13 @@ module _ (tables : List TableShape) (log : List Transaction) (start : Database) 
     pub sound_start : Sound [] start
     sound_start = record {
       within = omega arith;
-      behind = λ i k t u less at_i at_k has conflicts. absurd (cc);
+      conflicts_settled = λ i k t u less at_i at_k has conflicts. absurd (cc);
       current = current_first get (reads tables log) (writes tables log) (InConflict tables log) (serial_rows log start) known (settled_in []) (λ i. refl);
     }
 
     closed : (phases : List Phase) (rows : Database) → Sound phases rows
         → Closed get (reads tables log) (writes tables log) (InConflict tables log) (serial_rows log start) (settled_in phases)
-    closed phases rows s i j less has (t, u, at_i, at_j, conflicts) = s.behind i j t u less at_i at_j (settled_begun (slice_get phases j) has) conflicts
+    closed phases rows s i j less has (t, u, at_i, at_j, conflicts) = s.conflicts_settled i j t u less at_i at_j (settled_begun (slice_get phases j) has) conflicts
 
     -- what is ready is free
     pub ready_free : (first : ℕ) (phases : List Phase) (rows : Database) (place : ℕ) → Sound phases rows → slice_get phases place ≡ Some Idle
@@ -164,7 +164,7 @@ module _ (tables : List TableShape) (log : List Transaction) (start : Database) 
         set_test has_begun phases place p Settled is (sym (sym (ap has_begun is) ∙ out_begun (slice_get phases place) out)) in
         record {
           within = (let e = length_set phases place Settled in let w = s.within in omega (arith, e, w));
-          behind = λ i k a b less at_i at_k has conflicts. grows i (s.behind i k a b less at_i at_k (sym (begun k) ∙ has) conflicts);
+          conflicts_settled = λ i k a b less at_i at_k has conflicts. grows i (s.conflicts_settled i k a b less at_i at_k (sym (begun k) ∙ has) conflicts);
           current = current_more get (reads tables log) (writes tables log) (InConflict tables log) (serial_rows log start) known
               (settled_in phases) (settled_in (slice_set phases place Settled)) rows new place (closed phases rows s) s.current (out_unsettled (slice_get phases place) out)
               (λ name locks. written name (sym (locks_there tables log place t name Write at) ∙ locks) ∙ run.written t at name (sym (locks_there tables log place t name Write at) ∙ locks))

@@ -56,7 +56,8 @@ IsBefore (Some m) None = ⊥
 IsBefore (Some m) (Some n) = m < n
 
 -- each enabled event and no other, Admit before all, and the numbers rise: there is one such list
-pub record ListsEnabled (arena first : ℕ) (log : List Transaction) (phases : List Phase) (events : List Event) : Type 0 where
+pub record ListsEnabled (arena first : ℕ) (log : List Transaction) (phases : List Phase) (events : List Event)
+    : Type 0 where
   pub exact : (event : Event) → Contains events event ↔ (enabled arena first log phases event ≡ true)
   pub ordered : AllPairs (λ a b. IsBefore (number_of a) (number_of b)) events
 
@@ -64,13 +65,15 @@ pub record ListsEnabled (arena first : ℕ) (log : List Transaction) (phases : L
 abbrev pub IsLeastOpen : ℕ → List Phase → Option ℕ → Type 0
 IsLeastOpen first phases None = (number : ℕ) → is_open (phase_of first phases number) ≡ false
 IsLeastOpen first phases (Some least) =
-    (is_open (phase_of first phases least) ≡ true) × ((number : ℕ) → is_open (phase_of first phases number) ≡ true → least ≤ number)
+    (is_open (phase_of first phases least) ≡ true)
+    × ((number : ℕ) → is_open (phase_of first phases number) ≡ true → least ≤ number)
 
 -- the event is enabled and is of the least number, or all is done
 abbrev pub IsNextEvent : ℕ → ℕ → List Transaction → List Phase → Option Event → Type 0
 IsNextEvent arena first log phases None = is_done log phases ≡ true
 IsNextEvent arena first log phases (Some event) =
-    (is_done log phases ≡ false) × (enabled arena first log phases event ≡ true) × IsLeastOpen first phases (number_of event)
+    (is_done log phases ≡ false) × (enabled arena first log phases event ≡ true)
+    × IsLeastOpen first phases (number_of event)
 
 -- the least number to which rows may be lent, None where there is none
 abbrev pub IsLeastLend : ℕ → ℕ → List Transaction → List Phase → Option ℕ → Type 0

@@ -22,18 +22,20 @@ waiting first (t ∷ log) (p ∷ phases) =
 
 -- each transaction that is out is ready
 abbrev pub OutAreReady : ℕ → List Transaction → List Phase → Type 0
-OutAreReady first log phases = (place : ℕ) → is_out (slice_get phases place) ≡ true → ready (waiting first log phases) (first + place) ≡ true
+OutAreReady first log phases =
+    (place : ℕ) → is_out (slice_get phases place) ≡ true → ready (waiting first log phases) (first + place) ≡ true
 
 -- there is a next transaction, and room for its plan beside those that wait
 abbrev pub has_room : ℕ → List Waiting → Option Transaction → Bool
 has_room arena waits None = false
 has_room arena waits (Some t) = nat_le (used waits + length t.plan) arena
 
--- Admit: not all are admitted, and there is room for the next one's plan. Lend: admitted, unsettled, not out, and ready.
--- Run: out and not run. Settle: run and not settled
+-- Admit: not all are admitted, and there is room for the next one's plan. Lend: admitted, unsettled, not out, and
+-- ready. Run: out and not run. Settle: run and not settled
 abbrev pub enabled : ℕ → ℕ → List Transaction → List Phase → Event → Bool
 enabled arena first log phases Admit = has_room arena (waiting first log phases) (slice_get log (length phases))
-enabled arena first log phases (Lend number) = is_idle (phase_of first phases number) && ready (waiting first log phases) number
+enabled arena first log phases (Lend number) =
+    is_idle (phase_of first phases number) && ready (waiting first log phases) number
 enabled arena first log phases (Run number) = is_lent (phase_of first phases number)
 enabled arena first log phases (Settle number) = was_run (phase_of first phases number)
 

@@ -1,5 +1,6 @@
 -- Claimed: what contracts promise to a reader rests on these words.
--- A scheduler as a plain machine: rows, and what each admitted transaction has in hand. It knows nothing of a serial run.
+-- A scheduler as a plain machine: rows, and what each admitted transaction has in hand. It knows nothing of a serial
+-- run.
 use Rattle.std.specs.Prelude.{◌≡◌, ◌⊎◌, ℕ, true, false, List, [], ◌∷◌, ◌++◌, map, Some}
 use Rattle.std.specs.FinMap.{get}
 use Rattle.values.specs.declared.name.RowName.{RowName}
@@ -68,8 +69,10 @@ module _ (tables : List TableShape) (first : ℕ) (log : List Transaction) where
     pub after : Database
     pub has : at_number first old.stages number ≡ Some (ran reply after)
     pub stages : new.stages ≡ with_number first old.stages number (settled reply)
-    pub written : (name : RowName) → locks_row tables transaction.plan name Write ≡ true → get new.rows name ≡ get after name
-    pub others : (name : RowName) → locks_row tables transaction.plan name Write ≡ false → get new.rows name ≡ get old.rows name
+    pub written : (name : RowName) → locks_row tables transaction.plan name Write ≡ true
+        → get new.rows name ≡ get after name
+    pub others : (name : RowName) → locks_row tables transaction.plan name Write ≡ false
+        → get new.rows name ≡ get old.rows name
 
   -- a job that was not run is given back: its transaction is as before it was lent its rows
   pub record TakesBack (old : Machine) (number : ℕ) (new : Machine) : Type 0 where
@@ -92,7 +95,8 @@ pub data Move : Type 0 where
 module _ (tables : List TableShape) (arena first : ℕ) (log : List Transaction) where
   -- an event is made only where it is enabled
   abbrev pub Moves : Machine → Move → Machine → Type 0
-  Moves old (makes event) new = (enabled arena first log (phases_of old.stages) event ≡ true) × Does tables first log old event new
+  Moves old (makes event) new =
+      (enabled arena first log (phases_of old.stages) event ≡ true) × Does tables first log old event new
   Moves old (takes_back number) new = TakesBack tables first log old number new
 
   -- any list of moves, each of which is made or changes nothing

@@ -1,6 +1,6 @@
 -- Claimed: what contracts promise to a reader rests on these words.
--- How far transactions are: one phase for each admitted transaction, in log order. So the number admitted is the length;
--- out are those that are Out or Ran, run those that are Ran, settled those that are Settled.
+-- How far transactions are: one phase for each admitted transaction, in log order. So the number admitted is the
+-- length; out are those that are Out or Ran, run those that are Ran, settled those that are Settled.
 use Rattle.std.specs.Prelude.{ℕ, ◌+◌, ◌-◌, ◌*◌, nat_lt, ◌==◌, ◌&&◌, if◌then◌else◌, Bool, true, false, List, length, Option, Some, None, slice_get, slice_set, count_by}
 use Rattle.std.specs.List.{list_all}
 use Rattle.scheduler_core.specs.declared.phase.Phase.{Phase}

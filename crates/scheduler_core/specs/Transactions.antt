@@ -24,7 +24,8 @@ entries_of log = map (λ t. t.entry) log
 -- the plan is one, and it locks each row name that the entry may touch, for the same right
 pub record IsPlanned (tables : List TableShape) (t : Transaction) : Type 0 where
   pub sound : IsWellFormed t.plan
-  pub locks : (name : RowName) (right : Right) → touches t.entry name right ≡ true → locks_row tables t.plan name right ≡ true
+  pub locks : (name : RowName) (right : Right) → touches t.entry name right ≡ true
+      → locks_row tables t.plan name right ≡ true
 
 -- each transaction of a log
 abbrev pub ArePlanned : List TableShape → List Transaction → Type 0

@@ -11,9 +11,9 @@ pub fn serial_run_by_places()
     ensures { SerialRunByPlaces }
 {}
 
-/// Whatever the order of admitting, lending, running, giving back and settling: each reply that is kept is the serial run's,
-/// each job shows as it is lent the rows of the serial run on the row names that its plan locks, no two plans that are out are
-/// in conflict, and once all are settled the rows are the serial run's.
+/// Whatever the order of admitting, lending, running, giving back and settling: each reply that is kept is the serial
+/// run's, each job shows as it is lent the rows of the serial run on the row names that its plan locks, no two plans
+/// that are out are in conflict, and once all are settled the rows are the serial run's.
 pub fn every_run_is_serial()
     ensures { EveryRunIsSerial }
 {
@@ -62,7 +62,8 @@ pub fn admitted_and_unsettled_wait()
     ready_stays();
 }
 
-/// Whatever the order of events, a transaction whose job is given back is ready and not out: its rows can be lent again.
+/// Whatever the order of events, a transaction whose job is given back is ready and not
+/// out: its rows can be lent again.
 pub fn given_back_can_be_lent()
     ensures { GivenBackCanBeLent }
 {
@@ -91,8 +92,8 @@ pub fn no_stuck_state()
     first_ready();
 }
 
-/// The next step of the transaction with the least number that is admitted and unsettled is enabled, and if there is no such
-/// transaction the next one of the log can be admitted, or all is done.
+/// The next step of the transaction with the least number that is admitted and unsettled is enabled, and if there is no
+/// such transaction the next one of the log can be admitted, or all is done.
 pub fn next_event_is_enabled()
     ensures { NextEventIsEnabled }
 {
@@ -113,8 +114,8 @@ pub fn first_choice()
     first_ready();
 }
 
-/// Each enabled event brings the state one step further, and what is settled stays settled. Four steps a transaction are the
-/// most.
+/// Each enabled event brings the state one step further, and what is settled stays settled.
+/// Four steps a transaction are the most.
 pub fn each_step_goes_on()
     ensures { EachStepGoesOn }
 {}

@@ -1,6 +1,6 @@
-//! The core of a scheduler: which events are enabled in it, what each does, and that every order of them gives the serial
-//! run. The definitions stand in `specs/`; here are the types that they speak of, and the laws that follow from them, each as
-//! the contract of a function.
+//! The core of a scheduler: which events are enabled in it, what each does, and that every order of them gives the
+//! serial run. The definitions stand in `specs/`; here are the types that they speak of, and the laws that follow from
+//! them, each as the contract of a function.
 #![tactic(auto)]
 
 mod event;

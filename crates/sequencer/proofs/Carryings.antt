@@ -16,7 +16,7 @@ module _ {A B : Type 0} (f : A → B) (p : A → Bool) (x : A) (xs : List A) whe
   kept_next : map f (filter p (x ∷ xs)) ≡ cond (p x) (f x ∷ []) [] ++ map f (filter p xs)
   kept_next = by_case (p x) (filter p xs)
 
--- the first attempt, and those behind it
+-- the first attempt, and those after it
 pub left_next : (retries n : ℕ) (a : Attempt) (attempts : List Attempt) (o : Reply) (outcomes : List Reply)
     → left_of retries n (a ∷ attempts) (o ∷ outcomes) ≡ cond (is_left retries (record { no = n; attempt = a }, o)) (carried_on (record { no = n; attempt = a }) ∷ []) [] ++ left_of retries (n + 1) attempts outcomes
 left_next retries n a attempts o outcomes = kept_next (λ (ended : Numbered × Reply). carried_on ended.0) (is_left retries) (record { no = n; attempt = a }, o) (zip (numbered_from (n + 1) attempts) outcomes)

@@ -10,7 +10,7 @@ use Rattle.sequencer.specs.Attempts.{Attempt, Numbered, is_stale, is_left, tries
 use Rattle.sequencer.specs.declared.attempts.Carried.{Carried}
 use Rattle.sequencer.proofs.Carryings.{left_next}
 
--- what holds of the first, if it is left, and of those behind it
+-- what holds of the first, if it is left, and of those after it
 all_both : (holds : Carried → Type 0) (one : Carried) (b : Bool) (rest : List Carried) → (b ≡ true → holds one) → AllByRecursion holds rest
     → AllByRecursion holds (cond b (one ∷ []) [] ++ rest)
 all_both holds one true rest h all = (h refl, all)
@@ -20,10 +20,10 @@ all_of : (holds other : Carried → Type 0) → ((one : Carried) → holds one �
 all_of holds other goes [] h = tt
 all_of holds other goes (x ∷ xs) h = (goes x h.0, all_of holds other goes xs h.1)
 
--- one place further
-further : (retries n : ℕ) (a : Attempt) (attempts : List Attempt) (o : Reply) (outcomes : List Reply) (one : Carried)
+-- tried again one place later
+tried_again_later : (retries n : ℕ) (a : Attempt) (attempts : List Attempt) (o : Reply) (outcomes : List Reply) (one : Carried)
     → IsTriedAgain retries (n + 1) attempts outcomes one → IsTriedAgain retries n (a ∷ attempts) (o ∷ outcomes) one
-further retries n a attempts o outcomes one h =
+tried_again_later retries n a attempts o outcomes one h =
     let place : n + 1 + h.place ≡ n + suc h.place = omega arith in
     record {
       place = suc h.place;
@@ -48,9 +48,10 @@ stale_is (commit values) h = absurd cc
 stale_is (aborted code) h = absurd cc
 stale_is stale h = refl
 
-here : (retries n : ℕ) (a : Attempt) (attempts : List Attempt) (o : Reply) (outcomes : List Reply)
+-- the first attempt
+first_tried_again : (retries n : ℕ) (a : Attempt) (attempts : List Attempt) (o : Reply) (outcomes : List Reply)
     → is_left retries (record { no = n; attempt = a }, o) ≡ true → IsTriedAgain retries n (a ∷ attempts) (o ∷ outcomes) (carried_on (record { no = n; attempt = a }))
-here retries n a attempts o outcomes h =
+first_tried_again retries n a attempts o outcomes h =
     let both = left_if (is_stale o) (nat_lt (tries_of a.before) retries) h in
     let place : n ≡ n + 0 = omega arith in
     record {
@@ -72,8 +73,8 @@ left_is_tried_again retries n (a ∷ attempts) [] = tt
 left_is_tried_again retries n (a ∷ attempts) (o ∷ outcomes) =
     let tried : Numbered = record { no = n; attempt = a } in
     subst (AllByRecursion (IsTriedAgain retries n (a ∷ attempts) (o ∷ outcomes))) (sym (left_next retries n a attempts o outcomes))
-    (all_both (IsTriedAgain retries n (a ∷ attempts) (o ∷ outcomes)) (carried_on tried) (is_left retries (tried, o)) (left_of retries (n + 1) attempts outcomes) (here retries n a attempts o outcomes)
-    (all_of (IsTriedAgain retries (n + 1) attempts outcomes) (IsTriedAgain retries n (a ∷ attempts) (o ∷ outcomes)) (further retries n a attempts o outcomes) (left_of retries (n + 1) attempts outcomes) (left_is_tried_again retries (n + 1) attempts outcomes)))
+    (all_both (IsTriedAgain retries n (a ∷ attempts) (o ∷ outcomes)) (carried_on tried) (is_left retries (tried, o)) (left_of retries (n + 1) attempts outcomes) (first_tried_again retries n a attempts o outcomes)
+    (all_of (IsTriedAgain retries (n + 1) attempts outcomes) (IsTriedAgain retries n (a ∷ attempts) (o ∷ outcomes)) (tried_again_later retries n a attempts o outcomes) (left_of retries (n + 1) attempts outcomes) (left_is_tried_again retries (n + 1) attempts outcomes)))
 
 pub at_most_tried : (retries n : ℕ) (attempts : List Attempt) (outcomes : List Reply) → AllByRecursion (λ (one : Carried). one.tries ≤ retries) (left_of retries n attempts outcomes)
 at_most_tried retries n attempts outcomes =
@@ -126,7 +127,7 @@ each_is_left retries n (a ∷ attempts) (o ∷ outcomes) zero attempt tried ende
 each_is_left retries n (a ∷ attempts) (o ∷ outcomes) (suc place) attempt tried ended few =
     let one = carried_on (record { no = n + suc place; attempt = attempt }) in
     let head = cond (is_left retries (record { no = n; attempt = a }, o)) (carried_on (record { no = n; attempt = a }) ∷ []) [] in
-    let further : n + 1 + place ≡ n + suc place = omega arith in
+    let later : n + 1 + place ≡ n + suc place = omega arith in
     subst (λ xs. Contains xs one) (sym (left_next retries n a attempts o outcomes))
     (Contains-append_right head (left_of retries (n + 1) attempts outcomes) one
-    (subst (λ k. Contains (left_of retries (n + 1) attempts outcomes) (carried_on (record { no = k; attempt = attempt }))) further (each_is_left retries (n + 1) attempts outcomes place attempt tried ended few)))
+    (subst (λ k. Contains (left_of retries (n + 1) attempts outcomes) (carried_on (record { no = k; attempt = attempt }))) later (each_is_left retries (n + 1) attempts outcomes place attempt tried ended few)))

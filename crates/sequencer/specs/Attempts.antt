@@ -35,7 +35,7 @@ again carried = record {
 abbrev pub own : RequestItem → Attempt
 own item = record { client = item.client; number = item.number; request = item.request; before = None }
 
--- the attempts of a batch: the carried ones stand at its head
+-- the attempts of a batch: the carried ones come first
 abbrev pub attempts_of : List Carried → List RequestItem → List Attempt
 attempts_of carried items = map again carried ++ map own items
 
@@ -96,7 +96,7 @@ goes_on retries tries reply = cond (is_stale reply) (nat_lt tries retries) false
 abbrev pub is_left : ℕ → Numbered × Reply → Bool
 is_left retries ended = goes_on retries (tries_of ended.0.attempt.before) ended.1
 
--- the request with one more attempt behind it
+-- the request after one more attempt
 abbrev pub carried_on : Numbered → Carried
 carried_on tried = record {
   client = tried.attempt.client;

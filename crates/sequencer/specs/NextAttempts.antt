@@ -27,7 +27,7 @@ own_carried transaction item = record {
 }
 
 -- an attempt was taken from those that wait
-pub record IsNext (old new : Ending) (result : Carried × Option ℕ) : Type 0 where
+pub record IsNextAttempt (old new : Ending) (result : Carried × Option ℕ) : Type 0 where
   pub attempt : Attempt
   pub waited : waiting_in old ≡ attempt ∷ waiting_in new
   pub carried : result.0 ≡ as_carried old.no attempt

@@ -43,8 +43,8 @@ fn numbered(alloc: Global, requests: Vec<Request>) -> Result<Vec<Item<Request>>,
     Ok(items)
 }
 
-/// Requests that are run together, in their order: at most 4,096, each with its client and its number. An intake of requests
-/// gives what is drawn as such batches. Of requests that came with no client the client is 0.
+/// Requests that are run together, in their order: at most 4,096, each with its client and its number. An intake of
+/// requests gives what is drawn as such batches. Of requests that came with no client the client is 0.
 #[derive(Drop)]
 pub struct Batch {
     items: Vec<Item<Request>>,

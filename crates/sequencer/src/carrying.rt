@@ -18,8 +18,8 @@ fn stale_count(outcomes: &[Outcome]) -> usize
 }
 
 /// The requests that are tried again, in the order of their attempts: those whose attempt was stale and had fewer than
-/// `retries` attempts before it. The transactions of the attempts have the numbers from `first_no` on. Where memory is refused
-/// the attempts come back as they were; none is asked for where no attempt was stale.
+/// `retries` attempts before it. The transactions of the attempts have the numbers from `first_no` on. If allocation
+/// fails the attempts come back as they were; none is asked for where no attempt was stale.
 pub fn left(
     alloc: Global,
     attempts: Attempts,

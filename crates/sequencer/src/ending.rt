@@ -4,7 +4,7 @@ ghost use Rattle.std.specs.Prelude.{◌≡◌, ◌+◌, ◌<◌, ◌≤◌, ◌^
 ghost use Rattle.meaning.specs.Outcomes.{as_reply};
 ghost use Rattle.sequencer.specs.Attempts.{attempts_in, goes_on, is_stale};
 ghost use Rattle.sequencer.specs.Endings.{HasEnded, left_in, next_no, retries_in, room_in, waiting_in};
-ghost use Rattle.sequencer.specs.NextAttempts.{IsNext, own_carried};
+ghost use Rattle.sequencer.specs.NextAttempts.{IsNextAttempt, own_carried};
 
 use crate::attempts::{Attempts, Carried};
 use batch_items::Item;
@@ -41,8 +41,9 @@ pub(crate) fn is_stale(outcome: &Outcome) -> bool
     matches!(outcome, Outcome::Stale)
 }
 
-/// Carries on a request whose attempt ended so, if it is tried again: it was stale, and had fewer than `retries` attempts before it.
-/// `tried` has the attempts that were before this one, and the number of the first. It takes no memory: what is left has room for it.
+/// Carries on a request whose attempt ended so, if it is tried again: it was stale, and had fewer than `retries`
+/// attempts before it. `tried` has the attempts that were before this one, and the number of the first. It takes no
+/// memory: what is left has room for it.
 fn carry_on(left: &mut Vec<Carried>, tried: Carried, outcome: &Outcome, retries: u8)
     requires room { goes_on retries tried.tries (as_reply outcome.now) ≡ true →
         vec_len left.old < vec_capacity left.old }
@@ -75,8 +76,9 @@ fn first_attempt(item: Item<Request>, no: u64) -> Carried
 }
 
 impl Ending {
-    /// All attempts of a batch, none of which has ended. The first transaction has the number `first_no`, a stale request is tried again
-    /// as long as it had fewer than `retries` attempts before, and those that are find room in `left`. It takes no memory.
+    /// All attempts of a batch, none of which has ended. The first transaction has the number `first_no`, a stale
+    /// request is tried again as long as it had fewer than `retries` attempts before, and those that are find room in
+    /// `left`. It takes no memory.
     pub fn of(attempts: Attempts, first_no: u64, retries: u8, left: Vec<Carried>) -> Ending
         ensures waiting { waiting_in result ≡ attempts_in attempts }
         ensures left { left_in result ≡ left.items }
@@ -97,7 +99,7 @@ impl Ending {
     // The next attempt, as if it were carried, and the number of the first one, where this is a later one.
     fn next_attempt(&mut self) -> (Carried, Option<u64>)
         requires { 0 < length (waiting_in self.old) }
-        ensures { IsNext self.old self.new result }
+        ensures { IsNextAttempt self.old self.new result }
     {
         if let Some(carried) = self.carried.next() {
             let of = Some(carried.first);
@@ -109,8 +111,8 @@ impl Ending {
         }
     }
 
-    /// Ends the next attempt, in the order of the attempts: its request is left to be tried again, if its outcome is stale and it
-    /// had fewer attempts before than are tried again. It takes no memory.
+    /// Ends the next attempt, in the order of the attempts: its request is left to be tried again, if its outcome is
+    /// stale and it had fewer attempts before than are tried again. It takes no memory.
     pub fn end_next(&mut self, outcome: &Outcome) -> Tried
         requires waiting { 0 < length (waiting_in self.old) }
         requires few { next_no self.old + length (waiting_in self.old) ≤ 2 ^ 48 }

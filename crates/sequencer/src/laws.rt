@@ -16,9 +16,9 @@ ghost use Rattle.sequencer.specs.Entries.{prepared};
 
 use meaning::found_entry_is_not_stale;
 
-/// A request whose footprint reconnaissance found at the start of its batch ends as the reconnaissance run did, and is not stale,
-/// where the calls of its batch before it have left as it was each row that it may read. So it is stale only where one of them
-/// changed such a row, and the first of a batch never is.
+/// A request whose footprint reconnaissance found at the start of its batch ends as the reconnaissance run did, and is
+/// not stale, where the calls of its batch before it have left as it was each row that it may read. So it is stale only
+/// where one of them changed such a row, and the first of a batch never is.
 pub fn found_request_holds_in_its_batch()
     ensures outcome { (before : List Call) (call : Call) (db : Database) →
         is_recon (proc_syntax call.proc).footprint ≡ true →
@@ -32,12 +32,13 @@ pub fn found_request_holds_in_its_batch()
     ensures first { (call : Call) (db : Database) → is_recon (proc_syntax call.proc).footprint ≡ true →
         ¬ ((meaning (prepared db call) db).0 ≡ stale) }
 {
+    // proof: an entry ends as its reconnaissance run did.
     found_entry_is_not_stale();
 }
 
-/// Each request that is left to be tried again was stale, had fewer attempts before than are tried again, and is the same request
-/// with one more attempt behind it; and each request that was stale and had fewer attempts before is left. So at most as many
-/// attempts are behind one that is left as are tried again, and where none is, nothing is left.
+/// Each request that is left to be tried again was stale, had fewer attempts before than are tried again, and is the
+/// same request after one more attempt; and each request that was stale and had fewer attempts before is left. So one
+/// that is left has had at most as many attempts as are tried again, and where none is, nothing is left.
 pub fn left_requests_were_stale()
     ensures again { (retries first_no : ℕ) (attempts : List Attempt) (replies : List Reply) →
         AllByRecursion (IsTriedAgain retries first_no attempts replies) (left_of retries first_no attempts replies) }

@@ -1,4 +1,5 @@
-//! From requests to entries: batches, the footing of each of their requests, and which requests a batch leaves to be tried again.
+//! From requests to entries: batches, the footing of each of their requests, and which requests a batch leaves to be
+//! tried again.
 #![tactic(auto)]
 
 mod attempts;

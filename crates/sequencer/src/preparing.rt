@@ -22,8 +22,8 @@ use std::alloc::Global;
 use values::NoMemory;
 use workspace::RowView;
 
-/// The footing of a request: the footprint that its procedure declares for its values, or the abort of the first fault; or the
-/// footprint that reconnaissance finds on the view, where that is to find it.
+/// The footing of a request: the footprint that its procedure declares for its values, or the abort of the first fault;
+/// or the footprint that reconnaissance finds on the view, where that is to find it.
 #[tactic(auto, using(crate::proofs::Nothing::nothing_of_catalogue))]
 fn footing_of<V: RowView>(
     alloc: Global,
@@ -93,10 +93,10 @@ fn entries_of<V: RowView>(
     Ok(entries)
 }
 
-/// The entries of a batch's requests, in order: each request with the footprint that its procedure declares for its values,
-/// or with the abort of the first fault, or with the footprint that reconnaissance finds on the view, which shows every name.
-/// The procedures are those that the requests are of. They aren't read, since each request has its own: they are there as `Request::new`
-/// takes them.
+/// The entries of a batch's requests, in order: each request with the footprint that its procedure declares for its
+/// values, or with the abort of the first fault, or with the footprint that reconnaissance finds on the view, which
+/// shows every name. The procedures are those that the requests are of. They aren't read, since each request has its
+/// own: they are there as `Request::new` takes them.
 pub fn prepare<V: RowView>(
     alloc: Global,
     batch: &Batch,
@@ -118,8 +118,8 @@ pub fn prepare<V: RowView>(
     entries_of(alloc, &[], batch.items(), catalogue, view)
 }
 
-/// The entries of all attempts of a batch, in order: the carried requests, and after them the batch's own, each prepared on
-/// the view, which shows every name. The procedures aren't read here, either.
+/// The entries of all attempts of a batch, in order: the carried requests, and after them the batch's own, each
+/// prepared on the view, which shows every name. The procedures aren't read here, either.
 pub fn prepare_attempts<V: RowView>(
     alloc: Global,
     attempts: &Attempts,

@@ -3,7 +3,7 @@ use Rattle.std.proofs.Common.{◌≡◌, ℕ, List, [], ◌∷◌, ◌++◌, app
 use Rattle.std.specs.Io.KnownBytes.{Appends}
 use Rattle.devices.specs.Devices.{AppendsFront}
 use Rattle.requests.specs.Requests.{Call}
-use Rattle.log_feed.specs.Places.{IsWhole}
+use Rattle.batch_log.specs.Places.{IsWhole}
 use Rattle.running.specs.declared.run_fault.RunFault.{RunFault}
 use Rattle.running.specs.Reported.{with_closing, IsCutAt}
 use Rattle.running.specs.Reports.{report_of}

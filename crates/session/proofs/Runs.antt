@@ -11,7 +11,7 @@ use Rattle.batch_log.specs.declared.fault.LogFault.{LogFault}
 use Rattle.batch_log.specs.declared.fault.LogFaultKind.{LogFaultKind}
 use Rattle.batch_log.specs.declared.fault.LogFaultKind.TheVariants.{Memory}
 use Rattle.batch_log.specs.Faults.{is_io, IsOfLine}
-use Rattle.log_feed.specs.Places.{IsFaulty, IsWhole}
+use Rattle.batch_log.specs.Places.{IsFaulty, IsWhole}
 use Rattle.report_text.specs.Texts.{digest, end_line, row_text}
 use Rattle.report_text.specs.Report.{end_text}
 use Rattle.retries.specs.Standings.{start_of, transactions_in, Standing}
@@ -60,9 +60,9 @@ reported_before drained old new engine after t u calls h = record {
 }
 
 -- the text of a batch after those of the batches before it
-batch_behind : (start : Start) (ended : List (List Call)) (calls : List Call) (drained : List ℕ) (old : EngineParts) (t : Transcript) (r : Report) → HasReported start ended drained old t r →
+batch_after : (start : Start) (ended : List (List Call)) (calls : List Call) (drained : List ℕ) (old : EngineParts) (t : Transcript) (r : Report) → HasReported start ended drained old t r →
     (drained ++ waiting_in r) ++ due_text old t calls ≡ texts_of start.procs start.retries start.rows (ended ++ calls ∷ [])
-batch_behind start ended calls drained old t r h =
+batch_after start ended calls drained old t r h =
     let next = running.next_text_is start.procs start.retries start.rows ended calls old t (Some []) (Some (drained ++ waiting_in r)) h in
     ap (λ (x : List ℕ). (drained ++ waiting_in r) ++ x) next ∙ ap (λ (x : List ℕ). x ++ next_text start.procs start.retries start.rows ended calls) h.text_is ∙ sym (texts_grown start.procs.tables start.retries start.rows ended calls)
 
@@ -91,7 +91,7 @@ front_keeps old new text f = (f.0, f.3)
 pub front-next : (start : Start) (ended : List (List Call)) (calls : List Call) (drained : List ℕ) (old : EngineParts) (t : Transcript) (r s : Report) → HasReported start ended drained old t r →
     AppendsFront (Some (waiting_in r)) (Some (waiting_in s)) (due_text old t calls) → IsBeginning (drained ++ waiting_in s) (texts_of start.procs start.retries start.rows (ended ++ calls ∷ []))
 front-next start ended calls drained old t r s h f =
-    front_begins (drained ++ waiting_in r) (drained ++ waiting_in s) (due_text old t calls) _ (drained_front drained (waiting_in r) (waiting_in s) (due_text old t calls) f) (batch_behind start ended calls drained old t r h)
+    front_begins (drained ++ waiting_in r) (drained ++ waiting_in s) (due_text old t calls) _ (drained_front drained (waiting_in r) (waiting_in s) (due_text old t calls) f) (batch_after start ended calls drained old t r h)
 
 -- ---- answers of a call
 
@@ -111,10 +111,10 @@ on_both (Err e) P Q R p q f = f e p q
 
 fed_again : (fed more xs : List ℕ) (i d : ℕ) → i < length xs → ((fed ++ take i xs) ++ get_or xs i d ∷ []) ++ (drop (i + 1) xs ++ more) ≡ (fed ++ xs) ++ more
 fed_again fed more xs i d few =
-    let behind : List ℕ = drop (i + 1) xs in
-    ap (λ (x : List ℕ). x ++ (behind ++ more)) (append_assoc fed (take i xs) (get_or xs i d ∷ []) ∙ ap (λ (x : List ℕ). fed ++ x) (sym (take_more xs i d few)))
-    ∙ sym (append_assoc (fed ++ take (i + 1) xs) behind more)
-    ∙ ap (λ (x : List ℕ). x ++ more) (append_assoc fed (take (i + 1) xs) behind ∙ ap (λ (x : List ℕ). fed ++ x) (take-append-drop (i + 1) xs))
+    let after : List ℕ = drop (i + 1) xs in
+    ap (λ (x : List ℕ). x ++ (after ++ more)) (append_assoc fed (take i xs) (get_or xs i d ∷ []) ∙ ap (λ (x : List ℕ). fed ++ x) (sym (take_more xs i d few)))
+    ∙ sym (append_assoc (fed ++ take (i + 1) xs) after more)
+    ∙ ap (λ (x : List ℕ). x ++ more) (append_assoc fed (take (i + 1) xs) after ∙ ap (λ (x : List ℕ). fed ++ x) (take-append-drop (i + 1) xs))
 
 -- a run that stops at a byte of these stops in them
 pub stopped_at_byte : (start : Start) (fed more xs reported : List ℕ) (i d : ℕ) (fault : LogFault) → i < length xs →

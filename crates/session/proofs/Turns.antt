@@ -5,13 +5,13 @@ use Rattle.requests.specs.ProcLists.{ProcsParts}
 use Rattle.requests.specs.Requests.{Call}
 use Rattle.batch_log.specs.declared.fault.LogFault.{LogFault}
 use Rattle.batch_log.specs.Log.{batches_of}
-use Rattle.log_feed.specs.Places.{IsAt, IsFaulty, IsWhole, Place, said_from}
+use Rattle.batch_log.specs.Places.{IsAt, IsFaulty, IsWhole, Place, said_from}
 use Rattle.report_text.specs.Report.{all_transactions, end_text}
 use Rattle.retries.specs.Standings.{closed, in_turn, start_of, transactions_in}
 use Rattle.retries.proofs.Serial.{next_is}
 use Rattle.running.specs.Reported.{with_closing}
 use Rattle.running.specs.Reports.{batches_in, calls_in_turn, fault_in, report_of, whole_log}
-use Rattle.running.specs.Stopped.{standing_behind, texts_of}
+use Rattle.running.specs.Stopped.{standing_after, texts_of}
 use Rattle.running.proofs.Reported.{texts_further}
 use Rattle.running.proofs.SoFar.{calls_are, report_is}
 use Rattle.session.specs.Writes.{IsBeginning}
@@ -21,7 +21,7 @@ pub report-begins : (procs : ProcsParts) (retries : ℕ) (db : Database) (log : 
     IsBeginning (texts_of procs retries db ended) (report_of procs retries db log)
 report-begins procs retries db log ended left h =
     let fault : Option LogFault = fault_in procs retries log in
-    let more : List (List Call) = closed retries (is_some fault) (standing_behind retries db ended) left in
+    let more : List (List Call) = closed retries (is_some fault) (standing_after retries db ended) left in
     let further = texts_further procs retries db ended more in
     let end : List ℕ = end_text (is_some fault) procs.tables db (transactions_in retries db (ended ++ more)) in (
       further.0 ++ end,
@@ -44,7 +44,7 @@ report-faulty procs retries db log ended found h =
     let calls : calls_in_turn procs retries db log ≡ ended = calls_are procs retries db log ended [] (Some found) (h.batches ∙ sym (append-nil ended)) h.first ∙ append-nil ended in
     sym (report_is procs retries db log ended (Some found) calls h.first ∙ append-nil (texts_of procs retries db ended))
 
--- without a fault those that close the log stand behind them, and then the end line
+-- without a fault those that close the log stand after them, and then the end line
 pub calls-whole : (procs : ProcsParts) (retries : ℕ) (db : Database) (log : List ℕ) (ended : List (List Call)) → IsWhole procs retries [] ended log → calls_in_turn procs retries db log ≡ with_closing retries db ended
 calls-whole procs retries db log ended h = calls_are procs retries db log ended [] None h.batches h.fault
 
@@ -53,7 +53,7 @@ pub report-whole : (procs : ProcsParts) (retries : ℕ) (db : Database) (log : L
 report-whole procs retries db log ended h = report_is procs retries db log (with_closing retries db ended) None (calls-whole procs retries db log ended h) h.fault
 
 pub counted-whole : (procs : ProcsParts) (retries : ℕ) (db : Database) (log : List ℕ) (ended : List (List Call)) → IsWhole procs retries [] ended log →
-    length (all_transactions (batches_in procs retries db log)) ≡ (standing_behind retries db (with_closing retries db ended)).next
+    length (all_transactions (batches_in procs retries db log)) ≡ (standing_after retries db (with_closing retries db ended)).next
 counted-whole procs retries db log ended h =
     ap (λ (bs : List (List Call)). length (all_transactions (in_turn retries (start_of db) bs))) (calls-whole procs retries db log ended h)
     ∙ sym (next_is retries db (with_closing retries db ended))

@@ -14,8 +14,8 @@ pub record IsWholeRun (start : Start) (log reported : List ℕ) (count : ℕ) : 
   pub report : reported ≡ report_of start.procs start.retries start.rows log
   pub counted : count ≡ length (all_transactions (batches_in start.procs start.retries start.rows log))
 
--- This fault ended the run of a log. One of a line is the log's first, and all was reported of the batches before it. Else an
--- allocation failed, and what was reported is a beginning of the log's report.
+-- This fault ended the run of a log. One of a line is the log's first, and all was reported of the batches before it.
+-- Else an allocation failed, and what was reported is a beginning of the log's report.
 pub record IsRunInto (start : Start) (log reported : List ℕ) (fault : LogFault) : Type 0 where
   pub first : IsOfLine fault.kind →
       (fault_in start.procs start.retries log ≡ Some fault)

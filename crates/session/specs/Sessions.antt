@@ -34,8 +34,8 @@ abbrev pub IsOfLog : (LogFault → Type 0) → SessionFault → Type 0
 IsOfLog P Over = ⊥
 IsOfLog P (Log fault) = P fault
 
--- Of a log from a start these bytes were fed to the session, which takes more of it. Each batch that ends in them was executed, and
--- what was drained of the report and what waits are together the texts of all of these.
+-- Of a log from a start these bytes were fed to the session, which takes more of it. Each batch that ends in them was
+-- executed, and what was drained of the report and what waits are together the texts of all of these.
 pub record HasTaken (start : Start) (fed drained : List ℕ) (session : Session) : Type 0 where
   pub goes_on : stop_of session ≡ None
   pub run : HasRun start fed drained session.work

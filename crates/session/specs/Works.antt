@@ -5,8 +5,8 @@ use Rattle.std.specs.List.{AllByRecursion}
 use Rattle.values.specs.Database.{Database}
 use Rattle.requests.specs.Requests.{Call}
 use Rattle.batch_log.specs.declared.fault.LogFault.{LogFault}
-use Rattle.log_feed.specs.Feeds.{place_of}
-use Rattle.log_feed.specs.Places.{IsAt, IsWhole, Place}
+use Rattle.batch_log.specs.Feeds.{place_of}
+use Rattle.batch_log.specs.Places.{IsAt, IsWhole, Place}
 use Rattle.retries.specs.Standings.{call_count, Standing}
 use Rattle.engine.specs.Engines.{is_busy, tables_of, EngineParts}
 use Rattle.running.specs.declared.transcript.Transcript.{Transcript}
@@ -15,7 +15,7 @@ use Rattle.running.specs.Reported as running
 use Rattle.running.specs.Reported.{with_closing}
 use Rattle.running.specs.Standings.{standing_of}
 use Rattle.running.specs.Starts.{Start}
-use Rattle.running.specs.Stopped.{standing_behind}
+use Rattle.running.specs.Stopped.{standing_after}
 use Rattle.session.specs.declared.report.Report.{Report}
 use Rattle.session.specs.declared.work.Work.{Work}
 use Rattle.session.specs.Ends.{IsRunInto}
@@ -25,11 +25,11 @@ use Rattle.session.specs.Reports.{waiting_in}
 pub record IsAfterCalls (retries : ℕ) (standing : Standing) (place : Place) : Type 0 where
   pub db : Database
   pub ran : List (List Call)
-  pub standing_is : standing ≡ standing_behind retries db ran
+  pub standing_is : standing ≡ standing_after retries db ran
   pub counted : call_count ran + length place.calls ≡ place.total
 
--- No batch is unfinished, and the calls that wait are over the engine's tables. The feed and the engine know of the same number of
--- retries. The engine has run all calls that were read, in whichever batches, but those that wait.
+-- No batch is unfinished, and the calls that wait are over the engine's tables. The feed and the engine know of the
+-- same number of retries. The engine has run all calls that were read, in whichever batches, but those that wait.
 pub record IsReady (work : Work) : Type 0 where
   pub over : AllByRecursion (λ c. c.proc.tables ≡ tables_of work.engine) (place_of work.feed).calls
   pub limit : (place_of work.feed).retries ≡ work.engine.retries
@@ -38,29 +38,30 @@ pub record IsReady (work : Work) : Type 0 where
   pub digest_kept : KeepsDigest work.engine work.transcript
   pub log : ∥ IsAfterCalls work.engine.retries (standing_of work.engine) (place_of work.feed) ∥₁
 
--- These batches, and no others, were executed from a start, one after another. What was drained of their report and what waits are
--- together the texts of them all.
+-- These batches, and no others, were executed from a start, one after another. What was drained of their report and
+-- what waits are together the texts of them all.
 abbrev pub HasReported : Start → List (List Call) → List ℕ → EngineParts → Transcript → Report → Type 0
 HasReported start ended drained engine transcript report =
     running.HasReported start.procs start.retries start.rows ended engine transcript (Some [])
     (Some (drained ++ waiting_in report))
 
--- Of a log from a start these bytes were taken, and each batch that ends in them was executed and reported. So much of the report was
--- drained.
+-- Of a log from a start these bytes were taken, and each batch that ends in them was executed and reported. So much of
+-- the report was drained.
 pub record HasRun (start : Start) (taken drained : List ℕ) (work : Work) : Type 0 where
   pub ended : List (List Call)
   pub limit : (place_of work.feed).retries ≡ start.retries
   pub at : IsAt start.procs (place_of work.feed) ended taken
   pub reported : HasReported start ended drained work.engine work.transcript work.report
 
--- A whole log without a fault was taken, and each batch of its calls was executed and reported. Those that close it may be due.
+-- A whole log without a fault was taken, and each batch of its calls was executed and reported. Those that close it may
+-- be due.
 pub record HasRead (start : Start) (log drained : List ℕ) (work : Work) : Type 0 where
   pub ended : List (List Call)
   pub whole : IsWhole start.procs start.retries [] ended log
   pub reported : HasReported start ended drained work.engine work.transcript work.report
 
--- A whole log without a fault was taken, and each batch of it was executed and reported, and so were the batches without calls that
--- close it. The end line was not.
+-- A whole log without a fault was taken, and each batch of it was executed and reported, and so were the batches
+-- without calls that close it. The end line was not.
 pub record HasRunWhole (start : Start) (log drained : List ℕ) (work : Work) : Type 0 where
   pub ended : List (List Call)
   pub whole : IsWhole start.procs start.retries [] ended log
@@ -86,8 +87,10 @@ FaultsAtEnd old report fault =
 
 -- a whole log was taken, and its batches were run
 abbrev pub ReadsWhole : Work → Work → Type 0
-ReadsWhole old new = (start : Start) (fed drained : List ℕ) → HasRun start fed drained old → HasRead start fed drained new
+ReadsWhole old new =
+    (start : Start) (fed drained : List ℕ) → HasRun start fed drained old → HasRead start fed drained new
 
 -- and those that close it were run, too
 abbrev pub RunsWhole : Work → Work → Type 0
-RunsWhole old new = (start : Start) (fed drained : List ℕ) → HasRun start fed drained old → HasRunWhole start fed drained new
+RunsWhole old new =
+    (start : Start) (fed drained : List ℕ) → HasRun start fed drained old → HasRunWhole start fed drained new

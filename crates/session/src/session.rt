@@ -26,12 +26,13 @@ pub enum SessionFault {
     Log(LogFault),
 }
 
-/// A run of a log on a setup, on the thread that calls it. The log is fed in pieces of any size, and its report is drained in
-/// pieces of any size. A batch is executed, and its report waits to be drained, as soon as its cut was fed; calls behind the last
-/// cut are executed at the end. A stale request is tried again in the next batch, as often as the setup says; at the end batches
-/// without calls follow while there are such requests.
+/// A run of a log on a setup, on the thread that calls it. The log is fed in pieces of any size, and its report is
+/// drained in pieces of any size. A batch is executed, and its report waits to be drained, as soon as its cut was fed;
+/// calls after the last cut are executed at the end. A stale request is tried again in the next batch, as often as the
+/// setup says; at the end batches without calls follow while there are such requests.
 ///
-/// A fault ends the run: one of a line of the log (31 to 35), or want of memory (37). What was reported until then can be drained.
+/// A fault ends the run: one of a line of the log (31 to 35), or want of memory (37). What was reported until then can
+/// be drained.
 #[derive(Drop)]
 pub struct Session {
     work: Work,
@@ -55,8 +56,8 @@ impl Session {
         Ok(Session { work, stop: None })
     }
 
-    /// Takes the next bytes of the log. Each batch whose cut is among them is executed, and its report waits. After a fault each
-    /// further call answers the same.
+    /// Takes the next bytes of the log. Each batch whose cut is among them is executed, and its report waits. After a
+    /// fault each further call answers the same.
     #[tactic(auto, using(crate::proofs::Growing::begins_itself))]
     pub fn feed(&mut self, alloc: Global, bytes: &[u8]) -> Result<(), SessionFault>
         // The bytes are taken after those that were fed before.
@@ -81,9 +82,9 @@ impl Session {
         }
     }
 
-    /// Takes the end of the log: a last line may have no newline, and calls behind the last cut are a batch. Batches without calls
-    /// follow while stale requests are to be tried again. Then the end line is reported, and the answer is the number of
-    /// transactions. Nothing more is taken afterwards.
+    /// Takes the end of the log: a last line may have no newline, and calls after the last cut are a batch. Batches
+    /// without calls follow while stale requests are to be tried again. Then the end line is reported, and the answer
+    /// is the number of transactions. Nothing more is taken afterwards.
     #[tactic(auto, using(crate::proofs::Growing::begins_itself))]
     pub fn end(&mut self, alloc: Global) -> Result<u64, SessionFault>
         // What was fed is a whole log. What was drained and what waits are together its report.

@@ -17,9 +17,8 @@ ghost use Rattle.session.specs.Works.{Continues, FaultsAfter, FaultsAtEnd, HasRu
 ghost use Rattle.session.specs.Writes.{IsBeginning};
 
 use crate::report::Report;
-use batch_log::{LogFault, LogFaultKind};
+use batch_log::{LogFault, LogFaultKind, LogFeed};
 use engine::{Batch, BatchDone, ExecFault, QuietEngine, Settings};
-use log_feed::LogFeed;
 use requests::{Request, Setup};
 use running::{Transcript, finish, run_batch, run_closing_batches};
 use std::alloc::Global;
@@ -70,7 +69,8 @@ impl Work {
         requires { IsDue self.old.engine calls.items }
         ensures feed { self.new.feed ≡ self.old.feed }
         ensures same { KeepsSetting self.old.engine self.new.engine }
-        ensures reported { OnOk result (IsReported self.old.engine self.new.engine self.old.transcript self.new.transcript
+        ensures reported { OnOk result
+            (IsReported self.old.engine self.new.engine self.old.transcript self.new.transcript
             (Some (waiting_in self.old.report)) (Some (waiting_in self.new.report)) calls.items) }
         ensures front { AppendsFront (Some (waiting_in self.old.report)) (Some (waiting_in self.new.report))
             (due_text self.old.engine self.old.transcript calls.items) }
@@ -145,8 +145,8 @@ impl Work {
         }
     }
 
-    /// Takes the end of the log, executes and reports the last batch, if there is one, and the batches without calls that close the
-    /// log.
+    /// Takes the end of the log, executes and reports the last batch, if there is one, and the batches without calls
+    /// that close the log.
     #[tactic(auto, using(crate::proofs::Growing::begins_onward))]
     fn take_rest(&mut self, alloc: Global) -> Result<(), LogFault>
         requires ready { IsReady self.old }
@@ -180,7 +180,8 @@ impl Work {
     /// Takes the end of the log. The answer is the number of transactions.
     pub(crate) fn take_end(&mut self, alloc: Global) -> Result<u64, LogFault>
         requires ready { IsReady self.old }
-        ensures whole { IfOk result (λ count. (start : Start) (fed drained : List ℕ) → HasRun start fed drained self.old →
+        ensures whole { IfOk result (λ count. (start : Start) (fed drained : List ℕ) →
+            HasRun start fed drained self.old →
             IsWholeRun start fed (drained ++ waiting_in self.new.report) count) }
         ensures fault { IfErr result (FaultsAtEnd self.old self.new.report) }
         ensures kept { (start : Start) (fed drained : List ℕ) → HasRun start fed drained self.old →

@@ -17,7 +17,7 @@ use Rattle.catalogue.specs.Rules.{Says}
 use Rattle.catalogue.specs.Shapes.{TableShape}
 use Rattle.setup.specs.declared.fault.SetupFault.{SetupFault}
 use Rattle.setup.specs.declared.fault.SetupFault.TheVariants.{Shape, RowTable, RowKey, RowValue, RowTwice}
-use Rattle.setup.specs.FirstFault.{Place, Form, place_of_form, place_said, values_for, is_taken, in_row_form, in_row, in_rows_form, rows_faults}
+use Rattle.setup.specs.FirstFault.{TableKey, RowForm, table_key_of_form, table_key_said, values_for, is_taken, in_row_form, in_row, in_rows_form, rows_faults}
 use Rattle.setup.specs.Faults.{is_memory}
 use Rattle.setup.specs.Rows.{RowAt, row_values, is_given, row_at, rows_at}
 use Rattle.setup.specs.Says.{SaysRow, same_name, SaysRows}
@@ -127,10 +127,10 @@ rows_read tables d rows h =
 
 -- ---- the first fault
 
-abbrev pub place_of : RowAt → Place
-place_of r = (r.0, r.1)
+abbrev pub table_key_of : RowAt → TableKey
+table_key_of r = (r.0, r.1)
 
-pub given_taken : (table key : ℕ) (rows : List RowAt) → is_given table key rows ≡ is_taken (map place_of rows) (Some (table, key))
+pub given_taken : (table key : ℕ) (rows : List RowAt) → is_given table key rows ≡ is_taken (map table_key_of rows) (Some (table, key))
 given_taken table key [] = refl
 given_taken table key (r ∷ rows) = ap (λ (b : Bool). (eqb r.0 table && eqb r.1 key) || b) (given_taken table key rows)
 
@@ -138,34 +138,34 @@ found_first : {A B : Type 0} (fault : SetupFault) (o : Option A) (k : A → Resu
 found_first fault None k rest law = refl
 found_first fault (Some x) k rest law = law x refl
 
-pub row_first : (tables : List TableShape) (before : List RowAt) (d : Data) → IsFirst (row_at tables before d) (in_row tables (map place_of before) d)
+pub row_first : (tables : List TableShape) (before : List RowAt) (d : Data) → IsFirst (row_at tables before d) (in_row tables (map table_key_of before) d)
 unfolding row_at
-row_first tables before d = formed_first Shape (text_number_list d) _ (in_row_form tables (map place_of before)) refl (λ f.
-    let twice = broken (not (is_taken (map place_of before) (place_of_form tables f))) RowTwice in
+row_first tables before d = formed_first Shape (text_number_list d) _ (in_row_form tables (map table_key_of before)) refl (λ f.
+    let twice = broken (not (is_taken (map table_key_of before) (table_key_of_form tables f))) RowTwice in
     let values = broken (is_some (values_for tables f)) RowValue in
     found_first RowTable (table_named tables f.0) _ (broken (is_some (key_of f.1)) RowKey ++ (values ++ twice)) (λ table table_is.
     found_first RowKey (key_of f.1) _ (values ++ twice) (λ key key_is. known f table key table_is key_is)))
   where
-    known : (f : Form) (table key : ℕ) → table_named tables f.0 ≡ Some table → key_of f.1 ≡ Some key
+    known : (f : RowForm) (table key : ℕ) → table_named tables f.0 ≡ Some table → key_of f.1 ≡ Some key
         → IsFirst {A = RowAt} (formed RowValue (row_values tables table f.2) >>= λ vs. rule (not (is_given table key before)) RowTwice >>= λ _. Ok (made table key vs))
-        (broken (is_some (values_for tables f)) RowValue ++ broken (not (is_taken (map place_of before) (place_of_form tables f))) RowTwice)
+        (broken (is_some (values_for tables f)) RowValue ++ broken (not (is_taken (map table_key_of before) (table_key_of_form tables f))) RowTwice)
     known f table key t k =
-        let places : place_of_form tables f ≡ Some (table, key) = ap (option_and_then (λ (t : ℕ). option_map (λ (key : ℕ). (t, key)) (key_of f.1))) t ∙ ap (option_map (λ (key : ℕ). (table, key))) k in
+        let places : table_key_of_form tables f ≡ Some (table, key) = ap (option_and_then (λ (t : ℕ). option_map (λ (key : ℕ). (t, key)) (key_of f.1))) t ∙ ap (option_map (λ (key : ℕ). (table, key))) k in
         let values : values_for tables f ≡ row_values tables table f.2 = ap (option_and_then (λ (t : ℕ). row_values tables t f.2)) t in
         rw (places, values, ← given_taken table key before)
         (found_first RowValue (row_values tables table f.2) (λ vs. rule (not (is_given table key before)) RowTwice >>= λ _. Ok (made table key vs)) (broken (not (is_given table key before)) RowTwice) (λ vs _.
         rule_last (not (is_given table key before)) RowTwice (made table key vs)))
 
-pub place_so : (tables : List TableShape) (before : List RowAt) (d : Data) (row : RowAt) → row_at tables before d ≡ Ok row → place_said tables d ≡ Some (place_of row)
-place_so tables before d row e =
+pub table_key_so : (tables : List TableShape) (before : List RowAt) (d : Data) (row : RowAt) → row_at tables before d ≡ Ok row → table_key_said tables d ≡ Some (table_key_of row)
+table_key_so tables before d row e =
     let h = (row_found tables before d row e).0 in
     let form : text_number_list d ≡ Some (h.table, pos row.1, h.list) = ap text_number_list h.is_form ∙ text_number_list_again h.table h.key (pos row.1) h.list h.is_key in
-    ap (option_and_then (place_of_form tables)) form ∙ ap (option_and_then (λ (t : ℕ). option_map (λ (key : ℕ). (t, key)) (key_of (pos row.1)))) h.is_table
+    ap (option_and_then (table_key_of_form tables)) form ∙ ap (option_and_then (λ (t : ℕ). option_map (λ (key : ℕ). (t, key)) (key_of (pos row.1)))) h.is_table
 
 pub rows_first : (tables : List TableShape) (d : Data) → IsFirst (rows_at tables d) (rows_faults tables d)
 unfolding rows_at
 rows_first tables d = formed_first Shape (versioned_list (codes "rows") d) _ (in_rows_form tables) refl (λ ds.
-    each_first place_of (row_at tables) (place_said tables) (in_row tables) (row_first tables) (place_so tables) [] ds)
+    each_first table_key_of (row_at tables) (table_key_said tables) (in_row tables) (row_first tables) (table_key_so tables) [] ds)
 
 pub none_broken : {A : Type 0} (x : A) (r : Result A SetupFault) (fs : List SetupFault) → r ≡ Ok x → IsFirst r fs → fs ≡ []
 none_broken {A} x r fs h i = subst (λ (q : Result A SetupFault). IsFirst q fs) h i

@@ -23,10 +23,10 @@ use Rattle.catalogue.specs.Shapes.{TableShape}
 use Rattle.catalogue.specs.declared.fault.CatalogueFault.{CatalogueFault}
 use Rattle.proclang_types.specs.Syntax.{ProcSyntax}
 use Rattle.proclang.specs.BrokenProcs as procedure_rules
-use Rattle.proclang.specs.Faults as procedures
+use Rattle.proclang_expressions.specs.Faults as procedures
 use Rattle.proclang.specs.Says.{SaysProcs}
-use Rattle.proclang.specs.declared.fault.ProcFault.{ProcFault}
-use Rattle.proclang.specs.declared.fault.ProcFault.TheVariants as proc_faults
+use Rattle.proclang_expressions.specs.declared.fault.ProcFault.{ProcFault}
+use Rattle.proclang_expressions.specs.declared.fault.ProcFault.TheVariants as proc_faults
 use Rattle.setup.specs.declared.fault.SetupFault.{SetupFault}
 use Rattle.setup.specs.declared.fault.SetupFault.TheVariants.{Procedure}
 use Rattle.requests.specs.declared.setup.Setup.{Setup}

@@ -4,7 +4,7 @@ use Rattle.std.specs.Prelude.{Bool, true, false}
 use Rattle.setup.specs.declared.fault.SetupFault.{SetupFault}
 use Rattle.setup.specs.declared.fault.SetupFault.TheVariants.{Memory, Catalogue, Procedure}
 use Rattle.catalogue.specs.Reading as catalogue
-use Rattle.proclang.specs.Faults as procedures
+use Rattle.proclang_expressions.specs.Faults as procedures
 
 abbrev pub is_memory : SetupFault → Bool
 is_memory Memory = true

@@ -17,7 +17,7 @@ use Rattle.setup.specs.Rows.{RowAt, row_values, is_given}
 use Rattle.setup.specs.Says.{SaysRow, same_name}
 
 -- ["rows", 1, [ROW ..]], where the rows before a document are well formed and no two of them have one name
-pub record StandsBehind (tables : List TableShape) (rows : Data) (before : List RowAt) (d : Data) : Type 0 where
+pub record ComesAfter (tables : List TableShape) (rows : Data) (before : List RowAt) (d : Data) : Type 0 where
   pub version : Data
   pub ahead : List Data
   pub after : List Data
@@ -35,15 +35,19 @@ pub record SpellsRow (d : Data) (table : List ℕ) (key : ℤ) (list : List Data
 abbrev pub FaultIs : List TableShape → Data → SetupFault → Type 0
 FaultIs tables rows fault = first (rows_faults tables rows) ≡ Some fault
 
--- What the fault is, by what is wrong with the document behind well formed rows: it is no row; its table is not in the catalogue;
--- its key is negative; its values are not those of a row of that table, whether or not a row of that name was given before; it is a
--- row, and one of that name was given before
+-- What the fault is, by what is wrong with the document after well formed rows: it is no row; its table is not in the
+-- catalogue; its key is negative; its values are not those of a row of that table, whether or not a row of that name
+-- was given before; it is a row, and one of that name was given before
 pub record RowFaultsAreTold (tables : List TableShape) (rows : Data) (before : List RowAt) (d : Data) : Type 0 where
   pub no_row : text_number_list d ≡ None → FaultIs tables rows Shape
-  pub unknown_table : (table : List ℕ) (key : ℤ) (list : List Data) → SpellsRow d table key list → table_named tables table ≡ None → FaultIs tables rows RowTable
-  pub negative_key : (table : List ℕ) (n : ℕ) (list : List Data) (place : ℕ) → SpellsRow d table (negsuc n) list → table_named tables table ≡ Some place
+  pub unknown_table : (table : List ℕ) (key : ℤ) (list : List Data) → SpellsRow d table key list
+      → table_named tables table ≡ None → FaultIs tables rows RowTable
+  pub negative_key : (table : List ℕ) (n : ℕ) (list : List Data) (place : ℕ) → SpellsRow d table (negsuc n) list
+      → table_named tables table ≡ Some place
       → FaultIs tables rows RowKey
-  pub wrong_values : (table : List ℕ) (key : ℕ) (list : List Data) (place : ℕ) → SpellsRow d table (pos key) list → table_named tables table ≡ Some place
+  pub wrong_values : (table : List ℕ) (key : ℕ) (list : List Data) (place : ℕ) → SpellsRow d table (pos key) list
+      → table_named tables table ≡ Some place
       → row_values tables place list ≡ None → FaultIs tables rows RowValue
-  pub given_before : (table : List ℕ) (key : ℕ) (list : List Data) (place : ℕ) (vs : List Value) → SpellsRow d table (pos key) list → table_named tables table ≡ Some place
+  pub given_before : (table : List ℕ) (key : ℕ) (list : List Data) (place : ℕ) (vs : List Value)
+      → SpellsRow d table (pos key) list → table_named tables table ≡ Some place
       → row_values tables place list ≡ Some vs → is_given place key before ≡ true → FaultIs tables rows RowTwice

@@ -20,7 +20,9 @@ RowAt = ℕ × ℕ × List Value
 
 -- values that a table takes: one a column, of its type
 abbrev pub taken_by : List TableShape → ℕ → List Value → Option (List Value)
-taken_by tables table vs = option_and_then (λ t. if kinds_match (map (λ c. c.kind) t.columns) vs then Some vs else None) (slice_get tables table)
+taken_by tables table vs =
+    option_and_then (λ t. if kinds_match (map (λ c. c.kind) t.columns) vs then Some vs else None)
+    (slice_get tables table)
 
 abbrev pub row_values : List TableShape → ℕ → List Data → Option (List Value)
 row_values tables table ds = option_and_then (taken_by tables table) (values_said ds)
@@ -29,7 +31,7 @@ row_values tables table ds = option_and_then (taken_by tables table) (values_sai
 abbrev pub is_given : ℕ → ℕ → List RowAt → Bool
 is_given table key rows = list_any (λ (r : RowAt). (r.0 == table) && (r.1 == key)) rows
 
--- a row, behind those before it
+-- a row, after those before it
 unfoldable pub row_at : List TableShape → List RowAt → Data → Result RowAt SetupFault
 row_at tables before d = do
   form ← formed Shape (text_number_list d)

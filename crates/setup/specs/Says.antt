@@ -1,5 +1,6 @@
 -- Claimed: what contracts promise to a reader rests on these words.
--- Which documents say a setup: a relation between documents and what they say, apart from faults and the order in which a document is read.
+-- Which documents say a setup: a relation between documents and what they say, apart from faults and the order in which
+-- a document is read.
 use Rattle.std.specs.Prelude.{◌≡◌, ◌≤◌, ◌⊎◌, ℕ, ◌==◌, ◌&&◌, pos, Bool, true, false, List, [], ◌∷◌, Some, None, codes}
 use Rattle.std.specs.List.{IsDistinct}
 use Rattle.std.specs.Str.{is_utf8}
@@ -52,7 +53,8 @@ pub record SpellsFirst (d : Data) (form : SetupDocument) : Type 0 where
 pub record SpellsSecond (d : Data) (form : SetupDocument) : Type 0 where
   pub version : Data
   pub number : Data
-  pub is_form : d ≡ array (items_of (string (codes "setup") ∷ version ∷ form.catalogue ∷ form.procs ∷ form.rows ∷ number ∷ []))
+  pub is_form : d
+      ≡ array (items_of (string (codes "setup") ∷ version ∷ form.catalogue ∷ form.procs ∷ form.rows ∷ number ∷ []))
   pub is_version : integer version ≡ Some (pos 2)
   pub is_number : integer number ≡ Some (pos form.retries)
   pub few : form.retries ≤ 2

@@ -25,12 +25,13 @@ pub record SetupDocument : Type 0 where
   pub rows : Data
   pub retries : ℕ
 
--- what stands behind the head word and the version 1: nothing is tried again
+-- what comes after the head word and the version 1: nothing is tried again
 abbrev pub first_parts : Data × Data × Data × Data × Data → Option SetupDocument
 first_parts p =
     option_and_then (λ (word : List ℕ).
     option_and_then (λ (version : ℤ).
-    if bytes_eq word (codes "setup") && is_one version then Some (record { catalogue = p.2; procs = p.3; rows = p.4; retries = 0 }) else None)
+    if bytes_eq word (codes "setup") && is_one version
+    then Some (record { catalogue = p.2; procs = p.3; rows = p.4; retries = 0 }) else None)
     (integer p.1))
     (as_str p.0)
 
@@ -43,14 +44,15 @@ abbrev pub retries_of : ℤ → Option ℕ
 retries_of (pos n) = if nat_le n 2 then Some n else None
 retries_of (negsuc n) = None
 
--- what stands behind the head word and the version 2
+-- what comes after the head word and the version 2
 abbrev pub second_parts : Data × Data × Data × Data × Data × Data → Option SetupDocument
 second_parts p =
     option_and_then (λ (word : List ℕ).
     option_and_then (λ (version : ℤ).
     option_and_then (λ (number : ℤ).
     option_and_then (λ (retries : ℕ).
-    if bytes_eq word (codes "setup") && is_two version then Some (record { catalogue = p.2; procs = p.3; rows = p.4; retries = retries }) else None)
+    if bytes_eq word (codes "setup") && is_two version
+    then Some (record { catalogue = p.2; procs = p.3; rows = p.4; retries = retries }) else None)
     (retries_of number))
     (integer p.5))
     (integer p.1))
@@ -58,7 +60,9 @@ second_parts p =
 
 -- version 1 is of five elements, and version 2 of six
 unfoldable pub setup_form : Data → Option SetupDocument
-setup_form d = option_or (option_and_then first_parts (option_and_then five (elements d))) (option_and_then second_parts (option_and_then six (elements d)))
+setup_form d =
+    option_or (option_and_then first_parts (option_and_then five (elements d)))
+    (option_and_then second_parts (option_and_then six (elements d)))
 
 -- a fault of a part is one of the setup
 abbrev pub part : {A E : Type 0} → (E → SetupFault) → Result A E → Result A SetupFault
@@ -89,4 +93,5 @@ unfoldable pub setup_said : List ℕ → Result SetupShape SetupFault
 setup_said text = if is_utf8 text then document_said (read text) else Err NotJson
 
 abbrev pub setup_view : Setup → SetupShape
-setup_view s = record { tables = s.catalogue; procs = map proc_syntax s.procs.procs; rows = s.rows.items; retries = s.retries }
+setup_view s =
+    record { tables = s.catalogue; procs = map proc_syntax s.procs.procs; rows = s.rows.items; retries = s.retries }

@@ -13,7 +13,8 @@ type Parts<'a> = (&'a Value, &'a Value, &'a Value, u8);
 
 /// The parts of a document `["setup", 1, CATALOGUE, PROCEDURES, ROWS]`: nothing is tried again.
 fn first_parts<'a>(document: &'a Value) -> Option<Parts<'a>>
-    ensures form { option_map (λ p. record { catalogue = view p.0.now; procs = view p.1.now; rows = view p.2.now; retries = p.3 }) result
+    ensures form { option_map
+        (λ p. record { catalogue = view p.0.now; procs = view p.1.now; rows = view p.2.now; retries = p.3 }) result
         ≡ option_and_then first_parts (option_and_then five (elements (view document.now))) }
     ensures few { IfSome result (λ p. p.3 ≤ 2) }
 {
@@ -39,7 +40,8 @@ fn retries_of(number: i64) -> Option<u8>
 
 /// The parts of a document `["setup", 2, CATALOGUE, PROCEDURES, ROWS, RETRIES]`.
 fn second_parts<'a>(document: &'a Value) -> Option<Parts<'a>>
-    ensures form { option_map (λ p. record { catalogue = view p.0.now; procs = view p.1.now; rows = view p.2.now; retries = p.3 }) result
+    ensures form { option_map
+        (λ p. record { catalogue = view p.0.now; procs = view p.1.now; rows = view p.2.now; retries = p.3 }) result
         ≡ option_and_then second_parts (option_and_then six (elements (view document.now))) }
     ensures few { IfSome result (λ p. p.3 ≤ 2) }
 {
@@ -57,7 +59,8 @@ fn second_parts<'a>(document: &'a Value) -> Option<Parts<'a>>
 /// The parts of a setup's document, of version 1 or 2.
 #[tactic(auto, unfolding(crate::specs::Setups::setup_form))]
 pub(crate) fn setup_form<'a>(document: &'a Value) -> Option<Parts<'a>>
-    ensures form { option_map (λ p. record { catalogue = view p.0.now; procs = view p.1.now; rows = view p.2.now; retries = p.3 }) result
+    ensures form { option_map
+        (λ p. record { catalogue = view p.0.now; procs = view p.1.now; rows = view p.2.now; retries = p.3 }) result
         ≡ setup_form (view document.now) }
     ensures few { IfSome result (λ p. p.3 ≤ 2) }
 {

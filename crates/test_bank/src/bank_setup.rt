@@ -6,11 +6,11 @@ use std::alloc::Global;
 /// What the bodies of the bank's procedures are like.
 #[derive(Clone, Copy, Debug, PartialEq, Eq)]
 pub enum Bodies {
-    /// Few statements without a loop: where the gate is open and no job is out, an engine runs such a call on the thread that
-    /// called it.
+    /// Few statements without a loop: where the gate is open and no job is out, an engine runs such a call on the
+    /// thread that called it.
     Brief,
-    /// The same after a loop of one turn in which nothing is done: an engine hands each call over as a job. The replies are
-    /// the same.
+    /// The same after a loop of one turn in which nothing is done: an engine hands each call over as a job. The replies
+    /// are the same.
     Looping,
 }
 

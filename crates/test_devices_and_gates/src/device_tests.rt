@@ -1,5 +1,5 @@
-//! Runs of a log, commands and whole programs over devices that give and take a byte a call, and fail, and over files for which
-//! there is no memory.
+//! Runs of a log, commands and whole programs over devices that give and take a byte a call, and fail, and over files
+//! for which there is no memory.
 
 use crate::test_world::{
     BANK, EACH, Folder, NO_ROWS, NOTHING, Narrow, ONE_BATCH, Slow, TWO_BATCH_REPORT, TWO_BATCHES,
@@ -76,8 +76,8 @@ fn a_read_that_fails_ends_the_command(rt: HostRuntime) -> Result<(), Fail> {
     Ok(())
 }
 
-/// A command, its setup, its log and the other report; what it writes; how many bytes are written before its log is read on,
-/// and the faults of a write that fails among those and behind them.
+/// A command, its setup, its log and the other report; what it writes; how many bytes are written before its log is
+/// read on, and the faults of a write that fails among those and behind them.
 const COMMANDS: [(&str, [&str; 3], &str, usize, [&str; 2]); 5] = [
     (
         "run --workers 1 bank.json",

@@ -27,8 +27,8 @@ fn run_through<R: Threads + Wait + Sync + AllocGlobal>(
     Ok(out.taken)
 }
 
-/// Logs of two calls; workers; for how many turns the first job waits for the second; what the report begins with, and whether the
-/// two meet.
+/// Logs of two calls; workers; for how many turns the first job waits for the second; what the report begins with, and
+/// whether the two meet.
 const RUNS: [(&str, usize, u32, &str, bool); 2] = [
     (TWO_BATCHES, 1, 0, "0 commit 70\nbatch 1 ", false),
     (

@@ -1,5 +1,5 @@
-//! Tests of what no stored case of the program shows: devices that fail in mid-stream or take a byte at a time, files for which
-//! there is no memory, the gate, and the lines that tell how far a run is.
+//! Tests of what no stored case of the program shows: devices that fail in mid-stream or take a byte at a time, files
+//! for which there is no memory, the gate, and the lines that tell how far a run is.
 #![tactic(auto)]
 
 #[cfg(test)]

@@ -180,8 +180,8 @@ fn words_of(alloc: Global, line: &str) -> Result<Vec<String>, AllocError> {
     Ok(words)
 }
 
-/// What the program leaves with the words of a line, these files, this source, this output and this error output, which may be
-/// a terminal.
+/// What the program leaves with the words of a line, these files, this source, this output and this error output, which
+/// may be a terminal.
 pub(crate) fn left_on<R: Threads + Wait + Sync + AllocGlobal>(
     rt: &R,
     line: &str,

@@ -8,7 +8,8 @@ use test_bank::Bodies;
 /// How each call comes to be handed over as a job: the bodies of the procedures, and whether the gate is open.
 pub const HANDED_OVER: [(Bodies, bool); 2] = [(Bodies::Brief, false), (Bodies::Looping, true)];
 
-/// Counts the jobs that pass, and those of them that don't have the next number. Whether it says that it is open is up to the test.
+/// Counts the jobs that pass, and those of them that don't have the next number. Whether it says that it is open is up
+/// to the test.
 #[derive(Drop)]
 pub struct CountingGate {
     is_open: bool,

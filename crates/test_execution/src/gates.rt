@@ -18,8 +18,9 @@ const FOUR: [Call<'static>; 4] = [PEEK, PEEK, PEEK, PEEK];
 
 const FOUR_READ: &str = "commit 100;commit 100;commit 100;commit 100;";
 
-/// Readers, and a reader and a writer of other rows, are run at once where there are two workers and two lanes. Writers,
-/// and a reader behind a writer, are run one after the other. Who waits for a lane alone comes once one is free.
+/// Readers, and a reader and a writer of other rows, are run at once where there are two workers and two lanes.
+/// Writers, and a reader behind a writer, are run one after the other. Who waits for a lane alone comes once one is
+/// free.
 const MEETINGS: [Met<'static>; 9] = [
     (
         &[PEEK, ("ins", &[4, 7])],
@@ -102,7 +103,8 @@ fn jobs_meet_where_nothing_keeps_them_apart(rt: HostRuntime) -> Result<(), Fail>
 /// How many payments of 1 go from the first account to the second, each with one that goes back.
 const THERE_AND_BACK: usize = 250;
 
-/// The payments, in turns. Both accounts have 100 at first, so 99 are left where one goes, and 100 where one comes back from 101.
+/// The payments, in turns. Both accounts have 100 at first, so 99 are left where one goes, and 100 where one comes back
+/// from 101.
 fn payments(alloc: Global) -> Result<(Vec<Call<'static>>, String), Fail> {
     let mut calls: Vec<Call<'static>> = Vec::new(alloc);
     for _ in 0..THERE_AND_BACK {

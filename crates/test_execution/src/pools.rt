@@ -92,7 +92,8 @@ const BATCHES: [&[Call<'static>]; 4] = [&[PEEK], &[], &[PEEK, PEEK], &TWO_PAYS];
 const OUTCOMES: &str = "commit 100;commit 100;commit 100;commit 70;commit 40;\
 commit 100;commit 100;commit 100;commit 70;commit 40;";
 
-/// A worker is started for the first batch, and another for the third, in which two jobs meet. Both work at all batches behind it.
+/// A worker is started for the first batch, and another for the third, in which two jobs meet. Both work at all batches
+/// behind it.
 #[test]
 fn a_pool_works_at_one_batch_after_another(rt: HostRuntime) -> Result<(), Fail> {
     let settings = Settings::new(2, 8, 64, 65_536)?;

@@ -85,8 +85,8 @@ fn split_anew<R: Wait + AllocGlobal>(
     Ok((outcomes, matches!(refused, Err(RepartFault::Different))))
 }
 
-/// The first partition has the account 2 where keys are split by the remainder, and 1 and 2 below the bound 3. A catalogue with
-/// another column is refused.
+/// The first partition has the account 2 where keys are split by the remainder, and 1 and 2 below the bound 3. A
+/// catalogue with another column is refused.
 #[test]
 fn a_request_goes_on_over_tables_that_are_split_anew(rt: HostRuntime) -> Result<(), Fail> {
     let split = catalogue_in(rt.alloc(), SPLIT_AT_3)?;

@@ -1,7 +1,9 @@
-//! Tests of the layers below the scheduler, by tables: lock modes, footprints, plans, the lock tree, rows, requests that are tried
-//! again, and devices.
+//! Tests of the layers below the scheduler, by tables: lock modes, footprints, plans, queues of lock requests, the lock
+//! tree, rows, requests that are tried again, and devices.
 #![tactic(auto)]
 
+#[cfg(test)]
+mod chance;
 #[cfg(test)]
 mod declarations;
 #[cfg(test)]
@@ -15,8 +17,12 @@ mod plain_locks;
 #[cfg(test)]
 mod plans;
 #[cfg(test)]
+mod request_queues;
+#[cfg(test)]
 mod stored_rows;
 #[cfg(test)]
 mod test_world;
 #[cfg(test)]
 mod tried_again;
+#[cfg(test)]
+mod worked_queues;

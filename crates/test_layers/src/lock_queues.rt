@@ -3,6 +3,7 @@
 ghost use Rattle.std.specs.Prelude.{◌+◌, ◌<◌, ℕ};
 ghost use Rattle.lock_tree.specs.Enqueues.{AreBelow};
 
+use crate::chance::Chance;
 use crate::plain_locks::Plain;
 use coarsen::Plan;
 use footprint::{Footprint, InPart, InTable, Resource};
@@ -12,22 +13,6 @@ use std::alloc::Global;
 use std::process::Abort;
 use std::test::Fail;
 use values::TableNo;
-
-/// Numbers that look like chance, and are the same each time.
-#[derive(Drop)]
-struct Chance(u64);
-
-impl Chance {
-    fn below(&mut self, bound: u64) -> u64
-        requires { 0 < bound }
-    {
-        self.0 = self
-            .0
-            .wrapping_mul(6_364_136_223_846_793_005)
-            .wrapping_add(1_442_695_040_888_963_407);
-        (self.0 >> 33) % bound
-    }
-}
 
 /// Something in a partition of a table.
 fn in_part(part: u32, below: InPart) -> Resource {

@@ -1,15 +1,13 @@
-//! Logs of several batches, whose setups, texts and reports stand in `data/`: their batches are executed one after another, and
-//! gone on with, and their reports are written.
+//! Logs of several batches, whose setups, texts and reports stand in `data/`: their batches are executed one after
+//! another, and gone on with, and their reports are written.
 
 ghost use Rattle.std.specs.Prelude.{◌≡◌, IfSome, true};
 ghost use Rattle.sequencer.specs.Batches.{items_of, AreOver};
 ghost use Rattle.engine.specs.Engines.{tables_of, is_busy};
 
-use crate::answer::Answer;
-use crate::bank::{batch_in, batch_of};
 use crate::executing::{Then, push_replies};
+use crate::jobs::if_jobs;
 use crate::reading::unread;
-use crate::refusal::Refusal;
 use crate::reporting::try_report;
 use calvin::{Batch, BatchDone, Engine, ExecFault, Settings, Setup, read_setup};
 use proclang::Procs;
@@ -20,6 +18,7 @@ use std::sync::Wait;
 use std::thread::Threads;
 use std::{fs, rt};
 use test_engines::CountingGate;
+use test_refusal_steps::{Answer, Refusal, batch_in, batch_of};
 
 /// A log whose files stand in `data/`.
 #[derive(Clone, Copy)]
@@ -54,7 +53,8 @@ pub(crate) struct OnBatches {
     pub(crate) stored: StoredLog,
     pub(crate) workers: usize,
     pub(crate) threshold: usize,
-    /// Whether the gate is open. The calls of the five batches are brief, so each is run in place then; else each is a job.
+    /// Whether the gate is open. The calls of the five batches are brief, so each is run in place then; else each is a
+    /// job.
     pub(crate) is_open: bool,
 }
 
@@ -193,8 +193,8 @@ fn execute_carried<R: Threads + Wait + Sync + AllocGlobal>(
     Some(())
 }
 
-/// Executes the batches of a log, one after another, and those that close it, and keeps what comes of them; `None` where something
-/// else than memory or a thread is refused, or where a batch isn't gone on with to its end.
+/// Executes the batches of a log, one after another, and those that close it, and keeps what comes of them; `None`
+/// where something else than memory or a thread is refused, or where a batch isn't gone on with to its end.
 fn execute_each<R: Threads + Wait + Sync + AllocGlobal>(
     rt: &R,
     engine: &mut Engine,
@@ -277,7 +277,7 @@ pub(crate) fn try_batches<R: Threads + Wait + Sync + rt::Files + AllocGlobal>(
 ) -> Option<Answer> {
     let gate = CountingGate::new(on.is_open);
     let answer = try_way(rt, refusal, on, Way::Workers(then, &gate))?;
-    Some(answer.if_jobs(&gate, on.stored.attempts()))
+    Some(if_jobs(answer, &gate, on.stored.attempts()))
 }
 
 /// The batches of a log are run on one thread.

@@ -3,17 +3,14 @@
 ghost use Rattle.std.specs.Prelude.{◌≡◌, true};
 ghost use Rattle.engine.specs.Engines.{is_busy};
 
-use crate::answer::Answer;
-use crate::bank::{bank, batch};
-use crate::refusal::Refusal;
-use crate::right::is_of_log;
-use crate::texts::CALLS;
+use crate::jobs::if_jobs;
 use calvin::{BatchDone, Engine, ExecFault, Reply, Settings, Setup};
 use report_text::push_reply_line;
 use std::alloc::{AllocError, Global};
 use std::sync::Wait;
 use std::thread::Threads;
 use test_engines::CountingGate;
+use test_refusal_steps::{Answer, CALLS, Refusal, bank, batch, is_of_log};
 
 /// An engine on a setup, with so many workers.
 fn engine_on(alloc: Global, setup: Setup, workers: usize) -> Option<Engine> {
@@ -169,7 +166,7 @@ fn execute<R: Threads + Wait + Sync + AllocGlobal>(
     let ended = engine.execute(rt, alloc, batch, gate);
     refusal.pass();
     let answer = gone_on_with(rt, engine, ended, then, gate)?;
-    Some(answer.if_jobs(gate, CALLS))
+    Some(if_jobs(answer, gate, CALLS))
 }
 
 /// The log on so many workers, each of its calls as a job.
@@ -185,8 +182,8 @@ pub(crate) fn try_workers<R: Threads + Wait + Sync + AllocGlobal>(
     execute(rt, refusal, &mut engine, then, &gate)
 }
 
-/// An engine runs the log on its workers, and goes on where a thread was refused at first, and once more if allocation failed
-/// then.
+/// An engine runs the log on its workers, and goes on where a thread was refused at first, and once more if allocation
+/// failed then.
 fn resume<R: Threads + Wait + Sync + AllocGlobal>(
     rt: &R,
     refusal: &mut Refusal,
@@ -205,8 +202,8 @@ fn resume<R: Threads + Wait + Sync + AllocGlobal>(
     gone_on_with(rt, engine, ended, then, gate)
 }
 
-/// The log on two workers, gone on with where a thread was refused at first, and once more if allocation failed then; where
-/// no thread was, it is run as usual.
+/// The log on two workers, gone on with where a thread was refused at first, and once more if allocation failed then;
+/// where no thread was, it is run as usual.
 pub(crate) fn try_resume<R: Threads + Wait + Sync + AllocGlobal>(
     rt: &R,
     refusal: &mut Refusal,

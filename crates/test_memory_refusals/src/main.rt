@@ -1,38 +1,33 @@
-//! Tries the calls that may want memory, on a setup with every kind of statement and on a log of 100 calls, on one of 200 in five
-//! batches, and on one whose stale calls are tried again, where the system refuses one allocation.
+//! Tries the calls that may want memory, on a setup with every kind of statement and on a log of 100 calls, on one of
+//! 200 in five batches, and on one whose stale calls are tried again, where the system refuses one allocation.
 //!
-//! Each argument is the name of a step, and may have, behind a colon, how many allocations are made and let go before it: the
-//! more they are, the earlier in the step is the one that is refused. For each it prints what came of the step, how many
-//! allocations were made before it, and how many could be made after it until one was refused, or `none` where none was.
+//! Each argument is the name of a step, and may have, behind a colon, how many allocations are made and let go before
+//! it: the more they are, the earlier in the step is the one that is refused. For each it prints what came of the step,
+//! how many allocations were made before it, and how many could be made after it until one was refused, or `none` where
+//! none was.
 #![tactic(auto)]
 
-mod answer;
-mod bank;
 mod batches;
 mod executing;
-mod planning;
+mod jobs;
 mod reading;
-mod refusal;
 mod reporting;
-mod right;
-mod scheduling;
-mod sweeping;
-mod texts;
 
-use answer::Answer;
 use batches::OnBatches;
 use batches::StoredLog::{self, FiveBatches, TriedAgain};
 use executing::Then::{self, Resume, ResumeAlone};
-use refusal::Refusal;
 use std::sync::Wait;
 use std::thread::Threads;
 use std::{env, io, rt};
+use test_refusal_steps::{
+    Answer, Refusal, try_admit, try_lend, try_lend_and_run, try_plan, try_prepare, try_recon,
+};
 
 /// What is done in a step on several batches: they are executed, and gone on with so, or the report is written.
 type Task = Option<Then>;
 
-/// The steps on several batches by their names, of which each has the number of workers and the threshold after its first
-/// word: what it begins and ends with, its log, whether the gate is open, and what is done.
+/// The steps on several batches by their names, of which each has the number of workers and the threshold after its
+/// first word: what it begins and ends with, its log, whether the gate is open, and what is done.
 const BATCHES: [(&str, &str, StoredLog, bool, Task); 9] = [
     ("batches", "", FiveBatches, false, Some(Resume)),
     (
@@ -63,8 +58,8 @@ const BATCHES: [(&str, &str, StoredLog, bool, Task); 9] = [
     ("report", "of_retries", TriedAgain, false, None),
 ];
 
-/// What comes of the step on several batches with a name; `None` if there is no such step, or if what it is tried on could not
-/// be made.
+/// What comes of the step on several batches with a name; `None` if there is no such step, or if what it is tried on
+/// could not be made.
 fn tried_on_batches<R: Threads + Wait + Sync + rt::Files + AllocGlobal>(
     rt: &R,
     refusal: &mut Refusal,
@@ -106,13 +101,13 @@ fn tried<R: Threads + Wait + Sync + rt::Files + AllocGlobal>(
     match step {
         "read_setup" => reading::try_setup(rt, refusal),
         "read_setup_of_retries" => batches::try_setup(rt, refusal, StoredLog::TriedAgain),
-        "recon" => planning::try_recon(alloc, refusal),
+        "recon" => try_recon(alloc, refusal),
         "next_batch" => reading::try_log(alloc, refusal),
-        "prepare" => planning::try_prepare(alloc, refusal),
-        "plan" => planning::try_plan(alloc, refusal),
-        "admit" => scheduling::try_admit(alloc, refusal),
-        "lend_and_run" => scheduling::try_lend_and_run(alloc, refusal),
-        "lend_table" => sweeping::try_lend(alloc, refusal),
+        "prepare" => try_prepare(alloc, refusal),
+        "plan" => try_plan(alloc, refusal),
+        "admit" => try_admit(alloc, refusal),
+        "lend_and_run" => try_lend_and_run(alloc, refusal),
+        "lend_table" => try_lend(alloc, refusal),
         "run_alone" => executing::try_alone(rt, refusal, 0, Resume),
         "run_alone_by_choices" => executing::try_alone(rt, refusal, 1_000, ResumeAlone),
         "execute_1" => executing::try_workers(rt, refusal, 1, Resume),

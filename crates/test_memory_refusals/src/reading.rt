@@ -1,14 +1,12 @@
 //! Reading: setups and logs.
 
-use crate::answer::Answer;
-use crate::bank::{BANK, bank, log_text};
 use crate::executing::runs_on;
-use crate::refusal::Refusal;
 use calvin::{LogFaultKind, LogReader, ReadSource, SetupFault, read_setup};
 use catalogue::CatalogueFault;
 use proclang::{ProcFault, Request};
 use std::alloc::{AllocError, Global};
 use std::sync::Wait;
+use test_refusal_steps::{Answer, BANK, Refusal, bank, log_text};
 use values::Value;
 
 /// The setup is read; the log is run on it as it was reckoned.

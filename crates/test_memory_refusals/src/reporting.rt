@@ -1,13 +1,11 @@
 //! The program's calls: reports of logs.
 
-use crate::answer::Answer;
-use crate::bank::{bank, log_text};
-use crate::refusal::Refusal;
-use crate::texts::{CALLS, REPORT};
+use crate::jobs::if_jobs;
 use calvin::{LogFault, LogFaultKind, ReadSource, RunFault, Settings, Setup, WriteSink, run_text};
 use std::sync::Wait;
 use std::thread::Threads;
 use test_engines::CountingGate;
+use test_refusal_steps::{Answer, CALLS, REPORT, Refusal, bank, log_text};
 
 /// A log of so many calls is run on a setup, through a gate, and its report is written.
 pub(crate) fn try_report<R: Threads + Wait + Sync + AllocGlobal>(
@@ -42,7 +40,7 @@ pub(crate) fn try_report<R: Threads + Wait + Sync + AllocGlobal>(
         ) => Answer::Refused,
         Err(_) => Answer::Wrong,
     };
-    let answer = answer.if_jobs(gate, calls);
+    let answer = if_jobs(answer, gate, calls);
     Some(answer.if_right(report.as_bytes().starts_with(&written)))
 }
 

@@ -60,8 +60,9 @@ fn events_in_order(alloc: Global, second: usize, third: usize) -> Result<Vec<Eve
     Ok(events)
 }
 
-/// Two counts of a partition's rows around an insert into it. Each asks for what the one before it locks, so nothing can be
-/// done at a time but to admit the next one, and the next step of the first that is not settled. These are all orders.
+/// Two counts of a partition's rows around an insert into it. Each asks for what the one before it locks, so nothing
+/// can be done at a time but to admit the next one, and the next step of the first that is not settled. These are all
+/// orders.
 #[test]
 fn every_order_of_counts_around_an_insert_replies_alike(rt: HostRuntime) -> Result<(), Fail> {
     let calls: [Call<'_>; 3] = [("cnt", &[]), ("ins", &[4, 7]), ("cnt", &[])];

@@ -185,8 +185,8 @@ fn events_are_chosen_by_their_places(rt: HostRuntime) -> Result<(), Fail> {
     Ok(())
 }
 
-/// Lends its rows to the next transaction, runs it and settles it: the number of its job, if that is the number of what came back,
-/// which was run.
+/// Lends its rows to the next transaction, runs it and settles it: the number of its job, if that is the number of what
+/// came back, which was run.
 fn settle_next(scheduler: &mut Scheduler) -> Result<Option<u64>, Fail> {
     lent_jobs_come_back();
     let Some(job) = scheduler.lend()? else {

@@ -167,12 +167,12 @@ skip_past tables db table part after key (Some k) l h n =
       },
     )
 
--- a key that something comes behind
+-- a key that something comes after
 abbrev pub IsBehind : ℕ → Option ℕ → Type 0
 IsBehind key None = Unit {0}
 IsBehind key (Some k) = nat_lt key k ≡ true
 
--- what comes next behind a later key is what came next
+-- what comes next after a later key is what came next
 pub still_next : (tables : List TableShape) (db : Database) (table part : ℕ) (after : Option ℕ) (key : ℕ) (r : Option ℕ) → is_after after key ≡ true → IsBehind key r
     → IsNextKey tables db table part after r → IsNextKey tables db table part (Some key) r
 still_next tables db table part after key None l b n = λ q a.

@@ -17,7 +17,7 @@ use Rattle.footprint.specs.declared.resource.Resource.{Resource}
 use Rattle.footprint.specs.Tree.{row_resource, ancestors_of}
 use Rattle.footprint.specs.Rights.{FootprintOf, covers, covers_row, is_at_least}
 use Rattle.workspace.specs.declared.permit.Passage.{Passage}
-use Rattle.workspace.specs.declared.permit.Passage.TheVariants.{Covered, Noting}
+use Rattle.workspace.specs.declared.permit.Passage.TheVariants.{Covered, Recorded}
 use Rattle.workspace.specs.declared.permit.Permit.{Permit}
 use Rattle.workspace.specs.Coverage.{allows, permits}
 use Rattle.workspace.proofs.Ahead.{both_true, table_of}
@@ -42,7 +42,7 @@ covers_read tables fo name right e = any_weaker right fo (row_resource tables na
 -- and a name that a permit covers with some right it covers with Read
 allowed_read : (passage : Passage) (tables : List TableShape) (name : RowName) (right : Right) → allows passage (row_resource tables name) right ≡ true → allows passage (row_resource tables name) Read ≡ true
 allowed_read (Covered footprint uncovered) tables name right e = covers_read tables footprint.now name right e
-allowed_read Noting tables name right e = refl
+allowed_read Recorded tables name right e = refl
 
 pub permits_read : (permit : Permit) (name : RowName) (right : Right) → permits permit name right ≡ true → permits permit name Read ≡ true
 permits_read permit name right e = allowed_read permit.passage permit.catalogue.now name right e
@@ -69,4 +69,4 @@ covers_in_part tables fo table part q right e c =
 pub allowed_in_part : (passage : Passage) (tables : List TableShape) (table part : ℕ) (q : RowName) (right : Right) → is_in_part tables table part q ≡ true
     → allows passage (Table table (Part part WholePart)) right ≡ true → allows passage (row_resource tables q) right ≡ true
 allowed_in_part (Covered footprint uncovered) tables table part q right e c = covers_in_part tables footprint.now table part q right e c
-allowed_in_part Noting tables table part q right e c = refl
+allowed_in_part Recorded tables table part q right e c = refl

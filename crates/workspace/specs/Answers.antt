@@ -18,6 +18,6 @@ Gives view left (Ok x) ran = ran ≡ (Ok (view x), left)
 Gives view left (Err stop) ran = StopsWith left stop ran
 
 -- what a part of a run comes to, with these values in front
-abbrev pub behind : List Value → Result (List Value) Ending × State → Result (List Value) Ending × State
-behind front (Ok values, st) = (Ok (front ++ values), st)
-behind front (Err e, st) = (Err e, st)
+abbrev pub prefixed : List Value → Result (List Value) Ending × State → Result (List Value) Ending × State
+prefixed front (Ok values, st) = (Ok (front ++ values), st)
+prefixed front (Err e, st) = (Err e, st)

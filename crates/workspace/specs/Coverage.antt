@@ -14,16 +14,16 @@ use Rattle.footprint.specs.declared.resource.InPart.TheVariants.{WholePart}
 use Rattle.footprint.specs.declared.resource.Resource.{Resource}
 use Rattle.footprint.specs.Tree.{row_resource}
 use Rattle.footprint.specs.Rights.{covers}
-use Rattle.meaning.specs.Runs.{Ran, AccessRule, tested, noted}
+use Rattle.meaning.specs.Runs.{Ran, AccessRule, tested, recorded}
 use Rattle.workspace.specs.declared.permit.Passage.{Passage}
-use Rattle.workspace.specs.declared.permit.Passage.TheVariants.{Covered, Noting}
+use Rattle.workspace.specs.declared.permit.Passage.TheVariants.{Covered, Recorded}
 use Rattle.workspace.specs.declared.permit.Permit.{Permit}
 use Rattle.workspace.specs.declared.workspace.Workspace.{Workspace}
 
 -- the permit lets an access pass: where a footprint is given, that covers it
 abbrev pub allows : Passage → Resource → Right → Bool
 allows (Covered footprint uncovered) resource right = covers footprint.now resource right
-allows Noting resource right = true
+allows Recorded resource right = true
 
 -- the permit covers a right on a row name
 abbrev pub permits : Permit → RowName → Right → Bool
@@ -36,7 +36,7 @@ permits_part permit table part = allows permit.passage (Table table (Part part W
 -- what happens at an access
 abbrev pub at_access : Passage → Resource → Right → Ran (Unit {0})
 at_access (Covered footprint uncovered) = tested footprint.now uncovered
-at_access Noting = noted
+at_access Recorded = recorded
 
 -- the rule of accesses under a permit
 abbrev pub rule_of : Permit → AccessRule

@@ -17,14 +17,17 @@ abbrev pub is_ahead : List TableShape → ℕ → ℕ → Option ℕ → RowName
 is_ahead tables table part after name = is_in_part tables table part name && is_after after name.key
 
 -- the row with the least key ahead
-pub record IsNextRow (tables : List TableShape) (db : Database) (table part : ℕ) (after : Option ℕ) (found : ℕ × RowOf) : Type 0 where
+pub record IsNextRow (tables : List TableShape) (db : Database) (table part : ℕ) (after : Option ℕ)
+    (found : ℕ × RowOf) : Type 0 where
   pub ahead : is_ahead tables table part after (record { table = table; key = found.0 }) ≡ true
   pub row : get db (record { table = table; key = found.0 }) ≡ Some found.1
-  pub least : (name : RowName) → is_ahead tables table part after name ≡ true → nat_lt name.key found.0 ≡ true → get db name ≡ None
+  pub least : (name : RowName) → is_ahead tables table part after name ≡ true → nat_lt name.key found.0 ≡ true
+      → get db name ≡ None
 
--- what a scan comes to next, behind a key or from the start
+-- what a scan comes to next, after a key or from the start
 abbrev pub IsNext : List TableShape → Database → ℕ → ℕ → Option ℕ → Option (ℕ × RowOf) → Type 0
-IsNext tables db table part after None = (name : RowName) → is_ahead tables table part after name ≡ true → get db name ≡ None
+IsNext tables db table part after None =
+    (name : RowName) → is_ahead tables table part after name ≡ true → get db name ≡ None
 IsNext tables db table part after (Some found) = IsNextRow tables db table part after found
 
 -- each name of the partition is shown

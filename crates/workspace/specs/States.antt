@@ -8,8 +8,14 @@ use Rattle.workspace.specs.Overlay.{applied}
 
 -- where a run is: its own writes over the rows of a database
 abbrev pub state_at : Database → Workspace → State
-state_at db space = record { rows = applied space.writes.entries db; variables = space.variables.items; steps = space.steps; reply = space.reply.items; accesses = space.accesses }
+state_at db space = record {
+  rows = applied space.writes.entries db;
+  variables = space.variables.items;
+  steps = space.steps;
+  reply = space.reply.items;
+  accesses = space.accesses;
+}
 
--- the state with so many variables, the others being gone
+-- the state with its first n variables, without the others
 abbrev pub with_first : ℕ → State → State
 with_first count st = record st { variables = take count st.variables }

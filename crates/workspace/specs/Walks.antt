@@ -1,5 +1,6 @@
 -- Of the code: invariants and steps; no promise rests on these words.
--- A walk over the rows of a partition: the view's rows that were not written over, and the own ones, together by ascending key.
+-- A walk over the rows of a partition: the view's rows that were not written over, and the own ones, together by
+-- ascending key.
 use Rattle.std.specs.Prelude.{◌≡◌, ℕ, ℤ, pos, ◌+◌, ◌+ℤ◌, Bool, true, false, cond, not, ◌&&◌, ◌==◌, nat_lt, Option, None, Some, List, [], ◌∷◌, option_map, slice_get}
 use Rattle.std.specs.Option.{is_some}
 use Rattle.std.specs.Map.{lookup}
@@ -46,7 +47,8 @@ abbrev pub is_past : ℕ → Option ℕ → RowName → Bool
 is_past table after q = (q.table == table) && is_after after q.key
 
 -- the first write in a table after a place, of whatever partition, and whether it leaves a row
-pub record IsNextWriteAt (writes : List (RowName × Option RowOf)) (table : ℕ) (after : Option ℕ) (key : ℕ) (live : Bool) : Type 0 where
+pub record IsNextWriteAt (writes : List (RowName × Option RowOf)) (table : ℕ) (after : Option ℕ) (key : ℕ)
+    (live : Bool) : Type 0 where
   pub later : is_after after key ≡ true
   pub write : option_map is_some (write_of writes (record { table = table; key = key })) ≡ Some live
   pub least : (q : RowName) → is_past table after q ≡ true → nat_lt q.key key ≡ true → write_of writes q ≡ None
@@ -73,7 +75,8 @@ is_second None (Some b) = true
 is_second (Some a) (Some b) = not (nat_lt a b)
 
 -- the walk has come to all rows up to a key, and holds what comes next of both
-pub record IsWalk (tables : List TableShape) (writes : List (RowName × Option RowOf)) (db : Database) (table part : ℕ) (walk : Walk) : Type 0 where
+pub record IsWalk (tables : List TableShape) (writes : List (RowName × Option RowOf)) (db : Database) (table part : ℕ)
+    (walk : Walk) : Type 0 where
   pub theirs : IsNextKey tables (untouched writes db) table part walk.after walk.theirs
   pub own : IsNextKey tables (own_rows writes) table part walk.after walk.own
 

@@ -1,4 +1,4 @@
-//! The accesses that a run notes.
+//! The accesses that a run makes, in a record.
 
 ghost use Rattle.std.specs.Prelude.{◌≡◌, [], ◌∷◌, ◌++◌, OnOk, OnErr, IfOk};
 ghost use Rattle.std.specs.List.{All};
@@ -10,7 +10,7 @@ use std::alloc::Global;
 use std::marker::Model;
 use values::NoMemory;
 
-/// The accesses that a run noted, in their order: each with its resource and its right.
+/// The accesses that a run recorded, in their order: each with its resource and its right.
 #[derive(Drop)]
 pub struct Accesses {
     list: Vec<(Resource, Right)>,
@@ -44,7 +44,7 @@ impl Accesses {
         }
     }
 
-    /// Notes one more access behind the others. The key of a row is less than 2^63.
+    /// Records one more access, after the others. The key of a row is less than 2^63.
     pub(crate) fn add(&mut self, resource: Resource, right: Right) -> Result<(), NoMemory>
         requires { HasKey resource }
         ensures added { OnOk result (self.new ≡ self.old ++ (resource, right) ∷ []) }
@@ -59,6 +59,7 @@ impl Accesses {
         ensures found { IfOk result (λ footprint. footprint ≡ greatest_rights self.now) }
         ensures keys { All (λ access. HasKey access.0) self.now }
     {
+        // proof: an access adds its right to the footprint of those before it.
         access_adds_its_right();
         let mut footprint = Footprint::new(alloc);
         for (resource, right) in &self.list {

@@ -1,4 +1,5 @@
-//! What a run reads and what it has of its own: the rows that it is shown, under a permit, and its own writes over them.
+//! What a run reads and what it has of its own: the rows that it is shown, under a permit, and its own writes over
+//! them.
 #![tactic(auto)]
 
 mod accesses;

@@ -9,7 +9,7 @@ use catalogue::Catalogue;
 use std::ops::Bound;
 use values::{Key, RowName, TableNo};
 
-/// Where the names of a table behind a key begin.
+/// Where the names of a table after a key begin.
 fn bound_of(table: TableNo, after: Option<Key>) -> Bound<RowName>
     ensures { result ≡ bound_of table after }
 {
@@ -20,7 +20,7 @@ fn bound_of(table: TableNo, after: Option<Key>) -> Bound<RowName>
 }
 
 impl Workspace {
-    /// The first write in a table behind a key, or from the start, and whether it leaves a row.
+    /// The first write in a table after a key, or from the start, and whether it leaves a row.
     fn next_write(&self, table: TableNo, after: Option<Key>) -> Option<(Key, bool)>
         ensures { IsNextWrite self.now.writes.entries table after result }
     {
@@ -33,7 +33,7 @@ impl Workspace {
         }
     }
 
-    /// The first key of a partition behind a key, or from the start, at which a row was written.
+    /// The first key of a partition after a key, or from the start, at which a row was written.
     #[tactic(auto, using(crate::proofs::OwnRows::own_stop, crate::proofs::OwnRows::own_skip, crate::proofs::OwnRows::own_none))]
     pub(crate) fn next_own(
         &self,

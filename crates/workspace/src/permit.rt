@@ -21,8 +21,8 @@ use values::{Key, RowName, TableNo};
 pub enum Passage<'a> {
     /// It is tested against the footprint. Where that does not cover it, the run ends so.
     Covered(&'a Footprint, Ending),
-    /// It is allowed, whatever it is, and noted.
-    Noting,
+    /// It is allowed, whatever it is, and recorded.
+    Recorded,
 }
 
 /// What a run may touch: rows of the tables of a catalogue, as its passage lets it.
@@ -56,7 +56,7 @@ pub(crate) fn row_resource(catalogue: &Catalogue, name: &RowName) -> Resource
 }
 
 impl Permit<'_> {
-    /// An access: its test or its note, as the passage says.
+    /// An access is tested or recorded, as the passage says.
     #[tactic(auto, unfolding(meaning::specs::Runs::and_then))]
     pub(crate) fn pass(
         &self,
@@ -79,7 +79,7 @@ impl Permit<'_> {
                     Err(Stop::End(uncovered))
                 }
             }
-            Passage::Noting => {
+            Passage::Recorded => {
                 space.accesses.add(resource, right)?;
                 Ok(())
             }

@@ -5,7 +5,7 @@ ghost use Rattle.std.specs.Prelude.{◌≡◌, ◌≤ℤ◌, ◌+ℤ◌, ◌-ℤ
 ghost use Rattle.std.specs.FinMap.{len, entries};
 ghost use Rattle.footprint.specs.Declaration.{number_or};
 ghost use Rattle.meaning.specs.Partitions.{part_rows, keys_of, total};
-ghost use Rattle.meaning.specs.Runs.{State, in_range};
+ghost use Rattle.meaning.specs.Runs.{State, int_result};
 ghost use Rattle.workspace.specs.Overlay.{applied};
 ghost use Rattle.workspace.specs.Coverage.{permits_part};
 ghost use Rattle.workspace.specs.Answers.{Gives};
@@ -33,7 +33,7 @@ pub fn count_in<V: RowView>(
     requires covered { permits_part shown.now.permit table part ≡ true }
     ensures { (state : State) →
         Gives (λ z. z) state result
-        (in_range (pos (len
+        (int_result (pos (len
         (part_rows shown.now.permit.catalogue.now table part
         (applied space.now.writes.entries (V.rows shown.now.view.now))))) state) }
 {
@@ -106,8 +106,8 @@ fn total_of(rows: &[(Key, &Row)], column: usize) -> i128
     sum
 }
 
-/// The exact total of a column over the rows of a partition, after the own writes, or the end of the run where it is outside the
-/// signed 64-bit range; 0 stands for a value that is not there or is a text.
+/// The exact total of a column over the rows of a partition, after the own writes, or the end of the run where it is
+/// outside the signed 64-bit range; 0 stands for a value that is not there or is a text.
 #[tactic(auto, using(crate::proofs::Scanned::total_is))]
 pub fn total_in<V: RowView>(
     shown: &Shown<'_, V>,
@@ -119,7 +119,7 @@ pub fn total_in<V: RowView>(
     requires covered { permits_part shown.now.permit table part ≡ true }
     ensures { (state : State) →
         Gives (λ z. z) state result
-        (in_range (total (pos 0) column
+        (int_result (total (pos 0) column
         (entries (part_rows shown.now.permit.catalogue.now table part
         (applied space.now.writes.entries (V.rows shown.now.view.now))))) state) }
 {

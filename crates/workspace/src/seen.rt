@@ -59,7 +59,8 @@ fn rows_on_walk<'a, V: RowView>(
     Ok(rows)
 }
 
-/// The rows of a partition, after the own writes, with their keys, ascending. Where nothing was written, they are the view's.
+/// The rows of a partition, after the own writes, with their keys, ascending. Where nothing was written, they are the
+/// view's.
 pub(crate) fn rows_in<'a, V: RowView>(
     alloc: Global,
     shown: &'a Shown<'_, V>,

@@ -5,8 +5,8 @@ ghost use Rattle.std.specs.Prelude.{◌≡◌, ◌++◌, IsTrue, OnOk, option_ma
 use std::alloc::AllocError;
 use values::{Key, Row, TableNo};
 
-/// Some of the rows of a database over the tables of a catalogue. Nothing is asked of how many values a row has, or of which
-/// types.
+/// Some of the rows of a database over the tables of a catalogue. Nothing is asked of how many values a row has, or of
+/// which types.
 pub trait RowView {
     ghost use Rattle.std.specs.Prelude.{Bool, List};
     ghost use Rattle.std.specs.FinMap as map;
@@ -29,15 +29,15 @@ pub trait RowView {
         requires { IsTrue (shows self.now (record { table = table; key = key })) }
         ensures { option_copied result ≡ map.get (rows self.now) (record { table = table; key = key }) };
 
-    /// The first row of a partition behind a key, or from the partition's start, by ascending key; `None` exactly where
+    /// The first row of a partition after a key, or from the partition's start, by ascending key; `None` exactly where
     /// there is none. The view shows each name of the partition.
     fn next_row(&self, table: TableNo, part: u32, after: Option<Key>) -> Option<(Key, &Row)>
         requires { ShowsPart (tables self.now) (shows self.now) table part }
         ensures { IsNext (tables self.now) (rows self.now) table part after (option_map (λ found.
             (found.0, found.1.now)) result) };
 
-    /// Appends all rows of a partition with their keys, by ascending key. The view shows each name of the partition. Where
-    /// memory is refused, some of them may have been appended.
+    /// Appends all rows of a partition with their keys, by ascending key. The view shows each name of the partition.
+    /// If allocation fails, some of them may have been appended.
     fn push_rows<'a>(
         &'a self,
         table: TableNo,

@@ -10,7 +10,7 @@ use crate::view::RowView;
 use crate::workspace::Workspace;
 use values::{Key, RowName, TableNo};
 
-/// The first key of a partition behind a key, or from the start, at which the view has a row.
+/// The first key of a partition after a key, or from the start, at which the view has a row.
 #[tactic(auto, using(crate::proofs::Untouched::shows_part))]
 fn next_shown<V: RowView>(
     shown: &Shown<'_, V>,
@@ -27,7 +27,7 @@ fn next_shown<V: RowView>(
     }
 }
 
-/// The first key of a partition behind a key, or from the start, at which the view has a row and nothing was written.
+/// The first key of a partition after a key, or from the start, at which the view has a row and nothing was written.
 fn next_untouched<V: RowView>(
     shown: &Shown<'_, V>,
     space: &Workspace,
@@ -72,8 +72,8 @@ fn is_second(one: &Option<Key>, two: &Option<Key>) -> bool
     }
 }
 
-/// A walk over a partition by ascending key: the last key that it has come to, and what comes next of the view's rows at whose
-/// names nothing was written, and of the own rows.
+/// A walk over a partition by ascending key: the last key that it has come to, and what comes next of the view's rows
+/// at whose names nothing was written, and of the own rows.
 #[derive(Drop)]
 pub(crate) struct Walk {
     after: Option<Key>,

@@ -25,7 +25,7 @@ use values::{NoMemory, Row, RowName, Value};
 /// For how many variables a run has room at its start, beside its arguments.
 const ROOM: usize = 8;
 
-/// Copies of values, with room for more behind them.
+/// Copies of values, with room for more after them.
 fn copies(alloc: Global, values: &[Value]) -> Result<Vec<Value>, NoMemory>
     ensures { IfOk result (λ copies. copies.items ≡ values.now) }
 {
@@ -36,8 +36,8 @@ fn copies(alloc: Global, values: &[Value]) -> Result<Vec<Value>, NoMemory>
     Ok(copies)
 }
 
-/// The own writes of a run, its variables in the order of their declarations, the steps that it took, what it replied, and
-/// the accesses noted. A write without a row is a deletion.
+/// The own writes of a run, its variables in the order of their declarations, the steps that it took, what it replied,
+/// and the accesses recorded. A write without a row is a deletion.
 #[derive(Drop)]
 pub struct Workspace {
     pub writes: BTreeMap<RowName, Option<Row>>,
@@ -82,7 +82,7 @@ impl Workspace {
         }
     }
 
-    /// Declares one more variable behind the others.
+    /// Declares one more variable after the others.
     pub fn declare(&mut self, value: Value) -> Result<(), Stop>
         ensures gives { (db : Database) →
             Gives (λ _. tt) (state_at db self.new) result (declare value (state_at db self.old)) }
@@ -92,7 +92,7 @@ impl Workspace {
         Ok(())
     }
 
-    /// Declares the variable behind the others, or changes it.
+    /// Declares the variable after the others, or changes it.
     pub fn set_variable(&mut self, place: usize, value: Value) -> Result<(), Stop>
         ensures gives { (db : Database) →
             Gives (λ _. tt) (state_at db self.new) result (set_variable place value (state_at db self.old)) }
@@ -106,7 +106,7 @@ impl Workspace {
         Ok(())
     }
 
-    /// Declares the variable behind the others, or changes it: its value is a number.
+    /// Declares the variable after the others, or changes it: its value is a number.
     pub fn set_number(&mut self, place: usize, number: i64) -> Result<(), Stop>
         ensures gives { (db : Database) →
             Gives (λ _. tt) (state_at db self.new) result (set_variable place (Int number) (state_at db self.old)) }
@@ -121,7 +121,7 @@ impl Workspace {
         }
     }
 
-    /// Ends a block: the variables behind the first `count` are no more.
+    /// Ends a block: the variables after the first `count` are no more.
     pub fn leave_block(&mut self, count: usize)
         ensures gives { (db : Database) → state_at db self.new ≡ with_first count (state_at db self.old) }
         ensures writes { self.new.writes ≡ self.old.writes }

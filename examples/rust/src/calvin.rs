@@ -92,7 +92,7 @@ impl Session {
         self.answer(status)
     }
 
-    /// Takes the end of the log, and executes the calls behind its last cut.
+    /// Takes the end of the log, and executes the calls after its last cut.
     pub fn end(&mut self) -> Result<(), Fault> {
         // Safety: the handle is live until it is dropped.
         let status = unsafe { calvin_c_end(self.handle) };

@@ -31,4 +31,4 @@ returns-clause-told_end g c =
     let b : BegunOf = record { attempts = c.in-Ok.begun.attempts; scheduler = s } in
     let on = begun_on tables c.args.first c.args.stage c.in-Ok.begun s c.in-Ok.ensures.begun c.in-Ok.ensures.start c.in-Ok.ensures.same
     run.ensures.work run.ensures.none_out run.ensures.settled in
-    ended_told tables c.args.first _ b c.end_run.result (g.L.Listener.account run.new.listener) on c.end_run.ensures.done c.end_run.ensures.ended run.ensures.told
+    ended_told tables c.args.first _ b c.end_run.result (g.L.Listener.account run.new.listener) on c.end_run.ensures.done c.end_run.ensures.ended run.ensures.told.0

@@ -1,7 +1,7 @@
 use Rattle.std.proofs.Common.{◌≡◌, ◌∙◌, ◌∷◌, ◌++◌, [], length, drop, refl, sym, ap, subst, append_assoc, arith, rules}
 use Rattle.std.specs.List.{AllByRecursion}
 use Rattle.std.specs.Vec.Iter.{into_iter_items}
-use Rattle.example_clients.specs.Logs.{IsShort}
+use Rattle.example_clients.specs.Logs.{IsShortLog}
 use Rattle.example_clients.specs.Clients.{AreAtTheirLogs}
 use Rattle.example_clients.proofs.Submitted.{next_client, snoc_length, at_more}
 use Rattle.example_clients.proofs.clients.clients_of.Goals as goal
@@ -10,7 +10,7 @@ pub invariant_of-push_reserved : goal.invariant_of-push_reserved
 invariant_of-push_reserved c =
     let turn : into_iter_items c.loop-pass.pass-iterator ≡ c.in-Some.pass ∷ into_iter_items c.next.new.self = search rules in
     let new = next_client c.args.intake.now _ (length c.loop-pass.clients.items) c.args.passes.items _ c.in-Some.pass c.requires.passes.1 (c.loop-pass.invariant.passes ∙ turn) in
-    let short = subst (AllByRecursion IsShort) c.in-Some-next.ensures.items c.loop-pass.invariant.short in
+    let short = subst (AllByRecursion IsShortLog) c.in-Some-next.ensures.items c.loop-pass.invariant.short in
     record { own = new.0.pass; fresh = new.0.sent; short = short.0 }
 
 pub loop-pass-preserved : goal.loop-pass-preserved
@@ -30,5 +30,5 @@ loop-pass-preserved c =
       passes = ap (λ n. drop n c.args.passes.items) long ∙ new.1;
       same = omega (arith, turns, nexts, inv.same);
       room = omega (arith, long, nexts, inv.room, c.push_reserved.ensures.capacity);
-      short = (subst (AllByRecursion IsShort) next inv.short).1;
+      short = (subst (AllByRecursion IsShortLog) next inv.short).1;
     }

@@ -1,7 +1,7 @@
 use Rattle.std.proofs.Common.{◌≡◌, ◌+◌, ◌++◌, ◌≤◌, List, length, drop, vec_capacity}
 use Rattle.std.specs.List.{AllByRecursion}
 use Rattle.std.specs.Vec.Iter.{into_iter_items}
-use Rattle.example_clients.specs.Logs.{ClientLog, IsShort}
+use Rattle.example_clients.specs.Logs.{ClientLog, IsShortLog}
 use Rattle.example_clients.specs.Clients.{AreAtTheirLogs}
 use Rattle.example_clients.proofs.clients.clients_of.Given as goal
 
@@ -14,5 +14,5 @@ invariant-loop-pass l = record {
   passes : drop (length l.clients.items) l.fn.passes.items ≡ into_iter_items l.pass-iterator;
   same : length (into_iter_items l.pass-iterator) ≡ length (into_iter_items l.logs);
   room : length l.clients.items + length (into_iter_items l.logs) ≤ vec_capacity l.clients;
-  short : AllByRecursion IsShort (into_iter_items l.logs);
+  short : AllByRecursion IsShortLog (into_iter_items l.logs);
 }

@@ -3,7 +3,7 @@ use Rattle.std.specs.Vec.Iter.{into_iter_items}
 use Rattle.intake.specs.Passes.{IsClientOf, client_of, sent_by}
 use Rattle.example_clients.proofs.clients.submit_all.Given as goal
 
--- what was submitted, and behind it the calls that are left, is the log
+-- what was submitted, and after it the calls that are left, is the log
 abbrev pub invariant-loop-call : goal.invariant-loop-call
 invariant-loop-call g l = record {
   pass : IsClientOf l.intake l.pass;

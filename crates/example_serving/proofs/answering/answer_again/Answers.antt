@@ -1,7 +1,7 @@
 use Rattle.std.proofs.Common.{◌≡◌, ◌<◌, ◌∷◌, ◌∙◌, drop, length, map, sym, ap, rules}
 use Rattle.std.specs.Vec.Iter.{into_iter_items}
 use Rattle.std.proofs.lemmas.List.{map-append}
-use Rattle.example_serving.specs.Serving.{said_of}
+use Rattle.example_serving.specs.Serving.{said_in}
 use Rattle.example_serving.proofs.Again.{dropped_more, said_more}
 use Rattle.example_serving.proofs.answering.answer_again.Goals as goal
 
@@ -14,8 +14,8 @@ loop-preserved c =
     let turn : into_iter_items c.loop.replies ≡ c.in-Some.reply ∷ rest = search rules in
     let there : c.in-Some.reply ∷ rest ≡ drop c.loop.counter replies = sym turn ∙ inv.replies in
     record {
-      told = ap (map said_of) c.push_reserved.ensures.items ∙ map-append said_of c.loop.told.items _
-          ∙ said_more c.loop.counter replies c.in-Some.reply rest (map said_of c.args.told.now.items) (map said_of c.loop.told.items) within there inv.told;
+      told = ap (map said_in) c.push_reserved.ensures.items ∙ map-append said_in c.loop.told.items _
+          ∙ said_more c.loop.counter replies c.in-Some.reply rest (map said_in c.args.told.now.items) (map said_in c.loop.told.items) within there inv.told;
       replies = dropped_more c.loop.counter replies c.in-Some.reply rest within there;
       count = search rules;
       room = search rules;

@@ -15,7 +15,7 @@ loop-distance-init c = record {
 pub loop-distance-preserved : goal.loop-distance-preserved
 loop-distance-preserved c = record {
   added =
-      let is : c.add.new.self ≡ with_right c.loop-distance.footprint (row_resource c.args.catalogue.now (record { table = c.args.table; key = c.args.first + c.loop-distance.distance })) c.args.right = (let a = c.in_ok-add.ensures.added in let r = c.row.ensures.exact in let n = c.new.ensures in let k = c.key_behind-key.ensures in cc) in
+      let is : c.add.new.self ≡ with_right c.loop-distance.footprint (row_resource c.args.catalogue.now (record { table = c.args.table; key = c.args.first + c.loop-distance.distance })) c.args.right = (let a = c.in_ok-add.ensures.added in let r = c.row.ensures.exact in let n = c.new.ensures in let k = c.key_above-key.ensures in cc) in
       ap (λ (f : FootprintOf). with_rights f (rows_left c.args.catalogue.now c.args.right c.args.table c.args.count c.args.first (c.loop-distance.distance + 1))) is
       ∙ sym (one_more c.loop-distance.footprint c.args.catalogue.now c.args.right c.args.table c.args.count c.args.first c.loop-distance.distance c.loop-distance-test.true)
       ∙ c.loop-distance.invariant.added;

@@ -6,7 +6,7 @@ use Rattle.lock_tree.specs.Queues.{granted}
 use Rattle.lock_tree.specs.Held.{times}
 use Rattle.lock_tree.specs.Lines.{nodes_of, in_order, modes_of, asked}
 use Rattle.lock_tree.specs.Granted.{IsLine}
-use Rattle.lock_tree.proofs.Fronting.{if_granted, if_waits, if_first, if_not_first, held_all, is_there, stays_before, stays_first, stays_behind}
+use Rattle.lock_tree.proofs.Fronting.{if_granted, if_waits, if_first, if_not_first, held_all, is_there, stays_before, stays_first, stays_after}
 use Rattle.lock_tree.proofs.granting.without.Goals as goal
 use Rattle.lock_tree.proofs.granting.without.Goals.{After-index}
 
@@ -58,5 +58,5 @@ returns-else-is_first c =
     let d = (goal.at.returns-else-is_first c).After-index in
     let hs = c.args.lines.now.nodes.held in let xs = nodes_of c.args.lines.now.nodes c.args.number in let x = c.index.result.now in let i = c.requires.there.0 in
     let le = if_waits hs xs x (line_ok d) c.args.no i c.args.node c.requires.there.1 c.requires.owned (stands_once d) c.if-is_granted.ensures in
-    stays_behind hs xs x (line_ok d) c.args.no i c.args.node c.requires.there.1 c.requires.owned (stands_once d) x
+    stays_after hs xs x (line_ok d) c.args.no i c.args.node c.requires.there.1 c.requires.owned (stands_once d) x
     (if_not_first hs xs x (line_ok d) c.args.no i c.args.node c.requires.there.1 c.requires.owned (stands_once d) le (c.if-is_first.ensures.no refl)) refl refl refl

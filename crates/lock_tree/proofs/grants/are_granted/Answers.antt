@@ -30,15 +30,15 @@ live : (c : In-Some) → IsLive c.args.lines.now.nodes c.in-Some.node
 live c = subst (λ h. IfSome h (λ a. IsLive c.args.lines.now.nodes a)) c.in-Some.is c.loop-head.invariant.2
 
 -- the request that is looked at
-here : (c : In-Some) (rest : List ℕ) → chain_from c.args.lines.now.nodes.held (Some c.in-Some.node) ≡ c.in-Some.node ∷ rest
+first_request : (c : In-Some) (rest : List ℕ) → chain_from c.args.lines.now.nodes.held (Some c.in-Some.node) ≡ c.in-Some.node ∷ rest
     → First c.args.lines.now c.args.entry.now.no c.loop-head.invariant.0 c.loop-head.invariant.1 c.in-Some.node rest
-here c rest is =
+first_request c rest is =
     let l = c.args.lines.now in let inv = c.loop-head.invariant in
     placed_first l c.args.entry.now.no inv.0 inv.1 c.in-Some.node rest
     (subst (ArePlaced l c.args.entry.now.no inv.0 inv.1) (ap (chain_from l.nodes.held) c.in-Some.is ∙ is) inv.3)
 
 looked : (c : In-Some) → (rest : List ℕ) × First c.args.lines.now c.args.entry.now.no c.loop-head.invariant.0 c.loop-head.invariant.1 c.in-Some.node rest
-looked c = let k = chain_live c.args.lines.now.nodes.held c.in-Some.node (holds_live c.args.lines.now.nodes c.in-Some.node (live c)) in (k.0, here c k.0 k.1)
+looked c = let k = chain_live c.args.lines.now.nodes.held c.in-Some.node (holds_live c.args.lines.now.nodes c.in-Some.node (live c)) in (k.0, first_request c k.0 k.1)
 
 pub is_granted-requires-clause-within : goal.is_granted-requires-clause-within
 is_granted-requires-clause-within c =
@@ -70,10 +70,10 @@ returns-then-not-is_granted c =
 pub loop-head-preserved : goal.loop-head-preserved
 loop-head-preserved c =
     let l = c.args.lines.now in let n = c.args.entry.now.no in let inv = c.loop-head.invariant in
-    let r = here ((goal.at.loop-head-preserved c).In-Some) (chain_from l.nodes.held c.behind-head.result) c.behind-head.ensures.rest in let e = c.queue_of.ensures r.number r.placed.place r.placed.there in (
+    let r = first_request ((goal.at.loop-head-preserved c).In-Some) (chain_from l.nodes.held c.successor-head.result) c.successor-head.ensures.rest in let e = c.queue_of.ensures r.number r.placed.place r.placed.there in (
       r.later,
       r.more,
-      c.behind-head.ensures.live,
+      c.successor-head.ensures.live,
       r.others,
       sym (one_more true (line l) n r.request inv.0 r.later r.plan_is
           (c.if-not-is_granted.ensures ∙ ap (λ (k : ℕ). has_number k (granted (in_order l.nodes c.queue_of.result))) (sym c.requires.owner) ∙ ap (λ q. has_number n (granted (in_order l.nodes q))) e ∙ sym (ap (λ o. has_number n (granted (numbered l.nodes o))) r.placed.named))) ∙ inv.4,

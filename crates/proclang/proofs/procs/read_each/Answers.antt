@@ -1,7 +1,7 @@
 use Rattle.std.proofs.Common.{◌∷◌, ◌++◌, [], map}
 use Rattle.serde_json.specs.View.{view}
 use Rattle.proclang_types.specs.Procedures.{proc_syntax}
-use Rattle.proclang.specs.Paths.{places}
+use Rattle.proclang_expressions.specs.Paths.{places}
 use Rattle.proclang.proofs.TypedProcs.{proc_fresh, not_named}
 use Rattle.proclang.proofs.procs.read_each.Goals as goal
 

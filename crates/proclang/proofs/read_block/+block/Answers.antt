@@ -4,8 +4,8 @@ use Rattle.std.proofs.lemmas.Result.{err_from_is_err_and}
 use Rattle.std.proofs.Math.ListN.{drop_of_length-le}
 use Rattle.serde_json.specs.View.{view}
 use Rattle.proclang_types.specs.Views.{stmt_view, stmts_view}
-use Rattle.proclang.specs.Paths.{places}
-use Rattle.proclang.specs.Walk.{each_from}
+use Rattle.proclang_expressions.specs.Paths.{places}
+use Rattle.proclang_expressions.specs.Walk.{each_from}
 use Rattle.proclang.specs.Statements.{next_statement, block_at}
 use Rattle.proclang.proofs.Walk.{goes_on, stops}
 use Rattle.proclang.proofs.Blocks.{next_is, next_fails, block_is, block_fails}

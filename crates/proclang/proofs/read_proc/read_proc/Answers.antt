@@ -1,5 +1,5 @@
 use Rattle.std.proofs.Common.{string_bytes}
-use Rattle.proclang.specs.Paths.{places}
+use Rattle.proclang_expressions.specs.Paths.{places}
 use Rattle.proclang_forms.specs.ProcForms.{proc_parts_of}
 use Rattle.proclang.specs.Procs.{parts_view}
 use Rattle.proclang.proofs.TypedProcs.{parts_fit}

@@ -78,7 +78,7 @@ give_back_spec 𝓤 𝓛 𝓜 𝓡 wired T A LT LA g d dd met md =
     let y' : (Gives Z 𝓛 𝓜.mem 𝓡.returns).Ghost = at_gives Z 𝓛 𝓜.mem 𝓡.returns κ q hp a b o (n * s) al (block_ty E n) in
     sets ! (of_opd ! (get ! refl)) refl (tt, words) $
     move ! (1 ∷ []) $ split ! $ move ! (1 ∷ []) $ split ! $ move ! (3 ∷ 0 ∷ []) $
-    -- [the places; the token of T's lifetime; that behind it; the one in front of it; the right; the handle]
+    -- [the places; the token of T's lifetime; that after it; the one in front of it; the right; the handle]
     use2 𝓛 (raw ((Into V 𝓛 𝓜.mem 𝓡.returns).pre y)) (Into-goes V 𝓛 𝓜.mem 𝓡.returns κ₁ q₁ r b o inT) $
     calls_at ! (fm 𝓛 𝓜 𝓡) (Into V 𝓛 𝓜.mem 𝓡.returns) (parts_of.met 𝓤 𝓛 𝓜 𝓡 (code.calls-core::slots::Slots::into_raw_parts 𝓡.env wired) T LT) y (and_then ! (get ! refl) (no_more !)) (λ v.
     use1 𝓛 (later (given (v ≡ row_val b o n) (‵ (all V b o r.items r.filled) ⊛ ‵ (flft κ₁ q₁)))) (Into-gives V 𝓛 𝓜.mem 𝓡.returns κ₁ q₁ r b o v at) $ await ! tt $ learn ! (λ e. split ! $

@@ -107,7 +107,7 @@ take_spec 𝓤 𝓛 𝓜 𝓡 wired T A LT LA g d dd met md =
     sets ! (of_opd ! (get_in ! (vrt ! refl (fld ! refl (stop !))) (in_variant ! 0 0 refl refl (whole !)))) refl (tt, tt) $ sets ! (of_opd ! (get ! refl)) refl (tt, tt) $
     use1 𝓛 (‵ (froom (ty_array (elτ E) n) b o)) (𝓛.laws.raw-room (ty_array (elτ E) n) b o) $ use1 𝓛 (‵ (all V b o xs fs)) (of_space E 𝓛 b o n xs long) $
     move ! (2 ∷ []) $ split ! $ move ! (1 ∷ []) $ split ! $ move ! (1 ∷ []) $ split ! $ move ! (4 ∷ 0 ∷ []) $
-    -- [the places; the token of T's lifetime; those behind it; the two in front of it; the right]
+    -- [the places; the token of T's lifetime; those after it; the two in front of it; the right]
     use2 𝓛 (raw ((From V 𝓛 𝓜.mem 𝓡.returns).pre (at_from V 𝓛 𝓜.mem 𝓡.returns κ₂ q₂ b o n xs fs))) (from_goes V 𝓛 𝓜.mem 𝓡.returns κ₂ q₂ b o n xs fs inT (sym long) (sym (length-replicate n false)) fits small) $
     calls_at ! (fm 𝓛 𝓜 𝓡) (From V 𝓛 𝓜.mem 𝓡.returns) (made_of.met 𝓤 𝓛 𝓜 𝓡 (code.calls-core::slots::Slots::from_raw_parts 𝓡.env wired) T LT) (at_from V 𝓛 𝓜.mem 𝓡.returns κ₂ q₂ b o n xs fs)
     (and_then ! (get ! refl) (and_then ! (get ! refl) (no_more !))) (λ w.

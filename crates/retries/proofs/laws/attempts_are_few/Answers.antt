@@ -8,8 +8,8 @@ returns-clause-attempts c = attempts_few
 pub returns-clause-carried : goal.returns-clause-carried
 returns-clause-carried c = few
 
-pub returns-clause-behind : goal.returns-clause-behind
-returns-clause-behind c = left_within
+pub returns-clause-after : goal.returns-clause-after
+returns-clause-after c = left_within
 
 pub returns-clause-in_log : goal.returns-clause-in_log
 returns-clause-in_log c = later_few

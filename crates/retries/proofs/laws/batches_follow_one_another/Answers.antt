@@ -1,12 +1,12 @@
 use Rattle.std.proofs.Common.{[], ◌∷◌}
-use Rattle.retries.proofs.Followed.{behind_all-append, in_turn-append}
+use Rattle.retries.proofs.Followed.{after_batches-append, in_turn-append}
 use Rattle.retries.proofs.laws.batches_follow_one_another.Goals as goal
 
-pub returns-clause-behind : goal.returns-clause-behind
-returns-clause-behind c = behind_all-append
+pub returns-clause-after : goal.returns-clause-after
+returns-clause-after c = after_batches-append
 
-pub returns-clause-behind_one : goal.returns-clause-behind_one
-returns-clause-behind_one c = λ retries s batches calls. behind_all-append retries s batches (calls ∷ [])
+pub returns-clause-after_one : goal.returns-clause-after_one
+returns-clause-after_one c = λ retries s batches calls. after_batches-append retries s batches (calls ∷ [])
 
 pub returns-clause-in_turn : goal.returns-clause-in_turn
 returns-clause-in_turn c = in_turn-append

@@ -2,10 +2,10 @@ use Rattle.std.proofs.Common.{◌≡◌, true, false}
 use Rattle.std.specs.Vec.Iter.{into_iter_items}
 use Rattle.values.specs.declared.name.RowName.{RowName}
 use Rattle.footprint.specs.declared.resource.Resource.{Resource}
-use Rattle.row_store.specs.Places.{has_shelf, is_away, has_place, written}
-use Rattle.row_store.specs.Shelving.{shelf_of}
+use Rattle.shelves.specs.Places.{has_shelf, is_away, has_place, written}
+use Rattle.shelves.specs.Shelving.{shelf_of}
 use Rattle.row_store.specs.Named.{listed, is_listed, names_listed, AreDistinct}
-use Rattle.row_store.specs.Views.{found}
+use Rattle.shelves.specs.Rows.{found}
 use Rattle.row_store.proofs.by_name.put_listed.Given as goal
 
 -- with the rows that are left the store is as with all rows

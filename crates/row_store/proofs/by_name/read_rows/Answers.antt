@@ -5,11 +5,11 @@ use Rattle.values.specs.declared.name.RowName.{RowName}
 use Rattle.values.specs.Database.{RowOf}
 use Rattle.footprint.specs.declared.resource.Resource.{Resource}
 use Rattle.row_store.specs.declared.named.NamedRow.{NamedRow}
-use Rattle.row_store.specs.Places.{seen_at, shared_row, is_name}
-use Rattle.row_store.specs.Shelving.{shelf_of}
+use Rattle.shelves.specs.Places.{seen_at, shared_row, is_same_name}
+use Rattle.shelves.specs.Shelving.{shelf_of}
 use Rattle.row_store.specs.Locked.{name_of, is_of}
 use Rattle.row_store.specs.Named.{listed, reads_only, reads_itself}
-use Rattle.row_store.proofs.Exact.{same_name}
+use Rattle.shelves.proofs.Exact.{same_name}
 use Rattle.row_store.proofs.Lists.{listed_push, list_step}
 use Rattle.row_store.proofs.Ordered.{of_tested, or_false}
 use Rattle.row_store.proofs.by_name.read_rows.Goals.{in-Some+in_ok-row+in_ok-push, in_default}
@@ -27,11 +27,11 @@ loop-resource-preserved c =
       | in-Some+in_ok-row+in_ok-push w ↦ λ q.
           let n : RowName = w.in-Some.name in
           let x : NamedRow = record { name = n; row = w.in_ok-row.row } in
-          let its : is_name n q ≡ y q = ap (λ o. is_of o q) (sym w.in-Some.is) ∙ said q in
+          let its : is_same_name n q ≡ y q = ap (λ o. is_of o q) (sym w.in-Some.is) ∙ said q in
           ap (λ v. listed v.items q) w.rows-is
           ∙ ap (λ ys. listed ys q) w.in_ok-push.ensures.items ∙ listed_push c.loop-resource.rows.items x q
-          ∙ ap (λ o. option_or o (if is_name n q then Some (shared_row x.row) else None)) (c.loop-resource.invariant q)
-          ∙ list_step (before q) (is_name n q) (row q) (shared_row x.row)
+          ∙ ap (λ o. option_or o (if is_same_name n q then Some (shared_row x.row) else None)) (c.loop-resource.invariant q)
+          ∙ list_step (before q) (is_same_name n q) (row q) (shared_row x.row)
           (λ h. w.in_ok-row.ensures ∙ ap (λ (d : Resource). (seen_at c.args.shelves.now d n).row) w.shelf_of.ensures ∙ ap row (same_name n q h))
           ∙ ap (λ b. if before q || b then Some (row q) else None) its
           ∙ ap (λ b. if b then Some (row q) else None) (sym (more q))

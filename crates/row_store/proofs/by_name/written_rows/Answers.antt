@@ -7,12 +7,12 @@ use Rattle.values.specs.Database.{RowOf}
 use Rattle.proclang_types.specs.declared.right.Right.TheVariants.{Write}
 use Rattle.footprint.specs.declared.resource.Resource.{Resource}
 use Rattle.row_store.specs.declared.named.NamedRow.{NamedRow}
-use Rattle.row_store.specs.Places.{seen_at, has_place, has_shelf, is_away, shared_row, is_name}
-use Rattle.row_store.specs.Shelving.{shelf_of}
+use Rattle.shelves.specs.Places.{seen_at, has_place, has_shelf, is_away, shared_row, is_same_name}
+use Rattle.shelves.specs.Shelving.{shelf_of}
 use Rattle.row_store.specs.Locked.{gives, name_of, is_of, locks_itself}
 use Rattle.row_store.specs.Named.{listed, names_listed, AreDistinct}
-use Rattle.row_store.proofs.Exact.{same_name, is_name_itself}
-use Rattle.row_store.proofs.Steps.{either}
+use Rattle.shelves.proofs.Exact.{same_name, is_name_itself}
+use Rattle.shelves.proofs.Booleans.{either}
 use Rattle.row_store.proofs.Lists.{listed_names, listed_push, list_step, some_test, distinct_push}
 use Rattle.row_store.proofs.Ordered.{fresh, of_tested, or_false, tested}
 use Rattle.row_store.proofs.by_name.written_rows.Goals.{in-Some+in_ok-row+in_ok-push, in_default}
@@ -31,8 +31,8 @@ loop-resource-preserved c =
       | in-Some+in_ok-row+in_ok-push w ↦
           let n : RowName = w.in-Some.name in
           let x : NamedRow = record { name = n; row = w.in_ok-row.row } in
-          let its : (q : RowName) → is_name n q ≡ y q = λ q. ap (λ o. is_of o q) (sym w.in-Some.is) ∙ said q in
-          let all : (q : RowName) → (before q || is_name n q) ≡ locks_itself (take (c.loop-resource.resource-index + 1) c.args.requests.now) Write q = λ q. ap (λ b. before q || b) (its q) ∙ sym (more q) in
+          let its : (q : RowName) → is_same_name n q ≡ y q = λ q. ap (λ o. is_of o q) (sym w.in-Some.is) ∙ said q in
+          let all : (q : RowName) → (before q || is_same_name n q) ≡ locks_itself (take (c.loop-resource.resource-index + 1) c.args.requests.now) Write q = λ q. ap (λ b. before q || b) (its q) ∙ sym (more q) in
           let name : name_of c.loop-resource-item.result.0 ≡ Some n = tested (gives Write c.loop-resource-item.result.1) (name_of c.loop-resource-item.result.0) n (sym c.written_name.ensures ∙ w.in-Some.is) in
           let new : before n ≡ false =
           fresh c.args.catalogue.now c.args.requests.now c.requires.over c.requires.sorted c.loop-resource.resource-index c.loop-resource-item.result c.loop-resource-test.true c.loop-resource-item.is
@@ -46,12 +46,12 @@ loop-resource-preserved c =
             λ q.
                 ap (λ v. listed v.items q) w.rows-is
                 ∙ ap (λ ys. listed ys q) w.in_ok-push.ensures.items ∙ listed_push c.loop-resource.rows.items x q
-                ∙ ap (λ o. option_or o (if is_name n q then Some (shared_row x.row) else None)) (c.loop-resource.invariant.4 q)
-                ∙ list_step (before q) (is_name n q) (row q) (shared_row x.row)
+                ∙ ap (λ o. option_or o (if is_same_name n q then Some (shared_row x.row) else None)) (c.loop-resource.invariant.4 q)
+                ∙ list_step (before q) (is_same_name n q) (row q) (shared_row x.row)
                 (λ h. w.in_ok-row.ensures.row ∙ ap (λ (d : Resource). (seen_at c.loop-resource.shelves d n).row) w.shelf_of.ensures
                 ∙ ap (λ p. p.row) (c.loop-resource.invariant.0 (sh n) n) ∙ ap row (same_name n q h))
                 ∙ ap (λ b. if b then Some (row q) else None) (all q),
-            λ q h. ap (λ s. has_place s (sh q) q) w.shelves-is ∙ elim (either (before q) (is_name n q) (all q ∙ h)) [
+            λ q h. ap (λ s. has_place s (sh q) q) w.shelves-is ∙ elim (either (before q) (is_same_name n q) (all q ∙ h)) [
               | inl old ↦ w.lend_row.ensures.kept (sh q) q (c.loop-resource.invariant.5 q old)
               | inr same ↦ ap (λ m. has_place w.lend_row.new.shelves (sh m) m) (sym (same_name n q same)) ∙ there
             ],

@@ -2,8 +2,8 @@ use Rattle.std.proofs.Common.{◌≡◌, true, take}
 use Rattle.values.specs.declared.name.RowName.{RowName}
 use Rattle.proclang_types.specs.declared.right.Right.TheVariants.{Write}
 use Rattle.footprint.specs.declared.resource.Resource.{Resource}
-use Rattle.row_store.specs.Places.{has_shelf, is_away, has_place, seen_at}
-use Rattle.row_store.specs.Shelving.{shelf_of}
+use Rattle.shelves.specs.Places.{has_shelf, is_away, has_place, seen_at}
+use Rattle.shelves.specs.Shelving.{shelf_of}
 use Rattle.row_store.specs.Locked.{locks_itself}
 use Rattle.row_store.specs.Named.{names_listed, AreDistinct, AreListed}
 use Rattle.row_store.proofs.by_name.written_rows.Given as goal

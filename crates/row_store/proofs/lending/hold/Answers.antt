@@ -1,10 +1,11 @@
 use Rattle.std.proofs.Common.{◌≡◌, false, List, [], ◌∷◌, length, refl, sym, subst, ◌∙◌, rules}
 use Rattle.std.specs.List.{Contains, list_any}
 use Rattle.footprint.specs.declared.resource.Resource.{Resource}
-use Rattle.row_store.specs.Shelving.{shelf_of}
+use Rattle.shelves.specs.Shelving.{shelf_of}
 use Rattle.coarsen.specs.Subtrees.{Requests}
 use Rattle.row_store.specs.Held.{AreRowsReady}
-use Rattle.row_store.specs.Locked.{among, is_an_end}
+use Rattle.shelves.specs.Places.{among}
+use Rattle.row_store.specs.Locked.{is_an_end}
 use Rattle.row_store.proofs.LockedEnds.{no_end}
 use Rattle.row_store.proofs.lending.hold.Goals as goal
 

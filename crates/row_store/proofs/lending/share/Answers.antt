@@ -4,10 +4,9 @@ use Rattle.std.specs.Map.{lookup}
 use Rattle.values.specs.declared.name.RowName.{RowName}
 use Rattle.footprint.specs.declared.resource.Resource.{Resource}
 use Rattle.footprint.specs.Tree.{resource_cmp}
-use Rattle.row_store.specs.Places.{has_shelf, seen_at, seen_on, full}
-use Rattle.row_store.specs.Shelving.{shelf_of}
-use Rattle.row_store.specs.Locked.{among}
-use Rattle.row_store.specs.Moving.{AreShelvesShared}
+use Rattle.shelves.specs.Places.{has_shelf, seen_at, seen_on, full, among}
+use Rattle.shelves.specs.Shelving.{shelf_of}
+use Rattle.shelves.specs.Exchange.{AreShelvesShared}
 use Rattle.row_store.proofs.Shelved.{or_false}
 use Rattle.row_store.proofs.Sharing.{shelves_read}
 use Rattle.row_store.proofs.lending.share.Goals as goal

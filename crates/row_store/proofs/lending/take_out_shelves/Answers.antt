@@ -1,9 +1,9 @@
 use Rattle.std.proofs.Common.{◌≡◌, false, ◌&&◌, ◌||◌, List, if◌then◌else◌, refl, subst}
 use Rattle.values.specs.declared.name.RowName.{RowName}
 use Rattle.footprint.specs.declared.resource.Resource.{Resource}
-use Rattle.row_store.specs.Places.{seen_at, has_place, is_away, gone}
-use Rattle.row_store.specs.Locked.{among}
-use Rattle.row_store.specs.Moving.{is_ready, AreShelvesLent, AreEmptied}
+use Rattle.shelves.specs.Places.{seen_at, has_place, is_away, gone, among}
+use Rattle.shelves.specs.Exchange.{is_ready, AreShelvesLent}
+use Rattle.row_store.specs.Moving.{AreEmptied}
 use Rattle.row_store.proofs.lending.take_out_shelves.Goals as goal
 
 pub returns : goal.returns

@@ -1,6 +1,7 @@
 use Rattle.std.proofs.Common.{◌≡◌, take}
 use Rattle.values.specs.declared.name.RowName.{RowName}
-use Rattle.row_store.specs.Locked.{is_named, locks_itself}
+use Rattle.shelves.specs.Places.{is_named}
+use Rattle.row_store.specs.Locked.{locks_itself}
 use Rattle.row_store.proofs.locked.locked_names.Given as goal
 
 abbrev pub invariant-loop-resource : goal.invariant-loop-resource

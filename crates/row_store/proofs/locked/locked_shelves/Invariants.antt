@@ -1,7 +1,8 @@
 use Rattle.std.proofs.Common.{◌≡◌, take}
 use Rattle.values.specs.declared.name.RowName.{RowName}
-use Rattle.row_store.specs.Shelving.{shelf_of}
-use Rattle.row_store.specs.Locked.{among, locks_shelf}
+use Rattle.shelves.specs.Shelving.{shelf_of}
+use Rattle.shelves.specs.Places.{among}
+use Rattle.row_store.specs.Locked.{locks_shelf}
 use Rattle.row_store.proofs.locked.locked_shelves.Given as goal
 
 abbrev pub invariant-loop-resource : goal.invariant-loop-resource

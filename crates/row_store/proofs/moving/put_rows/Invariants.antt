@@ -1,9 +1,8 @@
 use Rattle.std.proofs.Common.{◌≡◌, false, ◌&&◌, if◌then◌else◌, take}
 use Rattle.values.specs.declared.name.RowName.{RowName}
 use Rattle.footprint.specs.declared.resource.Resource.{Resource}
-use Rattle.row_store.specs.Places.{has_shelf, is_away, has_place, seen_at, full}
-use Rattle.row_store.specs.Shelving.{shelf_of}
-use Rattle.row_store.specs.Locked.{is_named}
+use Rattle.shelves.specs.Places.{has_shelf, is_away, has_place, seen_at, full, is_named}
+use Rattle.shelves.specs.Shelving.{shelf_of}
 use Rattle.row_store.proofs.moving.put_rows.Given as goal
 
 abbrev pub invariant-loop-name : goal.invariant-loop-name

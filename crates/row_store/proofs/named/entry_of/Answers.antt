@@ -4,10 +4,10 @@ use Rattle.row_store.specs.Named.{is_listed}
 use Rattle.row_store.proofs.Lists.{found_at, none_listed}
 use Rattle.row_store.proofs.named.entry_of.Goals as goal
 
-pub returns-then-is_name : goal.returns-then-is_name
-returns-then-is_name c =
+pub returns-then-is_same_name : goal.returns-then-is_same_name
+returns-then-is_same_name c =
     found_at c.args.rows.now c.loop-entry.entry-index c.entry-item.result c.args.name.now c.loop-entry-test.true c.entry-item.is c.loop-entry.invariant
-    (sym c.is_name.ensures ∙ c.if-is_name.true)
+    (sym c.is_same_name.ensures ∙ c.if-is_same_name.true)
 
 pub returns : goal.returns
 returns c =

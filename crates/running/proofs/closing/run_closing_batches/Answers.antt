@@ -3,10 +3,10 @@ use Rattle.std.proofs.Math.Bridge.{le_prop}
 use Rattle.std.proofs.Math.Logic.{∥∥₁_elim, ∥∥₁_map}
 use Rattle.std.proofs.KnownBytes.{Appends-nil, Appends-trans}
 use Rattle.engine.specs.Engines.{EngineParts}
-use Rattle.running.specs.Reported.{IsBehindLog}
+use Rattle.running.specs.Reported.{IsAfterLog}
 use Rattle.running.specs.Standings.{standing_of}
 use Rattle.running.proofs.Closers.{AppendsFront-drained, HasClosed-cut, HasClosed-next, HasClosed-none, HasClosed-spent, HasClosed-uncarried, IsReported-drained}
-use Rattle.running.proofs.Reported.{room_behind_log, IsBehindLog-next}
+use Rattle.running.proofs.Reported.{room_after_log, IsAfterLog-next}
 use Rattle.running.proofs.RunEnds.{or_nothing}
 use Rattle.running.proofs.closing.run_closing_batches.Goals as goal
 
@@ -38,7 +38,7 @@ run_batch-requires-clause-due g c =
       over = rw c.new-none.ensures.items tt;
       few = rw c.new-none.ensures.items (omega arith);
       idle = between.idle;
-      room = rw c.new-none.ensures.items (∥∥₁_elim between.log le_prop (room_behind_log now.retries (standing_of now) few));
+      room = rw c.new-none.ensures.items (∥∥₁_elim between.log le_prop (room_after_log now.retries (standing_of now) few));
     }
 
 pub loop-turn-preserved : goal.loop-turn-preserved
@@ -57,7 +57,7 @@ loop-turn-preserved g c =
       between = record {
         idle = reported.idle;
         digest_kept = reported.digest_kept;
-        log = ∥∥₁_map was.between.log (λ log. subst (λ k. IsBehindLog k (standing_of new)) (sym same.retries) (IsBehindLog-next now.retries (standing_of now) (standing_of new) log reported.standing));
+        log = ∥∥₁_map was.between.log (λ log. subst (λ k. IsAfterLog k (standing_of new)) (sym same.retries) (IsAfterLog-next now.retries (standing_of now) (standing_of new) log reported.standing));
       };
       sink_works = c.in-Ok.ensures.fails ∙ sym (or_nothing _) ∙ was.sink_works;
       grows = (was.grows.0 ++ _, Appends-trans _ _ _ _ _ was.grows.1 reported.text);

@@ -8,7 +8,7 @@ use Rattle.batch_log.proofs.Moves.{Moves-none, Moves-trans}
 use Rattle.running.specs.Standings.{standing_of}
 use Rattle.running.specs.Stopped.{in_batch}
 use Rattle.running.proofs.Closers.{closed_as}
-use Rattle.running.proofs.Reported.{log_behind, room_in_log}
+use Rattle.running.proofs.Reported.{log_after, room_in_log}
 use Rattle.running.proofs.SoFar.{SoFar-start, SoFar-next}
 use Rattle.running.proofs.Stopped.{SoFar-stopped_in_batch, SoFar-stopped_reading}
 use Rattle.running.proofs.Stopping.{start}
@@ -31,12 +31,12 @@ batches-init g c = record {
 pub close-requires-clause-between : goal.close-requires-clause-between
 close-requires-clause-between g c =
     let s = c.batches.invariant.so_far in
-    let total : calls_read c.next_batch.new.self ≡ calls_read c.batches.reader + 0 = rw c.in-Ok-None.field-0-is at c.in-Ok-None.ensures.counted in
-    let most : most_calls (retries_of c.next_batch.new.self) ≡ most_calls c.args.engine.now.core.retries = ap most_calls (c.next_batch.ensures.retries ∙ c.batches.invariant.retries) in
+    let total : calls_read c.next_batch.new.self ≡ calls_read c.batches.reader + 0 = rw c.in-Ok-None.field-0-is at c.in-Ok-None.ensures.counted.0 in
+    let most : most_calls (retries_of c.next_batch.new.self) ≡ most_calls c.args.engine.now.core.retries = ap most_calls (c.next_batch.ensures.same.1 ∙ c.batches.invariant.retries) in
     record {
       idle = c.batches.invariant.idle;
       digest_kept = c.batches.invariant.digest;
-      log = ∣ rw s.reported.retries_are (log_behind _ (calls_read c.batches.reader) _ (standing_of c.batches.engine.core) _ s.ran s.reported.standing_is s.total_is (omega (arith, total, c.next_batch.ensures.room)) most) ∣₁;
+      log = ∣ rw s.reported.retries_are (log_after _ (calls_read c.batches.reader) _ (standing_of c.batches.engine.core) _ s.ran s.reported.standing_is s.total_is (omega (arith, total, c.next_batch.ensures.counted.1)) most) ∣₁;
     }
 
 pub returns-in-Ok-None-clause-run : goal.returns-in-Ok-None-clause-run
@@ -45,9 +45,9 @@ returns-in-Ok-None-clause-run g c =
     let pe : c.procs.result.now ≡ c.args.engine.now.core.procs = c.procs.ensures ∙ s.reported.procs_are in
     run_closes c.close.result _ _ _ _ _ (newlines_taken c.next_batch.new.self) (calls_read c.next_batch.new.self) c.last_line-last.result _ _ _ _ _ _ _ _ (came c.next_batch.new.self)
     (position_of c.batches.reader) (position_of c.next_batch.new.self) _ _ _ _ _ s (closed_as _ _ _ _ _ _ _ _ _ _ s.reported c.close.ensures.closed)
-    (rw (pe, c.batches.invariant.retries) at ((rw c.in-Ok-None.field-0-is at c.in-Ok-None.ensures.end) refl)) (rw (pe, c.batches.invariant.retries) at c.in-Ok-None.ensures.taken)
-    refl refl (rw c.in-Ok-None.field-0-is at c.in-Ok-None.ensures.counted) c.batches.invariant.moves c.next_batch.ensures.moves (Moves-trans _ _ _ _ _ _ c.batches.invariant.moves c.next_batch.ensures.moves)
-    c.close.ensures.stops (c.in-Ok-None.ensures.fails c.batches.invariant.no_fault ∙ sym (or_nothing _) ∙ c.batches.invariant.source_works) c.batches.invariant.sink_works c.close.ensures.fails
+    (rw (pe, c.batches.invariant.retries) at ((rw c.in-Ok-None.field-0-is at c.in-Ok-None.ensures.end) refl)) (rw (pe, c.batches.invariant.retries) at c.in-Ok-None.ensures.taken.0)
+    refl refl (rw c.in-Ok-None.field-0-is at c.in-Ok-None.ensures.counted.0) c.batches.invariant.moves c.next_batch.ensures.taken.1 (Moves-trans _ _ _ _ _ _ c.batches.invariant.moves c.next_batch.ensures.taken.1)
+    c.close.ensures.stops ((c.in-Ok-None.ensures.tells c.batches.invariant.no_fault).fails ∙ sym (or_nothing _) ∙ c.batches.invariant.source_works) c.batches.invariant.sink_works c.close.ensures.fails
     c.last_line-last.ensures
 
 pub returns-in-Err-clause-run : goal.returns-in-Err-clause-run
@@ -55,21 +55,21 @@ returns-in-Err-clause-run g c =
     let s = c.batches.invariant.so_far in
     let pe : c.procs.result.now ≡ c.args.engine.now.core.procs = c.procs.ensures ∙ s.reported.procs_are in
     run_faults c.in-Err.fault _ _ _ _ _ _ _ _ _ _ _ _ (came c.next_batch.new.self) (position_of c.next_batch.new.self) _ _ _ _ _ s
-    (rw (pe, c.batches.invariant.retries) at (c.in-Err.ensures.fault c.batches.invariant.no_fault)) (c.in-Err.ensures.place c.batches.invariant.no_fault) (c.in-Err.ensures.spent c.batches.invariant.no_fault)
-    c.batches.invariant.source_works (c.in-Err.ensures.fails c.batches.invariant.no_fault) c.batches.invariant.sink_works (Moves-trans _ _ _ _ _ _ c.batches.invariant.moves c.next_batch.ensures.moves)
-    (SoFar-stopped_reading (is_io c.in-Err.fault.kind) _ _ _ _ _ _ _ _ _ _ _ _ _ _ _ _ s c.batches.invariant.moves c.next_batch.ensures.moves refl refl
-    (rw (pe, c.batches.invariant.retries) at c.in-Err.ensures.taken) (c.in-Err.ensures.place c.batches.invariant.no_fault))
+    (rw (pe, c.batches.invariant.retries) at (c.in-Err.ensures.fault c.batches.invariant.no_fault)) ((c.in-Err.ensures.tells c.batches.invariant.no_fault).place) ((c.in-Err.ensures.tells c.batches.invariant.no_fault).spent)
+    c.batches.invariant.source_works ((c.in-Err.ensures.tells c.batches.invariant.no_fault).fails) c.batches.invariant.sink_works (Moves-trans _ _ _ _ _ _ c.batches.invariant.moves c.next_batch.ensures.taken.1)
+    (SoFar-stopped_reading (is_io c.in-Err.fault.kind) _ _ _ _ _ _ _ _ _ _ _ _ _ _ _ _ s c.batches.invariant.moves c.next_batch.ensures.taken.1 refl refl
+    (rw (pe, c.batches.invariant.retries) at c.in-Err.ensures.taken.0) ((c.in-Err.ensures.tells c.batches.invariant.no_fault).place))
 
 pub run_batch-requires-clause-due : goal.run_batch-requires-clause-due
 run_batch-requires-clause-due g c =
     let s = c.batches.invariant.so_far in
-    let most : most_calls (retries_of c.next_batch.new.self) ≡ most_calls c.args.engine.now.core.retries = ap most_calls (c.next_batch.ensures.retries ∙ c.batches.invariant.retries) in
+    let most : most_calls (retries_of c.next_batch.new.self) ≡ most_calls c.args.engine.now.core.retries = ap most_calls (c.next_batch.ensures.same.1 ∙ c.batches.invariant.retries) in
     record {
-      over = rw (ap (λ (p : ProcsParts). p.tables) c.procs.ensures) at (rw c.in-Ok-Some.field-0-is at c.in-Ok-Some.ensures.tables);
-      few = rw c.in-Ok-Some.field-0-is at c.in-Ok-Some.ensures.few;
+      over = rw (ap (λ (p : ProcsParts). p.tables) c.procs.ensures) at (rw c.in-Ok-Some.field-0-is at c.in-Ok-Some.ensures.batch).1;
+      few = (rw c.in-Ok-Some.field-0-is at c.in-Ok-Some.ensures.batch).2;
       idle = c.batches.invariant.idle;
       room = room_in_log c.args.engine.now.core.retries (calls_read c.batches.reader) (calls_read c.next_batch.new.self) _ (standing_of c.batches.engine.core) _ s.ran c.in-Ok-Some.requests.items s.reported.standing_is c.requires.few s.total_is
-          (rw c.in-Ok-Some.field-0-is at c.in-Ok-Some.ensures.counted) c.next_batch.ensures.room most;
+          (rw c.in-Ok-Some.field-0-is at c.in-Ok-Some.ensures.counted.0) c.next_batch.ensures.counted.1 most;
     }
 
 pub batches-preserved : goal.batches-preserved
@@ -79,14 +79,14 @@ batches-preserved g c =
     record {
       idle = c.in-Ok.ensures.reported.idle;
       same = search rules;
-      retries = c.next_batch.ensures.retries ∙ c.batches.invariant.retries;
+      retries = c.next_batch.ensures.same.1 ∙ c.batches.invariant.retries;
       no_fault = search rules;
-      moves = Moves-trans _ _ _ _ _ _ c.batches.invariant.moves c.next_batch.ensures.moves;
-      source_works = c.in-Ok-Some.ensures.fails c.batches.invariant.no_fault ∙ sym (or_nothing _) ∙ c.batches.invariant.source_works;
+      moves = Moves-trans _ _ _ _ _ _ c.batches.invariant.moves c.next_batch.ensures.taken.1;
+      source_works = (c.in-Ok-Some.ensures.tells c.batches.invariant.no_fault).fails ∙ sym (or_nothing _) ∙ c.batches.invariant.source_works;
       sink_works = c.in-Ok.ensures.fails ∙ sym (or_nothing _) ∙ c.batches.invariant.sink_works;
       digest = c.in-Ok.ensures.reported.digest_kept;
-      so_far = SoFar-next _ _ _ _ _ _ _ _ _ _ _ _ _ _ _ _ _ _ s (rw (pe, c.batches.invariant.retries) at (rw c.in-Ok-Some.field-0-is at c.in-Ok-Some.ensures.batch))
-          (rw c.in-Ok-Some.field-0-is at c.in-Ok-Some.ensures.counted) c.in-Ok.ensures.same.procs c.in-Ok.ensures.same.retries c.in-Ok.ensures.reported;
+      so_far = SoFar-next _ _ _ _ _ _ _ _ _ _ _ _ _ _ _ _ _ _ s (rw (pe, c.batches.invariant.retries) at (rw c.in-Ok-Some.field-0-is at c.in-Ok-Some.ensures.batch).0)
+          (rw c.in-Ok-Some.field-0-is at c.in-Ok-Some.ensures.counted.0) c.in-Ok.ensures.same.procs c.in-Ok.ensures.same.retries c.in-Ok.ensures.reported;
     }
 
 pub returns-in-Err-run_batch-clause-run : goal.returns-in-Err-run_batch-clause-run
@@ -94,9 +94,9 @@ returns-in-Err-run_batch-clause-run g c =
     let s = c.batches.invariant.so_far in
     let pe : c.procs.result.now ≡ c.args.engine.now.core.procs = c.procs.ensures ∙ s.reported.procs_are in
     run_stops (in_batch c.in-Ok-Some.requests.items) c.in-Err-run_batch.fault _ _ _ _ _ _ _ (came c.next_batch.new.self) (position_of c.next_batch.new.self) c.last_line-line.result _ _ _ _ _
-    c.in-Err-run_batch.ensures.stops refl (c.in-Ok-Some.ensures.fails c.batches.invariant.no_fault ∙ sym (or_nothing _) ∙ c.batches.invariant.source_works) c.batches.invariant.sink_works
-    c.in-Err-run_batch.ensures.fails c.last_line-line.ensures (Moves-trans _ _ _ _ _ _ c.batches.invariant.moves c.next_batch.ensures.moves)
+    c.in-Err-run_batch.ensures.stops refl ((c.in-Ok-Some.ensures.tells c.batches.invariant.no_fault).fails ∙ sym (or_nothing _) ∙ c.batches.invariant.source_works) c.batches.invariant.sink_works
+    c.in-Err-run_batch.ensures.fails c.last_line-line.ensures (Moves-trans _ _ _ _ _ _ c.batches.invariant.moves c.next_batch.ensures.taken.1)
     (SoFar-stopped_in_batch _ _ _ _ _ (newlines_taken c.next_batch.new.self) (calls_read c.next_batch.new.self) c.last_line-line.result c.in-Ok-Some.requests.items _ _ _ _ _ _ _ _
-    (position_of c.batches.reader) (position_of c.next_batch.new.self) s c.batches.invariant.moves c.next_batch.ensures.moves refl refl
-    (rw c.in-Ok-Some.field-0-is at c.in-Ok-Some.ensures.counted) (rw (pe, c.batches.invariant.retries) at c.in-Ok-Some.ensures.taken)
-    (rw (pe, c.batches.invariant.retries) at (rw c.in-Ok-Some.field-0-is at c.in-Ok-Some.ensures.batch)) c.run_batch.ensures.front c.last_line-line.ensures)
+    (position_of c.batches.reader) (position_of c.next_batch.new.self) s c.batches.invariant.moves c.next_batch.ensures.taken.1 refl refl
+    (rw c.in-Ok-Some.field-0-is at c.in-Ok-Some.ensures.counted.0) (rw (pe, c.batches.invariant.retries) at c.in-Ok-Some.ensures.taken.0)
+    (rw (pe, c.batches.invariant.retries) at (rw c.in-Ok-Some.field-0-is at c.in-Ok-Some.ensures.batch).0) c.run_batch.ensures.front c.last_line-line.ensures)

@@ -5,7 +5,7 @@ use Rattle.engine.specs.declared.stage.Stage.{Stage}
 use Rattle.engine.specs.declared.stage.Stage.TheVariants.{Idle}
 use Rattle.engine.specs.Batches.{next_attempts}
 use Rattle.engine.specs.Engines.{EngineParts, tables_of}
-use Rattle.engine.specs.Stages.{IsInOrder, carried_in}
+use Rattle.engine.specs.Stages.{IsSoundStage, carried_in}
 use Rattle.engine.proofs.quiet.QuietEngine.hold.Goals as goal
 
 pub invariant_of-self : goal.invariant_of-self
@@ -14,7 +14,7 @@ invariant_of-self c =
     let store = c.in-Some-Idle.store in
     let carried = c.in-Some-Idle.carried in
     let is : Some (Idle store carried) ≡ inside.stage = ap (λ (stage : Stage). Some stage) (sym c.in-Some-Idle.field-0-is) ∙ c.in-Some-Idle.ensures.value in
-    let was = subst (λ (stage : Option Stage). IsInOrder inside.configuration.procs.tables inside.next stage) (sym is) c.self.invariant.0 in
+    let was = subst (λ (stage : Option Stage). IsSoundStage inside.configuration.procs.tables inside.next stage) (sym is) c.self.invariant.0 in
     let over = subst (λ (e : EngineParts). AreOver (tables_of e) (items_of c.args.batch)) (sym c.self.view_is) c.requires.over in
     let room = subst (λ (e : EngineParts). e.next + length (next_attempts e c.args.batch) ≤ 2 ^ 48) (sym c.self.view_is) c.requires.room in
     let few = subst (λ (stage : Option Stage). inside.next + length (attempts_of (carried_in stage) (items_of c.args.batch)) ≤ 2 ^ 48) (sym is) room in (

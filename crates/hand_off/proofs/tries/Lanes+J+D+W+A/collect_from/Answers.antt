@@ -3,7 +3,7 @@ use Rattle.atomic_table.specs.Table.{rest}
 use Rattle.hand_off.specs.declared.state.LaneState.TheVariants.{Finished}
 use Rattle.hand_off.specs.declared.view.Known.TheVariants.{Idle, Draining}
 use Rattle.hand_off.specs.declared.view.Load.TheVariants.{Done}
-use Rattle.hand_off.specs.Views.{knowing, noting}
+use Rattle.hand_off.specs.Views.{knowing, with_note}
 use Rattle.hand_off.proofs.Steps.{may_drain, may_clear}
 use Rattle.hand_off.proofs.Rests.{still_rests, known_twice, done_of}
 use Rattle.hand_off.proofs.tries.Lanes+J+D+W+A.collect_from.Goals as goal
@@ -29,14 +29,14 @@ returns-clause-seat g c = let did = c.compare_exchange-found.ensures.2.0 c.if-fo
     let whole = c.store.ensures.2.0 ∙ ap (λ m. (knowing m.0 lane Idle, rest m.1)) now ∙ ap (λ m. (knowing m.0 lane Idle, rest m.1)) did.4 in record {
       lanes = search rules;
       no_slot = ap (λ m. m.1) whole ∙ c.requires.0.no_slot;
-      at_rest = still_rests _ v _ lane Idle tt (ap (λ m. m.0.schedules) whole) (ap (λ m. m.0.known) whole ∙ ap (λ w. w.known) (known_twice (noting v lane Finished) lane (Draining did.0) Idle)) c.requires.0.at_rest;
+      at_rest = still_rests _ v _ lane Idle tt (ap (λ m. m.0.schedules) whole) (ap (λ m. m.0.known) whole ∙ ap (λ w. w.known) (known_twice (with_note v lane Finished) lane (Draining did.0) Idle)) c.requires.0.at_rest;
     }
 
 pub returns-clause-some : goal.returns-clause-some
 returns-clause-some g c = let did = c.compare_exchange-found.ensures.2.0 c.if-found-ne-FINISHED.false in let now = c.exchange-load.ensures.3 in let lane : ℕ = c.args.lane in let v = c.args.seat.now.me.0 in
     let whole = c.store.ensures.2.0 ∙ ap (λ m. (knowing m.0 lane Idle, rest m.1)) now ∙ ap (λ m. (knowing m.0 lane Idle, rest m.1)) did.4 in
     let same = ap (λ m. done_of did.1 m.1) (sym did.4) ∙ ap (done_of did.1) c.exchange-load.ensures.2 ∙ ap (λ x. done_of did.1 ((lane, x) ∷ [])) c.in-Some-Done.is ∙ ap (λ x. done_of did.1 ((lane, Some x) ∷ [])) c.in-Some-Done.field-0-is in
-    (did.0, did.2, subst (g.W.Work.comes_of did.0) same did.3, whole ∙ (λ i. (known_twice (noting v lane Finished) lane (Draining did.0) Idle i, c.requires.0.no_slot i)))
+    (did.0, did.2, subst (g.W.Work.comes_of did.0) same did.3, whole ∙ (λ i. (known_twice (with_note v lane Finished) lane (Draining did.0) Idle i, c.requires.0.no_slot i)))
 
 pub returns-clause-shown : goal.returns-clause-shown
 returns-clause-shown g c = (c.compare_exchange-found.ensures.2.0 c.if-found-ne-FINISHED.false).5

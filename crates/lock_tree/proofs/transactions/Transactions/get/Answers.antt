@@ -4,7 +4,7 @@ use Rattle.std.specs.Map.{lookup}
 use Rattle.std.specs.BTreeMap.{is_at}
 use Rattle.std.specs.Ordering.{nat_cmp}
 use Rattle.lock_tree.specs.Views.{all_waiting, enqueued}
-use Rattle.lock_tree.specs.Placing.{place_of}
+use Rattle.lock_tree.specs.Placing.{place_numbered}
 use Rattle.lock_tree.specs.Indexed.{IsFound}
 use Rattle.lock_tree.proofs.Named.{found, absent}
 use Rattle.lock_tree.proofs.transactions.Transactions.get.Goals as goal
@@ -20,7 +20,7 @@ returns-clause-found c =
 pub returns-clause-none : goal.returns-clause-none
 returns-clause-none c =
     let es = c.args.self.now.entries.entries in
-    elim c.get.result as (λ o. option_copied o ≡ lookup (is_at (nat_cmp c.args.no)) es → IfNone o (place_of c.args.no (all_waiting (enqueued c.args.self.now)) ≡ None)) [
+    elim c.get.result as (λ o. option_copied o ≡ lookup (is_at (nat_cmp c.args.no)) es → IfNone o (place_numbered c.args.no (all_waiting (enqueued c.args.self.now)) ≡ None)) [
       | None ↦ λ h. absent c.args.no es c.requires.named (sym h)
       | Some r ↦ λ h. tt
     ] c.get.ensures.value

@@ -1,7 +1,7 @@
 use Rattle.std.proofs.Common.{◌≡◌, Option, None, IfNone, sym, subst, ap, ◌∙◌}
 use Rattle.std.specs.Map.{values_of}
 use Rattle.lock_tree.specs.Entered.{Enqueued}
-use Rattle.lock_tree.specs.Placing.{place_of}
+use Rattle.lock_tree.specs.Placing.{place_numbered}
 use Rattle.lock_tree.specs.Views.{all_waiting, enqueued}
 use Rattle.lock_tree.proofs.Places.{none_some}
 use Rattle.lock_tree.proofs.Marks.{rising_numbers}
@@ -19,7 +19,7 @@ returns-in_err-entry-clause-entries c = λ place h.
 pub returns-in_err-entry-clause-none : goal.returns-in_err-entry-clause-none
 returns-in_err-entry-clause-none c =
     let es = c.args.self.now.entries.entries in
-    subst (λ (o : Option Enqueued). IfNone o ((place_of c.args.no (all_waiting (values_of es)) ≡ None) × (values_of c.remove.new.self.entries ≡ values_of es))) (sym c.from_residual.ensures)
+    subst (λ (o : Option Enqueued). IfNone o ((place_numbered c.args.no (all_waiting (values_of es)) ≡ None) × (values_of c.remove.new.self.entries ≡ values_of es))) (sym c.from_residual.ensures)
     (absent c.args.no es c.requires.named (sym c.in_err-entry.ensures.value), ap values_of c.in_err-entry.ensures.unchanged)
 
 pub returns-clause-indexed : goal.returns-clause-indexed

@@ -8,22 +8,22 @@ use Rattle.lock_tree.proofs.Changed.{it_stands, not_absent, number, room_to_chan
 use Rattle.lock_tree.proofs.transactions.Transactions.set_mark.Goals as goal
 use Rattle.lock_tree.proofs.transactions.Transactions.set_mark.Goals.{In-Some}
 
-pub note_open-requires-clause-owner : goal.note_open-requires-clause-owner
-note_open-requires-clause-owner c =
+pub record_open-requires-clause-owner : goal.record_open-requires-clause-owner
+record_open-requires-clause-owner c =
     let e = c.in-Some.entry.now in ap (λ (x : Enqueued). x.no) c.set_mark.ensures ∙ number c.args.self.now c.args.no e c.requires (sym c.in-Some.ensures.value)
 
-pub note_open-requires-clause-rising : goal.note_open-requires-clause-rising
-note_open-requires-clause-rising c = rising_numbers c.args.self.now.open.items (enqueued c.args.self.now) c.requires.open_ones c.requires.rising
+pub record_open-requires-clause-rising : goal.record_open-requires-clause-rising
+record_open-requires-clause-rising c = rising_numbers c.args.self.now.open.items (enqueued c.args.self.now) c.requires.open_ones c.requires.rising
 
-pub note_open-requires-clause-room : goal.note_open-requires-clause-room
-note_open-requires-clause-room c =
+pub record_open-requires-clause-room : goal.record_open-requires-clause-room
+record_open-requires-clause-room c =
     room_to_change c.args.self.now c.args.no c.in-Some.entry.now c.requires (sym c.in-Some.ensures.value) c.set_mark.new.self (ap (λ (x : Enqueued). x.no) c.set_mark.ensures)
 
 pub returns-in-Some-clause-indexed : goal.returns-in-Some-clause-indexed
 returns-in-Some-clause-indexed c =
     let e = c.in-Some.entry.now in let w = c.set_mark.new.self in
     changed_index c.args.self.now c.args.no e c.requires (sym c.in-Some.ensures.value)
-    (record { entries = c.get_mut.follows.lender w; «open» = c.note_open.new.numbers }) w (ap (λ (x : Enqueued). x.no) c.set_mark.ensures) (c.get_mut.follows.holds w).0 c.note_open.ensures.items c.note_open.ensures.capacity
+    (record { entries = c.get_mut.follows.lender w; «open» = c.record_open.new.numbers }) w (ap (λ (x : Enqueued). x.no) c.set_mark.ensures) (c.get_mut.follows.holds w).0 c.record_open.ensures.items c.record_open.ensures.capacity
 
 pub returns-in-Some-clause-there : goal.returns-in-Some-clause-there
 returns-in-Some-clause-there c = λ place d h.

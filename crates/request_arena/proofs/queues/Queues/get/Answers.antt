@@ -17,4 +17,4 @@ content-requires c =
 pub returns : goal.returns
 returns c =
     let i = c.self.inside in let x = c.id.inside.place in let there = ap (λ s. slice_get s.held x) c.self.view_is ∙ ap (slice_get c.args.self.now.held) c.id.view_is ∙ c.requires.1 in
-    (c.content.result.behind, c.requires.1 ∙ ap Some (sym (held_read i.nodes i.block x c.requires.0 c.get.result there c.get.ensures.is) ∙ c.content.ensures))
+    (c.content.result.successor, c.requires.1 ∙ ap Some (sym (held_read i.nodes i.block x c.requires.0 c.get.result there c.get.ensures.is) ∙ c.content.ensures))

@@ -19,13 +19,13 @@ use Rattle.request_arena.proofs.Spread.{queue_in}
 use Rattle.request_arena.proofs.queues.Queues.push_back.Goals as goal
 
 ends_in : (now : Lists) {hs : List (Option Held)} (tail : Option ℕ) → now.held ≡ hs → IfSome tail (λ t. EndsChain now t)
-    → IfSome tail (λ t. (o : Request) × (slice_get hs t ≡ Some (Some (record { request = o; behind = None }))))
+    → IfSome tail (λ t. (o : Request) × (slice_get hs t ≡ Some (Some (record { request = o; successor = None }))))
 ends_in now None e h = tt
 ends_in now (Some t) e h = (h.0, ap (λ l. slice_get l t) (sym e) ∙ h.1)
 
 tail_in : (ns : List Node) (c : ℕ) (now : Lists) (tail : Option ℕ) (n : ℕ) → c ≤ n → length ns ≡ n → held_in c ns ≡ now.held → IfSome tail (λ t. EndsChain now t) → IfSome tail (λ t. t < length ns)
 tail_in ns c now None n p e v h = tt
-tail_in ns c now (Some t) n p e v h = let r = node_there c ns t (Some (record { request = h.0; behind = None })) (ap (λ l. slice_get l t) v ∙ h.1) in omega (arith, r.3, p, e)
+tail_in ns c now (Some t) n p e v h = let r = node_there c ns t (Some (record { request = h.0; successor = None })) (ap (λ l. slice_get l t) v ∙ h.1) in omega (arith, r.3, p, e)
 
 filled_or_free : (h : Held) → Some (Some h) ≡ Some None → ⊥
 filled_or_free h e = cc
@@ -35,7 +35,7 @@ written_long ns ms v n e = ap length e ∙ length_set ns v n
 
 pub overflow_add-head : goal.overflow_add-head
 overflow_add-head c =
-    let i = c.self.inside in let q = c.args.queue in let v = i.vacant in let m = i.free - 1 in let h : Held = record { request = c.args.request; behind = None } in
+    let i = c.self.inside in let q = c.args.queue in let v = i.vacant in let m = i.free - 1 in let h : Held = record { request = c.args.request; successor = None } in
     let in_range : q < i.queues = queue_in i.block i.nodes i.queues q c.args.self.now c.self.view_is c.requires.queue in
     let had : IsLinked i.block i.nodes i.queues v (suc m) = subst (λ f. IsLinked i.block i.nodes i.queues v f) (one_off i.free c.if-self-eq0.false) c.self.invariant.0 in
     omega (arith, in_range, c.self.invariant.0.fits)
@@ -47,21 +47,21 @@ link_tail-requires c =
 
 pub get-rest-requires : goal.get-rest-requires
 get-rest-requires c =
-    let i = c.self.inside in let q = c.args.queue in let v = i.vacant in let m = i.free - 1 in let h : Held = record { request = c.args.request; behind = None } in
+    let i = c.self.inside in let q = c.args.queue in let v = i.vacant in let m = i.free - 1 in let h : Held = record { request = c.args.request; successor = None } in
     let in_range : q < i.queues = queue_in i.block i.nodes i.queues q c.args.self.now c.self.view_is c.requires.queue in
     let had : IsLinked i.block i.nodes i.queues v (suc m) = subst (λ f. IsLinked i.block i.nodes i.queues v f) (one_off i.free c.if-self-eq0.false) c.self.invariant.0 in
     rw c.link_tail.ensures.long (new_in i.block i.nodes i.queues v m had q in_range h)
 
 pub get-last-requires : goal.get-last-requires
 get-last-requires c =
-    let i = c.self.inside in let q = c.args.queue in let v = i.vacant in let m = i.free - 1 in let h : Held = record { request = c.args.request; behind = None } in
+    let i = c.self.inside in let q = c.args.queue in let v = i.vacant in let m = i.free - 1 in let h : Held = record { request = c.args.request; successor = None } in
     let in_range : q < i.queues = queue_in i.block i.nodes i.queues q c.args.self.now c.self.view_is c.requires.queue in
     let had : IsLinked i.block i.nodes i.queues v (suc m) = subst (λ f. IsLinked i.block i.nodes i.queues v f) (one_off i.free c.if-self-eq0.false) c.self.invariant.0 in
     rw c.link_tail.ensures.long (head_in i.block i.nodes i.queues v m had q in_range h)
 
 pub set-requires : goal.set-requires
 set-requires c =
-    let i = c.self.inside in let q = c.args.queue in let v = i.vacant in let m = i.free - 1 in let h : Held = record { request = c.args.request; behind = None } in
+    let i = c.self.inside in let q = c.args.queue in let v = i.vacant in let m = i.free - 1 in let h : Held = record { request = c.args.request; successor = None } in
     let in_range : q < i.queues = queue_in i.block i.nodes i.queues q c.args.self.now c.self.view_is c.requires.queue in
     let had : IsLinked i.block i.nodes i.queues v (suc m) = subst (λ f. IsLinked i.block i.nodes i.queues v f) (one_off i.free c.if-self-eq0.false) c.self.invariant.0 in
     let fits = c.self.invariant.0.fits in
@@ -72,7 +72,7 @@ set-requires c =
 
 pub set_next-requires : goal.set_next-requires
 set_next-requires c =
-    let i = c.self.inside in let q = c.args.queue in let v = i.vacant in let m = i.free - 1 in let h : Held = record { request = c.args.request; behind = None } in
+    let i = c.self.inside in let q = c.args.queue in let v = i.vacant in let m = i.free - 1 in let h : Held = record { request = c.args.request; successor = None } in
     let in_range : q < i.queues = queue_in i.block i.nodes i.queues q c.args.self.now c.self.view_is c.requires.queue in
     let had : IsLinked i.block i.nodes i.queues v (suc m) = subst (λ f. IsLinked i.block i.nodes i.queues v f) (one_off i.free c.if-self-eq0.false) c.self.invariant.0 in
     let b0 = c.link_tail.new.self in
@@ -82,7 +82,7 @@ set_next-requires c =
 
 pub set_prev-requires : goal.set_prev-requires
 set_prev-requires c =
-    let i = c.self.inside in let q = c.args.queue in let v = i.vacant in let m = i.free - 1 in let h : Held = record { request = c.args.request; behind = None } in
+    let i = c.self.inside in let q = c.args.queue in let v = i.vacant in let m = i.free - 1 in let h : Held = record { request = c.args.request; successor = None } in
     let in_range : q < i.queues = queue_in i.block i.nodes i.queues q c.args.self.now c.self.view_is c.requires.queue in
     let had : IsLinked i.block i.nodes i.queues v (suc m) = subst (λ f. IsLinked i.block i.nodes i.queues v f) (one_off i.free c.if-self-eq0.false) c.self.invariant.0 in
     let same : length c.set_next.new.self ≡ length i.block = c.set_next.ensures.long ∙ written_long _ _ _ _ c.set.ensures ∙ c.link_tail.ensures.long in
@@ -90,7 +90,7 @@ set_prev-requires c =
 
 pub invariant_of-self : goal.invariant_of-self
 invariant_of-self c =
-    let i = c.self.inside in let q = c.args.queue in let v = i.vacant in let m = i.free - 1 in let h : Held = record { request = c.args.request; behind = None } in
+    let i = c.self.inside in let q = c.args.queue in let v = i.vacant in let m = i.free - 1 in let h : Held = record { request = c.args.request; successor = None } in
     let in_range : q < i.queues = queue_in i.block i.nodes i.queues q c.args.self.now c.self.view_is c.requires.queue in
     let had : IsLinked i.block i.nodes i.queues v (suc m) = subst (λ f. IsLinked i.block i.nodes i.queues v f) (one_off i.free c.if-self-eq0.false) c.self.invariant.0 in
     let b0 = c.link_tail.new.self in
@@ -121,7 +121,7 @@ invariant_of-self c =
 
 pub returns-clause-pushed : goal.returns-clause-pushed
 returns-clause-pushed c =
-    let i = c.self.inside in let q = c.args.queue in let v = i.vacant in let m = i.free - 1 in let h : Held = record { request = c.args.request; behind = None } in
+    let i = c.self.inside in let q = c.args.queue in let v = i.vacant in let m = i.free - 1 in let h : Held = record { request = c.args.request; successor = None } in
     let in_range : q < i.queues = queue_in i.block i.nodes i.queues q c.args.self.now c.self.view_is c.requires.queue in
     let had : IsLinked i.block i.nodes i.queues v (suc m) = subst (λ f. IsLinked i.block i.nodes i.queues v f) (one_off i.free c.if-self-eq0.false) c.self.invariant.0 in
     let b0 = c.link_tail.new.self in

@@ -8,9 +8,9 @@ use Rattle.row_store.specs.declared.loan.Loan.TheInside.{Inside}
 use Rattle.row_store.specs.declared.held.Holdings.{Holdings}
 use Rattle.row_store.specs.declared.held.Holdings.TheVariants.{Rows, Shelves}
 use Rattle.row_store.specs.Stock.{Lent}
-use Rattle.row_store.specs.Shelving.{shelf_of}
+use Rattle.shelves.specs.Shelving.{shelf_of}
 use Rattle.row_store.specs.Held.{rows_held, IsLoanOf}
-use Rattle.row_store.proofs.Rows.{same_rows, rows_written}
+use Rattle.shelves.proofs.Rows.{same_rows, rows_written}
 use Rattle.row_store.proofs.Kept.{on_err, loan_written}
 use Rattle.row_store.proofs.ByName.{written_alone, loan_rows_written, named_rows_written}
 use Rattle.row_store.proofs.loan.Loan.apply.Goals.{in-Rows+in_ok-apply-in-Rows, in-Shelves+in_ok-write-in-Shelves}

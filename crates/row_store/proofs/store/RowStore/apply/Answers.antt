@@ -2,9 +2,9 @@ use Rattle.std.proofs.Common.{ap, ◌∙◌}
 use Rattle.values.specs.Database.{Database}
 use Rattle.workspace.specs.Overlay.{applied}
 use Rattle.row_store.specs.Stock.{Stock}
-use Rattle.row_store.specs.Shelving.{shelf_of}
+use Rattle.shelves.specs.Shelving.{shelf_of}
 use Rattle.row_store.specs.Views.{lent_of}
-use Rattle.row_store.proofs.Rows.{same_rows, rows_written}
+use Rattle.shelves.proofs.Rows.{same_rows, rows_written}
 use Rattle.row_store.proofs.Kept.{on_err}
 use Rattle.row_store.proofs.store.RowStore.apply.Goals as goal
 

@@ -6,7 +6,8 @@ use Rattle.coarsen.specs.Clashes.{locks_row}
 use Rattle.proclang_types.specs.declared.right.Right.TheVariants.{Write}
 use Rattle.row_store.specs.Stock.{Stock, Lent}
 use Rattle.row_store.specs.Held.{rows_held, IsLoanOf}
-use Rattle.row_store.specs.Views.{rows_of, lent_at}
+use Rattle.shelves.specs.Rows.{rows_of}
+use Rattle.row_store.specs.Views.{lent_at}
 use Rattle.row_store.proofs.Numbers.{get-lent_of, lent_put, lent_removed}
 use Rattle.row_store.proofs.Incoming.{can_go_back, store_back, rows_given}
 use Rattle.row_store.proofs.store.RowStore.give_back.Goals as goal

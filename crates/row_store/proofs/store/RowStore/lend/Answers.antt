@@ -11,10 +11,11 @@ use Rattle.coarsen.specs.Plans.{IsPlanOver}
 use Rattle.coarsen.specs.Clashes.{locks_row}
 use Rattle.proclang_types.specs.declared.right.Right.TheVariants.{Read}
 use Rattle.row_store.specs.Stock.{Stock}
-use Rattle.row_store.specs.Shelving.{shelf_of}
+use Rattle.shelves.specs.Shelving.{shelf_of}
 use Rattle.row_store.specs.Held.{rows_held, IsLoanOf}
-use Rattle.row_store.specs.Views.{rows_of, lent_of, lent_at}
-use Rattle.row_store.proofs.Rows.{same_rows}
+use Rattle.shelves.specs.Rows.{rows_of}
+use Rattle.row_store.specs.Views.{lent_of, lent_at}
+use Rattle.shelves.proofs.Rows.{same_rows}
 use Rattle.row_store.proofs.Numbers.{get-lent_of, lent_put, lent_inserted}
 use Rattle.row_store.proofs.Kept.{on_err}
 use Rattle.row_store.proofs.Outgoing.{IsLending, all_here, kept_held, loan_out, shown_out, counts_out, store_out}
@@ -175,8 +176,8 @@ returns-clause-lent c =
     lent_inserted c.self.inside.lent c.insert.new.self c.args.no c.args.plan.now put
     ∙ ap (λ (s : Stock). finite.insert s.lent c.args.no c.args.plan.now) c.self.view_is
 
-pub returns-clause-loan_rows : goal.returns-clause-loan_rows
-returns-clause-loan_rows c = λ q reads.
+pub returns-clause-loan : goal.returns-clause-loan
+returns-clause-loan c =
     let lending : IsLending c.self.inside.catalogue c.self.inside.shelves c.hold.new.shelves c.self.inside.lent c.args.plan.now = record {
       seen = c.hold.ensures.seen;
       places = c.hold.ensures.kept;
@@ -189,7 +190,12 @@ returns-clause-loan_rows c = λ q reads.
       kept = c.self.invariant;
     } in
     let tables : c.self.inside.catalogue ≡ c.args.self.now.tables = ap (λ (s : Stock). s.tables) c.self.view_is in
-    ap (λ (t : List TableShape). finite.get (rows_held t c.take_out-held.result) q) c.in_ok-catalogue.ensures.cases
-    ∙ shown_out c.self.inside.catalogue c.self.inside.shelves c.hold.new.shelves c.take_out-held.new.shelves c.self.inside.lent c.args.plan.now c.in_ok-ready.ready c.take_out-held.result lending c.in_ok-ready.ensures.ready c.take_out-held.ensures q
-    (ap (λ (t : List TableShape). locks_row t c.args.plan.now q Read) tables ∙ reads)
-    ∙ ap (λ (s : Stock). finite.get s.rows q) c.self.view_is
+    record {
+      tables = c.in_ok-catalogue.ensures.cases ∙ tables;
+      of_plan = c.of-2.ensures;
+      rows = λ q reads.
+          ap (λ (t : List TableShape). finite.get (rows_held t c.take_out-held.result) q) c.in_ok-catalogue.ensures.cases
+          ∙ shown_out c.self.inside.catalogue c.self.inside.shelves c.hold.new.shelves c.take_out-held.new.shelves c.self.inside.lent c.args.plan.now c.in_ok-ready.ready c.take_out-held.result lending c.in_ok-ready.ensures.ready c.take_out-held.ensures q
+          (ap (λ (t : List TableShape). locks_row t c.args.plan.now q Read) tables ∙ reads)
+          ∙ ap (λ (s : Stock). finite.get s.rows q) c.self.view_is;
+    }

@@ -2,8 +2,10 @@ use Rattle.std.proofs.Common.{◌≡◌, List, ap, ◌∙◌}
 use Rattle.std.specs.FinMap.{empty}
 use Rattle.catalogue.specs.Shapes.{TableShape}
 use Rattle.row_store.specs.Stock.{Stock}
-use Rattle.row_store.specs.Views.{rows_of, lent_of}
-use Rattle.row_store.proofs.Rebuilt.{all_here, rows_back}
+use Rattle.shelves.specs.Rows.{rows_of}
+use Rattle.row_store.specs.Views.{lent_of}
+use Rattle.row_store.proofs.Shown.{all_here}
+use Rattle.shelves.proofs.RowsBack.{rows_back}
 use Rattle.row_store.proofs.store.RowStore.rebuild.Goals as goal
 
 pub returns-clause-rows : goal.returns-clause-rows

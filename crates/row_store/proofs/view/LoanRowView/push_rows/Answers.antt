@@ -9,9 +9,9 @@ use Rattle.row_store.specs.declared.held.Holdings.{Holdings}
 use Rattle.row_store.specs.declared.held.Holdings.TheVariants.{Rows, Shelves}
 use Rattle.row_store.specs.Stock.{Lent}
 use Rattle.row_store.specs.Held.{rows_held, IsLoanOf}
-use Rattle.row_store.proofs.PartEnds.{no_part}
-use Rattle.row_store.proofs.Rows.{get-rows_of}
-use Rattle.row_store.proofs.Gathered.{no_rows}
+use Rattle.row_store.proofs.PartsUnseen.{no_part}
+use Rattle.shelves.proofs.Rows.{get-rows_of}
+use Rattle.shelves.proofs.Gathered.{no_rows}
 use Rattle.row_store.proofs.view.LoanRowView.push_rows.Goals as goal
 
 pub returns-in-Rows : goal.returns-in-Rows

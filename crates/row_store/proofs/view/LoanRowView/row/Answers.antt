@@ -5,11 +5,11 @@ use Rattle.footprint.specs.declared.resource.Resource.{Resource}
 use Rattle.row_store.specs.declared.held.Holdings.{Holdings}
 use Rattle.row_store.specs.declared.held.Holdings.TheVariants.{Shelves}
 use Rattle.row_store.specs.Stock.{Lent}
-use Rattle.row_store.specs.Places.{seen_at}
-use Rattle.row_store.specs.Shelving.{shelf_of}
+use Rattle.shelves.specs.Places.{seen_at}
+use Rattle.shelves.specs.Shelving.{shelf_of}
 use Rattle.row_store.specs.Held.{row_by_name, rows_held, IsLoanOf}
 use Rattle.row_store.proofs.ByName.{get-rows_by_name}
-use Rattle.row_store.proofs.Rows.{get-rows_of}
+use Rattle.shelves.proofs.Rows.{get-rows_of}
 use Rattle.row_store.proofs.view.LoanRowView.row.Goals as goal
 
 pub returns-in-Rows : goal.returns-in-Rows

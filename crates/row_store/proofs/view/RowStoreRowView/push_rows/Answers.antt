@@ -3,7 +3,7 @@ use Rattle.std.specs.FinMap as finite
 use Rattle.catalogue.specs.Shapes.{TableShape}
 use Rattle.workspace.specs.Scan.{is_in_part, referred, rows_in_part}
 use Rattle.row_store.specs.Stock.{Stock}
-use Rattle.row_store.proofs.Rows.{get-rows_of}
+use Rattle.shelves.proofs.Rows.{get-rows_of}
 use Rattle.row_store.proofs.Shown.{store_here}
 use Rattle.row_store.proofs.view.RowStoreRowView.push_rows.Goals as goal
 

@@ -3,9 +3,9 @@ use Rattle.std.specs.FinMap as finite
 use Rattle.values.specs.declared.name.RowName.{RowName}
 use Rattle.footprint.specs.declared.resource.Resource.{Resource}
 use Rattle.row_store.specs.Stock.{Stock}
-use Rattle.row_store.specs.Places.{seen_at}
-use Rattle.row_store.specs.Shelving.{shelf_of}
-use Rattle.row_store.proofs.Rows.{get-rows_of}
+use Rattle.shelves.specs.Places.{seen_at}
+use Rattle.shelves.specs.Shelving.{shelf_of}
+use Rattle.shelves.proofs.Rows.{get-rows_of}
 use Rattle.row_store.proofs.Shown.{store_here}
 use Rattle.row_store.proofs.view.RowStoreRowView.row.Goals as goal
 

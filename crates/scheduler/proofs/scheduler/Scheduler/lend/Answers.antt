@@ -7,7 +7,7 @@ use Rattle.coarsen.specs.Subtrees.{Requests}
 use Rattle.scheduler.specs.Scheduled.{made_in}
 use Rattle.scheduler.proofs.Known.{known, plans_in, work_in, schedule_in}
 use Rattle.scheduler.proofs.Making.{made_here, with_plans, after_mark}
-use Rattle.scheduler.proofs.Openings.{Offer, least, next_opening, offer, lends_job}
+use Rattle.scheduler.proofs.Lendables.{Offer, least, next_lendable, offer, lends_job}
 use Rattle.scheduler.proofs.scheduler.Scheduler.lend.Goals.{After-plan_at}
 use Rattle.scheduler.proofs.scheduler.Scheduler.lend.Goals as goal
 
@@ -19,13 +19,13 @@ returns-in_default-clause-least c =
 pub index-requires : goal.index-requires
 index-requires c =
     let k = known c.self.inside c.self.invariant c.rows_are_serial.ensures c.admitted_and_unsettled_wait.ensures in
-    let o = next_opening c.self.inside k c.in-Some.no c.in-Some.ensures in
+    let o = next_lendable c.self.inside k c.in-Some.no c.in-Some.ensures in
     omega (arith, o.in_entries, c.self.inside.entries.ok.0)
 
 pub plan_at-requires : goal.plan_at-requires
 plan_at-requires c =
     let k = known c.self.inside c.self.invariant c.rows_are_serial.ensures c.admitted_and_unsettled_wait.ensures in
-    let o = next_opening c.self.inside k c.in-Some.no c.in-Some.ensures in
+    let o = next_lendable c.self.inside k c.in-Some.no c.in-Some.ensures in
     let made = made_here (plans_in c.self.inside) c.self.inside.plans c.self.inside.locks (c.self.inside.first + (c.in-Some.no - c.self.inside.first)) c.self.invariant.3.are_made o.is_ready in
     let long : length (made_in c.self.inside.plans) ≡ length (plans_in c.self.inside) = ap length made in
     omega (arith, o.in_plans, long)
@@ -35,7 +35,7 @@ offered : (c : After-plan_at) → Offer c.self.inside c.in-Some.no (c.in-Some.no
 offered c =
     let k = known c.self.inside c.self.invariant c.rows_are_serial.ensures c.admitted_and_unsettled_wait.ensures in
     let place = c.in-Some.no - c.self.inside.first in
-    let o = next_opening c.self.inside k c.in-Some.no c.in-Some.ensures in
+    let o = next_lendable c.self.inside k c.in-Some.no c.in-Some.ensures in
     let made = made_here (plans_in c.self.inside) c.self.inside.plans c.self.inside.locks (c.self.inside.first + place) c.self.invariant.3.are_made o.is_ready in
     offer c.self.inside k c.in-Some.no place o c.clashes_are_either_way.ensures
     c.index.result.now c.plan_at.result.now c.index.ensures (sym (ap (λ (ps : List Requests). slice_get ps place) made) ∙ c.plan_at.ensures)
@@ -46,20 +46,14 @@ lend_to-requires-clause-tables c = (offered c).tables
 pub lend_to-requires-clause-locks : goal.lend_to-requires-clause-locks
 lend_to-requires-clause-locks c = (offered c).locks
 
-pub lend_to-requires-clause-over : goal.lend_to-requires-clause-over
-lend_to-requires-clause-over c = (offered c).over
-
 pub lend_to-requires-clause-there : goal.lend_to-requires-clause-there
 lend_to-requires-clause-there c = (offered c).there
 
-pub lend_to-requires-clause-unlent : goal.lend_to-requires-clause-unlent
-lend_to-requires-clause-unlent c = (offered c).unlent
-
-pub lend_to-requires-clause-apart : goal.lend_to-requires-clause-apart
-lend_to-requires-clause-apart c = (offered c).apart
+pub lend_to-requires-clause-can : goal.lend_to-requires-clause-can
+lend_to-requires-clause-can c = let o = offered c in record { over = o.over; unlent = o.unlent; apart = o.apart }
 
 pub put-requires : goal.put-requires
-put-requires c = (offered (goal.at.put-requires c).After-plan_at).opening.in_slots
+put-requires c = (offered (goal.at.put-requires c).After-plan_at).lendable.in_slots
 
 pub invariant_of-self-2 : goal.invariant_of-self-2
 invariant_of-self-2 c =
@@ -72,7 +66,7 @@ pub returns-clause-least : goal.returns-clause-least
 returns-clause-least c =
     let k = known c.self.inside c.self.invariant c.rows_are_serial.ensures c.admitted_and_unsettled_wait.ensures in
     subst (λ (s : Schedule). IsLeastLend s.work.arena s.work.first (log_of s.work) (phases_of s) (Some c.in_ok-job.job.no)) c.self.view_is
-    (subst (λ n. IsLeastLend c.self.inside.arena c.self.inside.first (log_of (work_in c.self.inside)) (phases_of (schedule_in c.self.inside)) (Some n)) (sym c.in_ok-job.ensures.number)
+    (subst (λ n. IsLeastLend c.self.inside.arena c.self.inside.first (log_of (work_in c.self.inside)) (phases_of (schedule_in c.self.inside)) (Some n)) (sym c.in_ok-job.ensures.job.numbered)
     (least c.self.inside k (Some c.in-Some.no) c.in-Some.ensures))
 
 pub returns-clause-lent : goal.returns-clause-lent
@@ -81,4 +75,4 @@ returns-clause-lent c =
     let e = c.in_ok-job.ensures in
     subst (λ (s : Schedule). LendsJob s c.in_ok-job.job (record { work = work_in c.self.inside; slots = c.put.new.slots.items })) c.self.view_is
     (lends_job c.self.inside c.in-Some.no c.index.result.now c.plan_at.result.now f c.in_ok-job.job c.put.new.slots.items
-    e.number (f.lends c.in_ok-job.job e.number e.entry e.plan e.loan_tables e.shows) e.plan c.put.ensures)
+    e.job.numbered (f.lends c.in_ok-job.job e.job.numbered e.job.of_entry e.job.loan.of_plan e.job.loan.tables e.job.loan.rows) e.job.loan.of_plan c.put.ensures)

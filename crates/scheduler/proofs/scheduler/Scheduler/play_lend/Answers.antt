@@ -4,7 +4,7 @@ use Rattle.coarsen.specs.Subtrees.{Requests}
 use Rattle.scheduler.specs.Scheduled.{made_in}
 use Rattle.scheduler.proofs.Known.{known, plans_in, work_in, still_keeps}
 use Rattle.scheduler.proofs.Making.{made_here, with_plans, after_mark}
-use Rattle.scheduler.proofs.Openings.{Offer, opening_seen, offer}
+use Rattle.scheduler.proofs.Lendables.{Offer, lendable_seen, offer}
 use Rattle.scheduler.proofs.Played.{answers_lend}
 use Rattle.scheduler.proofs.scheduler.Scheduler.play_lend.Goals.{After-plan_at}
 use Rattle.scheduler.proofs.scheduler.Scheduler.play_lend.Goals as goal
@@ -12,14 +12,14 @@ use Rattle.scheduler.proofs.scheduler.Scheduler.play_lend.Goals as goal
 pub index-requires : goal.index-requires
 index-requires c =
     let k = known c.self.inside c.self.invariant c.rows_are_serial.ensures c.admitted_and_unsettled_wait.ensures in
-    let o = opening_seen c.self.inside k c.args.self.now c.self.view_is c.args.no c.in-Some.place c.in-Some.ensures.some.0 c.deref.result.now
+    let o = lendable_seen c.self.inside k c.args.self.now c.self.view_is c.args.no c.in-Some.place c.in-Some.ensures.some.0 c.deref.result.now
     c.deref.ensures.value (c.is_idle.ensures.slot c.if-not-is_idle.false) (sym c.is_ready.ensures ∙ c.if-not-is_ready.false) in
     omega (arith, o.in_entries, c.self.inside.entries.ok.0)
 
 pub plan_at-requires : goal.plan_at-requires
 plan_at-requires c =
     let k = known c.self.inside c.self.invariant c.rows_are_serial.ensures c.admitted_and_unsettled_wait.ensures in
-    let o = opening_seen c.self.inside k c.args.self.now c.self.view_is c.args.no c.in-Some.place c.in-Some.ensures.some.0 c.deref.result.now
+    let o = lendable_seen c.self.inside k c.args.self.now c.self.view_is c.args.no c.in-Some.place c.in-Some.ensures.some.0 c.deref.result.now
     c.deref.ensures.value (c.is_idle.ensures.slot c.if-not-is_idle.false) (sym c.is_ready.ensures ∙ c.if-not-is_ready.false) in
     let made = made_here (plans_in c.self.inside) c.self.inside.plans c.self.inside.locks (c.self.inside.first + c.in-Some.place) c.self.invariant.3.are_made o.is_ready in
     let long : length (made_in c.self.inside.plans) ≡ length (plans_in c.self.inside) = ap length made in
@@ -29,7 +29,7 @@ plan_at-requires c =
 offered : (c : After-plan_at) → Offer c.self.inside c.args.no c.in-Some.place c.index.result.now c.plan_at.result.now
 offered c =
     let k = known c.self.inside c.self.invariant c.rows_are_serial.ensures c.admitted_and_unsettled_wait.ensures in
-    let o = opening_seen c.self.inside k c.args.self.now c.self.view_is c.args.no c.in-Some.place c.in-Some.ensures.some.0 c.deref.result.now
+    let o = lendable_seen c.self.inside k c.args.self.now c.self.view_is c.args.no c.in-Some.place c.in-Some.ensures.some.0 c.deref.result.now
     c.deref.ensures.value (c.is_idle.ensures.slot c.if-not-is_idle.false) (sym c.is_ready.ensures ∙ c.if-not-is_ready.false) in
     let made = made_here (plans_in c.self.inside) c.self.inside.plans c.self.inside.locks (c.self.inside.first + c.in-Some.place) c.self.invariant.3.are_made o.is_ready in
     offer c.self.inside k c.args.no c.in-Some.place o c.clashes_are_either_way.ensures c.index.result.now c.plan_at.result.now c.index.ensures
@@ -41,17 +41,11 @@ lend_to-requires-clause-tables c = (offered c).tables
 pub lend_to-requires-clause-locks : goal.lend_to-requires-clause-locks
 lend_to-requires-clause-locks c = (offered c).locks
 
-pub lend_to-requires-clause-over : goal.lend_to-requires-clause-over
-lend_to-requires-clause-over c = (offered c).over
-
 pub lend_to-requires-clause-there : goal.lend_to-requires-clause-there
 lend_to-requires-clause-there c = (offered c).there
 
-pub lend_to-requires-clause-unlent : goal.lend_to-requires-clause-unlent
-lend_to-requires-clause-unlent c = (offered c).unlent
-
-pub lend_to-requires-clause-apart : goal.lend_to-requires-clause-apart
-lend_to-requires-clause-apart c = (offered c).apart
+pub lend_to-requires-clause-can : goal.lend_to-requires-clause-can
+lend_to-requires-clause-can c = let o = offered c in record { over = o.over; unlent = o.unlent; apart = o.apart }
 
 pub invariant_of-self : goal.invariant_of-self
 invariant_of-self c =
@@ -59,14 +53,14 @@ invariant_of-self c =
     let e = c.in-Ok.ensures in
     with_plans (work_in c.self.inside) c.put.new.slots.items c.self.inside.settled c.lend_to.new.store c.lend_to.new.locks c.self.inside.plans
     (f.leaves c.put.new.slots.items c.lend_to.new.store c.lend_to.new.locks (Held c.in-Ok.job) c.put.ensures c.lend_to.ensures.tables c.lend_to.ensures.rows e.lent e.marked refl
-    (f.lends c.in-Ok.job e.number e.entry e.plan e.loan_tables e.shows))
+    (f.lends c.in-Ok.job e.job.numbered e.job.of_entry e.job.loan.of_plan e.job.loan.tables e.job.loan.rows))
     (after_mark (work_in c.self.inside) c.self.inside.plans c.self.inside.locks c.lend_to.new.locks c.args.no c.self.invariant.3 true e.marked)
 
 pub returns-in-Ok-clause-answer : goal.returns-in-Ok-clause-answer
 returns-in-Ok-clause-answer c =
     let k = known c.self.inside c.self.invariant c.rows_are_serial.ensures c.admitted_and_unsettled_wait.ensures in
     answers_lend c.self.inside k c.args.self.now c.self.view_is c.events_by_places.ensures c.args.no c.in-Some.place c.in-Some.ensures.some.0 c.put.new.slots.items (Held c.in-Ok.job)
-    (offered (goal.at.returns-in-Ok-clause-answer c).After-plan_at).opening.slot (sym c.is_ready.ensures ∙ c.if-not-is_ready.false) refl c.put.ensures
+    (offered (goal.at.returns-in-Ok-clause-answer c).After-plan_at).lendable.slot (sym c.is_ready.ensures ∙ c.if-not-is_ready.false) refl c.put.ensures
 
 pub returns-in-Ok-clause-keeps : goal.returns-in-Ok-clause-keeps
 returns-in-Ok-clause-keeps c =

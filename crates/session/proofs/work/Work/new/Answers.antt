@@ -1,8 +1,8 @@
 use Rattle.std.proofs.Common.{◌≡◌, ◌≤◌, [], ap, subst, ◌∙◌}
 use Rattle.engine.specs.Engines.{EngineParts}
-use Rattle.log_feed.specs.declared.feed.LogFeed.{LogFeed}
-use Rattle.log_feed.specs.Places.{Place}
-use Rattle.log_feed.proofs.Places.{IsAt-start}
+use Rattle.batch_log.specs.declared.feed.LogFeed.{LogFeed}
+use Rattle.batch_log.specs.Places.{Place}
+use Rattle.batch_log.proofs.Places.{IsAt-start}
 use Rattle.session.proofs.Runs.{HasReported-start}
 use Rattle.session.proofs.Rooms.{ready_at_start}
 use Rattle.session.proofs.work.Work.new.Goals as goal

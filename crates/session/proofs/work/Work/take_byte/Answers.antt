@@ -1,8 +1,8 @@
 use Rattle.std.proofs.Common.{◌≡◌, ◌+◌, ◌++◌, [], ◌∷◌, append_assoc, ℕ, refl, ap, ◌∙◌, arith}
 use Rattle.std.proofs.Math.Logic.{∥∥₁_map}
 use Rattle.requests.specs.ProcLists.{ProcsParts}
-use Rattle.log_feed.specs.declared.feed.LogFeed.{LogFeed}
-use Rattle.log_feed.specs.Feeds.{place_of}
+use Rattle.batch_log.specs.declared.feed.LogFeed.{LogFeed}
+use Rattle.batch_log.specs.Feeds.{place_of}
 use Rattle.session.proofs.Rooms.{due_at, ready_after, waiting_few}
 use Rattle.session.proofs.Runs.{front-next, front_keeps, on_err, on_ok, reported_next, stopped_in_batch, stopped_reading}
 use Rattle.session.proofs.Turns.{at-begins}
@@ -10,14 +10,14 @@ use Rattle.session.proofs.work.Work.take_byte.Goals as goal
 
 pub run-requires : goal.run-requires
 run-requires c =
-    let batch = rw c.in-Ok-Some.field-0-is at c.in-Ok-Some.ensures.batch_is in
-    due_at c.args.self.now c.in-Ok-Some.calls.items c.requires.ready (rw batch.0 c.requires.ready.over) (rw batch.0 c.take.ensures.few)
+    let batch = rw c.in-Ok-Some.field-0-is at c.in-Ok-Some.ensures.counts in
+    due_at c.args.self.now c.in-Ok-Some.calls.items c.requires.ready (rw batch.0 c.requires.ready.over) (rw batch.0 c.take.ensures.limits.0)
     (waiting_few c.args.self.now c.in-Ok-Some.calls.items batch.0)
 
 pub returns-in-Ok-Some-clause-ready : goal.returns-in-Ok-Some-clause-ready
 returns-in-Ok-Some-clause-ready c =
-    let batch = rw c.in-Ok-Some.field-0-is at c.in-Ok-Some.ensures.batch_is in
-    ready_after c.run.result c.args.self.now c.run.new.self _ c.in-Ok-Some.calls.items c.requires.ready c.run.ensures.feed batch c.take.ensures.retries c.run.ensures.same _ _ c.run.ensures.reported
+    let batch = rw c.in-Ok-Some.field-0-is at c.in-Ok-Some.ensures.counts in
+    ready_after c.run.result c.args.self.now c.run.new.self _ c.in-Ok-Some.calls.items c.requires.ready c.run.ensures.feed batch c.take.ensures.limits.2 c.run.ensures.same _ _ c.run.ensures.reported
 
 pub returns-in-Ok-Some-clause-taken : goal.returns-in-Ok-Some-clause-taken
 returns-in-Ok-Some-clause-taken c = on_ok c.run.result _ _ c.run.ensures.reported
@@ -26,7 +26,7 @@ returns-in-Ok-Some-clause-taken c = on_ok c.run.result _ _ c.run.ensures.reporte
     let at = rw c.in-Ok-Some.field-0-is at ((rw e at c.in-Ok-Some.ensures.batch) h.ended fed h.at) in
     record {
       ended = h.ended ++ c.in-Ok-Some.calls.items ∷ [];
-      limit = ap (λ (feed : LogFeed). (place_of feed).retries) c.run.ensures.feed ∙ c.take.ensures.retries ∙ h.limit;
+      limit = ap (λ (feed : LogFeed). (place_of feed).retries) c.run.ensures.feed ∙ c.take.ensures.limits.2 ∙ h.limit;
       at = rw c.run.ensures.feed at;
       reported = reported_next start h.ended c.in-Ok-Some.calls.items drained _ _ _ _ c.args.self.now.report c.run.new.self.report h.reported c.run.ensures.same reported;
     })
@@ -37,18 +37,18 @@ returns-in-Ok-Some-clause-fault c = on_err c.run.result _ _ c.run.ensures.memory
     let e : c.procs.result.now ≡ start.procs = c.procs.ensures ∙ h.reported.procs_are in
     let at = rw c.in-Ok-Some.field-0-is at ((rw e at c.in-Ok-Some.ensures.batch) h.ended fed h.at) in
     stopped_in_batch start _ _ (h.ended ++ c.in-Ok-Some.calls.items ∷ []) fault kind (front-next start h.ended c.in-Ok-Some.calls.items drained _ _ c.args.self.now.report c.run.new.self.report h.reported c.run.ensures.front)
-    (at-begins start.procs start.retries start.rows _ _ (fed ++ c.args.byte ∷ []) more (c.take.ensures.retries ∙ h.limit) at))
+    (at-begins start.procs start.retries start.rows _ _ (fed ++ c.args.byte ∷ []) more (c.take.ensures.limits.2 ∙ h.limit) at))
 
 pub returns-in-Ok-Some-clause-kept : goal.returns-in-Ok-Some-clause-kept
 returns-in-Ok-Some-clause-kept c = front_keeps _ _ _ c.run.ensures.front
 
 pub returns-in-Ok-None-clause-ready : goal.returns-in-Ok-None-clause-ready
 returns-in-Ok-None-clause-ready c =
-    let counted = (rw c.in-Ok-None.field-0-is at c.in-Ok-None.ensures.counted) refl in
+    let counted = rw c.in-Ok-None.field-0-is at c.in-Ok-None.ensures.counts in
     let was = c.requires.ready in
     record {
       over = rw (ap (λ (p : ProcsParts). p.tables) c.procs.ensures) at c.take.ensures.tables;
-      limit = c.take.ensures.retries ∙ was.limit;
+      limit = c.take.ensures.limits.2 ∙ was.limit;
       few = was.few;
       idle = was.idle;
       digest_kept = was.digest_kept;
@@ -63,7 +63,7 @@ returns-in-Ok-None-clause-taken c = λ start fed drained h.
     let e : c.procs.result.now ≡ start.procs = c.procs.ensures ∙ h.reported.procs_are in
     record {
       ended = h.ended;
-      limit = c.take.ensures.retries ∙ h.limit;
+      limit = c.take.ensures.limits.2 ∙ h.limit;
       at = (rw c.in-Ok-None.field-0-is at ((rw e at c.in-Ok-None.ensures.place) h.ended fed h.at)) refl;
       reported = h.reported;
     }

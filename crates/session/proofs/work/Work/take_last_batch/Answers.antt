@@ -7,12 +7,12 @@ use Rattle.session.proofs.work.Work.take_last_batch.Goals as goal
 
 pub run-requires : goal.run-requires
 run-requires c =
-    due_at c.args.self.now c.in-Ok-Some.calls.items c.requires.ready (rw (ap (λ (p : ProcsParts). p.tables) c.procs.ensures) at (rw c.in-Ok-Some.field-0-is at c.in-Ok-Some.ensures.over))
-    (rw c.in-Ok-Some.field-0-is at c.in-Ok-Some.ensures.few) (rw c.in-Ok-Some.field-0-is at c.in-Ok-Some.ensures.room)
+    due_at c.args.self.now c.in-Ok-Some.calls.items c.requires.ready (rw (ap (λ (p : ProcsParts). p.tables) c.procs.ensures) at (rw c.in-Ok-Some.field-0-is at c.in-Ok-Some.ensures.last).0)
+    (rw c.in-Ok-Some.field-0-is at c.in-Ok-Some.ensures.last).1 (rw c.in-Ok-Some.field-0-is at c.in-Ok-Some.ensures.last).2
 
 pub returns-in-Ok-Some-clause-between : goal.returns-in-Ok-Some-clause-between
 returns-in-Ok-Some-clause-between c =
-    between_after c.run.result c.args.self.now c.run.new.self c.in-Ok-Some.calls.items c.requires.ready (rw c.in-Ok-Some.field-0-is at c.in-Ok-Some.ensures.room) c.run.ensures.same _ _ c.run.ensures.reported
+    between_after c.run.result c.args.self.now c.run.new.self c.in-Ok-Some.calls.items c.requires.ready (rw c.in-Ok-Some.field-0-is at c.in-Ok-Some.ensures.last).2 c.run.ensures.same _ _ c.run.ensures.reported
 
 pub returns-in-Ok-Some-clause-whole : goal.returns-in-Ok-Some-clause-whole
 returns-in-Ok-Some-clause-whole c = on_ok c.run.result _ _ c.run.ensures.reported

@@ -1,0 +1,11 @@
+pub mod Facts
+pub mod Rests
+pub mod Counting
+pub mod Onward
+pub mod Told
+pub mod Steps
+pub mod InLanes
+pub mod EmptyLanes
+pub mod Sent
+pub mod Worked
+pub mod Straight

@@ -1,0 +1,28 @@
+//! Where a thread waits before it runs a job.
+
+/// What the thread that runs a job passes, once for each job, before it runs it: a worker, or the scheduler's thread,
+/// which runs a job itself where no other is out. A test holds threads here.
+pub trait Gate: Sync {
+    /// Passes with the job of the transaction of that number.
+    fn enter(&self, no: u64);
+
+    /// Whether each job passes at once and nothing is noted of it, whenever that is asked: then the scheduler's thread
+    /// may run a brief call without passing. `false` unless a gate says otherwise.
+    fn is_open(&self) -> bool {
+        false
+    }
+}
+
+/// Lets every job pass at once.
+#[derive(Clone, Copy, Debug)]
+pub struct OpenGate;
+
+impl Gate for OpenGate {
+    #[inline]
+    fn enter(&self, _no: u64) {}
+
+    #[inline]
+    fn is_open(&self) -> bool {
+        true
+    }
+}

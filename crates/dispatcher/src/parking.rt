@@ -1,0 +1,227 @@
+//! Where the threads of a workplace park, and who wakes them. A thread that finds nothing to do spins, looking again a
+//! few times, then announces that it will park, looks once more, and is parked until another wakes it. A job that is
+//! put wakes a worker only where none looks for a job already, and a worker that finds a job while others wait wakes
+//! the next.
+
+use std::alloc::Global;
+use std::hint::spin_loop;
+use std::sync::Wait;
+use std::sync::atomic::{AtomicBool, AtomicIsize, AtomicUsize, Ordering};
+use std::thread::Parker;
+use values::NoMemory;
+
+/// How often a thread that has found nothing looks again before it announces that it will park.
+const SPINS: u32 = 64;
+
+/// While more jobs than this wait for a worker, the scheduler's thread is not woken to make more.
+const FEW_WAIT: usize = 1;
+
+/// How near a thread is to being parked.
+#[derive(Clone, Copy, Debug, PartialEq, Eq)]
+pub(crate) enum Idling {
+    /// It has had something to do until now.
+    Busy,
+    /// It has found nothing so often, one time after another, or was woken and has not looked yet.
+    Spinning(u32),
+    /// It has announced that it will park, and looks once more.
+    Announced,
+}
+
+/// Where one thread parks.
+#[derive(Drop)]
+pub(crate) struct Spot {
+    /// Whether the thread has announced that it will park, and none has called it since.
+    is_announced: AtomicBool,
+    parker: Parker,
+}
+
+impl Spot {
+    fn new() -> Spot {
+        Spot {
+            is_announced: AtomicBool::new(false),
+            parker: Parker::new(),
+        }
+    }
+
+    /// Takes a thread that has found nothing a step nearer to being parked, or parks it until it is woken.
+    fn idle<R: Wait>(&self, rt: &R, idling: Idling) -> Idling {
+        match idling {
+            Idling::Busy => Idling::Spinning(0),
+            Idling::Spinning(vain) if vain < SPINS => {
+                spin_loop();
+                Idling::Spinning(vain + 1)
+            }
+            Idling::Spinning(_) => {
+                self.is_announced.store(true, Ordering::SeqCst);
+                Idling::Announced
+            }
+            Idling::Announced => {
+                self.parker.park(rt);
+                // It may wake though none has called it, from what woke it before it was parked the last time.
+                if self.withdraw() {
+                    Idling::Busy
+                } else {
+                    Idling::Spinning(0)
+                }
+            }
+        }
+    }
+
+    /// Withdraws the announcement, and answers whether there was one, without a call since.
+    fn withdraw(&self) -> bool {
+        self.is_announced.swap(false, Ordering::SeqCst)
+    }
+
+    /// Calls the thread if it has announced that it will park, and answers whether it had. Who calls it wakes it.
+    fn call(&self) -> bool {
+        self.is_announced.load(Ordering::SeqCst) && self.withdraw()
+    }
+}
+
+/// Where the scheduler's thread and its workers park, what waits for them, and whether there is an end to what they do.
+#[derive(Drop)]
+pub(crate) struct Parking {
+    ended: AtomicBool,
+    /// How many jobs wait for a worker: no fewer than lie in lanes.
+    waiting: AtomicUsize,
+    /// How many results wait for the scheduler: no fewer than lie in lanes.
+    finished: AtomicUsize,
+    /// How many workers look for a job, or were called and will look. For a moment it may be less, or more: but it is
+    /// above 0 only while some worker will still look once more, or will still wake the next.
+    looking: AtomicIsize,
+    scheduler: Spot,
+    pub(crate) workers: Vec<Spot>,
+}
+
+impl Parking {
+    /// Places to park for n workers.
+    pub(crate) fn new(alloc: Global, count: usize) -> Result<Parking, NoMemory> {
+        let mut workers = Vec::with_capacity(alloc, count)?;
+        for _ in 0..count {
+            workers.push(Spot::new())?;
+        }
+        Ok(Parking {
+            ended: AtomicBool::new(false),
+            waiting: AtomicUsize::new(0),
+            finished: AtomicUsize::new(0),
+            looking: AtomicIsize::new(0),
+            scheduler: Spot::new(),
+            workers,
+        })
+    }
+
+    /// Says that a job is about to be put.
+    pub(crate) fn expect_job(&self) {
+        self.waiting.fetch_add(1, Ordering::SeqCst);
+    }
+
+    /// Whether a job may wait.
+    pub(crate) fn has_jobs(&self) -> bool {
+        self.waiting.load(Ordering::SeqCst) > 0
+    }
+
+    /// Wakes one of the parked workers, if there is one, where jobs wait that none looks for.
+    pub(crate) fn wake_worker(&self) {
+        if !self.has_jobs() || self.looking.load(Ordering::SeqCst) > 0 {
+            return;
+        }
+        for spot in &self.workers {
+            if spot.call() {
+                self.looking.fetch_add(1, Ordering::SeqCst);
+                spot.parker.unpark();
+                return;
+            }
+        }
+    }
+
+    /// Wakes a worker as `wake_worker` does, where other jobs are out beside the one that was put.
+    pub(crate) fn wake_worker_beside(&self, others: usize) {
+        if others > 0 {
+            self.wake_worker();
+        }
+    }
+
+    /// Takes a worker that has found no job a step nearer to being parked, or parks it until it is woken. It announces
+    /// that it will park before it is no longer counted among those that look, and looks once more after that.
+    pub(crate) fn idle_worker<R: Wait>(&self, rt: &R, spot: &Spot, idling: Idling) -> Idling {
+        let next = spot.idle(rt, idling);
+        match (idling, next) {
+            (Idling::Busy, _) => {
+                self.looking.fetch_add(1, Ordering::SeqCst);
+            }
+            (_, Idling::Announced) => {
+                self.looking.fetch_sub(1, Ordering::SeqCst);
+            }
+            _ => {}
+        }
+        next
+    }
+
+    /// Lets a worker go to the job that it has found, and wakes another where more jobs wait.
+    pub(crate) fn go_to_job(&self, spot: &Spot, idling: Idling) {
+        let is_counted = match idling {
+            Idling::Busy => false,
+            Idling::Spinning(_) => true,
+            Idling::Announced => !spot.withdraw(),
+        };
+        if is_counted {
+            self.looking.fetch_sub(1, Ordering::SeqCst);
+        }
+        self.take_job();
+    }
+
+    /// Says that a job was claimed, and wakes a worker where more jobs wait.
+    pub(crate) fn take_job(&self) {
+        self.waiting.fetch_sub(1, Ordering::SeqCst);
+        self.wake_worker();
+    }
+
+    /// Says that a result is about to be delivered.
+    pub(crate) fn expect_result(&self) {
+        self.finished.fetch_add(1, Ordering::SeqCst);
+    }
+
+    /// Whether a result may wait.
+    pub(crate) fn has_results(&self) -> bool {
+        self.finished.load(Ordering::SeqCst) > 0
+    }
+
+    /// Wakes the scheduler's thread if it is parked and few jobs wait for a worker. Where more wait it stays parked:
+    /// whoever delivers what comes of one of these finds fewer that wait, and wakes it for all that was delivered.
+    pub(crate) fn wake_scheduler(&self) {
+        if self.waiting.load(Ordering::SeqCst) <= FEW_WAIT && self.scheduler.call() {
+            self.scheduler.parker.unpark();
+        }
+    }
+
+    /// Takes the scheduler's thread, which has found no result, a step nearer to being parked, or parks it until it is
+    /// woken.
+    pub(crate) fn idle_scheduler<R: Wait>(&self, rt: &R, idling: Idling) -> Idling {
+        self.scheduler.idle(rt, idling)
+    }
+
+    /// Says that a result was collected.
+    pub(crate) fn take_result(&self) {
+        self.finished.fetch_sub(1, Ordering::SeqCst);
+    }
+
+    /// Lets the scheduler's thread go to what it has found.
+    pub(crate) fn end_idling(&self, idling: Idling) {
+        if idling == Idling::Announced {
+            self.scheduler.withdraw();
+        }
+    }
+
+    /// Whether the workers are to end.
+    pub(crate) fn has_ended(&self) -> bool {
+        self.ended.load(Ordering::SeqCst)
+    }
+
+    /// Ends the workers once they find nothing to do, and wakes those that are parked.
+    pub(crate) fn end(&self) {
+        self.ended.store(true, Ordering::SeqCst);
+        for spot in &self.workers {
+            spot.parker.unpark();
+        }
+    }
+}

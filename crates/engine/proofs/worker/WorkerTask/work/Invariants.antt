@@ -1,7 +1,0 @@
-use Rattle.std.proofs.Common.{◌≡◌}
-use Rattle.engine.specs.Workers.{HoldsNoJob}
-use Rattle.engine.proofs.worker.WorkerTask.work.Given as goal
-
--- each job that was claimed is delivered
-abbrev pub invariant-loop : goal.invariant-loop
-invariant-loop g l = (l.seat.lanes ≡ l.lanes) × HoldsNoJob l.seat

@@ -1,7 +1,0 @@
--- Claimed: what contracts promise to a reader rests on these words.
--- What a clause sees of a feed.
-use Rattle.log_feed.specs.declared.feed.LogFeed.{LogFeed}
-use Rattle.log_feed.specs.Places.{Place}
-
-abbrev pub place_of : LogFeed → Place
-place_of feed = record { retries = feed.retries; calls = feed.calls.items; total = feed.total; lines = feed.lines; line = feed.line.items }

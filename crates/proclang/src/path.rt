@@ -1,8 +1,0 @@
-//! Where a value stands in a document.
-
-/// The way from the document to a value: the place of each element that is passed.
-#[derive(Clone, Copy)]
-pub(crate) enum Path<'a> {
-    Document,
-    Element(&'a Path<'a>, usize),
-}

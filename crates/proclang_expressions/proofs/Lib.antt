@@ -1,0 +1,11 @@
+pub mod Seen
+pub mod Columns
+pub mod FootprintExpressions
+pub mod TypedExpressions
+pub mod TypedParts
+pub mod FirstNames
+pub mod FirstTypes
+pub mod FirstExpressions
+pub mod FirstParts
+pub mod SaidExpressions
+pub mod SaidParts

@@ -1,0 +1,15 @@
+pub mod Paths
+pub mod Faults
+pub mod Seen
+pub mod Lookups
+pub mod Walk
+pub mod Targets
+pub mod Expressions
+pub mod Values
+pub mod ExprTypes
+pub mod BrokenNames
+pub mod BrokenExpressions
+pub mod BrokenTargets
+pub mod BrokenParts
+pub mod SaysExpressions
+pub mod SaysTargets

@@ -1,0 +1,10 @@
+pub mod Booleans
+pub mod Copies
+pub mod Exact
+pub mod Gathered
+pub mod PartEnds
+pub mod Placed
+pub mod RowsBack
+pub mod Rows
+pub mod Scans
+pub mod Steps

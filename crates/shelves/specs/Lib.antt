@@ -1,0 +1,6 @@
+pub mod Exchange
+pub mod Places
+pub mod Rebuilding
+pub mod Rows
+pub mod Scans
+pub mod Shelving

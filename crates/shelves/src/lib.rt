@@ -1,0 +1,25 @@
+//! The rows of a database on shelves, one for each partition. A row can go out to a loan and come back, by itself or
+//! with its shelf; while it is away it counts as it was lent.
+#![tactic(auto)]
+
+mod contents;
+mod exchange;
+mod filling;
+mod place;
+mod rebuilding;
+mod scan;
+mod shelf;
+mod shelves;
+mod shelving;
+mod writing;
+
+pub use exchange::{make_shelves, put_shelves, share_shelves, take_shelves};
+pub use filling::filled;
+pub use rebuilding::rebuilt;
+pub use scan::{next_row, push_rows};
+pub use shelf::Shelf;
+pub use shelves::{
+    Shelves, add_row, empty_place, lend_row, make_place, put_row, row_at, share_row, take_row,
+};
+pub use shelving::{ends_partition, has_ends, shelf_of};
+pub use writing::{shared, write};

@@ -1,0 +1,119 @@
+//! Places: what stands at row names.
+
+ghost use Rattle.std.specs.Prelude.{◌≡◌, true, false, Some, Option, option_map, IfOk};
+ghost use Rattle.std.specs.Arc.{arc_value};
+ghost use Rattle.values.specs.Database.{RowOf};
+ghost use Rattle.shelves.specs.Places.{row_of, seen_over, full, emptied, shared_row};
+
+use std::alloc::AllocError;
+use std::sync::Arc;
+use values::{NoMemory, Row};
+
+/// A place: a row name with a row or with none.
+#[derive(Drop)]
+pub(crate) enum Place {
+    /// What stands here counts.
+    Here(Option<Arc<Row>>),
+    /// What stood here is lent to be written, not by its name alone but on a shelf, and counts as it was lent.
+    Lent(Option<Arc<Row>>),
+    /// For a row to come. What counts is what the shelf says.
+    Reserved,
+}
+
+impl Place {
+    /// The row that stands at the place.
+    pub(crate) fn row(&self) -> Option<&Row>
+        ensures { option_map (λ r. r.now) result ≡ row_of self.now }
+    {
+        match self {
+            Place::Here(Some(row)) => Some(row),
+            _ => None,
+        }
+    }
+
+    /// The row that stands at the place, once more.
+    pub(crate) fn share(&self) -> Result<Option<Arc<Row>>, NoMemory>
+        ensures { IfOk result (λ row. shared_row row ≡ row_of self.now) }
+    {
+        match self {
+            Place::Here(Some(row)) => Ok(Some(row.clone()?)),
+            _ => Ok(None),
+        }
+    }
+
+    /// The row that stood at the place, which is no more.
+    pub(crate) fn into_row(self) -> Option<Arc<Row>>
+        ensures { shared_row result ≡ row_of self }
+    {
+        match self {
+            Place::Here(row) => row,
+            _ => None,
+        }
+    }
+
+    /// Fills the place with a row, or with none. A row in place of another takes over its
+    /// memory, if nobody else has either.
+    pub(crate) fn fill(&mut self, row: Option<Arc<Row>>)
+        ensures { (otherwise : Option RowOf) → seen_over (Some self.new) otherwise ≡ full (shared_row row) }
+    {
+        let Some(new) = row else {
+            *self = Place::Here(None);
+            return;
+        };
+        match self {
+            Place::Here(Some(old)) => overwrite(old, new),
+            _ => *self = Place::Here(Some(new)),
+        }
+    }
+
+    /// Lends the row that stands at the place. It counts as before.
+    pub(crate) fn empty(&mut self)
+        ensures { (otherwise : Option RowOf) →
+            seen_over (Some self.new) otherwise ≡ emptied (seen_over (Some self.old) otherwise) }
+    {
+        if let Place::Here(row) = self {
+            *self = Place::Lent(row.take());
+        }
+    }
+}
+
+/// Exchanges the values of two rows, if nobody else has either, and tells whether it did.
+/// Else the other stays as it is.
+fn exchange(one: &mut Arc<Row>, other: &mut Arc<Row>) -> bool
+    ensures done { result ≡ true → arc_value one.new ≡ arc_value other.old }
+    ensures same { result ≡ false → arc_value other.new ≡ arc_value other.old }
+{
+    let Some(one) = Arc::get_mut(one) else {
+        return false;
+    };
+    let Some(other) = Arc::get_mut(other) else {
+        return false;
+    };
+    one.swap(other);
+    true
+}
+
+/// Gives a row the values of another. If nobody else has either row, the old one keeps its memory: rows that are
+/// written stay where they lie.
+fn overwrite(old: &mut Arc<Row>, new: Arc<Row>)
+    ensures { arc_value old.new ≡ arc_value new }
+{
+    let mut new = new;
+    if !exchange(old, &mut new) {
+        *old = new;
+    }
+}
+
+impl Clone for Place {
+    // The copy shows what the place shows.
+    ghost is_clone = { λ place copy. (otherwise : Option RowOf) →
+        seen_over (Some copy) otherwise ≡ seen_over (Some place) otherwise };
+
+    fn clone(&self) -> Result<Place, AllocError> {
+        match self {
+            Place::Here(row) => Ok(Place::Here(row.clone()?)),
+            Place::Lent(row) => Ok(Place::Lent(row.clone()?)),
+            Place::Reserved => Ok(Place::Reserved),
+        }
+    }
+}
