@@ -39,7 +39,7 @@ CYCLE = re.compile(r"#\[cycle\((\w+)\)\]")
 SAID = re.compile(r"^fn (\S+): ", re.MULTILINE)
 OPEN = re.compile(r"^fn (\S+): no proof: expected answers in \S*/\w+/Answers", re.MULTILINE)
 OPEN_AT = re.compile(r"^note: (src/\S+):(\d+):\d+: (?:it is not proved |`search` found no proof )", re.MULTILINE)
-NOT_READ = re.compile(r"^(?:\./)?proofs/(\S+)/(?:Answers|Invariants|Proof)\.antt:\d+:\d+: error: ", re.MULTILINE)
+NOT_READ = re.compile(r"^(?:\./)?proofs/(\S+)/(?:Answers|Invariants|Proof)\.antt:\d+:\d+: error: (?:`(\w+)-)?", re.MULTILINE)
 WAITING = re.compile(r"^fn (\S+): no proof: it calls ", re.MULTILINE)
 VERDICT = re.compile(r"logic=not-proved|only=\d+ proved=\d+$")
 
@@ -90,7 +90,9 @@ def attributes_of(text, first):
 def named_in(output, said):
     """The functions of which a check says this; what it says of a closure it says of its function."""
     names = [re.sub(r"::fn::(\w+)::.*", r"::\1", name) for name in said.findall(output)]
-    return {re.sub(r"\+[^:]*", "", "::".join(name.split("::")[-2:])) for name in names}
+    # (a function of the crate's root is named by the crate and itself)
+    places = [["lib", *name.split("::")[1:]][-2:] for name in names]
+    return {re.sub(r"\+[^:]*", "", "::".join(place)) for place in places}
 
 
 def opened_in(folder, texts, output):
@@ -102,7 +104,12 @@ def opened_in(folder, texts, output):
         # What is said of a whole function is said where its attributes begin.
         functions = [(first - len(attributes_of(text, first)), last, name) for first, last, name in functions_of(file, text)]
         found |= {name for first, last, name in functions if first <= int(line) <= last}
-    return found | {"::".join(["lib", *place.split("/")][-2:]) for place in NOT_READ.findall(output)}
+    for folder, goal in NOT_READ.findall(output):
+        *_, owner, function = ["lib", *folder.split("/")]
+        # In the folder of a cycle of functions a goal begins with the name of its own.
+        function = goal or function[1:] if function.startswith("+") else function
+        found.add(f"{owner.partition('+')[0]}::{function}")
+    return found
 
 
 class Edit:
