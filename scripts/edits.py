@@ -226,7 +226,10 @@ def checked(crate, texts, flags, left_out):
             Path(room, folder, "Proof.antt").write_text(proof)
         for path, text in texts.items():
             Path(room, path).write_text(text)
-        words = [rt.rtlib.RATTLE, "check", *crate.words(["--jobs", "1", *flags], keeps=False)]
+        words = crate.words(["--jobs", "1", *flags], keeps=False)
+        # (a static library is checked as any other, since what it links is as it was)
+        kind = words.index("--crate-type") if "--crate-type" in words else len(words)
+        words = [rt.rtlib.RATTLE, "check", *words[:kind], *words[kind + 2 :]]
         how = {"stdin": subprocess.DEVNULL, "stdout": subprocess.PIPE, "stderr": subprocess.STDOUT, "errors": "replace"}
         return subprocess.run([*rt.rtlib.guarded(), *words], cwd=room, **how)
 
@@ -234,7 +237,7 @@ def checked(crate, texts, flags, left_out):
 def check_of(crate, texts, functions, leaves_out=True):
     """A check of the crate with these texts. Where functions are given, it is of these alone, if each name fits one function; and it assumes
     that the others meet their contracts, unless it is told not to leave their proofs out."""
-    only = [word for name in sorted(functions or ()) for word in ("--only", name)]
+    only = [word for name in sorted(functions or ()) for word in ("--only", name.removeprefix("lib::"))]
     left_out = proofs_beside(crate, functions) if functions and leaves_out else ()
     ran = checked(crate, texts, only, left_out)
     return checked(crate, texts, [], left_out) if only and ran.returncode == 2 else ran
