@@ -20,17 +20,19 @@ cd -- "$(dirname -- "$0")/.."
 notes=$(mktemp)
 output=$(mktemp)
 taken=$(mktemp)
-trap 'kill "$sampler" 2> /dev/null; rm -f -- "$notes" "$output" "$taken"' EXIT
+edited=$(mktemp -u) # is there once edits are tried
+trap 'kill "$sampler" 2> /dev/null; rm -f -- "$notes" "$output" "$taken" "$edited"' EXIT
 
 # This session, which is 0 where the process that leads it can't be seen from here.
 session=$(ps -o sid= -p $$ | tr -d ' ')
 
 # A line for each check: its process, the seconds of a processor that it has taken, its crate, and what it is for.
 running_checks() {
-    ps -eo sid=,pid=,cputimes=,args= | awk -v session="$session" '
+    local purpose=proof
+    [[ -e $edited ]] && purpose=edits
+    ps -eo sid=,pid=,cputimes=,args= | awk -v session="$session" -v purpose="$purpose" '
         $1 == session && $4 ~ /\/rattle$/ && ($5 == "build" || $5 == "check") && $6 == "--crate-name" {
-            made = / --test /  ? "tests" : / --only / ? "edits" : "proof"
-            print $2, $3, $7, made
+            print $2, $3, $7, / --test / ? "tests" : purpose
         }'
 }
 
@@ -65,6 +67,7 @@ gate() {
         counted scripts/hostile_documents.py 1000 1 "$program" || status=1
     done
     EVERY=40 counted scripts/refuse_memory.sh --left || status=1
+    : > "$edited"
     scripts/edits.py together || status=1
     return "$status"
 }
