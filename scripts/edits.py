@@ -6,18 +6,18 @@
     scripts/edits.py unedited [CRATE ..]  the functions that all of these change, as they are: each must be proved
     scripts/edits.py form                 says only which edits, of the gate and of the others, cannot be made
 
-Those that are tried in one check change functions of their own each. An edit is refused where the check says of each function
-that it changes that a goal of its own is open: at its line in the source, or in the file of its proof. Where an edit changes a
-function that another's calls, the goals of that other are tried in a later check. What isn't refused so is tried alone: then an
-open goal in one of the functions that it changes refuses it, and where it changes a definition or a proof, any in the whole
-crate.
+Those that are tried in one check change functions of their own each. An edit is refused where the check says of each
+function that it changes that a goal of its own is open: at its line in the source, or in the file of its proof. Where
+an edit changes a function that another's calls, the goals of that other are tried in a later check. What isn't refused
+so is tried alone: then an open goal in one of the functions that it changes refuses it, and where it changes a
+definition or a proof, any in the whole crate.
 
-What a function calls is known to its proof by contracts alone. So the copy that is checked assumes of each function that no edit
-changes that it meets its contract, in place of its proof, and the goals of those that are changed are all that is tried.
-`unedited` makes that check without the edits: no function has an open goal then. All checks are made on copies of the crate, from
-nothing; nothing in the checkout changes. What the crate depends on is built first where it isn't. The crates are tried side by
-side, the last first: they have the dearest proofs. It ends with how many were refused and how many not, and with status 1 where
-an edit isn't refused.
+What a function calls is known to its proof by contracts alone. So the copy that is checked assumes of each function
+that no edit changes that it meets its contract, in place of its proof, and the goals of those that are changed are all
+that is tried. `unedited` makes that check without the edits: no function has an open goal then. All checks are made on
+copies of the crate, from nothing; nothing in the checkout changes. What the crate depends on is built first where it
+isn't. The crates are tried side by side, the last first: they have the dearest proofs. It ends with how many were
+refused and how many not, and with status 1 where an edit isn't refused.
 """
 import importlib.machinery
 import importlib.util
@@ -39,7 +39,9 @@ CYCLE = re.compile(r"#\[cycle\((\w+)\)\]")
 SAID = re.compile(r"^fn (\S+): ", re.MULTILINE)
 OPEN = re.compile(r"^fn (\S+): no proof: expected answers in \S*/\w+/Answers", re.MULTILINE)
 OPEN_AT = re.compile(r"^note: (src/\S+):(\d+):\d+: (?:it is not proved |`search` found no proof )", re.MULTILINE)
-NOT_READ = re.compile(r"^(?:\./)?proofs/(\S+)/(?:Answers|Invariants|Proof)\.antt:\d+:\d+: error: (?:`(\w+)-)?", re.MULTILINE)
+NOT_READ = re.compile(
+    r"^(?:\./)?proofs/(\S+)/(?:Answers|Invariants|Proof)\.antt:\d+:\d+: error: (?:`(\w+)-)?", re.MULTILINE
+)
 WAITING = re.compile(r"^fn (\S+): no proof: it calls ", re.MULTILINE)
 VERDICT = re.compile(r"logic=not-proved|only=\d+ proved=\d+$")
 
@@ -96,14 +98,15 @@ def named_in(output, said):
 
 
 def opened_in(folder, texts, output):
-    """The functions of a crate with these texts of which a check says that a goal of their own is open: by its line in the source, by the
-    file of the proof that doesn't prove it, or by the function's name."""
+    """The functions of a crate with these texts of which a check says that a goal of their own is open: by its line in
+    the source, by the file of the proof that doesn't prove it, or by the function's name."""
     found = named_in(output, OPEN)
     for file, line in OPEN_AT.findall(output):
         text = texts.get(file) or Path(folder, file).read_text()
         # What is said of a whole function is said where its attributes begin.
-        functions = [(first - len(attributes_of(text, first)), last, name) for first, last, name in functions_of(file, text)]
-        found |= {name for first, last, name in functions if first <= int(line) <= last}
+        for first, last, name in functions_of(file, text):
+            if first - len(attributes_of(text, first)) <= int(line) <= last:
+                found.add(name)
     for folder, goal in NOT_READ.findall(output):
         *_, owner, function = ["lib", *folder.split("/")]
         # In the folder of a cycle of functions a goal begins with the name of its own.
@@ -132,7 +135,8 @@ class Edit:
         return f"{self.crate.name}/{self.path.stem}"
 
     def made_on(self, texts):
-        """The texts of the files with this edit, `None` where a file is missing or one of its old texts isn't there exactly once."""
+        """The texts of the files with this edit, `None` where a file is missing or one of its old texts isn't there
+        exactly once."""
         texts = dict(texts)
         for file, old, new in self.changes:
             if file not in texts and not (self.crate / file).is_file():
@@ -179,9 +183,11 @@ def modules_of(source):
 
 
 def proofs_of(crate):
-    """The folders where the proofs of a crate's functions stand, as far as its text says where, each with the names of the functions that
-    are proved there. A method is in the module of its type; a cycle of functions has a folder with a plus before its name."""
-    sources = {path.relative_to(Path(crate.folder, "src")): path.read_text() for path in Path(crate.folder, "src").rglob("*.rt")}
+    """The folders where the proofs of a crate's functions stand, as far as its text says where, each with the names of
+    the functions that are proved there. A method is in the module of its type; a cycle of functions has a folder with a
+    plus before its name."""
+    src = Path(crate.folder, "src")
+    sources = {path.relative_to(src): path.read_text() for path in src.rglob("*.rt")}
     homes = {name: source for source, text in sources.items() for name in TYPE.findall(text)}
     folders = {}
     for source, text in sources.items():
@@ -211,7 +217,8 @@ def proofs_beside(crate, functions):
 
 
 def checked(crate, texts, flags, left_out):
-    """A check of a copy of the crate with these texts in place of its own, which assumes what the proofs in these folders show."""
+    """A check of a copy of the crate with these texts in place of its own, which assumes what the proofs in these
+    folders show."""
     rt = toolchain()
     with tempfile.TemporaryDirectory(prefix="edit-") as room:
         for part in rt.rtlib.PARTS:
@@ -235,8 +242,8 @@ def checked(crate, texts, flags, left_out):
 
 
 def check_of(crate, texts, functions, leaves_out=True):
-    """A check of the crate with these texts. Where functions are given, it is of these alone, if each name fits one function; and it assumes
-    that the others meet their contracts, unless it is told not to leave their proofs out."""
+    """A check of the crate with these texts. Where functions are given, it is of these alone, if each name fits one
+    function; and it assumes that the others meet their contracts, unless it is told not to leave their proofs out."""
     only = [word for name in sorted(functions or ()) for word in ("--only", name.removeprefix("lib::"))]
     left_out = proofs_beside(crate, functions) if functions and leaves_out else ()
     ran = checked(crate, texts, only, left_out)
@@ -244,8 +251,8 @@ def check_of(crate, texts, functions, leaves_out=True):
 
 
 def check(crate, texts, functions, leaves_out=True):
-    """Whether the prover refuses the crate with these texts, the functions with an open goal of their own, and those whose goals it leaves
-    untried until all that they call is proved."""
+    """Whether the prover refuses the crate with these texts, the functions with an open goal of their own, and those
+    whose goals it leaves untried until all that they call is proved."""
     rt, ran = toolchain(), check_of(crate, texts, functions, leaves_out)
     lines = ran.stdout.rstrip("\n").split("\n")
     is_read = not any(rt.unread(line, texts) for line in lines) and not rt.rtlib.STALE.search(ran.stdout)
@@ -268,8 +275,8 @@ def functions_in(edits):
 
 
 def refused_together(crate, edits):
-    """Tries edits of a crate that change functions alone, many in one check, and gives those that are refused so. Where one changes a
-    function that another's calls, the other's goals are tried in a later check, without it."""
+    """Tries edits of a crate that change functions alone, many in one check, and gives those that are refused so. Where
+    one changes a function that another's calls, the other's goals are tried in a later check, without it."""
     left, refused = edits, []
     while left:
         group, texts = group_of(left)
@@ -281,8 +288,9 @@ def refused_together(crate, edits):
 
 
 def is_refused_alone(crate, edit):
-    """Tries one edit: an open goal in one of the functions that it changes refuses it, and where it changes something else, any in the crate.
-    Where the check that leaves out the proofs of others shows none, it is tried once more with them."""
+    """Tries one edit: an open goal in one of the functions that it changes refuses it, and where it changes something
+    else, any in the crate. Where the check that leaves out the proofs of others shows none, it is tried once more with
+    them."""
     functions = edit.functions()
     for leaves_out in (True, False) if functions else (False,):
         is_refused, opened, _ = check(crate, edit.made_on({}), functions, leaves_out)
@@ -302,7 +310,8 @@ def not_refused(crate, edits):
 
 
 def not_sound(crate, edits):
-    """Checks the functions that edits change without an edit, and gives back the edits of those that have an open goal."""
+    """Checks the functions that edits change without an edit, and gives back the edits of those that have an open
+    goal."""
     in_functions = [edit for edit in edits if edit.functions()]
     said = check_of(crate, {}, functions_in(in_functions)).stdout if in_functions else ""
     sound = named_in(said, SAID) - opened_in(crate.folder, {}, said) - named_in(said, WAITING)
@@ -339,13 +348,15 @@ def main(word, *names):
         print(f"{edit}: cannot be made")
     if bad or word == "form":
         return 1 if bad else 0
-    tried, attempt = (edits["together"] + edits["more"], not_sound) if word == "unedited" else (edits[word], not_refused)
+    is_unedited = word == "unedited"
+    tried = edits["together"] + edits["more"] if is_unedited else edits[word]
+    attempt = not_sound if is_unedited else not_refused
     crates = crates_with(tried, names)
     of_crate = {name: [edit for edit in tried if edit.crate.name == name] for name in crates}
     with ThreadPoolExecutor(len(os.sched_getaffinity(0))) as pool:
         failed = sum(map(len, pool.map(lambda name: attempt(crates[name], of_crate[name]), reversed(crates))))
     done = sum(map(len, of_crate.values())) - failed
-    print(f"{done} edits of functions that are proved, {failed} not" if word == "unedited" else f"{done} edits refused, {failed} not")
+    print(f"{done} edits {'of functions that are proved' if is_unedited else 'refused'}, {failed} not")
     return 1 if failed else 0
 
 

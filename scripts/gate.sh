@@ -91,7 +91,8 @@ awk -v minutes="$((SECONDS / 60))" -v taken="$(awk '{ print ($1 + $2) / 60 }' "$
         printf "%-22s %8s %8s %8s\n", "crate", "proof", "tests", "edits"
         sorted = "sort -k5,5nr | cut -c1-49"
         for (crate in of_crate)
-            printf "%-22s %8.1f %8.1f %8.1f %.1f\n", crate, share[crate, "proof"], share[crate, "tests"], share[crate, "edits"], of_crate[crate] | sorted
+            printf "%-22s %8.1f %8.1f %8.1f %.1f\n", crate, share[crate, "proof"], share[crate, "tests"],
+                share[crate, "edits"], of_crate[crate] | sorted
         close(sorted)
     }' "$notes"
 awk '/^[0-9]+ (passed, [0-9]+ failed|edits refused, [0-9]+ not)$/ { passed += $1; failed += $(NF - 1) }

@@ -19,7 +19,7 @@ edits() {
     cat << 'END'
 # Edits that must be refused
 
-In each crate's folder `must-fail/` stand edits. Each makes one wrong body of a function, or turns a definition, and
+Each crate's folder `must-fail/` holds edits. Each makes one wrong body of a function, or turns a definition, and
 the prover must refuse it by the crate's own contracts. Those in `must-fail/together/` are tried by the gate: one of
 each public function, and beside it the wrong bodies that such an executor is most easily written with, as a lock that
 is overtaken, a reply out of order or a job that is claimed twice. They are tried many in one check, where each is told
@@ -30,7 +30,7 @@ tries them. A file is named after the function whose meaning it turns, and after
 Without an edit in the gate are laws, which have no body; `Entry::request`, `Attempts::batch`, `RowStore::catalogue`, `Loan::catalogue`,
 `Proc::clone`, `Procs::new`, `ProcFault::from` and `LineFault::from`, for which no other answer can be written down with what their
 crates have; `procs` and `rows` of both engines, `Engine::watcher`, `Engine::run_alone` and `Engine::execute_in`, and `make_place`, `lend_row` and `share_row` of `shelves`, whose edits
-stand in `must-fail/more/`; each other `from` of a fault, which says only which refusal is answered; the orders of `RowName` and of
+are in `must-fail/more/`; each other `from` of a fault, which says only which refusal is answered; the orders of `RowName` and of
 `Resource`, which are derived; `calvin_c_feed`, `calvin_c_end`, `calvin_c_fault` and `calvin_c_close`, which promise no more than
 to return; and `NoMemory::from`, `Gate::is_open`, `OpenGate::enter`, `WorkerPool::new`, `WorkerPool::runtime`, `Silence::hear` and `Display`,
 which promise nothing.
