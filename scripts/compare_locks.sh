@@ -5,7 +5,7 @@
 #
 # First 20,000 transfers in five batches on one thread, in seconds of a processor; then 4,096 and 16,384 readers and writers of one
 # resource, released from the front and in random order, in microseconds. The second line of these is to be at most five times
-# the first. What is built is run: `rt ci` leaves the programs there, and so does `rt run` in crates/cli and crates/bench_locks.
+# the first. What is built is run: `rt ci` leaves the programs there, and so does `rt run` in crates/cli and crates/bench_queues.
 set -euo pipefail
 cd -- "$(dirname -- "$0")/.."
 other=$(readlink -f -- "${1:?the other checkout}")
@@ -31,7 +31,7 @@ for _ in 1 2 3 4 5 6 7 8 9; do
         for tree in other this; do
             top=.
             [[ $tree == other ]] && top=$other
-            read -r _ front random < <("$top/crates/bench_locks/out/bench_locks" "$count")
+            read -r _ front random < <("$top/crates/bench_queues/out/bench_queues" locks "$count")
             echo "$front" >> "$work/$tree.$count.front"
             echo "$random" >> "$work/$tree.$count.random"
         done

@@ -12,7 +12,7 @@ use Rattle.sequencer.specs.declared.attempts.Carried.{Carried}
 use Rattle.sequencer.proofs.TriedAgain.{none_tried}
 use Rattle.retries.specs.Standings.{Standing}
 use Rattle.engine.specs.Batches.{entries_of}
-use Rattle.example_clients.specs.Calls.{CallItem, requests_of, asked_of}
+use Rattle.example_serving.specs.Calls.{CallItem, requests_of, asked_of}
 use Rattle.example_serving.specs.Serving.{answers_to, said_again, attempts_for, replies_for, batch_said, batch_end, all_end}
 
 pub none_carried : (procs : ProcsParts) (s : Standing) (batches : List (List CallItem)) → s.carried ≡ [] → (all_end 0 procs s batches).carried ≡ []

@@ -6,7 +6,7 @@ use Rattle.sequencer.specs.declared.attempts.Carried.{Carried}
 use Rattle.retries.specs.Standings.{Standing}
 use Rattle.engine.specs.Engines.{EngineParts, Unfinished, is_busy}
 use Rattle.engine.specs.Executions.{KeepsSetting}
-use Rattle.example_clients.specs.Calls.{CallItem}
+use Rattle.example_serving.specs.Calls.{CallItem}
 use Rattle.example_serving.specs.declared.told.Told.{Told}
 use Rattle.example_serving.specs.Serving.{said_in, batch_said, batch_end, all_said, all_end}
 use Rattle.example_serving.specs.Services.{AnswersBatches, calls_of_batches, standing_after, carried_beside}

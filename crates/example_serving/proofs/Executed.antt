@@ -14,8 +14,8 @@ use Rattle.engine.specs.Batches.{entries_of, next_attempts}
 use Rattle.engine.specs.Engines.{EngineParts, Unfinished, is_busy}
 use Rattle.engine.specs.Executions.{IsExecutionOf, KeepsSetting}
 use Rattle.engine.specs.Replies.{reply_of}
-use Rattle.example_clients.specs.declared.taking_in.Asked.{Asked}
-use Rattle.example_clients.specs.Calls.{CallItem, requests_of, asked_of}
+use Rattle.example_serving.specs.declared.taking_in.Asked.{Asked}
+use Rattle.example_serving.specs.Calls.{CallItem, requests_of, asked_of}
 use Rattle.example_serving.specs.declared.told.Told.{Told}
 use Rattle.example_serving.specs.declared.told.ServeFault.{ServeFault}
 use Rattle.example_serving.specs.declared.told.ServeFault.TheVariants.{LogFull, Spawn, NoMemory}

@@ -5,3 +5,5 @@ pub mod Served
 pub mod Executed
 pub mod Owned
 pub mod Apart
+pub mod Made
+pub mod Submitted

@@ -7,9 +7,9 @@ use Rattle.intake.specs.Histories.{HasAll, IsNumbered}
 use Rattle.intake.specs.Passes.{drawn_by}
 use Rattle.intake.specs.Draining.{all_items}
 use Rattle.engine.specs.Engines.{EngineParts, is_busy}
-use Rattle.example_clients.specs.declared.call.ClientCall.{ClientCall}
-use Rattle.example_clients.specs.Calls.{CallItem}
-use Rattle.example_clients.specs.Logs.{ClientLog, histories_from}
+use Rattle.example_serving.specs.declared.call.ClientCall.{ClientCall}
+use Rattle.example_serving.specs.Calls.{CallItem}
+use Rattle.example_serving.specs.Logs.{ClientLog, histories_from}
 use Rattle.example_serving.specs.declared.told.Told.{Told}
 use Rattle.example_serving.specs.declared.told.ServeFault.{ServeFault}
 use Rattle.example_serving.specs.declared.told.ServeFault.TheVariants.{NoMemory}

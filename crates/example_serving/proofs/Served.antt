@@ -4,7 +4,7 @@ use Rattle.std.proofs.lemmas.List.{append-nil}
 use Rattle.requests.specs.ProcLists.{ProcsParts}
 use Rattle.retries.specs.Standings.{Standing}
 use Rattle.engine.specs.Engines.{EngineParts, Unfinished, is_busy}
-use Rattle.example_clients.specs.Calls.{CallItem}
+use Rattle.example_serving.specs.Calls.{CallItem}
 use Rattle.example_serving.specs.declared.told.Told.{Told}
 use Rattle.example_serving.specs.declared.told.ServeFault.{ServeFault}
 use Rattle.example_serving.specs.declared.told.ServeFault.TheVariants.{LogFull, Spawn, NoMemory}

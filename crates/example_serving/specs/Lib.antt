@@ -1,3 +1,6 @@
+pub mod Calls
+pub mod Logs
+pub mod Clients
 pub mod Serving
 pub mod Services
 pub mod Steps

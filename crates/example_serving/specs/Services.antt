@@ -8,8 +8,8 @@ use Rattle.running.specs.Standings.{standing_of}
 use Rattle.intake.specs.Histories.{HasAll, IsNumbered}
 use Rattle.engine.specs.Engines.{EngineParts, Unfinished, is_busy}
 use Rattle.engine.specs.Executions.{KeepsSetting}
-use Rattle.example_clients.specs.Calls.{CallItem}
-use Rattle.example_clients.specs.Logs.{ClientLog, histories_from}
+use Rattle.example_serving.specs.Calls.{CallItem}
+use Rattle.example_serving.specs.Logs.{ClientLog, histories_from}
 use Rattle.example_serving.specs.declared.told.Told.{Told}
 use Rattle.example_serving.specs.declared.told.ServeFault.{ServeFault}
 use Rattle.example_serving.specs.declared.told.ServeFault.TheVariants.{LogFull, Spawn, NoMemory}

@@ -13,8 +13,8 @@ use Rattle.sequencer.specs.declared.attempts.Carried.{Carried}
 use Rattle.retries.specs.Standings.{Standing}
 use Rattle.engine.specs.Batches.{entries_of}
 use Rattle.example_serving.specs.declared.told.Told.{Told}
-use Rattle.example_clients.specs.declared.taking_in.Asked.{Asked}
-use Rattle.example_clients.specs.Calls.{CallItem, requests_of, asked_of}
+use Rattle.example_serving.specs.declared.taking_in.Asked.{Asked}
+use Rattle.example_serving.specs.Calls.{CallItem, requests_of, asked_of}
 
 -- an answer, and whom it is for
 pub record Said : Type 0 where

@@ -12,8 +12,8 @@ use Rattle.engine.specs.declared.replies.Reply.{Reply}
 use Rattle.engine.specs.Batches.{next_attempts}
 use Rattle.engine.specs.Engines.{EngineParts, is_busy}
 use Rattle.engine.specs.Replies.{reply_of}
-use Rattle.example_clients.specs.declared.call.ClientCall.{ClientCall}
-use Rattle.example_clients.specs.Calls.{CallItem}
+use Rattle.example_serving.specs.declared.call.ClientCall.{ClientCall}
+use Rattle.example_serving.specs.Calls.{CallItem}
 use Rattle.example_serving.specs.declared.told.Told.{Told}
 use Rattle.example_serving.specs.declared.told.ServeFault.{ServeFault}
 use Rattle.example_serving.specs.declared.told.ServeFault.TheVariants.{LogFull, Spawn, NoMemory}

@@ -10,9 +10,10 @@ ghost use Rattle.engine.specs.Replies.{reply_of};
 ghost use Rattle.example_serving.specs.Serving.{said_in, answers_to};
 ghost use Rattle.example_serving.specs.Steps.{IsStopped, ServesOn, said_by};
 
+use crate::call::CallItem;
+use crate::taking_in::{Asked, take_in};
 use crate::told::{ServeFault, Told};
 use engine::{BatchDone, Engine, ExecFault, OpenGate, Reply};
-use example_clients::{Asked, CallItem, take_in};
 use intake::Batched;
 use sequencer::Batch;
 use std::alloc::Global;

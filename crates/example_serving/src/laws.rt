@@ -5,7 +5,7 @@ ghost use Rattle.meaning.specs.Serial.{serial_end, serial_replies};
 ghost use Rattle.requests.specs.ProcLists.{ProcsParts};
 ghost use Rattle.sequencer.specs.Entries.{prepared};
 ghost use Rattle.retries.specs.Standings.{Standing};
-ghost use Rattle.example_clients.specs.Calls.{CallItem, requests_of, asked_of};
+ghost use Rattle.example_serving.specs.Calls.{CallItem, requests_of, asked_of};
 ghost use Rattle.example_serving.specs.Serving.{answers_to, batch_said, batch_end, all_end};
 
 /// Where no request is tried again, and none is carried, none is carried after any batches. Where none is carried, a

@@ -7,9 +7,9 @@ ghost use Rattle.example_serving.specs.Services.{AnswersFirstPart, calls_of_batc
 ghost use Rattle.example_serving.specs.Steps.{DrawsOn, HasServed, ServesOn, items_in};
 
 use crate::answering::answer_batch;
+use crate::call::{CallItem, ClientCall};
 use crate::told::{ServeFault, Told};
 use engine::Engine;
-use example_clients::{CallItem, ClientCall};
 use intake::{DrawPass, Intake, MOST_DRAWN};
 use std::alloc::Global;
 use std::sync::Wait;

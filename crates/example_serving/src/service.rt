@@ -6,12 +6,13 @@ ghost use Rattle.intake.specs.Passes.{IsDrawerOf, AreClientsOf, AreNewClients, h
 ghost use Rattle.engine.specs.Engines.{is_busy};
 ghost use Rattle.example_serving.specs.Services.{IsService};
 ghost use Rattle.example_serving.specs.Steps.{HasServed, IsServedToTheEnd};
-ghost use Rattle.example_clients.specs.Logs.{IsShortLog, histories_from};
+ghost use Rattle.example_serving.specs.Logs.{IsShortLog, histories_from};
 
+use crate::call::{CallItem, ClientCall};
+use crate::clients::run_clients;
 use crate::owner::{Owner, answer_to_the_end, attend};
 use crate::told::{ServeFault, Told};
 use engine::Engine;
-use example_clients::{CallItem, ClientCall, run_clients};
 use intake::{ClientPass, Intake};
 use std::alloc::{AllocError, Global};
 use std::sync::Wait;

@@ -4,8 +4,7 @@ use engine::{Engine, Settings};
 use std::alloc::Global;
 use std::sync::Wait;
 use std::test::Fail;
-use test_bank::{Bodies, Call, TWO_PAYS};
-use test_engines::{batch_of, engine, replies};
+use test_bank::{Bodies, Call, TWO_PAYS, batch_of, engine, replies};
 
 /// How many lists of choices are tried with each setting.
 const SEEDS: u32 = 64;

@@ -5,8 +5,7 @@ use std::alloc::Global;
 use std::sync::Wait;
 use std::test::Fail;
 use std::thread::Threads;
-use test_bank::{Bodies, Call};
-use test_engines::{CountingGate, HANDED_OVER, Meeting, execute};
+use test_bank::{Bodies, Call, CountingGate, HANDED_OVER, Meeting, execute};
 
 /// Calls, how many workers and lanes, whom the first waits for and for how many turns, what comes of the calls, and
 /// whether the two meet.

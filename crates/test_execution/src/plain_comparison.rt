@@ -17,8 +17,7 @@ use std::alloc::Global;
 use std::sync::Wait;
 use std::test::Fail;
 use std::thread::Threads;
-use test_bank::{Bodies, CallsFault, bank, batch_over, request};
-use test_engines::{CountingGate, HANDED_OVER, engine};
+use test_bank::{Bodies, CallsFault, CountingGate, HANDED_OVER, bank, batch_over, engine, request};
 use values::{Key, Row, TableNo};
 use workspace::RowView;
 

@@ -8,8 +8,7 @@ use std::sync::Wait;
 use std::test::Fail;
 use std::thread;
 use std::thread::Threads;
-use test_bank::{Bodies, Call, TWO_PAYS};
-use test_engines::{HANDED_OVER, Meeting, batch_of, engine, replies};
+use test_bank::{Bodies, Call, HANDED_OVER, Meeting, TWO_PAYS, batch_of, engine, replies};
 
 /// What comes of calls that an engine executes in a pool.
 fn execute_in<'s, E, R: Wait + Sync + AllocGlobal, G: Gate>(

@@ -10,8 +10,7 @@ use setup::read_setup;
 use std::alloc::Global;
 use std::sync::Wait;
 use std::test::Fail;
-use test_bank::{Bodies, batch_over, request};
-use test_engines::{engine, replies};
+use test_bank::{Bodies, batch_over, engine, replies, request};
 
 /// The bank's tables, of which the first is split at a bound, without procedures and rows.
 const SPLIT_AT_3: &str = r#"["setup",1,

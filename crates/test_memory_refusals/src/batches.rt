@@ -17,7 +17,7 @@ use std::alloc::Global;
 use std::sync::Wait;
 use std::thread::Threads;
 use std::{fs, rt};
-use test_engines::CountingGate;
+use test_bank::CountingGate;
 use test_refusal_steps::{Answer, Refusal, batch_in, batch_of};
 
 /// A log whose files stand in `data/`.

@@ -9,7 +9,7 @@ use report_text::push_reply_line;
 use std::alloc::{AllocError, Global};
 use std::sync::Wait;
 use std::thread::Threads;
-use test_engines::CountingGate;
+use test_bank::CountingGate;
 use test_refusal_steps::{Answer, CALLS, Refusal, bank, batch, is_of_log};
 
 /// An engine on a setup, with so many workers.

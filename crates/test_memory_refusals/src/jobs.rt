@@ -1,7 +1,7 @@
 //! How many calls are jobs.
 
 use calvin::Gate;
-use test_engines::CountingGate;
+use test_bank::CountingGate;
 use test_refusal_steps::Answer;
 
 /// An answer, which is right only if each of so many calls has passed the gate once as a job; or none has, where the

@@ -4,7 +4,7 @@ use crate::jobs::if_jobs;
 use calvin::{LogFault, LogFaultKind, ReadSource, RunFault, Settings, Setup, WriteSink, run_text};
 use std::sync::Wait;
 use std::thread::Threads;
-use test_engines::CountingGate;
+use test_bank::CountingGate;
 use test_refusal_steps::{Answer, CALLS, REPORT, Refusal, bank, log_text};
 
 /// A log of so many calls is run on a setup, through a gate, and its report is written.

@@ -1,7 +1,7 @@
 //! What clients are answered.
 
 ghost use Rattle.std.specs.List.{AllByRecursion};
-ghost use Rattle.example_clients.specs.Logs.{IsShortLog};
+ghost use Rattle.example_serving.specs.Logs.{IsShortLog};
 
 use crate::logs::{four, readings};
 use crate::servers::{reckoned, said, serve_all};
@@ -12,8 +12,7 @@ use std::fmt::Write;
 use std::sync::Wait;
 use std::test::Fail;
 use std::thread::Threads;
-use test_bank::{Bodies, Call};
-use test_engines::{CountingGate, engine, execute};
+use test_bank::{Bodies, Call, CountingGate, engine, execute};
 
 /// How many answers each list has, if they are its client's, of its calls 0, 1 and so on; the clients are 1, 2 and so
 /// on.

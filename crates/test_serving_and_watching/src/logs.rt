@@ -2,7 +2,7 @@
 
 ghost use Rattle.std.specs.Prelude.{◌≡◌, IfOk};
 ghost use Rattle.std.specs.List.{AllByRecursion};
-ghost use Rattle.example_clients.specs.Logs.{IsShortLog};
+ghost use Rattle.example_serving.specs.Logs.{IsShortLog};
 
 use example_serving::ClientCall;
 use std::alloc::Global;

@@ -1,7 +1,7 @@
 //! Servers on the bank, what they tell as a text, and what a plain program reckons.
 
 ghost use Rattle.std.specs.List.{AllByRecursion};
-ghost use Rattle.example_clients.specs.Logs.{IsShortLog};
+ghost use Rattle.example_serving.specs.Logs.{IsShortLog};
 
 use engine::Engine;
 use example_serving::{ClientCall, Told, serve};

@@ -10,8 +10,7 @@ use std::sync::atomic::{AtomicU64, Ordering};
 use std::sync::{Mutex, Wait};
 use std::test::Fail;
 use std::thread::{Threads, join};
-use test_bank::{Bodies, Call};
-use test_engines::{CountingGate, batch_of, engine};
+use test_bank::{Bodies, Call, CountingGate, batch_of, engine};
 
 /// How often a thread watches.
 const LOOKS: u32 = 2_000;

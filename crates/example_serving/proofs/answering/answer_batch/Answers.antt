@@ -1,6 +1,6 @@
 use Rattle.std.proofs.Common.{◌≡◌, rules}
 use Rattle.sequencer.specs.Batches.{items_of}
-use Rattle.example_clients.specs.Calls.{requests_of, asked_of}
+use Rattle.example_serving.specs.Calls.{requests_of, asked_of}
 use Rattle.example_serving.proofs.Again.{enough_said}
 use Rattle.example_serving.proofs.Executed.{err_is, stopped_served, executed_served}
 use Rattle.example_serving.proofs.answering.answer_batch.Goals as goal

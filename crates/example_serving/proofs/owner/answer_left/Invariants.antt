@@ -1,7 +1,7 @@
 use Rattle.std.proofs.Common.{◌≡◌, ◌++◌, List, false}
 use Rattle.std.specs.Vec.Iter.{into_iter_items}
 use Rattle.engine.specs.Engines.{is_busy}
-use Rattle.example_clients.specs.Calls.{CallItem}
+use Rattle.example_serving.specs.Calls.{CallItem}
 use Rattle.example_serving.specs.Services.{calls_of_batches}
 use Rattle.example_serving.specs.Steps.{AnswersAll, items_in}
 use Rattle.example_serving.proofs.owner.answer_left.Given as goal

@@ -1,6 +1,6 @@
 use Rattle.std.proofs.Common.{◌≡◌, map, rules}
 use Rattle.intake.specs.Passes.{own_history}
-use Rattle.example_clients.specs.Logs.{histories_from}
+use Rattle.example_serving.specs.Logs.{histories_from}
 use Rattle.example_serving.specs.declared.owner.Owner.{Owner}
 use Rattle.example_serving.specs.Steps.{HasServed}
 use Rattle.example_serving.proofs.Owned.{no_service, cut_service, whole_service}

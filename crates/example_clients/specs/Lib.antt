@@ -1,3 +1,0 @@
-pub mod Calls
-pub mod Logs
-pub mod Clients
