@@ -241,10 +241,18 @@ def checked(crate, texts, flags, left_out):
         return subprocess.run([*rt.rtlib.guarded(), *words], cwd=room, **how)
 
 
+def whole_names(crate, functions):
+    """These names of functions as a check takes them: where the folder of a type's proofs names the type's parameters,
+    they are in the names of its methods."""
+    owners = {it.name.partition("+")[0]: it.name for it in Path(crate.folder, "proofs").rglob("[!+]*+*") if it.is_dir()}
+    parts = [name.removeprefix("lib::").split("::") for name in sorted(functions)]
+    return ["::".join([owners.get(owner, owner) for owner in it[:-1]] + it[-1:]) for it in parts]
+
+
 def check_of(crate, texts, functions, leaves_out=True):
     """A check of the crate with these texts. Where functions are given, it is of these alone, if each name fits one
     function; and it assumes that the others meet their contracts, unless it is told not to leave their proofs out."""
-    only = [word for name in sorted(functions or ()) for word in ("--only", name.removeprefix("lib::"))]
+    only = [word for name in whole_names(crate, functions or ()) for word in ("--only", name)]
     left_out = proofs_beside(crate, functions) if functions and leaves_out else ()
     ran = checked(crate, texts, only, left_out)
     return checked(crate, texts, [], left_out) if only and ran.returncode == 2 else ran
