@@ -48,7 +48,7 @@ int32_t calvin_c_fault(calvin_c_session session, uint64_t *line);
 void calvin_c_close(calvin_c_session session);
 
 /* Opens a session on the setup whose JSON text has this length, and gives its pointer out by `session`. Otherwise `session` gets
- * null. Where the setup breaks a rule, the line of its first fault, as `fault 22 at /2/0`, goes to `message` without a null byte
+ * null. Where the setup breaks a rule, the line of its first fault, as `fault 11 at /2/0`, goes to `message` without a null byte
  * at its end, as far as it fits into `message_room` bytes; `message_length` gets how many bytes were written. `message` may be
  * null where the room is 0. */
 static inline int calvin_open(const uint8_t *setup, size_t setup_length, size_t coarsen, size_t arena, calvin **session,

@@ -2,7 +2,7 @@
 # Runs the gate: `rt ci`; then, on the programs that it left built,
 #
 # - `scripts/examples.py`, `scripts/manual.py --check` and `scripts/crates.py --check`, which compare what comes out, and the crates,
-#   with what the documents say,
+#   with what the documents say, and `scripts/unsafe.py`, which refuses words that let a value go without its end,
 # - `scripts/cases.py`, which runs the stored cases, and `scripts/hostile_documents.py`, which runs 1,000 setups and logs made at
 #   random, each on the program as either compiler makes it,
 # - `tools/notation/tests.py`, which tries the notation of setups, and `workloads/cases.py --check`, which compares the stored
@@ -60,6 +60,7 @@ gate() {
     counted scripts/examples.py || status=1
     counted scripts/manual.py --check || status=1
     counted scripts/crates.py --check || status=1
+    counted scripts/unsafe.py || status=1
     counted tools/notation/tests.py || status=1
     counted workloads/cases.py --check || status=1
     for program in crates/cli/out/cli{,.by-rattle}; do

@@ -55,7 +55,7 @@ pub record Holds (old new : EngineParts) : Type 0 where
   pub carried : new.carried ≡ []
 
 -- A batch was not run to its end, and the engine holds it with all that was carried to it. Where a thread was refused,
--- nothing of it has run in this call, and if allocation failed, not all of it.
+-- nothing of it has run in this call. If allocation failed, some of it may have run, or all.
 abbrev pub IsInterruption : EngineParts → Option Unfinished → EngineParts → ExecFault → Type 0
 IsInterruption old unfinished new (Busy back) = ⊥
 IsInterruption old unfinished new (LogFull back) = ⊥

@@ -4,7 +4,7 @@ ghost use Rattle.std.specs.Prelude.{◌≡◌, [], ◌∷◌, ◌+◌, ◌<◌, 
 ghost use Rattle.std.specs.FinMap as map_of;
 ghost use Rattle.row_store.specs.Stock.{with_rows};
 ghost use Rattle.sequencer.specs.Batches.{items_of, AreOver};
-ghost use Rattle.progress.specs.Tallies.{zero_tally};
+ghost use Rattle.progress.specs.Tallies.{zero_tally, StartsWith};
 ghost use Rattle.engine.specs.Accounts.{Publishes, ShowsSettled};
 ghost use Rattle.engine.specs.Batches.{next_attempts};
 ghost use Rattle.engine.specs.Engines.{tables_of, is_busy};
@@ -130,8 +130,9 @@ impl Engine {
         self.core.retries()
     }
 
-    /// Runs a batch on worker threads, over lanes; a job that is the only one out may be run on the calling thread. Who
-    /// runs a job passes the gate once for it, before.
+    /// Runs a batch on worker threads and on the calling one. A job that others may be out beside goes to a worker over
+    /// lanes; where none is out the calling thread may run the next call itself. Who runs a job passes the gate once for
+    /// it, before.
     ///
     /// The carried requests stand before the batch's calls, and an empty batch runs them alone. The replies are those
     /// of their entries one by one on the rows before it, and the rows afterwards are theirs. A stale request that was
@@ -217,5 +218,23 @@ impl Engine {
             unreachable!()
         };
         Ok(publisher.watcher(rt)?)
+    }
+
+    /// Tells a watcher of this engine all that was published. What the watcher has seen before is a beginning of that:
+    /// so each tally that it read was published by this engine. It may wait.
+    pub fn tell<R: Wait>(&mut self, rt: &R, watcher: &mut Watcher)
+        requires place { watcher.old.place ≡ self.old.account.place }
+        ensures kept { self.new ≡ self.old }
+        ensures begins { StartsWith self.old.account.published watcher.old.seen }
+        ensures told { watcher.new ≡ record {
+          seen = self.old.account.published;
+          place = self.old.account.place;
+        } }
+        ensures shown { ShowsSettled self.new }
+    {
+        let Some(publisher) = &mut self.publisher else {
+            unreachable!()
+        };
+        publisher.tell(rt, watcher);
     }
 }

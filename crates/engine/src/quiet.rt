@@ -284,8 +284,29 @@ impl QuietEngine {
         // It starts no thread.
         ensures threadless { IfErr result (λ fault. ¬ IsSpawn fault) }
     {
+        self.execute_by(alloc, batch, &[])
+    }
+
+    /// Runs a batch as `execute` does, by these choices of events: each step makes the event that `choose` gives for
+    /// the next choice. Whatever the choices are, it returns, and the replies and the rows are the same: it has no leave
+    /// to wait.
+    pub fn execute_by(
+        &mut self,
+        alloc: Global,
+        batch: Batch,
+        choices: &[u64],
+    ) -> Result<BatchDone, ExecFault>
+        requires { AreOver (tables_of self.old) (items_of batch) }
+        ensures same { KeepsSetting self.old self.new }
+        ensures done { IfOk result (IsExecutionOf self.old self.new (next_attempts self.old batch)) }
+        ensures busy { is_busy self.old ≡ true → result ≡ Err (ExecFault.Busy batch) }
+        ensures full { is_busy self.old ≡ false → 2 ^ 48 < self.old.next + length (next_attempts self.old batch) →
+            result ≡ Err (ExecFault.LogFull batch) }
+        ensures refused { IfErr result (IsRefusal self.old self.new batch) }
+        ensures threadless { IfErr result (λ fault. ¬ IsSpawn fault) }
+    {
         self.take(batch)?;
-        self.resume(alloc)
+        self.resume_alone(alloc, &mut Silence, choices)
     }
 
     /// Goes on with the unfinished batch, and gives the replies of the whole batch.

@@ -1,7 +1,7 @@
 //! Who publishes a tally.
 
 ghost use Rattle.std.specs.Prelude.{◌≡◌, [], ◌∷◌, ◌++◌, IfOk};
-ghost use Rattle.progress.specs.Tallies.{zero_tally, latest, AddsUp, NoneBelow};
+ghost use Rattle.progress.specs.Tallies.{zero_tally, latest, AddsUp, NoneBelow, StartsWith};
 
 use crate::passes::{WatchPass, WriterPass};
 use crate::progress::Progress;
@@ -108,5 +108,16 @@ impl Publisher {
         self.progress.tell(rt, &mut self.writer, &mut self.watch);
         let pass = self.progress.another(&mut self.watch);
         Ok(Watcher { progress, pass })
+    }
+
+    /// Tells a watcher of this list all that was published. What the watcher has seen before is a beginning of that: so
+    /// each tally that it read was published here. It may wait.
+    pub fn tell<R: Wait>(&mut self, rt: &R, watcher: &mut Watcher)
+        requires place { watcher.old.place ≡ self.old.place }
+        ensures kept { self.new ≡ self.old }
+        ensures begins { StartsWith self.old.published watcher.old.seen }
+        ensures told { watcher.new ≡ record { seen = self.old.published; place = self.old.place } }
+    {
+        self.progress.tell(rt, &mut self.writer, &mut watcher.pass);
     }
 }

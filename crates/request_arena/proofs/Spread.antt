@@ -32,7 +32,7 @@ spread_at f h zero q less = absurd (omega (arith, less))
 spread_at f h (suc k) zero less = let at : h ≡ h + 0 = omega arith in ap f at
 spread_at f h (suc k) (suc q) less = let at : suc h + q ≡ h + suc q = omega arith in spread_at f (suc h) k q (omega (arith, less)) ∙ ap f at
 
-spread_long : (f : ℕ → List ℕ) (h k : ℕ) → length (spread f h k) ≡ k
+pub spread_long : (f : ℕ → List ℕ) (h k : ℕ) → length (spread f h k) ≡ k
 spread_long f h zero = refl
 spread_long f h (suc k) = ap suc (spread_long f (suc h) k)
 

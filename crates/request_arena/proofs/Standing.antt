@@ -1,11 +1,11 @@
 -- A node of a queue is live, and stands in no other queue and at no other place.
-use Rattle.std.proofs.Common.{◌≡◌, ℕ, zero, suc, ◌+◌, ◌<◌, inl, inr, Bool, true, List, [], ◌∷◌, length, Option, Some, None, is_some, slice_get, slice_index_or, refl, sym, ◌∙◌, ap, subst, arith}
+use Rattle.std.proofs.Common.{◌≡◌, ℕ, zero, suc, ◌+◌, ◌-◌, ◌<◌, ◌≤◌, ◌⊎◌, inl, inr, Bool, true, false, List, [], ◌∷◌, length, Option, Some, None, is_some, slice_get, slice_index_or, refl, sym, ◌∙◌, ap, subst, arith}
 use Rattle.request_arena.specs.declared.node.Node.{Node}
 use Rattle.request_arena.specs.declared.node.Held.{Held}
-use Rattle.request_arena.specs.Walks.{Walk, Used}
-use Rattle.request_arena.specs.Nodes.{next, live}
+use Rattle.request_arena.specs.Walks.{Walk, Used, Undo}
+use Rattle.request_arena.specs.Nodes.{next, prev, live}
 use Rattle.request_arena.specs.Linked.{spread, held_in, queue_of, IsLinked}
-use Rattle.request_arena.proofs.Walks.{one_walk}
+use Rattle.request_arena.proofs.Walks.{one_walk, true_false}
 use Rattle.request_arena.proofs.Changed.{none_some, some_same}
 use Rattle.request_arena.proofs.Linked.{queue_is}
 use Rattle.request_arena.proofs.Spread.{spread_at}
@@ -69,3 +69,87 @@ next_is_live ns c k v free was x used low = elim (was.ring.onward x used).0 [
   | inl on ↦ held_there c ns (next ns x) low on
   | inr far ↦ absurd (omega (arith, far.0, low))
 ]
+
+-- ---- a live node is in a queue
+
+held_live : (c : ℕ) (ns : List Node) (a : ℕ) (h : Held) → slice_get (held_in c ns) a ≡ Some (Some h) → live ns a ≡ true
+held_live zero ns a h e = absurd (none_some (Some h) e)
+held_live (suc c) [] a h e = absurd (none_some (Some h) e)
+held_live (suc c) (n ∷ ns) zero h e = ap is_some (some_same n.held (Some h) e)
+held_live (suc c) (n ∷ ns) (suc a) h e = held_live c ns a h e
+
+module _ (nodes all : ℕ) (onward back : ℕ → ℕ) (on : ℕ → Bool) (undo : Undo nodes all onward back on) where
+  -- two linked places that lead to one are one
+  one_before : (x p : ℕ) → Used nodes all on x → Used nodes all on p → onward p ≡ onward x → x ≡ p
+  one_before x p here before e = sym (undo x here).1 ∙ ap back (sym e) ∙ (undo p before).1
+
+  -- The place before one of a walk is in the walk, or before all of it
+  before_at : (ys : List ℕ) (x p b t i z : ℕ) → Used nodes all on x → Used nodes all on p → onward p ≡ b → Walk onward on b ys t
+      → slice_get ys i ≡ Some z → onward x ≡ z → (x ≡ p) ⊎ ((j : ℕ) × (slice_get ys j ≡ Some x))
+  before_at [] x p b t i z here before e w g n = absurd (none_some z g)
+  before_at (y ∷ ys) x p b t zero z here before e w g n = inl (one_before x p here before (e ∙ w.0 ∙ some_same y z g ∙ sym n))
+  before_at (y ∷ ys) x p b t (suc i) z here before e w g n =
+      elim (before_at ys x b (onward b) t i z here (inl w.1) refl w.2 g n) [
+        | inl is ↦ inr (0, ap some_place (sym w.0 ∙ sym is))
+        | inr later ↦ inr (suc later.0, later.1)
+      ]
+    where
+      some_place : ℕ → Option ℕ
+      some_place q = Some q
+
+  -- the same of the end of a walk
+  before_end : (ys : List ℕ) (x p b t : ℕ) → Used nodes all on x → Used nodes all on p → onward p ≡ b → Walk onward on b ys t
+      → onward x ≡ t → (x ≡ p) ⊎ ((j : ℕ) × (slice_get ys j ≡ Some x))
+  before_end [] x p b t here before e w n = inl (one_before x p here before (e ∙ w.0 ∙ sym n))
+  before_end (y ∷ ys) x p b t here before e w n =
+      elim (before_end ys x b (onward b) t here (inl w.1) refl w.2 n) [
+        | inl is ↦ inr (0, ap some_place (sym w.0 ∙ sym is))
+        | inr later ↦ inr (suc later.0, later.1)
+      ]
+    where
+      some_place : ℕ → Option ℕ
+      some_place q = Some q
+
+  -- a live place from which one comes to a head is in the ring of the head
+  in_ring : (xs ys : List ℕ) (x head : ℕ) → on head ≡ false → Used nodes all on head → Walk onward on (onward head) ys head
+      → on x ≡ true → Walk onward on x xs head → (j : ℕ) × (slice_get ys j ≡ Some x)
+  in_ring [] ys x head off used ring is w = absurd (true_false (on x) is w.1)
+  in_ring (y ∷ []) ys x head off used ring is w = elim (before_end ys x head (onward head) head (inl is) used refl ring w.2.0) [
+    | inl same ↦ absurd (true_false (on x) is (ap on same ∙ off))
+    | inr found ↦ found
+  ]
+  in_ring (y ∷ z ∷ xs) ys x head off used ring is w =
+      let next_in = in_ring (z ∷ xs) ys (onward x) head off used ring w.2.1 w.2 in
+      elim (before_at ys x head (onward head) head next_in.0 (onward x) (inl is) used refl ring next_in.1 refl) [
+        | inl same ↦ absurd (true_false (on x) is (ap on same ∙ off))
+        | inr found ↦ found
+      ]
+
+-- a walk from a linked place ends at a linked one
+walk_used : (nodes all : ℕ) (onward back : ℕ → ℕ) (on : ℕ → Bool) → Undo nodes all onward back on → (xs : List ℕ) (b t : ℕ) → Used nodes all on b → Walk onward on b xs t → Used nodes all on t
+walk_used nodes all onward back on undo [] b t used w = subst (Used nodes all on) w.0 used
+walk_used nodes all onward back on undo (x ∷ xs) b t used w = walk_used nodes all onward back on undo xs (onward b) t (undo b used).0 w.2
+
+head_below : (nodes all t : ℕ) (on : ℕ → Bool) → on t ≡ false → Used nodes all on t → t < all
+head_below nodes all t on off (inl is) = absurd (true_false (on t) is off)
+head_below nodes all t on off (inr far) = far.1
+
+walk_off : (onward : ℕ → ℕ) (on : ℕ → Bool) (xs : List ℕ) (b t : ℕ) → Walk onward on b xs t → on t ≡ false
+walk_off onward on [] b t w = subst (λ a. on a ≡ false) w.0 w.1
+walk_off onward on (x ∷ xs) b t w = walk_off onward on xs (onward b) t w.2
+
+-- a live node is in a queue that there is
+pub stands_somewhere : (ns : List Node) (c k v free : ℕ) → IsLinked ns c k v free → (a : ℕ) (h : Held) → slice_get (held_in c ns) a ≡ Some (Some h)
+    → (q i : ℕ) × ((q < k) × (slice_get (slice_index_or (spread (queue_of ns c) c k) q []) i ≡ Some a))
+stands_somewhere ns c k v free was a h e =
+    let is = held_live c ns a h e in
+    let end = was.ring.ends a is in
+    let head = end.1.0 in
+    let low = end.1.1.0 in
+    let w = end.1.1.1 in
+    let off : live ns head ≡ false = walk_off (next ns) (live ns) end.0 a head w in
+    let bound : head < c + k = head_below c (c + k) head (live ns) off (walk_used c (c + k) (next ns) (prev ns) (live ns) was.ring.onward end.0 a head (inl is) w) in
+    let there = in_ring c (c + k) (next ns) (prev ns) (live ns) was.ring.onward end.0 (queue_of ns c head) a head off (inr (low, bound)) (queue_is ns c k v free was head low bound) is w in
+    let few : head - c < k = omega (arith, low, bound) in
+    let back : c + (head - c) ≡ head = omega (arith, low) in
+    (head - c, there.0, (few, ap (λ (l : List ℕ). slice_get l there.0) (spread_at (queue_of ns c) c k (head - c) few ∙ ap (queue_of ns c) back) ∙ there.1))

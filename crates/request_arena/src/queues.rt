@@ -183,8 +183,11 @@ impl Queues {
         content(self.block.get(id.place as usize).held).request
     }
 
-    /// A node of a queue is live, and stands in no other queue and at no other place of its own.
+    /// A live node is in a queue, and a node of a queue is live. It is in no other queue, and at no other place of its
+    /// own.
     pub fn nodes_stand_apart(&self)
+        ensures stand { (a : ℕ) → IsLive self.now a → (q i : ℕ) × ((q < length self.now.queues) ×
+            (slice_get (slice_index_or self.now.queues q []) i ≡ Some a)) }
         ensures live { (q i a : ℕ) → slice_get (slice_index_or self.now.queues q []) i ≡ Some a → IsLive self.now a }
         ensures apart { (q r i j a : ℕ) → slice_get (slice_index_or self.now.queues q []) i ≡ Some a →
             slice_get (slice_index_or self.now.queues r []) j ≡ Some a → (q ≡ r) × (i ≡ j) }

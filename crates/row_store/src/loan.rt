@@ -18,8 +18,9 @@ use std::marker::Model;
 use std::snapshot::Snapshot;
 use values::{NoMemory, Row, RowName};
 
-/// What is lent for a plan: the rows at the names that the plan locks. Rows under Read are shared with the store, those
-/// under Write are the loan's alone until it is given back.
+/// What is lent for a plan: the rows at the names that the plan locks. Rows under Read, and all that are lent by their
+/// names, are shared with the store in memory. The store shows no name that the plan locks to write until it is given
+/// back.
 #[derive(Drop)]
 pub struct Loan {
     pub(crate) alloc: Global,

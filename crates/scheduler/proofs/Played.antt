@@ -1,5 +1,5 @@
 -- What is answered to events.
-use Rattle.std.proofs.Common.{◌≡◌, ◌+◌, ◌++◌, ℕ, true, false, ◌&&◌, List, [], ◌∷◌, length, map, Option, Some, None, option_map, slice_get, slice_set, refl, sym, ap, ◌∙◌, subst, arith}
+use Rattle.std.proofs.Common.{◌≡◌, ◌≢◌, ◌+◌, ◌++◌, ℕ, zero, suc, true, false, ◌&&◌, List, [], ◌∷◌, length, map, Option, Some, None, option_map, slice_get, slice_set, refl, sym, ap, ◌∙◌, subst, arith}
 use Rattle.std.proofs.lemmas.Option.{slice_get-map}
 use Rattle.lock_tree.specs.Locks.{Locks}
 use Rattle.lock_tree.specs.Ready.{ready}
@@ -8,7 +8,7 @@ use Rattle.meaning.specs.declared.outcome.Outcome.{Outcome}
 use Rattle.scheduler_core.specs.declared.event.Event.{Event}
 use Rattle.scheduler_core.specs.declared.event.Event.TheVariants.{Lend, Run, Settle}
 use Rattle.scheduler_core.specs.declared.event.StepAnswer.{StepAnswer}
-use Rattle.scheduler_core.specs.declared.event.StepAnswer.TheVariants.{Made, Refused}
+use Rattle.scheduler_core.specs.declared.event.StepAnswer.TheVariants.{Made, Refused, NoMemory}
 use Rattle.scheduler_core.specs.declared.phase.Phase.{Phase}
 use Rattle.scheduler_core.specs.declared.phase.Phase.TheVariants as phase
 use Rattle.scheduler_core.specs.Transactions.{Transaction}
@@ -19,6 +19,7 @@ use Rattle.scheduler.specs.declared.scheduler.Scheduler.TheInside.{Inside}
 use Rattle.scheduler.specs.declared.slot.Slot.{Slot}
 use Rattle.scheduler.specs.declared.slot.Slot.TheVariants as slot
 use Rattle.scheduler.specs.Schedules.{Work, Schedule, log_of, phases_of, phase_in, KeepsItsJobs}
+use Rattle.scheduler.specs.Moments.{SettlesTakeNoMemory}
 use Rattle.scheduler.proofs.Places.{map_set, set_back}
 use Rattle.scheduler.proofs.Slots.{phase_at}
 use Rattle.scheduler.proofs.Known.{Known, work_in, schedule_in, number_at, keeps_jobs}
@@ -113,3 +114,20 @@ played_more arena first log old mid new (e ∷ events) (a ∷ answers) event ans
 
 pub count_more : (xs new : List StepAnswer) (x : StepAnswer) (n : ℕ) → new ≡ xs ++ x ∷ [] → length xs ≡ n → length new ≡ n + 1
 count_more xs new x n e c = ap length e ∙ one_longer xs x ∙ ap (λ k. k + 1) c
+
+some_event : (x y : Event) → Some x ≡ Some y → x ≡ y
+some_event x y e = cc
+
+some_answer : (x y : StepAnswer) → Some x ≡ Some y → x ≡ y
+some_answer x y e = cc
+
+-- one more event, and no answer to a Settle is a want of memory
+pub settles_more : (events : List Event) (answers : List StepAnswer) (event : Event) (answer : StepAnswer) → length events ≡ length answers → SettlesTakeNoMemory events answers
+    → ((number : ℕ) → event ≡ Settle number → answer ≢ NoMemory) → SettlesTakeNoMemory (events ++ event ∷ []) (answers ++ answer ∷ [])
+settles_more [] [] event answer l h one zero number is e = one number (some_event event (Settle number) is) (some_answer answer NoMemory e)
+settles_more [] [] event answer l h one (suc place) number is e = absurd (cc)
+settles_more [] (y ∷ answers) event answer l h one place number is e = absurd (omega (arith, l))
+settles_more (x ∷ events) [] event answer l h one place number is e = absurd (omega (arith, l))
+settles_more (x ∷ events) (y ∷ answers) event answer l h one zero number is e = h 0 number is e
+settles_more (x ∷ events) (y ∷ answers) event answer l h one (suc place) number is e =
+    settles_more events answers event answer (omega (arith, l)) (λ k n i. h (suc k) n i) one place number is e

@@ -1,10 +1,11 @@
 -- Claimed: what contracts promise to a reader rests on these words.
 -- What can be done at a moment of a scheduler, and what answers come to.
-use Rattle.std.specs.Prelude.{◌≡◌, ◌<◌, ◌&&◌, ℕ, nat_lt, Bool, false, List, length, Option, Some}
+use Rattle.std.specs.Prelude.{◌≡◌, ◌≢◌, ◌<◌, ◌&&◌, ℕ, nat_lt, Bool, false, List, length, Option, Some, slice_get}
 use Rattle.std.specs.List.{list_all}
 use Rattle.scheduler_core.specs.declared.event.Event.{Event}
-use Rattle.scheduler_core.specs.declared.event.Event.TheVariants.{Admit}
+use Rattle.scheduler_core.specs.declared.event.Event.TheVariants.{Admit, Settle}
 use Rattle.scheduler_core.specs.declared.event.StepAnswer.{StepAnswer}
+use Rattle.scheduler_core.specs.declared.event.StepAnswer.TheVariants.{NoMemory}
 use Rattle.scheduler_core.specs.Phases.{is_settled}
 use Rattle.scheduler_core.specs.Events.{enabled, Answers, Played}
 use Rattle.scheduler_core.specs.Choices.{enabled_events, IsNextEvent, IsLeastLend}
@@ -42,6 +43,11 @@ IsLeastLendAt s = IsLeastLend s.work.arena s.work.first (log_of s.work) (phases_
 abbrev pub AnswersAt : Schedule → Event → StepAnswer → Schedule → Type 0
 AnswersAt s event answer left =
     Answers s.work.arena s.work.first (log_of s.work) (phases_of s) event answer (phases_of left)
+
+-- no answer to a Settle is a want of memory
+abbrev pub SettlesTakeNoMemory : List Event → List StepAnswer → Type 0
+SettlesTakeNoMemory events answers =
+    (place number : ℕ) → slice_get events place ≡ Some (Settle number) → slice_get answers place ≢ Some NoMemory
 
 -- the answers to events, one after the other, and what they leave
 abbrev pub PlaysAt : Schedule → List Event → List StepAnswer → Schedule → Type 0

@@ -5,7 +5,7 @@ ghost use Rattle.scheduler_core.specs.declared.event.Event.{Event as AnyEvent};
 ghost use Rattle.scheduler_core.specs.declared.event.StepAnswer.{StepAnswer as AnyAnswer};
 ghost use Rattle.scheduler_core.specs.Phases.{phase_of};
 ghost use Rattle.scheduler.specs.Schedules.{log_of, phases_of, KeepsItsJobs};
-ghost use Rattle.scheduler.specs.Moments.{AnswersAt, PlaysAt};
+ghost use Rattle.scheduler.specs.Moments.{AnswersAt, PlaysAt, SettlesTakeNoMemory};
 
 use crate::job::run_job;
 use crate::lending::{give_back, is_ready, lend_to};
@@ -159,10 +159,11 @@ impl Scheduler {
     }
 
     /// Makes one event after the other, each if it is enabled, and says of each what came of it. An error comes before
-    /// anything is played. No job is with the caller.
+    /// anything is played, and a Settle takes no memory. No job is with the caller.
     pub fn play(&mut self, events: &[Event]) -> Result<Vec<StepAnswer>, NoMemory>
         requires { KeepsItsJobs self.old }
         ensures played { IfOk result (λ answers. PlaysAt self.old events.now answers.items self.new) }
+        ensures memory { IfOk result (λ answers. SettlesTakeNoMemory events.now answers.items) }
         ensures work { self.new.work ≡ self.old.work }
         ensures keeps { KeepsItsJobs self.new }
         ensures err { OnErr result (self.new ≡ self.old) }

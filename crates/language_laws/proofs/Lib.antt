@@ -1,0 +1,3 @@
+mod Database
+mod Numbers
+mod Results

@@ -1,0 +1,5 @@
+pub mod Rights
+pub mod Modes
+pub mod Coarsening
+pub mod Comparisons
+pub mod Arithmetic

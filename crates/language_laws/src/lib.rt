@@ -1,0 +1,13 @@
+//! Laws of the definitions of rights, modes, coarsening and operators, in the subject's own words, each as the contract
+//! of a function. Nothing depends on this crate: a law here makes no crate be checked anew.
+#![tactic(auto)]
+
+mod locks;
+mod operators;
+
+pub use locks::{
+    database_has_greatest_right, modes_are_grays, rights_clash_by_write, write_is_above_read,
+};
+pub use operators::{
+    numbers_are_compared_by_order, results_are_exact, texts_are_compared_byte_by_byte,
+};

@@ -1,0 +1,51 @@
+#!/usr/bin/env python3
+"""Refuses, in the sources of the crates, what could make a value without its owner or let one go without its end:
+
+    scripts/unsafe.py
+
+`unsafe` and raw pointers may be used in the files below alone, and a word by which a value is let go without its end
+nowhere. A proof knows neither: a `drop` that keeps its block in a `ManuallyDrop` would meet its contract. It ends with
+how many files were looked at, and with status 1 where it finds one of these words elsewhere.
+"""
+import re
+import sys
+from pathlib import Path
+
+TOP = Path(__file__).resolve().parent.parent
+# The block of nodes of a lock tree is taken and given back in the first two; what C hands over is read in the others.
+MAY_BE_UNSAFE = {
+    "request_arena/src/memory.rt",
+    "request_arena/src/row.rt",
+    "calvin_c/src/handle.rt",
+    "calvin_c/src/lib.rt",
+    "calvin_c/src/loose.rt",
+}
+UNSAFE = re.compile(r"\b(unsafe|into_raw|from_raw|into_raw_parts|from_raw_parts|transmute)\b")
+LETS_GO = re.compile(r"\b(ManuallyDrop|MaybeUninit|forget|leak)\b")
+
+
+def code(text):
+    """The text without its comments and string literals, line for line."""
+    return re.sub(r'"(?:[^"\\\n]|\\.)*"|//[^\n]*', "", text)
+
+
+def findings(name, text):
+    """Each line that has a word which the file may not have."""
+    for number, line in enumerate(code(text).splitlines(), 1):
+        for words in [LETS_GO] if name in MAY_BE_UNSAFE else [LETS_GO, UNSAFE]:
+            for word in words.findall(line):
+                yield f"crates/{name}:{number}: {word}"
+
+
+def main():
+    files = sorted((TOP / "crates").glob("*/src/**/*.rt"))
+    names = {str(file.relative_to(TOP / "crates")): file for file in files}
+    found = [one for name, file in names.items() for one in findings(name, file.read_text())]
+    found += [f"crates/{name} is not there" for name in sorted(MAY_BE_UNSAFE - names.keys())]
+    print(*found, sep="\n", end="\n" if found else "")
+    print(f"{len(files)} files without a word that lets a value go, {len(found)} words that may not be there")
+    return 1 if found else 0
+
+
+if __name__ == "__main__":
+    sys.exit(main())
