@@ -9,6 +9,7 @@ and with the greatest of all settings, with `--alone`, and with `--workers 2` wh
 Each run of a log is made a second time, on the same setup with a loop of one turn before each body that has none: a
 call that is brief, and run in place by the scheduler's thread, is handed over to workers then. The same must come out.
 Runs with `--alone` must start no thread, and those whose calls are handed over some, where two calls of a batch commit.
+On a log that stays open after its first batch `locks` must end: it takes no more of it.
 
 With --sessions each log that is run in these ways is fed in pieces of 1, 7 and 4096 bytes.
 
@@ -16,6 +17,7 @@ It ends with how many cases agree, and with status 1 where one doesn't or none w
 """
 import os
 import re
+import subprocess
 import sys
 import tempfile
 from concurrent.futures import ProcessPoolExecutor
@@ -23,7 +25,7 @@ from dataclasses import dataclass
 from functools import partial
 from pathlib import Path
 
-from program import BUILT, TOP, Program, has_work_for_two, with_loops
+from program import BUILT, SECONDS, TOP, Program, has_work_for_two, with_loops
 
 CASES = TOP / "cases"
 # The words that a log is run with, and how many bytes a read or a write moves at most.
@@ -35,6 +37,8 @@ SETTINGS = (
     ("run --workers 2 setup.json", 1),
 )
 PIECES = (1, 7, 4096)
+# A case of `locks` whose log goes on after its first batch, and the line that ends a batch.
+GOES_ON, CUT = CASES / "plans/nothing-read-behind-the-first-batch", b'["cut"]\n'
 FAULT_OF_SETUP = re.compile(rb"fault (?:[1-9]|1[1-9]|4[1-7])(?: at .*)?\n")
 
 
@@ -197,6 +201,22 @@ def fed(program, folder):
     return len(runs), 0, wrong
 
 
+def waits_for_more(program):
+    """What is wrong where `locks` is given a first batch, and its log stays open: it must end with what is stored."""
+    case = Case(GOES_ON)
+    first, cut, _ = case.bytes_of("log").partition(CUT)
+    how = {"cwd": case.folder, "stdin": subprocess.PIPE, "stdout": subprocess.PIPE}
+    with subprocess.Popen([program.path, *case.lines_of("args")], **how) as run:
+        run.stdin.write(first + cut)
+        run.stdin.flush()
+        try:
+            run.wait(SECONDS)
+        except subprocess.TimeoutExpired:
+            run.kill()
+            return [f"{case}: it waits for what comes after the first batch"]
+        return [] if run.stdout.read() == case.bytes_of("stdout") else [f"{case}, left open: it leaves something else"]
+
+
 def main(*words):
     is_sessions = words[:1] == ("--sessions",)
     path = words[1] if is_sessions else (words or (BUILT,))[0]
@@ -204,6 +224,8 @@ def main(*words):
     with tempfile.TemporaryDirectory() as room, ProcessPoolExecutor(os.cpu_count()) as pool:
         program = Program.watched(path, room)
         found = list(pool.map(partial(fed if is_sessions else tried, program), folders, chunksize=4))
+    if not is_sessions:
+        found.append((1, 0, waits_for_more(program)))
     for _, _, wrong in found:
         for what in wrong:
             print(what)
