@@ -60,7 +60,7 @@ keys P (e ∷ es) x h (zero, l, is) = let at : e.0 ≡ x.0 = ap (λ (y : Resourc
 keys P (e ∷ es) x h (suc n, l, is) = keys P es x h.1 (n, omega (arith, l), is)
 
 -- a request of a plan is what the plan asks for on its resource
-asked : (es : Requests) (x : Resource × Mode) → IsStrictlySortedBy resource_cmp (keys_of es) → Contains es x → mode_on x.0 es ≡ Some x.1
+pub asked : (es : Requests) (x : Resource × Mode) → IsStrictlySortedBy resource_cmp (keys_of es) → Contains es x → mode_on x.0 es ≡ Some x.1
 unfolding IsStrictlySortedBy
 asked [] x o k = absurd (let l = k.1 in omega (arith, l))
 asked (e ∷ es) x o (zero, l, is) =

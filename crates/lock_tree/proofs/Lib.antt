@@ -18,6 +18,7 @@ pub mod Knowing
 pub mod Dropping
 pub mod Queueing
 pub mod Trees
+pub mod Joining
 pub mod Named
 pub mod Opens
 pub mod Marks

@@ -1,6 +1,9 @@
 -- Of the code: invariants and steps; no promise rests on these words.
 -- What is granted of each queue.
-use Rattle.std.specs.Prelude.{◌≡◌, ◌≤◌, ℕ, List, length, take, [], Option, Some, None, slice_get}
+use Rattle.std.specs.Prelude.{◌≡◌, ◌≤◌, ◌==◌, ◌&&◌, ℕ, Bool, List, length, take, [], Option, Some, None, slice_get}
+use Rattle.std.specs.List.{list_all}
+use Rattle.modes.specs.declared.mode.Mode.{Mode}
+use Rattle.modes.specs.Modes.{are_compatible}
 use Rattle.request_arena.specs.declared.node.Held.{Held as HeldNode}
 use Rattle.request_arena.specs.Following.{without}
 use Rattle.lock_tree.specs.declared.line.Line.{Line}
@@ -37,3 +40,8 @@ pub record IsEmpty (line : Line) : Type 0 where
 abbrev pub AreGranted : Lines → Type 0
 AreGranted lines = (number : ℕ) (x : Line) → slice_get lines.lines.items number ≡ Some x
     → IsLine lines.nodes.held (nodes_of lines.nodes number) x
+
+-- one more request in a mode would be granted at once: all that is there is granted, and is compatible with it
+abbrev pub admits : Queue → Mode → Bool
+admits queue mode =
+    (length (granted queue) == length queue) && list_all (λ h. are_compatible h mode) (modes_of queue)

@@ -1,12 +1,13 @@
 //! Transactions with their requests.
 
-ghost use Rattle.std.specs.Prelude.{◌≡◌, ◌≤◌, ◌+◌, [], ◌∷◌, ◌++◌, nat_le, false, length, IsSome, IfOk, OnOk, OnErr};
+ghost use Rattle.std.specs.Prelude.{◌≡◌, ◌≤◌, ◌+◌, ℕ, [], ◌∷◌, ◌++◌, nat_le, false, length, IsSome, IfOk, OnOk, OnErr};
 ghost use Rattle.lock_tree.specs.Locks.{used, plan_of, without, with_mark};
 ghost use Rattle.lock_tree.specs.Ready.{ready, IsNextReady};
 ghost use Rattle.lock_tree.specs.Enqueues.{AreBelow};
 
 use crate::enqueued::Enqueued;
 use crate::enqueueing::enqueue_transaction;
+use crate::grants::admit_all;
 use crate::lines::Lines;
 use crate::release::leave_all;
 use crate::rising_numbers::least;
@@ -92,6 +93,14 @@ impl Requested {
             Some(entry) => entry.is_ready(),
             None => false,
         }
+    }
+
+    /// Whether a transaction with this plan would be ready at once, if it were put after all others.
+    pub(crate) fn would_be_ready(&self, plan: &Plan) -> bool
+        ensures { (number : ℕ) → AreBelow number self.now.waiting → result
+            ≡ ready (self.now.waiting ++ record { no = number; plan = plan.now; marked = false } ∷ []) number }
+    {
+        admit_all(&self.lines, plan.requests())
     }
 
     /// The least number of a transaction that is ready and has no mark, `None` exactly where there is none.

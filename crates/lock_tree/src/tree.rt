@@ -1,6 +1,6 @@
 //! The lock tree.
 
-ghost use Rattle.std.specs.Prelude.{◌≡◌, ◌↔◌, ◌<◌, ◌+◌, [], ◌∷◌, ◌++◌, nat_le, true, false, length, IsSome, IfOk, OnOk, OnErr, Err};
+ghost use Rattle.std.specs.Prelude.{◌≡◌, ◌↔◌, ◌<◌, ◌+◌, ℕ, [], ◌∷◌, ◌++◌, nat_le, true, false, length, IsSome, IfOk, OnOk, OnErr, Err};
 ghost use Rattle.lock_tree.specs.Locks.{used, plan_of, without, with_mark};
 ghost use Rattle.lock_tree.specs.Ready.{ready, IsNextReady};
 ghost use Rattle.lock_tree.specs.Enqueues.{AreBelow};
@@ -103,6 +103,17 @@ impl LockTree {
         match &self.requested {
             Some(requested) => requested.is_ready(no),
             None => false,
+        }
+    }
+
+    /// Whether a transaction with this plan would be ready at once, if it were put after all others.
+    pub fn would_be_ready(&self, plan: &Plan) -> bool
+        ensures { (number : ℕ) → AreBelow number self.now.waiting → result
+            ≡ ready (self.now.waiting ++ record { no = number; plan = plan.now; marked = false } ∷ []) number }
+    {
+        match &self.requested {
+            Some(requested) => requested.would_be_ready(plan),
+            None => true,
         }
     }
 

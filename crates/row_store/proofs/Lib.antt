@@ -14,3 +14,4 @@ pub mod PartsUnseen
 pub mod Sharing
 pub mod Shelved
 pub mod Shown
+pub mod Free

@@ -12,6 +12,6 @@ mod named;
 mod store;
 mod view;
 
-pub use laws::all_is_free_with_nothing_lent;
+pub use laws::{all_is_free_with_nothing_lent, locked_names_are_free_where_plans_are_apart};
 pub use loan::Loan;
 pub use store::RowStore;

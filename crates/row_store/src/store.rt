@@ -17,7 +17,8 @@ use crate::lending::{hold, put_back, take_out};
 use crate::loan::Loan;
 use catalogue::Catalogue;
 use coarsen::{Plan, clashes_are_either_way, locked_rows_conflict};
-use shelves::{Shelves, filled, rebuilt, write};
+use footprint::Resource;
+use shelves::{Shelves, count_places, filled, rebuilt, write};
 use std::alloc::Global;
 use std::collections::BTreeMap;
 use std::marker::Model;
@@ -163,6 +164,12 @@ impl RowStore {
         let _lent = &self.lent;
         // proof: plans that lock one row name, one of them to write, are in conflict.
         locked_rows_conflict();
+    }
+
+    /// How many rows there are about in a partition; none where it is lent whole to be written. It tells how long it
+    /// takes to look through it, and promises nothing.
+    pub fn count_rows(&self, part: &Resource) -> Option<usize> {
+        count_places(&self.shelves, part)
     }
 
     /// The catalogue.

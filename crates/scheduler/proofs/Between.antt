@@ -1,50 +1,49 @@
--- The next transaction run at once, where all that are admitted are settled.
-use Rattle.std.proofs.Common.{◌≡◌, ◌<◌, ◌≤◌, ◌+◌, ◌++◌, ◌&&◌, ℕ, zero, suc, nat_lt, Bool, true, false, List, [], ◌∷◌, length, map, Option, Some, None, slice_get, slice_set, refl, sym, ap, ◌∙◌, subst, arith, inl, inr}
+-- The next transaction run at once, where it is ready as soon as it is admitted.
+use Rattle.std.proofs.Common.{◌≡◌, ◌≢◌, ◌<◌, ◌≤◌, ◌+◌, ◌++◌, ◌&&◌, ℕ, zero, suc, nat_lt, Bool, true, false, List, [], ◌∷◌, length, map, Option, Some, None, slice_get, slice_set, refl, sym, ap, ◌∙◌, subst, arith, inl, inr, if◌then◌else◌}
 use Rattle.std.proofs.lemmas.Bool.Decides.{nat_tests}
 use Rattle.std.proofs.lemmas.Option.{slice_get_within}
 use Rattle.std.specs.List.{list_all}
-use Rattle.std.specs.FinMap.{get, get-empty, empty, same_map, nat_cmp-IsAntisymmetric}
-use Rattle.std.specs.Cmp.{nat_cmp_total}
-use Rattle.std.specs.Ordering.{nat_cmp}
+use Rattle.std.specs.FinMap.{get}
 use Rattle.values.specs.declared.name.RowName.{RowName}
 use Rattle.values.specs.Database.{Database}
-use Rattle.proclang_types.specs.declared.right.Right.TheVariants.{Write}
+use Rattle.proclang_types.specs.declared.right.Right.TheVariants.{Read, Write}
 use Rattle.coarsen.specs.Subtrees.{Requests}
-use Rattle.coarsen.specs.Clashes.{locks_row}
-use Rattle.lock_tree.specs.Locks.{Locks, Waiting}
+use Rattle.coarsen.specs.Plans.{IsWellFormed}
+use Rattle.coarsen.specs.Clashes.{locks_row, ModesClash}
+use Rattle.coarsen.specs.Laws.{ClashEitherWay}
+use Rattle.std.specs.declared.vec.Vec.{Vec}
+use Rattle.lock_tree.specs.Locks.{Locks, Waiting, plan_of}
 use Rattle.lock_tree.specs.Ready.{ready}
 use Rattle.lock_tree.specs.Laws.{FirstReady}
 use Rattle.meaning.specs.declared.outcome.Outcome.{Outcome}
 use Rattle.meaning.specs.Entries.{EntryShape, Reply, meaning}
 use Rattle.meaning.specs.Frame.{Agree, StaysInFootprint, touches}
 use Rattle.meaning.specs.Outcomes.{as_reply}
-use Rattle.row_store.specs.Stock.{Stock}
+use Rattle.row_store.specs.Laws.{FreeWhereApart}
+use Rattle.row_store.specs.Stock.{Stock, is_free}
+use Rattle.scheduler_core.specs.declared.event.Event.TheVariants as event
 use Rattle.scheduler_core.specs.declared.phase.Phase.{Phase}
 use Rattle.scheduler_core.specs.declared.phase.Phase.TheVariants as phase
 use Rattle.scheduler_core.specs.Transactions.{Transaction}
-use Rattle.scheduler_core.specs.Phases.{is_out, is_settled}
-use Rattle.scheduler_core.specs.Events.{waiting}
+use Rattle.scheduler_core.specs.Phases.{is_idle, is_out, is_settled, phase_of}
+use Rattle.scheduler_core.specs.Events.{waiting, enabled}
 use Rattle.scheduler_core.specs.Sound as core
 use Rattle.scheduler_core.specs.Laws.{StaysSound, FollowsPhases, RunOnShownRows}
 use Rattle.scheduler.specs.declared.slot.Slot.{Slot}
-use Rattle.scheduler.specs.declared.slot.Slot.TheVariants.{Lent, Settled}
+use Rattle.scheduler.specs.declared.slot.Slot.TheVariants.{Idle, Lent, Settled}
 use Rattle.interp.specs.Entries.{EntryParts, entry_shape}
 use Rattle.scheduler.specs.Logs.{transactions_of}
-use Rattle.scheduler.specs.Schedules.{Work, Schedule, log_of, phase_in}
-use Rattle.scheduler.specs.Moments.{is_between}
-use Rattle.scheduler.specs.Scheduled.{Fits, lent_to, IsFitting, IsScheduled, AreSettledBefore}
+use Rattle.scheduler.specs.Schedules.{Work, Schedule, log_of, phases_of, phase_in}
+use Rattle.scheduler.specs.Moments.{can_make, with_next, is_between, is_next_ready}
+use Rattle.scheduler.specs.Scheduled.{Fits, lent_to, IsFitting, IsScheduled, AreSettledBefore, made_in, AreMade}
 use Rattle.scheduler.proofs.Places.{push_end, push_before, map_push, length_map}
-use Rattle.scheduler.proofs.Numbers.{same_number, who}
+use Rattle.scheduler.proofs.Numbers.{same_number, at_place, who, lent_pushed, log_length}
 use Rattle.scheduler.proofs.Ends.{settled_one, all_where, both, where_all}
 
 -- ---- phases that are all settled
 
 abbrev pub all_settled : List Phase → Bool
 all_settled ps = list_all settled_one ps
-
-pub all_pushed : (ps : List Phase) → all_settled ps ≡ true → all_settled (ps ++ phase.Settled ∷ []) ≡ true
-all_pushed [] all = refl
-all_pushed (p ∷ ps) all = let b = both (settled_one p) (all_settled ps) all in ap (λ x. x && all_settled (ps ++ phase.Settled ∷ [])) b.0 ∙ all_pushed ps b.1
 
 -- then nobody waits
 none_waits : (first : ℕ) (log : List Transaction) (ps : List Phase) → all_settled ps ≡ true → waiting first log ps ≡ []
@@ -57,19 +56,30 @@ out_within [] place out = absurd (let g : false ≡ true = out in cc)
 out_within (p ∷ ps) zero out = omega arith
 out_within (p ∷ ps) (suc place) out = let l = out_within ps place out in omega (arith, l)
 
-not_both : (o : Option Phase) → is_settled o ≡ true → is_out o ≡ true → ⊥
-not_both None a b = cc
-not_both (Some phase.Idle) a b = cc
-not_both (Some phase.Out) a b = cc
-not_both (Some phase.Ran) a b = cc
-not_both (Some phase.Settled) a b = cc
+-- what is settled stands in nobody's way
+waits_none : (first : ℕ) (log : List Transaction) → waiting first log [] ≡ []
+waits_none first [] = refl
+waits_none first (t ∷ log) = refl
 
-none_out : (ps : List Phase) → all_settled ps ≡ true → (place : ℕ) → is_out (slice_get ps place) ≡ true → ⊥
-none_out ps all place out = not_both (slice_get ps place) (where_all ps all place (out_within ps place out)) out
+waits_same : (first : ℕ) (log : List Transaction) (ps : List Phase) → waiting first log (ps ++ phase.Settled ∷ []) ≡ waiting first log ps
+waits_same first [] ps = refl
+waits_same first (t ∷ log) [] = waits_none (suc first) log
+waits_same first (t ∷ log) (p ∷ ps) =
+    elim (is_settled (Some p)) as (λ b. (if b then waiting (suc first) log (ps ++ phase.Settled ∷ []) else record { no = first; plan = t.plan; marked = is_out (Some p) } ∷ waiting (suc first) log (ps ++ phase.Settled ∷ []))
+        ≡ (if b then waiting (suc first) log ps else record { no = first; plan = t.plan; marked = is_out (Some p) } ∷ waiting (suc first) log ps)) [
+      | true ↦ waits_same (suc first) log ps
+      | false ↦ ap (λ (ws : List Waiting). record { no = first; plan = t.plan; marked = is_out (Some p) } ∷ ws) (waits_same (suc first) log ps)
+    ]
 
-none_lent : (w : Work) (ps : List Phase) → all_settled ps ≡ true → (number : ℕ) (o : Option Requests) → lent_to w ps number ≡ o → o ≡ None
-none_lent w ps all number None e = refl
-none_lent w ps all number (Some requests) e = absurd (let x = who w ps number requests e in none_out ps all x.0 x.3)
+-- what is out, with one more at the end that isn't
+still_out : (ps : List Phase) (p : Phase) (place : ℕ) → is_out (Some p) ≡ false → is_out (slice_get (ps ++ p ∷ []) place) ≡ true → is_out (slice_get ps place) ≡ true
+still_out ps p place here out = elim (same_number place (length ps)) [
+  | inl e ↦ absurd (let g : false ≡ true = sym here ∙ sym (ap is_out (ap (slice_get (ps ++ p ∷ [])) e ∙ push_end ps p)) ∙ out in cc)
+  | inr n ↦ sym (ap is_out (push_before ps p place n)) ∙ out
+]
+
+out_more : (ps : List Phase) (p : Phase) (place : ℕ) → is_out (slice_get ps place) ≡ true → is_out (slice_get (ps ++ p ∷ []) place) ≡ true
+out_more ps p place out = ap is_out (push_before ps p place (λ e. let l = out_within ps place out in absurd (omega (arith, e, l)))) ∙ out
 
 -- one phase at the end, set and set again
 set_end : (ps : List Phase) (p q r : Phase) → slice_set (slice_set (ps ++ p ∷ []) (length ps) q) (length ps) r ≡ ps ++ r ∷ []
@@ -106,45 +116,44 @@ not_true false h = refl
 pub all_leading : (slots : List Slot) (n : ℕ) → AreSettledBefore slots n → length slots ≤ n → all_settled (map phase_in slots) ≡ true
 all_leading slots n s enough = all_where (map phase_in slots) (λ i less. s.before i (let count : length (map phase_in slots) ≡ length slots = length_map phase_in slots in omega (arith, less, count, enough)))
 
-not_all : (slots : List Slot) (n : ℕ) → AreSettledBefore slots n → n < length slots → all_settled (map phase_in slots) ≡ false
-not_all slots n s less = not_true (all_settled (map phase_in slots)) (λ all.
-    let within : n < length (map phase_in slots) = (let count : length (map phase_in slots) ≡ length slots = length_map phase_in slots in omega (arith, less, count)) in
-    let g : true ≡ false = sym (where_all (map phase_in slots) all n within) ∙ s.next in cc)
+pub none_more : (s : Schedule) → length s.work.entries ≤ length s.slots → is_next_ready s ≡ false
+none_more s past =
+    let e : nat_lt (length s.slots) (length s.work.entries) ≡ false = grind (arith, nat_tests) in
+    ap (λ b. b && can_make (with_next s) (event.Lend (s.work.first + length s.slots))) e
 
-and_false : (a b : Bool) → b ≡ false → (a && b) ≡ false
-and_false true b e = e
-and_false false b e = refl
+pub one_more : (s : Schedule) → length s.slots < length s.work.entries → is_next_ready s ≡ can_make (with_next s) (event.Lend (s.work.first + length s.slots))
+one_more s less =
+    let e : nat_lt (length s.slots) (length s.work.entries) ≡ true = grind (arith, nat_tests) in
+    ap (λ b. b && can_make (with_next s) (event.Lend (s.work.first + length s.slots))) e
 
-pub none_more : (s : Schedule) → length s.work.entries ≤ length s.slots → is_between s ≡ false
-none_more s past = and_false (all_settled (map phase_in s.slots)) (nat_lt (length s.slots) (length s.work.entries)) (grind (arith, nat_tests))
+-- so there is one
+pub there_is : (s : Schedule) → is_next_ready s ≡ true → length s.slots < length s.work.entries
+there_is s is =
+    let e : nat_lt (length s.slots) (length s.work.entries) ≡ true = (both (nat_lt (length s.slots) (length s.work.entries)) (can_make (with_next s) (event.Lend (s.work.first + length s.slots))) is).0 in
+    grind (arith, nat_tests)
 
-pub one_open : (s : Schedule) (n : ℕ) → AreSettledBefore s.slots n → n < length s.slots → is_between s ≡ false
-one_open s n leading less = ap (λ b. b && nat_lt (length s.slots) (length s.work.entries)) (not_all s.slots n leading less)
-
-pub is_next : (s : Schedule) → all_settled (map phase_in s.slots) ≡ true → length s.slots < length s.work.entries → is_between s ≡ true
-is_next s all less = ap (λ b. b && nat_lt (length s.slots) (length s.work.entries)) all ∙ (let e : nat_lt (length s.slots) (length s.work.entries) ≡ true = grind (arith, nat_tests) in e)
+pub between_parts : (s : Schedule) → is_between s ≡ true → (all_settled (phases_of s) ≡ true) × (length s.slots < length s.work.entries)
+between_parts s is =
+    let p = both (all_settled (phases_of s)) (nat_lt (length s.slots) (length s.work.entries)) is in
+    let e : nat_lt (length s.slots) (length s.work.entries) ≡ true = p.1 in
+    (p.0, grind (arith, nat_tests))
 
 -- one more that is settled
 length_pushed : (slots : List Slot) (slot : Slot) → length (slots ++ slot ∷ []) ≡ length slots + 1
 length_pushed [] slot = refl
 length_pushed (x ∷ slots) slot = let e = length_pushed slots slot in omega (arith, e)
 
-past_end : (ps : List Phase) (n : ℕ) → length ps ≤ n → is_settled (slice_get ps n) ≡ false
-past_end [] n e = refl
-past_end (p ∷ ps) zero e = absurd (omega (arith, e))
-past_end (p ∷ ps) (suc n) e = past_end ps n (omega (arith, e))
+-- those that lead stay settled where one more stands at the end
+module _ (slots : List Slot) (outcome : Outcome) (n : ℕ) (s : AreSettledBefore slots n) where
+  pub still_lead : (k : ℕ) → k < n → is_settled (slice_get (map phase_in (slots ++ Settled outcome ∷ [])) k) ≡ true
+  still_lead k less =
+      let count : length (map phase_in slots) ≡ length slots = length_map phase_in slots in
+      let within : n ≤ length slots = s.within in
+      ap (λ (ps : List Phase). is_settled (slice_get ps k)) (map_push phase_in slots (Settled outcome))
+      ∙ ap is_settled (push_before (map phase_in slots) phase.Settled k (λ e. absurd (omega (arith, e, less, count, within)))) ∙ s.before k less
 
-pub one_more_leads : (slots : List Slot) (outcome : Outcome) (place : ℕ) → place ≡ length slots → all_settled (map phase_in slots) ≡ true → AreSettledBefore (slots ++ Settled outcome ∷ []) (place + 1)
-one_more_leads slots outcome place e all =
-    let more : map phase_in (slots ++ Settled outcome ∷ []) ≡ map phase_in slots ++ phase.Settled ∷ [] = map_push phase_in slots (Settled outcome) in
-    let settles : all_settled (map phase_in (slots ++ Settled outcome ∷ [])) ≡ true = ap all_settled more ∙ all_pushed (map phase_in slots) all in
-    let long : length (slots ++ Settled outcome ∷ []) ≡ length slots + 1 = length_pushed slots (Settled outcome) in
-    let count : length (map phase_in (slots ++ Settled outcome ∷ [])) ≡ length (slots ++ Settled outcome ∷ []) = length_map phase_in (slots ++ Settled outcome ∷ []) in
-    record {
-      before = λ k less. where_all (map phase_in (slots ++ Settled outcome ∷ [])) settles k (omega (arith, less, e, long, count));
-      next = past_end (map phase_in (slots ++ Settled outcome ∷ [])) (place + 1) (omega (arith, e, long, count));
-      within = omega (arith, e, long);
-    }
+  pub lead_within : n ≤ length (slots ++ Settled outcome ∷ [])
+  lead_within = let long : length (slots ++ Settled outcome ∷ []) ≡ length slots + 1 = length_pushed slots (Settled outcome) in let within : n ≤ length slots = s.within in omega (arith, long, within)
 
 -- no job is with the caller
 pub keeps_on : (slots : List Slot) (outcome : Outcome) → ((k : ℕ) → slice_get slots k ≡ Some Lent → ⊥) → (k : ℕ) → slice_get (slots ++ Settled outcome ∷ []) k ≡ Some Lent → ⊥
@@ -161,31 +170,68 @@ entry_there (x ∷ entries) [] place e same is = absurd (omega (arith, same))
 entry_there (x ∷ entries) (p ∷ plans) zero e same is = (p, let g : x ≡ e = cc in rw g refl)
 entry_there (x ∷ entries) (p ∷ plans) (suc place) e same is = entry_there entries plans place e (omega (arith, same)) is
 
-module _ (w : Work) (sound : StaysSound w.tables w.first (log_of w) w.start) (follows : FollowsPhases w.first (log_of w)) (first : FirstReady) (shown : RunOnShownRows)
-    (frame : (entry : EntryShape) (one two : Database) → Agree entry one two → StaysInFootprint entry one two) (fits : IsFitting w)
-    (slots : List Slot) (stock : Stock) (tree : Locks) (s : IsScheduled w slots stock tree) (all : all_settled (map phase_in slots) ≡ true) where
+-- whether the next one would be ready, by what waits
+pub lend_is : (w : Work) (slots : List Slot) → can_make (with_next (record { work = w; slots = slots })) (event.Lend (w.first + length slots))
+    ≡ ready (waiting w.first (log_of w) (map phase_in slots ++ phase.Idle ∷ [])) (w.first + length slots)
+lend_is w slots =
+    let more : map phase_in (slots ++ Idle ∷ []) ≡ map phase_in slots ++ phase.Idle ∷ [] = map_push phase_in slots Idle in
+    let count : length (map phase_in slots) ≡ length slots = length_map phase_in slots in
+    let here : is_idle (phase_of w.first (map phase_in slots ++ phase.Idle ∷ []) (w.first + length slots)) ≡ true =
+    ap is_idle (at_place w.first (map phase_in slots ++ phase.Idle ∷ []) (length slots) ∙ ap (slice_get (map phase_in slots ++ phase.Idle ∷ [])) (sym count) ∙ push_end (map phase_in slots) phase.Idle) in
+    ap (λ (ps : List Phase). is_idle (phase_of w.first ps (w.first + length slots)) && ready (waiting w.first (log_of w) ps) (w.first + length slots)) more
+    ∙ ap (λ b. b && ready (waiting w.first (log_of w) (map phase_in slots ++ phase.Idle ∷ [])) (w.first + length slots)) here
+
+-- where all that are admitted are settled, it would be
+pub ready_alone : (w : Work) → FollowsPhases w.first (log_of w) → FirstReady → (slots : List Slot) (t : Transaction) → slice_get (log_of w) (length slots) ≡ Some t → all_settled (map phase_in slots) ≡ true
+    → ready (waiting w.first (log_of w) (map phase_in slots ++ phase.Idle ∷ [])) (w.first + length slots) ≡ true
+ready_alone w follows first slots t at all =
+    let ps = map phase_in slots in
+    let count : length ps ≡ length slots = length_map phase_in slots in
+    let alone : waiting w.first (log_of w) (ps ++ phase.Idle ∷ []) ≡ record { no = w.first + length ps; plan = t.plan; marked = false } ∷ [] =
+    follows.admits ps t (ap (slice_get (log_of w)) count ∙ at) ∙ ap (λ (ws : List Waiting). ws ++ record { no = w.first + length ps; plan = t.plan; marked = false } ∷ []) (none_waits w.first (log_of w) ps all) in
+    ap (λ (n : ℕ). ready (waiting w.first (log_of w) (ps ++ phase.Idle ∷ [])) (w.first + n)) (sym count)
+    ∙ ap (λ (ws : List Waiting). ready ws (w.first + length ps)) alone ∙ first (record { no = w.first + length ps; plan = t.plan; marked = false }) []
+
+module _ (w : Work) (sound : StaysSound w.tables w.first (log_of w) w.start) (follows : FollowsPhases w.first (log_of w)) (shown : RunOnShownRows)
+    (frame : (entry : EntryShape) (one two : Database) → Agree entry one two → StaysInFootprint entry one two) (turn : ClashEitherWay) (free : FreeWhereApart) (fits : IsFitting w)
+    (slots : List Slot) (stock : Stock) (tree : Locks) (s : IsScheduled w slots stock tree)
+    (joins : ready (waiting w.first (log_of w) (map phase_in slots ++ phase.Idle ∷ [])) (w.first + length slots) ≡ true) where
   abbrev ps : List Phase
   ps = map phase_in slots
 
   count : length ps ≡ length slots
   count = length_map phase_in slots
 
-  -- nothing is lent
-  pub nothing_lent : stock.lent ≡ empty
-  nothing_lent = same_map nat_cmp_total nat_cmp-IsAntisymmetric stock.lent empty (λ number.
-      s.lent_is number ∙ none_lent w ps all number (lent_to w ps number) refl ∙ sym (get-empty {X = Requests} nat_cmp number))
+  is_ready : ready (waiting w.first (log_of w) (ps ++ phase.Idle ∷ [])) (w.first + length ps) ≡ true
+  is_ready = ap (λ (n : ℕ). ready (waiting w.first (log_of w) (ps ++ phase.Idle ∷ [])) (w.first + n)) count ∙ joins
 
-  -- the next transaction alone would be ready
-  is_ready : (t : Transaction) → slice_get (log_of w) (length ps) ≡ Some t → ready (waiting w.first (log_of w) (ps ++ phase.Idle ∷ [])) (w.first + length ps) ≡ true
-  is_ready t at =
-      let alone : waiting w.first (log_of w) (ps ++ phase.Idle ∷ []) ≡ record { no = w.first + length ps; plan = t.plan; marked = false } ∷ [] =
-      follows.admits ps t at ∙ ap (λ (ws : List Waiting). ws ++ record { no = w.first + length ps; plan = t.plan; marked = false } ∷ []) (none_waits w.first (log_of w) ps all) in
-      ap (λ (ws : List Waiting). ready ws (w.first + length ps)) alone ∙ first (record { no = w.first + length ps; plan = t.plan; marked = false }) []
+  idle_at : slice_get (ps ++ phase.Idle ∷ []) (length ps) ≡ Some phase.Idle
+  idle_at = push_end ps phase.Idle
 
-  module _ (t : Transaction) (at : slice_get (log_of w) (length ps) ≡ Some t) (new : Database) (reply : Reply) (ran : meaning t.entry stock.rows ≡ (reply, new)) where
+  module _ (t : Transaction) (at : slice_get (log_of w) (length ps) ≡ Some t) where
     less : length ps < length (log_of w)
     less = slice_get_within (log_of w) (length ps) t at
 
+    admitted : core.IsSound w.tables (log_of w) w.start (ps ++ phase.Idle ∷ []) stock.rows
+    admitted = sound.admits ps stock.rows s.sound less
+
+    -- a plan that is lent is well formed, and in no conflict with the next one
+    apart : (number : ℕ) (other : Requests) → get stock.lent number ≡ Some other → IsWellFormed other × (ModesClash other t.plan → ⊥)
+    apart number other is =
+        let u = who w ps number other (sym (s.lent_is number) ∙ is) in (
+          subst IsWellFormed (sym u.4) (fits.planned u.0 u.1 u.2).sound,
+          λ conflict.
+              sound.lends_apart (ps ++ phase.Idle ∷ []) stock.rows (length ps) u.0 t u.1 admitted idle_at is_ready (out_more ps phase.Idle u.0 u.3) at u.2
+              (turn.requests u.1.plan t.plan (subst (λ q. ModesClash q t.plan) u.4 conflict)),
+        )
+
+    -- so what it may read is free
+    pub all_free : (name : RowName) → touches t.entry name Read ≡ true → is_free stock.tables stock.lent name ≡ true
+    all_free name touched =
+        free stock.tables stock.lent t.plan (fits.planned (length ps) t at).sound apart name
+        (ap (λ ts. locks_row ts t.plan name Read) s.tables ∙ (fits.planned (length ps) t at).locks name Read touched)
+
+  module _ (t : Transaction) (at : slice_get (log_of w) (length ps) ≡ Some t) (new : Database) (reply : Reply) (ran : meaning t.entry stock.rows ≡ (reply, new)) where
     rows_after : (meaning t.entry stock.rows).1 ≡ new
     rows_after = ap (λ (r : Reply × Database). r.1) ran
 
@@ -195,17 +241,11 @@ module _ (w : Work) (sound : StaysSound w.tables w.first (log_of w) w.start) (fo
         let untouched : touches t.entry name Write ≡ false = not_true (touches t.entry name Write) (λ e. let g : true ≡ false = sym ((fits.planned (length ps) t at).locks name Write e) ∙ free in cc) in
         ap (λ (db : Database). get db name) (sym rows_after) ∙ (frame t.entry stock.rows stock.rows (λ q e. refl)).others name untouched
 
-    idle_at : slice_get (ps ++ phase.Idle ∷ []) (length ps) ≡ Some phase.Idle
-    idle_at = push_end ps phase.Idle
-
-    admitted : core.IsSound w.tables (log_of w) w.start (ps ++ phase.Idle ∷ []) stock.rows
-    admitted = sound.admits ps stock.rows s.sound less
-
     lent : core.IsSound w.tables (log_of w) w.start (slice_set (ps ++ phase.Idle ∷ []) (length ps) phase.Out) stock.rows
-    lent = sound.lends (ps ++ phase.Idle ∷ []) stock.rows (length ps) admitted idle_at (is_ready t at)
+    lent = sound.lends (ps ++ phase.Idle ∷ []) stock.rows (length ps) (admitted t at) idle_at is_ready
 
     shows : core.IsLent w.tables (log_of w) w.start (length ps) stock.rows
-    shows = sound.lent_rows (ps ++ phase.Idle ∷ []) stock.rows (length ps) t stock.rows admitted idle_at (is_ready t at) at (λ name e. refl)
+    shows = sound.lent_rows (ps ++ phase.Idle ∷ []) stock.rows (length ps) t stock.rows (admitted t at) idle_at is_ready at (λ name e. refl)
 
     run_of : core.IsRunOf w.tables t stock.rows reply new
     run_of = subst (λ (r : Reply). core.IsRunOf w.tables t stock.rows r new) (ap (λ (r : Reply × Database). r.0) ran)
@@ -225,13 +265,66 @@ module _ (w : Work) (sound : StaysSound w.tables w.first (log_of w) w.start) (fo
   goes_straight t later outcome at ran tables unlent =
       let here : slice_get (log_of w) (length ps) ≡ Some t = ap (slice_get (log_of w)) count ∙ at in
       let more : map phase_in (slots ++ Settled outcome ∷ []) ≡ ps ++ phase.Settled ∷ [] = map_push phase_in slots (Settled outcome) in
-      let settles : all_settled (map phase_in (slots ++ Settled outcome ∷ [])) ≡ true = ap all_settled more ∙ all_pushed ps all in
+      let waits : waiting w.first (log_of w) (map phase_in (slots ++ Settled outcome ∷ [])) ≡ waiting w.first (log_of w) ps = ap (waiting w.first (log_of w)) more ∙ waits_same w.first (log_of w) ps in
       record {
         tables = tables ∙ s.tables;
         sound = subst (λ (qs : List Phase). core.IsSound w.tables (log_of w) w.start qs later.rows) (sym more) (settled t here later.rows (as_reply outcome) ran);
-        ready = λ place out. absurd (none_out (map phase_in (slots ++ Settled outcome ∷ [])) settles place out);
+        ready = λ place out.
+            ap (λ (ws : List Waiting). ready ws (w.first + place)) waits
+            ∙ s.ready place (still_out ps phase.Settled place refl (sym (ap (λ (qs : List Phase). is_out (slice_get qs place)) more) ∙ out));
         kept = kept_settled w slots outcome s.kept (subst (λ (n : ℕ). Fits w n (Settled outcome)) count (is_run t here later.rows (as_reply outcome) ran).replied);
-        tree_is = s.tree_is ∙ ap (λ (ws : List Waiting). record { arena = w.arena; waiting = ws }) (none_waits w.first (log_of w) ps all ∙ sym (none_waits w.first (log_of w) (map phase_in (slots ++ Settled outcome ∷ [])) settles));
-        lent_is = λ number. ap (λ m. get m number) unlent ∙ s.lent_is number ∙ none_lent w ps all number (lent_to w ps number) refl
-            ∙ sym (none_lent w (map phase_in (slots ++ Settled outcome ∷ [])) settles number (lent_to w (map phase_in (slots ++ Settled outcome ∷ [])) number) refl);
+        tree_is = s.tree_is ∙ ap (λ (ws : List Waiting). record { arena = w.arena; waiting = ws }) (sym waits);
+        lent_is = λ number. ap (λ m. get m number) unlent ∙ s.lent_is number ∙ sym (lent_pushed w ps phase.Settled number refl) ∙ ap (λ (qs : List Phase). lent_to w qs number) (sym more);
       }
+
+-- a transaction that isn't settled had its plan made
+some_phase : (ps : List Phase) (n : ℕ) → n < length ps → (p : Phase) × (slice_get ps n ≡ Some p)
+some_phase [] n less = absurd (omega (arith, less))
+some_phase (p ∷ ps) zero less = (p, refl)
+some_phase (p ∷ ps) (suc n) less = some_phase ps n (omega (arith, less))
+
+some_transaction : (log : List Transaction) (n : ℕ) → n < length log → (t : Transaction) × (slice_get log n ≡ Some t)
+some_transaction [] n less = absurd (omega (arith, less))
+some_transaction (t ∷ log) zero less = (t, refl)
+some_transaction (t ∷ log) (suc n) less = some_transaction log n (omega (arith, less))
+
+made_of : {Z : Type 0} (plans : List Requests) (o : Option (Vec Requests Z)) (tree : Locks) (number : ℕ) (plan : Requests) → AreMade plans o tree → plan_of tree.waiting number ≡ Some plan → made_in o ≡ plans
+made_of plans None tree number plan h there = absurd (let e : None ≡ Some plan = sym (ap (λ (ws : List Waiting). plan_of ws number) h) ∙ there in cc)
+made_of plans (Some made) tree number plan h there = h
+
+pub made_where_open : {Z : Type 0} (w : Work) → FollowsPhases w.first (log_of w) → IsFitting w → (slots : List Slot) (stock : Stock) (tree : Locks) → IsScheduled w slots stock tree
+    → (n : ℕ) → AreSettledBefore slots n → n < length slots → (o : Option (Vec Requests Z)) → AreMade w.plans o tree → made_in o ≡ w.plans
+made_where_open w follows fits slots stock tree s n leading less o made =
+    let ps = map phase_in slots in
+    let count : length ps ≡ length slots = length_map phase_in slots in
+    let within : length ps ≤ length (log_of w) = s.sound.within in
+    let p = some_phase ps n (omega (arith, less, count)) in
+    let t = some_transaction (log_of w) n (omega (arith, less, count, within)) in
+    let there : plan_of (waiting w.first (log_of w) ps) (w.first + n) ≡ Some t.0.plan = follows.there ps n t.0 p.0 t.1 p.1 (sym (ap is_settled p.1) ∙ leading.next) in
+    made_of w.plans o tree (w.first + n) t.0.plan made (ap (λ (l : Locks). plan_of l.waiting (w.first + n)) s.tree_is ∙ there)
+
+pub transaction_at : (w : Work) → IsFitting w → (n : ℕ) → n < length w.entries → (t : Transaction) × (slice_get (log_of w) n ≡ Some t)
+transaction_at w fits n less = some_transaction (log_of w) n (let e = log_length w.entries w.plans fits.plans in omega (arith, e, less))
+
+-- what the lock tree says of the next one
+pub joins_as : (w : Work) → FollowsPhases w.first (log_of w) → (slots : List Slot) (stock : Stock) (tree : Locks) → IsScheduled w slots stock tree → (t : Transaction) (plan : Requests)
+    → slice_get (log_of w) (length slots) ≡ Some t → t.plan ≡ plan
+    → ready (tree.waiting ++ record { no = w.first + length slots; plan = plan; marked = false } ∷ []) (w.first + length slots)
+    ≡ ready (waiting w.first (log_of w) (map phase_in slots ++ phase.Idle ∷ [])) (w.first + length slots)
+joins_as w follows slots stock tree s t plan at of_plan =
+    let ps = map phase_in slots in
+    let n = w.first + length slots in
+    let count : length ps ≡ length slots = length_map phase_in slots in
+    let admits = follows.admits ps t (ap (slice_get (log_of w)) count ∙ at) in
+    ap (λ (l : Locks). ready (l.waiting ++ record { no = n; plan = plan; marked = false } ∷ []) n) s.tree_is
+    ∙ ap (λ (p : Requests). ready (waiting w.first (log_of w) ps ++ record { no = n; plan = p; marked = false } ∷ []) n) (sym of_plan)
+    ∙ ap (λ (k : ℕ). ready (waiting w.first (log_of w) ps ++ record { no = w.first + k; plan = t.plan; marked = false } ∷ []) n) (sym count)
+    ∙ ap (λ (ws : List Waiting). ready ws n) (sym admits)
+
+-- between two transactions the next one is ready
+pub between_is : (w : Work) → FollowsPhases w.first (log_of w) → FirstReady → IsFitting w → (slots : List Slot)
+    → is_between (record { work = w; slots = slots }) ≡ true → is_next_ready (record { work = w; slots = slots }) ≡ true
+between_is w follows first fits slots is =
+    let p = between_parts (record { work = w; slots = slots }) is in
+    let t = transaction_at w fits (length slots) p.1 in
+    one_more (record { work = w; slots = slots }) p.1 ∙ lend_is w slots ∙ ready_alone w follows first slots t.0 t.1 p.0

@@ -66,17 +66,18 @@ idle_plan : (o : Option Transaction) → plan_out o (Some phase.Idle) ≡ None
 idle_plan None = refl
 idle_plan (Some t) = refl
 
-settled_plan : (o : Option Transaction) → plan_out o (Some phase.Settled) ≡ None
-settled_plan None = refl
-settled_plan (Some t) = refl
+unlent_plan : (o : Option Transaction) (p : Phase) → is_out (Some p) ≡ false → plan_out o (Some p) ≡ None
+unlent_plan None p e = refl
+unlent_plan (Some t) p e = ap (λ (b : Bool). if b then Some t.plan else None) e
 
-pushed_plan : (o : Option Transaction) (ps : List Phase) (place : ℕ) → plan_out o (slice_get (ps ++ phase.Idle ∷ []) place) ≡ plan_out o (slice_get ps place)
-pushed_plan o ps place = elim (same_number place (length ps)) [
+-- one more that is not out
+pushed_plan : (o : Option Transaction) (ps : List Phase) (p : Phase) (place : ℕ) → is_out (Some p) ≡ false → plan_out o (slice_get (ps ++ p ∷ []) place) ≡ plan_out o (slice_get ps place)
+pushed_plan o ps p place here = elim (same_number place (length ps)) [
   | inl e ↦
-      let there : slice_get (ps ++ phase.Idle ∷ []) place ≡ Some phase.Idle = ap (slice_get (ps ++ phase.Idle ∷ [])) e ∙ push_end ps phase.Idle in
+      let there : slice_get (ps ++ p ∷ []) place ≡ Some p = ap (slice_get (ps ++ p ∷ [])) e ∙ push_end ps p in
       let past : slice_get ps place ≡ None = slice_get_past ps place (omega (arith, e)) in
-      ap (plan_out o) there ∙ idle_plan o ∙ sym (ap (plan_out o) past ∙ no_plan o)
-  | inr n ↦ ap (plan_out o) (push_before ps phase.Idle place n)
+      ap (plan_out o) there ∙ unlent_plan o p here ∙ sym (ap (plan_out o) past ∙ no_plan o)
+  | inr n ↦ ap (plan_out o) (push_before ps p place n)
 ]
 
 -- by number, below the first and from the first on
@@ -103,10 +104,10 @@ module _ (w : Work) where
     | inr e ↦ at_lent [] number (number - w.first) e ∙ no_plan (slice_get (log_of w) (number - w.first))
   ]
 
-  pub lent_pushed : (ps : List Phase) (number : ℕ) → lent_to w (ps ++ phase.Idle ∷ []) number ≡ lent_to w ps number
-  lent_pushed ps number = elim (by_place w.first number) [
-    | inl less ↦ under_lent (ps ++ phase.Idle ∷ []) number less ∙ sym (under_lent ps number less)
-    | inr e ↦ at_lent (ps ++ phase.Idle ∷ []) number (number - w.first) e ∙ pushed_plan (slice_get (log_of w) (number - w.first)) ps (number - w.first) ∙ sym (at_lent ps number (number - w.first) e)
+  pub lent_pushed : (ps : List Phase) (p : Phase) (number : ℕ) → is_out (Some p) ≡ false → lent_to w (ps ++ p ∷ []) number ≡ lent_to w ps number
+  lent_pushed ps p number here = elim (by_place w.first number) [
+    | inl less ↦ under_lent (ps ++ p ∷ []) number less ∙ sym (under_lent ps number less)
+    | inr e ↦ at_lent (ps ++ p ∷ []) number (number - w.first) e ∙ pushed_plan (slice_get (log_of w) (number - w.first)) ps p (number - w.first) here ∙ sym (at_lent ps number (number - w.first) e)
   ]
 
   lent_elsewhere : (ps : List Phase) (place : ℕ) (p : Phase) (number : ℕ) → number ≢ w.first + place → lent_to w (slice_set ps place p) number ≡ lent_to w ps number

@@ -113,7 +113,7 @@ module _ (w : Work) (sound : StaysSound w.tables w.first (log_of w) w.start) (fo
             ∙ ap (λ (c : ℕ). record { arena = w.arena; waiting = waiting w.first (log_of w) ps ++ record { no = c; plan = t.plan; marked = false } ∷ [] }) k
             ∙ ap (λ (ws : List Waiting). record { arena = w.arena; waiting = ws }) (sym (follows.admits ps t at_end))
             ∙ tree_same (ps ++ phase.Idle ∷ []) (map phase_in (slots ++ Idle ∷ [])) (sym more);
-        lent_is = λ i. s.lent_is i ∙ sym (lent_pushed w ps i) ∙ ap (λ (qs : List Phase). lent_to w qs i) (sym more);
+        lent_is = λ i. s.lent_is i ∙ sym (lent_pushed w ps phase.Idle i refl) ∙ ap (λ (qs : List Phase). lent_to w qs i) (sym more);
       }
 
   pub lent : (slots : List Slot) (stock new : Stock) (tree later : Locks) (place : ℕ) (t : Transaction) (slot : Slot) → Good slots stock tree

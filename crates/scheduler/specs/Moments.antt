@@ -1,14 +1,15 @@
 -- Claimed: what contracts promise to a reader rests on these words.
 -- What can be done at a moment of a scheduler, and what answers come to.
-use Rattle.std.specs.Prelude.{◌≡◌, ◌≢◌, ◌<◌, ◌&&◌, ℕ, nat_lt, Bool, false, List, length, Option, Some, slice_get}
+use Rattle.std.specs.Prelude.{◌≡◌, ◌≢◌, ◌<◌, ◌&&◌, ◌+◌, ◌++◌, ◌∷◌, [], ℕ, nat_lt, Bool, false, List, length, Option, Some, slice_get}
 use Rattle.std.specs.List.{list_all}
 use Rattle.scheduler_core.specs.declared.event.Event.{Event}
-use Rattle.scheduler_core.specs.declared.event.Event.TheVariants.{Admit, Settle}
+use Rattle.scheduler_core.specs.declared.event.Event.TheVariants.{Admit, Lend, Settle}
 use Rattle.scheduler_core.specs.declared.event.StepAnswer.{StepAnswer}
 use Rattle.scheduler_core.specs.declared.event.StepAnswer.TheVariants.{NoMemory}
 use Rattle.scheduler_core.specs.Phases.{is_settled}
 use Rattle.scheduler_core.specs.Events.{enabled, Answers, Played}
 use Rattle.scheduler_core.specs.Choices.{enabled_events, IsNextEvent, IsLeastLend}
+use Rattle.scheduler.specs.declared.slot.Slot.TheVariants.{Idle}
 use Rattle.scheduler.specs.Schedules.{Schedule, log_of, phases_of, IsChoice}
 
 -- whether the event can be made
@@ -22,6 +23,15 @@ LacksRoom s = (length s.slots < length s.work.entries) × (can_make s Admit ≡ 
 -- all that are admitted are settled, and there is a next one
 abbrev pub is_between : Schedule → Bool
 is_between s = list_all (λ p. is_settled (Some p)) (phases_of s) && nat_lt (length s.slots) (length s.work.entries)
+
+-- one more transaction is admitted
+abbrev pub with_next : Schedule → Schedule
+with_next s = record s { slots = s.slots ++ Idle ∷ [] }
+
+-- there is a next transaction, and once it were admitted, its rows could be lent to it at once
+abbrev pub is_next_ready : Schedule → Bool
+is_next_ready s =
+    nat_lt (length s.slots) (length s.work.entries) && can_make (with_next s) (Lend (s.work.first + length s.slots))
 
 -- the events that can be made, in their order
 abbrev pub events_at : Schedule → List Event

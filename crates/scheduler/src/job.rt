@@ -50,6 +50,13 @@ impl Job {
         self.parts.no()
     }
 
+    /// The transaction's entry.
+    pub fn entry(&self) -> &Entry
+        ensures { result.now ≡ self.now.entry }
+    {
+        self.parts.entry()
+    }
+
     /// The job's loan.
     pub(crate) fn into_loan(self) -> Loan
         ensures { result ≡ self.loan }

@@ -54,6 +54,13 @@ impl Parts {
         self.no
     }
 
+    /// The entry.
+    pub(crate) fn entry(&self) -> &Entry
+        ensures { result.now ≡ self.now.entry }
+    {
+        &self.entry
+    }
+
     /// The loan.
     pub(crate) fn into_loan(self) -> Loan
         ensures { result ≡ self.loan }

@@ -19,7 +19,8 @@ pub use rebuilding::rebuilt;
 pub use scan::{next_row, push_rows};
 pub use shelf::Shelf;
 pub use shelves::{
-    Shelves, add_row, empty_place, lend_row, make_place, put_row, row_at, share_row, take_row,
+    Shelves, add_row, count_places, empty_place, lend_row, make_place, put_row, row_at, share_row,
+    take_row,
 };
 pub use shelving::{ends_partition, has_ends, shelf_of};
 pub use writing::{shared, write};

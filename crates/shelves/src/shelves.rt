@@ -203,6 +203,16 @@ pub fn row_at<'a>(shelves: &'a Shelves, at: &Resource, name: &RowName) -> Option
     shelf.row_at(name)
 }
 
+/// How many names have a place on a shelf; none where the shelf is away. It tells how long it takes to look through it,
+/// and promises nothing.
+pub fn count_places(shelves: &Shelves, at: &Resource) -> Option<usize> {
+    match shelves.get(at) {
+        Some(shelf) if shelf.is_away() => None,
+        Some(shelf) => Some(shelf.places().len()),
+        None => Some(0),
+    }
+}
+
 /// Takes a place off its shelf, and gives the row that stands there, if there is a place.
 #[tactic(auto, using(crate::proofs::Exact::get_same))]
 pub fn take_row(shelves: &mut Shelves, at: &Resource, name: &RowName) -> Option<Option<Arc<Row>>>
