@@ -1,5 +1,6 @@
 pub mod Reported
 pub mod Lines
+pub mod Uncommitted
 pub mod Runs
 pub mod Stopping
 pub mod SoFar

@@ -13,14 +13,6 @@ use Rattle.running.specs.declared.transcript.Transcript.{Transcript}
 use Rattle.running.specs.Hashers.{batch_of, rows_digest_of, said_of}
 use Rattle.running.specs.Standings.{standing_of}
 
--- An idle engine can run these calls as its next batch: they are over its tables, no more than a batch may have, and
--- with what is carried to them they have numbers.
-pub record IsDue (engine : EngineParts) (calls : List Call) : Type 0 where
-  pub over : AllByRecursion (λ call. call.proc.tables ≡ tables_of engine) calls
-  pub few : length calls ≤ 4096
-  pub idle : is_busy engine ≡ false
-  pub room : engine.next + length (attempts_at (standing_of engine) calls) ≤ 2 ^ 48
-
 -- the text of a batch of these calls, the next one after what was reported
 abbrev pub due_text : EngineParts → Transcript → List Call → List ℕ
 due_text engine transcript calls =
@@ -31,6 +23,15 @@ due_text engine transcript calls =
 abbrev pub KeepsDigest : EngineParts → Transcript → Type 0
 KeepsDigest engine transcript =
     IfSome (rows_digest_of transcript) (λ text. text ≡ digest (row_text (tables_of engine) engine.rows))
+
+-- An idle engine can run these calls as its next batch: they are over its tables, no more than a batch may have, and
+-- with what is carried to them they have numbers. The transcript is of what the engine has run before.
+pub record IsDue (engine : EngineParts) (transcript : Transcript) (calls : List Call) : Type 0 where
+  pub over : AllByRecursion (λ call. call.proc.tables ≡ tables_of engine) calls
+  pub few : length calls ≤ 4096
+  pub idle : is_busy engine ≡ false
+  pub room : engine.next + length (attempts_at (standing_of engine) calls) ≤ 2 ^ 48
+  pub digest_kept : KeepsDigest engine transcript
 
 -- these calls were run as the next batch, and reported
 pub record IsReported (old new : EngineParts) (before after : Transcript) (sink filled : Option (List ℕ))

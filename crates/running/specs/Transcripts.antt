@@ -1,8 +1,12 @@
 -- Claimed: what contracts promise to a reader rests on these words.
 -- What is written of a batch, and how a write ends.
-use Rattle.std.specs.Prelude.{ℕ, List, [], ◌∷◌, ◌++◌, Bool, false, Result, Ok, Err, ⊤}
+use Rattle.std.specs.Prelude.{◌≡◌, ℕ, List, [], ◌∷◌, ◌++◌, Bool, false, Option, IfSome, Result, Ok, Err, ⊤}
+use Rattle.std.specs.FinMap.{empty}
+use Rattle.std.specs.List.{list_any}
 use Rattle.catalogue.specs.Shapes.{TableShape}
 use Rattle.values.specs.Database.{Database}
+use Rattle.meaning.specs.Outcomes.{is_commit}
+use Rattle.row_store.specs.Stock.{Stock}
 use Rattle.batch_log.specs.declared.fault.LogFaultKind.{LogFaultKind}
 use Rattle.batch_log.specs.declared.fault.LogFaultKind.TheVariants.{Io, Memory}
 use Rattle.batch_log.specs.Faults.{is_io}
@@ -18,6 +22,16 @@ said_lines (reply ∷ replies) = reply_line reply.no reply.of (reply_of reply) +
 -- reply lines, and the batch line with the digests of the rows and of these lines
 unfoldable pub with_batch_line : ℕ → List TableShape → Database → List ℕ → List ℕ
 with_batch_line batch tables db lines = lines ++ batch_line batch (digest (row_text tables db)) (digest lines)
+
+-- whether one of these replies is a commit
+abbrev pub has_commit : List Reply → Bool
+has_commit replies = list_any (λ reply. is_commit reply.outcome) replies
+
+-- The rows are those that a batch with these replies has left, and no row is lent. Where no reply is a commit, the
+-- digest that was kept before the batch, if one was, is still that of the rows.
+pub record AreRowsAfter (replies : List Reply) (kept : Option (List ℕ)) (store : Stock) : Type 0 where
+  pub unlent : store.lent ≡ empty
+  pub digest_kept : has_commit replies ≡ false → IfSome kept (λ text. text ≡ digest (row_text store.tables store.rows))
 
 -- whether a write failed
 abbrev pub write_failed : {T : Type 0} → Result T LogFaultKind → Bool

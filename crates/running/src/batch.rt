@@ -62,7 +62,7 @@ pub fn run_batch<E: BatchEngine, X: Fn(&mut E, Batch) -> Result<BatchDone, ExecF
     line: u64,
 ) -> Result<(), RunFault>
     requires executes { Executes E.parts X.Fn executor.now }
-    requires due { IsDue (E.parts engine.old) requests.items }
+    requires due { IsDue (E.parts engine.old) transcript.old requests.items }
     ensures same { KeepsSetting (E.parts engine.old) (E.parts engine.new) }
     ensures reported { OnOk result (IsReported (E.parts engine.old) (E.parts engine.new)
         transcript.old transcript.new (K.taken sink.old) (K.taken sink.new) requests.items) }

@@ -7,10 +7,13 @@ ghost use Rattle.sha2.specs.Hashers.{Holds256};
 ghost use Rattle.devices.specs.Devices.{AppendsFront};
 ghost use Rattle.report_text.specs.Texts.{digest, end_line, row_text};
 ghost use Rattle.report_text.specs.Report.{next_batch};
-ghost use Rattle.running.specs.Transcripts.{said_lines, with_batch_line, write_failed, IsOfMachine};
+ghost use Rattle.meaning.specs.Outcomes.{is_commit};
+ghost use Rattle.running.specs.Transcripts.{has_commit, said_lines, with_batch_line, write_failed};
+ghost use Rattle.running.specs.Transcripts.{AreRowsAfter, IsOfMachine};
 
 use batch_log::{LogFaultKind, Sink, write_all};
 use engine::Reply;
+use meaning::Outcome;
 use report_text::{
     digest_of, digest_text, push_batch_line, push_end_line, push_reply_line, rows_digest,
 };
@@ -49,20 +52,47 @@ fn digest_of_rows(alloc: Global, rows: &RowStore) -> Result<String, AllocError>
     rows_digest(alloc, rows.catalogue(), rows)
 }
 
-/// The digest of the rows, and reply lines with the batch line after them.
+/// The digest that was kept, or else that of the rows.
+fn kept_or_made(alloc: Global, kept: Option<String>, rows: &RowStore) -> Result<String, AllocError>
+    requires unlent { rows.now.lent ≡ map_of.empty }
+    requires kept { IfSome kept (λ text. string_bytes text ≡ digest (row_text rows.now.tables rows.now.rows)) }
+    ensures { IfOk result (λ text. string_bytes text ≡ digest (row_text rows.now.tables rows.now.rows)) }
+{
+    match kept {
+        Some(text) => Ok(text),
+        None => digest_of_rows(alloc, rows),
+    }
+}
+
+fn is_commit(reply: &Reply) -> bool
+    ensures { result ≡ is_commit reply.now.outcome }
+{
+    matches!(reply.outcome, Outcome::Commit(_))
+}
+
+/// Whether one of these replies is a commit. A batch without one leaves every row as it was.
+fn has_commit(replies: &[Reply]) -> bool
+    ensures { result ≡ has_commit replies.now }
+{
+    replies.iter().any(is_commit)
+}
+
+/// The digest of the rows, and reply lines with the batch line after them. A digest that was kept is not made anew.
 #[tactic(auto, unfolding(crate::specs::Transcripts::with_batch_line))]
 fn batch_text(
     alloc: Global,
     batch: u64,
+    kept: Option<String>,
     rows: &RowStore,
     lines: &str,
 ) -> Result<(String, String), AllocError>
-    requires { rows.now.lent ≡ map_of.empty }
+    requires unlent { rows.now.lent ≡ map_of.empty }
+    requires kept { IfSome kept (λ text. string_bytes text ≡ digest (row_text rows.now.tables rows.now.rows)) }
     ensures digest { IfOk result (λ made. string_bytes made.0 ≡ digest (row_text rows.now.tables rows.now.rows)) }
     ensures text { IfOk result (λ made.
         string_bytes made.1 ≡ with_batch_line batch rows.now.tables rows.now.rows lines.now) }
 {
-    let rows = digest_of_rows(alloc, rows)?;
+    let rows = kept_or_made(alloc, kept, rows)?;
     let replies = digest_text(alloc, lines.as_bytes())?;
     let mut text = String::from_str(alloc, lines)?;
     push_batch_line(&mut text, batch, &rows, &replies)?;
@@ -78,18 +108,6 @@ fn end_text(alloc: Global, count: u64, rows: &str, said: Sha256) -> Result<Strin
     let mut text = String::new(alloc);
     push_end_line(&mut text, count, rows, &replies)?;
     Ok(text)
-}
-
-/// The digest that was kept, or else that of the rows.
-fn kept_or_made(alloc: Global, kept: Option<String>, rows: &RowStore) -> Result<String, AllocError>
-    requires unlent { rows.now.lent ≡ map_of.empty }
-    requires kept { IfSome kept (λ text. string_bytes text ≡ digest (row_text rows.now.tables rows.now.rows)) }
-    ensures { IfOk result (λ text. string_bytes text ≡ digest (row_text rows.now.tables rows.now.rows)) }
-{
-    match kept {
-        Some(text) => Ok(text),
-        None => digest_of_rows(alloc, rows),
-    }
 }
 
 /// Writes a text that was made, and tells what failed.
@@ -121,7 +139,9 @@ impl Transcript {
         }
     }
 
-    /// Writes the report of a batch.
+    /// Writes the report of a batch, over the rows that it has left. Where no call of it has committed, they are those
+    /// that the batch before has left, if there was one: their digest is then the one in its batch line, and is not
+    /// made anew.
     pub fn write_batch<K: Sink>(
         &mut self,
         alloc: Global,
@@ -129,7 +149,7 @@ impl Transcript {
         rows: &RowStore,
         replies: &[Reply],
     ) -> Result<(), LogFaultKind>
-        requires { rows.now.lent ≡ map_of.empty }
+        requires { AreRowsAfter replies.now (rows_digest_of self.old) rows.now }
         ensures batch { OnOk result (batch_of self.new ≡ next_batch (batch_of self.old)) }
         ensures said { OnOk result ((m : List ℕ) → Holds256 (said_of self.old) m →
             Holds256 (said_of self.new) (m ++ said_lines replies.now)) }
@@ -145,7 +165,12 @@ impl Transcript {
         let Ok(lines) = reply_lines(alloc, replies) else {
             return Err(LogFaultKind::Memory);
         };
-        let Ok((rows, text)) = batch_text(alloc, self.batch, rows, &lines) else {
+        let kept = if has_commit(replies) {
+            None
+        } else {
+            self.rows.take()
+        };
+        let Ok((rows, text)) = batch_text(alloc, self.batch, kept, rows, &lines) else {
             return Err(LogFaultKind::Memory);
         };
         match write_text(sink, &text) {

@@ -39,12 +39,13 @@ room_after : (work : Work) (batch : List Call) → IsReady work → HasRoomFor w
 room_after work batch h few log = room_at work.engine.retries (standing_of work.engine) log.db log.ran batch log.standing_is h.few (few_calls work batch h few log)
 
 pub due_at : (work : Work) (batch : List Call) → IsReady work → AllByRecursion (λ (c : Call). c.proc.tables ≡ tables_of work.engine) batch → length batch ≤ 4096 →
-    HasRoomFor work batch → IsDue work.engine batch
+    HasRoomFor work batch → IsDue work.engine work.transcript batch
 due_at work batch h over short few = record {
   over = over;
   few = short;
   idle = h.idle;
   room = ∥∥₁_elim h.log le_prop (room_after work batch h few);
+  digest_kept = h.digest_kept;
 }
 
 -- the calls that wait

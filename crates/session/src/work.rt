@@ -66,7 +66,7 @@ impl Work {
 
     /// Executes a batch of calls, after those that are carried to it, and reports it.
     fn run(&mut self, alloc: Global, calls: Vec<Request>) -> Result<(), LogFault>
-        requires { IsDue self.old.engine calls.items }
+        requires { IsDue self.old.engine self.old.transcript calls.items }
         ensures feed { self.new.feed ≡ self.old.feed }
         ensures same { KeepsSetting self.old.engine self.new.engine }
         ensures reported { OnOk result

@@ -39,6 +39,7 @@ run_batch-requires-clause-due g c =
       few = rw c.new-none.ensures.items (omega arith);
       idle = between.idle;
       room = rw c.new-none.ensures.items (∥∥₁_elim between.log le_prop (room_after_log now.retries (standing_of now) few));
+      digest_kept = between.digest_kept;
     }
 
 pub loop-turn-preserved : goal.loop-turn-preserved

@@ -70,6 +70,7 @@ run_batch-requires-clause-due g c =
       idle = c.batches.invariant.idle;
       room = room_in_log c.args.engine.now.core.retries (calls_read c.batches.reader) (calls_read c.next_batch.new.self) _ (standing_of c.batches.engine.core) _ s.ran c.in-Ok-Some.requests.items s.reported.standing_is c.requires.few s.total_is
           (rw c.in-Ok-Some.field-0-is at c.in-Ok-Some.ensures.counted.0) c.next_batch.ensures.counted.1 most;
+      digest_kept = c.batches.invariant.digest;
     }
 
 pub batches-preserved : goal.batches-preserved
