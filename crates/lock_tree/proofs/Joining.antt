@@ -56,14 +56,14 @@ last_beside held n mode [] under =
     ]
 last_beside held n mode (x ∷ q) under =
     elim (list_all (λ h. are_compatible h x.1) held) as (λ v. has_number n (cond v (x ∷ granted_beside (x.1 ∷ held) (q ++ (n, mode) ∷ [])) [])
-        ≡ ((length (cond v (x ∷ granted_beside (x.1 ∷ held) q) []) == suc (length q))
-        && (list_all (λ h. are_compatible h mode) held && (are_compatible x.1 mode && list_all (λ h. are_compatible h mode) (modes_of q))))) [
+    ≡ ((length (cond v (x ∷ granted_beside (x.1 ∷ held) q) []) == suc (length q))
+    && (list_all (λ h. are_compatible h mode) held && (are_compatible x.1 mode && list_all (λ h. are_compatible h mode) (modes_of q))))) [
       | true ↦
           ap (λ v. v || has_number n (granted_beside (x.1 ∷ held) (q ++ (n, mode) ∷ []))) (other_way x.0 n under.0)
           ∙ last_beside (x.1 ∷ held) n mode q under.1
           ∙ around (length (granted_beside (x.1 ∷ held) q) == length q) (are_compatible x.1 mode) (list_all (λ h. are_compatible h mode) held) (list_all (λ h. are_compatible h mode) (modes_of q))
           ∙ ap (λ v. v && (list_all (λ h. are_compatible h mode) held && (are_compatible x.1 mode && list_all (λ h. are_compatible h mode) (modes_of q))))
-            (sym (more_same (length (granted_beside (x.1 ∷ held) q)) (length q)))
+          (sym (more_same (length (granted_beside (x.1 ∷ held) q)) (length q)))
       | false ↦ ap (λ v. v && (list_all (λ h. are_compatible h mode) held && (are_compatible x.1 mode && list_all (λ h. are_compatible h mode) (modes_of q)))) (sym (none_more (length q)))
     ]
 

@@ -68,5 +68,5 @@ unlocked false h = refl
 pub free_where_apart : LockedRowsConflict → FreeWhereApart
 free_where_apart law tables lent plan sound apart name locked =
     ap not (none_passes (λ r. locks_row tables r name Write) (entries lent) (entries_sorted lent) (λ i p is.
-        let a = apart i p (get-entries lent i ∙ is) in
-        unlocked (locks_row tables p name Write) (λ w. a.1 (law tables p plan a.0 sound name w locked))))
+    let a = apart i p (get-entries lent i ∙ is) in
+    unlocked (locks_row tables p name Write) (λ w. a.1 (law tables p plan a.0 sound name w locked))))

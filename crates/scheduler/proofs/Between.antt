@@ -66,7 +66,7 @@ waits_same first [] ps = refl
 waits_same first (t ∷ log) [] = waits_none (suc first) log
 waits_same first (t ∷ log) (p ∷ ps) =
     elim (is_settled (Some p)) as (λ b. (if b then waiting (suc first) log (ps ++ phase.Settled ∷ []) else record { no = first; plan = t.plan; marked = is_out (Some p) } ∷ waiting (suc first) log (ps ++ phase.Settled ∷ []))
-        ≡ (if b then waiting (suc first) log ps else record { no = first; plan = t.plan; marked = is_out (Some p) } ∷ waiting (suc first) log ps)) [
+    ≡ (if b then waiting (suc first) log ps else record { no = first; plan = t.plan; marked = is_out (Some p) } ∷ waiting (suc first) log ps)) [
       | true ↦ waits_same (suc first) log ps
       | false ↦ ap (λ (ws : List Waiting). record { no = first; plan = t.plan; marked = is_out (Some p) } ∷ ws) (waits_same (suc first) log ps)
     ]
