@@ -36,7 +36,7 @@ set_at [] k y v is = absurd (none_some y is)
 set_at (x ∷ xs) zero y v is = refl
 set_at (x ∷ xs) (suc k) y v is = set_at xs k y v is
 
-set_past : {X : Type 0} (xs : List X) (k j : ℕ) (v : X) → j ≢ k → slice_get (slice_set xs k v) j ≡ slice_get xs j
+pub set_past : {X : Type 0} (xs : List X) (k j : ℕ) (v : X) → j ≢ k → slice_get (slice_set xs k v) j ≡ slice_get xs j
 set_past [] k j v apart = refl
 set_past (x ∷ xs) zero zero v apart = absurd (apart refl)
 set_past (x ∷ xs) zero (suc j) v apart = refl
@@ -70,7 +70,7 @@ pushed_settled (s ∷ slots) zero settled = settled
 pushed_settled (s ∷ slots) (suc place) settled = pushed_settled slots place settled
 
 -- another slot at a place that is not settled
-set_settled : (slots : List Slot) (k : ℕ) (old new : Slot) → slice_get slots k ≡ Some old → is_settled (Some (phase_in old)) ≡ false
+pub set_settled : (slots : List Slot) (k : ℕ) (old new : Slot) → slice_get slots k ≡ Some old → is_settled (Some (phase_in old)) ≡ false
     → StaysSettled (map phase_in slots) (map phase_in (slice_set slots k new))
 set_settled [] k old new is open_yet place settled = settled
 set_settled (s ∷ slots) zero old new is open_yet zero settled =
@@ -80,7 +80,7 @@ set_settled (s ∷ slots) (suc k) old new is open_yet zero settled = settled
 set_settled (s ∷ slots) (suc k) old new is open_yet (suc place) settled = set_settled slots k old new is open_yet place settled
 
 -- what is out with another slot at a place that is not out then, was out before, and is elsewhere
-set_out : (slots : List Slot) (k : ℕ) (old new : Slot) → slice_get slots k ≡ Some old → is_out (Some (phase_in new)) ≡ false
+pub set_out : (slots : List Slot) (k : ℕ) (old new : Slot) → slice_get slots k ≡ Some old → is_out (Some (phase_in new)) ≡ false
     → (place : ℕ) → is_out (slice_get (map phase_in (slice_set slots k new)) place) ≡ true → (place ≢ k) × (is_out (slice_get (map phase_in slots) place) ≡ true)
 set_out [] k old new is home place out = absurd (none_some old is)
 set_out (s ∷ slots) zero old new is home zero out = absurd (let e : true ≡ false = sym out ∙ home in cc)
@@ -134,7 +134,7 @@ admitted_counts s = ap (λ (ps : List Phase). settled_among ps (replies_in s.wor
 -- ---- lending
 
 -- the slot of a transaction to which rows may be lent
-idle_slot : (slots : List Slot) (place : ℕ) → is_idle (slice_get (map phase_in slots) place) ≡ true → slice_get slots place ≡ Some Idle
+pub idle_slot : (slots : List Slot) (place : ℕ) → is_idle (slice_get (map phase_in slots) place) ≡ true → slice_get slots place ≡ Some Idle
 idle_slot [] place idle = absurd (let e : false ≡ true = idle in cc)
 idle_slot (Idle ∷ slots) zero idle = refl
 idle_slot (Lent ∷ slots) zero idle = absurd (let e : false ≡ true = idle in cc)
@@ -143,14 +143,14 @@ idle_slot (Ran job outcome ∷ slots) zero idle = absurd (let e : false ≡ true
 idle_slot (Settled outcome ∷ slots) zero idle = absurd (let e : false ≡ true = idle in cc)
 idle_slot (s ∷ slots) (suc place) idle = idle_slot slots place idle
 
-at_place : (first place : ℕ) (phases : List Phase) → phase_of first phases (first + place) ≡ slice_get phases place
+pub at_place : (first place : ℕ) (phases : List Phase) → phase_of first phases (first + place) ≡ slice_get phases place
 at_place first place phases =
     let below : nat_lt (first + place) first ≡ false = grind (arith, nat_tests) in
     let e : (first + place) - first ≡ place = omega arith in
     rw below (ap (slice_get phases) e)
 
 -- two different slots are not at one place
-apart_places : (slots : List Slot) (i k : ℕ) (a b : Slot) → slice_get slots i ≡ Some a → slice_get slots k ≡ Some b → a ≢ b → i ≢ k
+pub apart_places : (slots : List Slot) (i k : ℕ) (a b : Slot) → slice_get slots i ≡ Some a → slice_get slots k ≡ Some b → a ≢ b → i ≢ k
 apart_places slots i k a b at_i at_k d e = d (some_is a b (sym at_i ∙ ap (slice_get slots) e ∙ at_k))
 
 module _ (s : Schedule) (seat : SchedulerSeatOf) (h : AreInLanes s seat) (job : JobOf) (new : Schedule) (lends : LendsJob s job new)

@@ -70,8 +70,8 @@ fn go_on<L: Listener>(
     made
 }
 
-/// Runs the next transaction on the rows themselves and tells the listener, where all that are admitted are settled.
-/// Whether it did so; where it did not, or allocation fails, nothing has changed.
+/// Runs the next transaction on the rows themselves and tells the listener, where it is ready as soon as it is
+/// admitted. Whether it did so; where it did not, or allocation fails, nothing has changed.
 pub(crate) fn run_next<L: Listener>(
     scheduler: &mut Scheduler,
     listener: &mut L,
@@ -94,6 +94,25 @@ pub(crate) fn run_next<L: Listener>(
     Ok(true)
 }
 
+/// Runs the next transaction as `run_next` does, where all that are admitted are settled.
+fn run_between<L: Listener>(scheduler: &mut Scheduler, listener: &mut L) -> Result<bool, NoMemory>
+    requires keeps { KeepsItsJobs scheduler.old }
+    requires told { AreCounted scheduler.old (L.account listener.old) }
+    ensures work { scheduler.new.work ≡ scheduler.old.work }
+    ensures keeps { KeepsItsJobs scheduler.new }
+    ensures further { IfOk result (λ ran. ran ≡ true →
+        progress (phases_of scheduler.old) < progress (phases_of scheduler.new)) }
+    ensures same { IfOk result (λ ran. ran ≡ false → scheduler.new ≡ scheduler.old) }
+    ensures settled { StaysSettled (phases_of scheduler.old) (phases_of scheduler.new) }
+    ensures told { AreCounted scheduler.new (L.account listener.new) }
+    ensures onward { HearsOn (L.account listener.old) (L.account listener.new) }
+{
+    match scheduler.next_event() {
+        Some(Event::Admit) => run_next(scheduler, listener),
+        _ => Ok(false),
+    }
+}
+
 /// Goes on where no choice says how: the next transaction is run on the rows themselves where all that are admitted are
 /// settled, and else the least of those that aren't makes its next step. `false` exactly where all is done.
 fn step_on<L: Listener>(scheduler: &mut Scheduler, listener: &mut L) -> Result<bool, NoMemory>
@@ -113,7 +132,7 @@ fn step_on<L: Listener>(scheduler: &mut Scheduler, listener: &mut L) -> Result<b
 {
     // proof: an enabled event brings the state one step on.
     each_step_goes_on();
-    if run_next(scheduler, listener)? {
+    if run_between(scheduler, listener)? {
         scheduler.observe();
         return Ok(true);
     }

@@ -1,112 +1,27 @@
 //! What the scheduler's thread does beside its workers.
 
-ghost use Rattle.std.specs.Prelude.{◌≡◌, ◌+◌, ◌<◌, true, if◌then◌else◌, IfOk, OnOk, OnErr};
+ghost use Rattle.std.specs.Prelude.{◌≡◌, true, OnOk};
 ghost use Rattle.scheduler_core.specs.Phases.{is_done};
 ghost use Rattle.scheduler.specs.Schedules.{log_of, phases_of};
-ghost use Rattle.lanes.specs.Seats.{SchedulerSeatOf, jobs_in};
+ghost use Rattle.lanes.specs.Seats.{jobs_in};
 ghost use Rattle.dispatcher.specs.Runs.{NoneIsOut, StaysSettled};
 ghost use Rattle.dispatcher.specs.Dispatched.{AreInLanes};
-ghost use Rattle.dispatcher.specs.Listeners.{AreCounted, HearsOn, settled_in};
+ghost use Rattle.dispatcher.specs.Listeners.{AreCounted, HearsOn};
 ghost use Rattle.dispatcher.specs.Workers.{HoldsNoJob};
 
-use crate::alone::run_next;
-use crate::brief::is_brief;
+use crate::advancing::{admit_next, hand_out_next, run_brief};
 use crate::gate::Gate;
 use crate::listener::{Listener, tell};
 use crate::parking::{Idling, Parking};
 use crate::worker::run_one;
 use lanes::{Lanes, SchedulerSeat, WorkerSeat};
-use scheduler::{AdmitFault, Scheduler};
+use scheduler::Scheduler;
 use std::sync::Wait;
 use values::NoMemory;
 
-/// How many transactions are admitted and not settled at a time: workers find jobs among them that don't wait for one
-/// another, and their requests stay in the cache.
+/// How many transactions at most are admitted and neither out nor settled: workers find jobs among them that don't wait
+/// for one another, and their requests stay in the cache.
 const AHEAD: usize = 256;
-
-/// Admits transactions while there are more, there is room, and not too many of them are admitted and not settled.
-/// `admitted` says how many are.
-fn admit_ahead(scheduler: &mut Scheduler, admitted: &mut usize) -> Result<(), NoMemory>
-    ensures work { scheduler.new.work ≡ scheduler.old.work }
-    ensures lanes { (seat : SchedulerSeatOf) → AreInLanes scheduler.old seat → AreInLanes scheduler.new seat }
-    ensures settled { StaysSettled (phases_of scheduler.old) (phases_of scheduler.new) }
-    ensures none_settled { settled_in scheduler.new ≡ settled_in scheduler.old }
-{
-    'admits: while *admitted < AHEAD {
-        match scheduler.admit() {
-            Ok(_) => *admitted += 1,
-            Err(AdmitFault::AllAdmitted | AdmitFault::Full) => return Ok(()),
-            Err(AdmitFault::NoMemory) => return Err(NoMemory),
-        }
-    }
-    Ok(())
-}
-
-/// Lends its rows to the next ready transaction and puts the job into a lane, and calls a worker for it where it is not
-/// the only one that is out; `false` where none is ready. A lane is free.
-fn dispatch_next(
-    scheduler: &mut Scheduler,
-    lanes: &Lanes,
-    seat: &mut SchedulerSeat,
-    out: usize,
-    parking: &Parking,
-) -> Result<bool, NoMemory>
-    requires seat { seat.old.lanes ≡ lanes.now }
-    requires lanes { AreInLanes scheduler.old seat.old }
-    requires room { jobs_in seat.old.jobs < lanes.now.count }
-    ensures seat { seat.new.lanes ≡ lanes.now }
-    ensures work { scheduler.new.work ≡ scheduler.old.work }
-    ensures lanes { AreInLanes scheduler.new seat.new }
-    ensures settled { StaysSettled (phases_of scheduler.old) (phases_of scheduler.new) }
-    ensures none_settled { settled_in scheduler.new ≡ settled_in scheduler.old }
-    ensures more { IfOk result (λ more.
-        jobs_in seat.new.jobs ≡ (if more then jobs_in seat.old.jobs + 1 else jobs_in seat.old.jobs)) }
-    ensures err { OnErr result (seat.new ≡ seat.old) }
-{
-    let Some(job) = scheduler.lend()? else {
-        return Ok(false);
-    };
-    parking.expect_job();
-    match lanes.put(seat, job) {
-        Ok(_) => {
-            parking.wake_worker_beside(out);
-            Ok(true)
-        }
-        Err(_) => unreachable!(),
-    }
-}
-
-/// Admits what is to be admitted, and dispatches jobs until each lane has one or none is ready. `out` says how many
-/// jobs are out, and `admitted` how many transactions are admitted and not settled.
-fn dispatch_ready(
-    scheduler: &mut Scheduler,
-    lanes: &Lanes,
-    seat: &mut SchedulerSeat,
-    count: usize,
-    out: &mut usize,
-    admitted: &mut usize,
-    parking: &Parking,
-) -> Result<(), NoMemory>
-    requires seat { seat.old.lanes ≡ lanes.now }
-    requires lanes { AreInLanes scheduler.old seat.old }
-    requires count { count ≡ lanes.now.count }
-    requires out { out.old ≡ jobs_in seat.old.jobs }
-    ensures seat { seat.new.lanes ≡ lanes.now }
-    ensures work { scheduler.new.work ≡ scheduler.old.work }
-    ensures lanes { AreInLanes scheduler.new seat.new }
-    ensures settled { StaysSettled (phases_of scheduler.old) (phases_of scheduler.new) }
-    ensures none_settled { settled_in scheduler.new ≡ settled_in scheduler.old }
-    ensures out { out.new ≡ jobs_in seat.new.jobs }
-{
-    admit_ahead(scheduler, admitted)?;
-    'jobs: while *out < count {
-        if !dispatch_next(scheduler, lanes, seat, *out, parking)? {
-            return Ok(());
-        }
-        *out += 1;
-    }
-    Ok(())
-}
 
 /// Settles what a worker delivered, if anything was found, and tells the listener; `false` where nothing was. An error
 /// says that a job came back without a run, since an allocation failed.
@@ -210,35 +125,54 @@ fn take_in_next<R: Wait, G: Gate, L: Listener>(
     Ok(())
 }
 
-/// Runs the next transaction here, where no job is out and all that are admitted are settled, the gate is open, and the
-/// call is brief: no worker could do anything beside it before it is done. Whether it did so.
-fn run_brief<G: Gate, L: Listener>(
+/// Does what can be done without waiting: settles what was delivered, hands out a job that is ready, runs a brief call,
+/// or, while workers may want more jobs, admits one more transaction. `waiting` says how many are admitted and neither
+/// out nor settled. `false` where there was nothing to do.
+fn step<G: Gate, L: Listener>(
     scheduler: &mut Scheduler,
     listener: &mut L,
-    out: usize,
+    lanes: &Lanes,
+    seat: &mut SchedulerSeat,
+    count: usize,
+    out: &mut usize,
+    waiting: &mut usize,
+    parking: &Parking,
     gate: &G,
 ) -> Result<bool, NoMemory>
+    requires seat { seat.old.lanes ≡ lanes.now }
+    requires lanes { AreInLanes scheduler.old seat.old }
+    requires count { count ≡ lanes.now.count }
+    requires out { out.old ≡ jobs_in seat.old.jobs }
     requires told { AreCounted scheduler.old (L.account listener.old) }
+    ensures seat { seat.new.lanes ≡ lanes.now }
     ensures work { scheduler.new.work ≡ scheduler.old.work }
-    ensures lanes { (seat : SchedulerSeatOf) → AreInLanes scheduler.old seat → AreInLanes scheduler.new seat }
+    ensures lanes { AreInLanes scheduler.new seat.new }
     ensures settled { StaysSettled (phases_of scheduler.old) (phases_of scheduler.new) }
     ensures told { AreCounted scheduler.new (L.account listener.new) }
     ensures onward { HearsOn (L.account listener.old) (L.account listener.new) }
+    ensures out { out.new ≡ jobs_in seat.new.jobs }
 {
-    if out > 0 || !gate.is_open() || !scheduler.next_entry().is_some_and(is_brief) {
+    if take_in(scheduler, listener, lanes, seat, out, parking)? {
+        return Ok(true);
+    }
+    if hand_out_next(scheduler, listener, lanes, seat, count, out, parking, gate)? {
+        *waiting = waiting.saturating_sub(1);
+        return Ok(true);
+    }
+    if run_brief(scheduler, listener, parking, gate)? {
+        return Ok(true);
+    }
+    if *out >= count || *waiting >= AHEAD {
         return Ok(false);
     }
-    run_next(scheduler, listener)
+    if !admit_next(scheduler)? {
+        return Ok(false);
+    }
+    *waiting += 1;
+    Ok(true)
 }
 
-/// How many of the admitted transactions are still not settled, where the jobs that are out went from one number to a
-/// lesser.
-fn without_settled(admitted: usize, out_before: usize, out: usize) -> usize {
-    admitted.saturating_sub(out_before.saturating_sub(out))
-}
-
-/// Runs what is brief, dispatches the other jobs and takes in what comes of them, until all is done or allocation
-/// fails.
+/// Goes on step by step, and waits for the workers where there is nothing to do, until all is done or allocation fails.
 fn dispatch<R: Wait, G: Gate, L: Listener>(
     rt: &R,
     scheduler: &mut Scheduler,
@@ -269,18 +203,25 @@ fn dispatch<R: Wait, G: Gate, L: Listener>(
     ensures out { out.new ≡ jobs_in seat.new.jobs }
     ensures done { OnOk result (is_done (log_of scheduler.new.work) (phases_of scheduler.new) ≡ true) }
 {
-    let mut admitted = 0;
+    let mut waiting = 0;
     for _ in rt.forever() {
         if scheduler.is_done() {
             break;
         }
-        if !run_brief(scheduler, listener, *out, gate)? {
-            dispatch_ready(scheduler, lanes, seat, count, out, &mut admitted, parking)?;
-            let dispatched = *out;
+        if !step(
+            scheduler,
+            listener,
+            lanes,
+            seat,
+            count,
+            out,
+            &mut waiting,
+            parking,
+            gate,
+        )? {
             take_in_next(
                 rt, scheduler, listener, lanes, seat, own, out, parking, gate,
             )?;
-            admitted = without_settled(admitted, dispatched, *out);
         }
     }
     Ok(())

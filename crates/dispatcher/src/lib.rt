@@ -2,6 +2,7 @@
 //! listener of each that is settled.
 #![tactic(auto)]
 
+mod advancing;
 mod alone;
 mod brief;
 mod dispatching;

@@ -6,25 +6,30 @@ use std::alloc::Global;
 /// What the bodies of the bank's procedures are like.
 #[derive(Clone, Copy, Debug, PartialEq, Eq)]
 pub enum Bodies {
-    /// Few statements without a loop: where the gate is open and no job is out, an engine runs such a call on the
-    /// thread that called it.
+    /// Few statements without a loop: where the gate is open, an engine runs such a call on the thread that called it.
     Brief,
     /// The same after a loop of one turn in which nothing is done: an engine hands each call over as a job. The replies
     /// are the same.
     Looping,
+    /// `peek` has such a loop, and no other.
+    LoopingPeek,
 }
 
 impl Bodies {
-    /// What a body begins with.
-    fn beginning(self) -> &'static str {
+    /// What the body of `peek` begins with, and what each other one does.
+    fn beginnings(self) -> (&'static str, &'static str) {
         match self {
-            Bodies::Brief => "",
-            Bodies::Looping => r#"["for","once",1,1,[]],"#,
+            Bodies::Brief => ("", ""),
+            Bodies::Looping => (LOOP, LOOP),
+            Bodies::LoopingPeek => (LOOP, ""),
         }
     }
 }
 
-/// The setup, with an `@` where a body begins.
+/// A loop of one turn in which nothing is done.
+const LOOP: &str = r#"["for","once",1,1,[]],"#;
+
+/// The setup, with a `%` where the body of `peek` begins, and an `@` where each other one does.
 const BANK: &str = r#"["setup",1,
 ["catalogue",1,[["acct",2,[["bal","int"]]],["ref",1,[["to","int"]]]]],
 ["procs",1,[
@@ -36,7 +41,7 @@ const BANK: &str = r#"["setup",1,
   ["put","acct","b","bal",["+","y","n"]],
   ["reply",["-","x","n"]]]],
 ["peek",[["k","int"]],["declared",["row","r","acct","k"]],
- [@["get","x","acct","k","bal"],["reply","x"]]],
+ [%["get","x","acct","k","bal"],["reply","x"]]],
 ["ins",[["k","int"],["v","int"]],["declared",["row","w","acct","k"]],
  [@["insert","acct","k",["v"]]]],
 ["cnt",[],["declared",["part","r","acct",0]],
@@ -52,6 +57,8 @@ const BANK: &str = r#"["setup",1,
 
 /// The bank: the accounts 1 and 2 with 100 each, and procedures with such bodies.
 pub fn bank(alloc: Global, bodies: Bodies) -> Result<Setup, SetupFault> {
-    let text = BANK.replace(alloc, "@", bodies.beginning())?;
+    let (peek, others) = bodies.beginnings();
+    let text = BANK.replace(alloc, "%", peek)?;
+    let text = text.replace(alloc, "@", others)?;
     read_setup(alloc, text.as_bytes())
 }

@@ -117,7 +117,7 @@ fn payments(alloc: Global) -> Result<(Vec<Call<'static>>, String), Fail> {
 /// Workers and lanes, bodies, whether the gate is open, and how many of 500 calls are jobs.
 type Handed = ((usize, usize), (Bodies, bool), u64);
 
-/// At an open gate a brief call is a job of nobody, where no other job is out.
+/// At an open gate a brief call is a job of nobody.
 const HANDED: [Handed; 7] = [
     ((1, 1), (Bodies::Brief, false), 500),
     ((16, 1), (Bodies::Brief, false), 500),
@@ -142,6 +142,38 @@ fn each_payment_in_conflict_passes_the_gate_once(rt: HostRuntime) -> Result<(), 
             (jobs, 0),
             "{workers} {lanes} {bodies:?} {is_open}"
         );
+    }
+    Ok(())
+}
+
+/// How often four calls come: a longer one, a brief one that has nothing to do with it, and two that wait for it.
+const ROUNDS: usize = 125;
+
+/// The calls, with what comes of them. The balance that is read is 100 each time.
+fn longer_and_brief(alloc: Global) -> Result<(Vec<Call<'static>>, String), Fail> {
+    let mut calls: Vec<Call<'static>> = Vec::new(alloc);
+    for _ in 0..ROUNDS {
+        calls.push(PEEK)?;
+        calls.push(("set", &[1, 2]))?;
+        calls.push(("pay", &[1, 2, 1]))?;
+        calls.push(("pay", &[2, 1, 1]))?;
+    }
+    let outcomes = "commit 100;commit;commit 99;commit 100;".repeat(alloc, ROUNDS)?;
+    Ok((calls, outcomes))
+}
+
+/// At an open gate only the longer calls are jobs, whatever is out meanwhile; at another each call is one.
+#[test]
+fn brief_calls_beside_longer_ones_are_jobs_of_nobody(rt: HostRuntime) -> Result<(), Fail> {
+    let (calls, outcomes) = longer_and_brief(rt.alloc())?;
+    for (workers, lanes) in [(1, 1), (2, 8), (16, 64)] {
+        for (is_open, jobs) in [(true, ROUNDS as u64), (false, 4 * ROUNDS as u64)] {
+            let gate = CountingGate::new(is_open);
+            let settings = Settings::new(workers, lanes, 64, 65_536)?;
+            let found = execute(&rt, Bodies::LoopingPeek, settings, &calls, &gate)?;
+            assert!(rt; found == outcomes, "{workers} {lanes} {is_open}");
+            assert_eq!(rt; gate.jobs(), jobs, "{workers} {lanes} {is_open}");
+        }
     }
     Ok(())
 }

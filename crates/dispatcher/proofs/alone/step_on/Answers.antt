@@ -6,14 +6,14 @@ use Rattle.dispatcher.proofs.alone.step_on.Goals as goal
 
 pub returns-in_err-go_on-clause-onward : goal.returns-in_err-go_on-clause-onward
 returns-in_err-go_on-clause-onward g c =
-    hears_on (g.L.Listener.account c.args.listener.now) (g.L.Listener.account c.run_next.new.listener) (g.L.Listener.account c.go_on.new.listener) c.run_next.ensures.onward c.go_on.ensures.onward
+    hears_on (g.L.Listener.account c.args.listener.now) (g.L.Listener.account c.run_between.new.listener) (g.L.Listener.account c.go_on.new.listener) c.run_between.ensures.onward c.go_on.ensures.onward
 
 pub returns-clause-further : goal.returns-clause-further
 returns-clause-further g c = λ _.
-    let same = ap (λ (s : Schedule). progress (phases_of s)) (c.in_ok-run_next.ensures.same c.if-branch.false) in
+    let same = ap (λ (s : Schedule). progress (phases_of s)) (c.in_ok-run_between.ensures.same c.if-branch.false) in
     let one = c.in_ok-go_on.ensures.further in
     omega (arith, same, one)
 
 pub returns-clause-onward : goal.returns-clause-onward
 returns-clause-onward g c =
-    hears_on (g.L.Listener.account c.args.listener.now) (g.L.Listener.account c.run_next.new.listener) (g.L.Listener.account c.go_on.new.listener) c.run_next.ensures.onward c.go_on.ensures.onward
+    hears_on (g.L.Listener.account c.args.listener.now) (g.L.Listener.account c.run_between.new.listener) (g.L.Listener.account c.go_on.new.listener) c.run_between.ensures.onward c.go_on.ensures.onward
