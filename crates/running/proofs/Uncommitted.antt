@@ -1,11 +1,9 @@
 -- A batch without a commit leaves the rows as they were.
-use Rattle.std.proofs.Common.{◌≡◌, ◌||◌, ℕ, Bool, true, false, List, [], ◌∷◌, map, Option, Some, None, refl, sym, ap, subst, ◌∙◌, Result, Ok, Err}
+use Rattle.std.proofs.Common.{◌≡◌, ◌||◌, Bool, true, false, List, [], ◌∷◌, map, refl, sym, ap, ◌∙◌, Result, Ok, Err}
 use Rattle.std.specs.FinMap.{empty}
-use Rattle.std.specs.Option.{IfSome}
 use Rattle.values.specs.Database.{Database}
 use Rattle.requests.specs.ProcLists.{ProcsParts}
 use Rattle.meaning.specs.declared.outcome.Ending.{Ending}
-use Rattle.meaning.specs.declared.outcome.Ending.TheVariants as endings
 use Rattle.meaning.specs.declared.outcome.Outcome.{Outcome}
 use Rattle.meaning.specs.declared.outcome.Outcome.TheVariants as outcomes
 use Rattle.meaning.specs.Entries as meant
@@ -13,7 +11,6 @@ use Rattle.meaning.specs.Entries.{commit, aborted, stale, declares, faults, find
 use Rattle.meaning.specs.Outcomes.{as_reply, is_commit}
 use Rattle.meaning.specs.Runs.{State}
 use Rattle.meaning.specs.Serial.{serial_end, serial_replies}
-use Rattle.report_text.specs.Texts.{digest, row_text}
 use Rattle.row_store.specs.Stock.{Stock}
 use Rattle.sequencer.specs.Attempts.{Attempt}
 use Rattle.engine.specs.declared.replies.BatchDone.{BatchDone}
