@@ -51,11 +51,11 @@ def reader(about, **sizes):
     return words
 
 
-def setup_with(notation, rows, version=1):
+def setup_with(notation, rows):
     """The setup in a text of the notation, with these rows: lists of a table, a key and values."""
     setup = plain(setup_of(parsed(notation)))
     setup[4] = ["rows", 1, rows]
-    return setup if version == 1 else [setup[0], 3, *setup[2:5], 0, "partitions"]
+    return setup
 
 
 def write(folder, setup, calls, batch):

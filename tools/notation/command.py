@@ -88,8 +88,12 @@ def write(text):
 
 def format_file(path, is_tried):
     """Lays out a file, or says with `--check` that it isn't laid out."""
-    before = text_of(path)
-    after = laid_out(parsed(before))
+    try:
+        before = text_of(path)
+        after = laid_out(parsed(before))
+    except Mistake as mistake:
+        show(path, mistake.line, mistake.column, mistake.message)
+        return 1
     if before == after:
         return 0
     if is_tried:
@@ -126,8 +130,10 @@ def run(words):
         write(laid_out(source_in(words.file)))
         return 0
     if words.word == "check":
-        program = words.program or (str(BUILT) if BUILT.exists() else str(TOP / "calvin"))
-        return check(words.file, program)
+        if not words.program and not BUILT.exists():
+            print("the program isn't built: `./calvin check` builds it, or --program names one", file=sys.stderr)
+            return 1
+        return check(words.file, words.program or str(BUILT))
     if words.word == "call":
         source = source_in(words.file)
         laid_out(source)  # refuses what is no setup
@@ -144,8 +150,6 @@ def main():
     try:
         return run(words)
     except Mistake as mistake:
-        if isinstance(path, list):
-            path = next(it for it in path if is_refused(it))
         show(path, mistake.line, mistake.column, mistake.message)
         return 1
     except CallFault as fault:
@@ -154,11 +158,3 @@ def main():
     except OSError as error:
         print(f"cannot read {error.filename}", file=sys.stderr)
         return 4
-
-
-def is_refused(path):
-    try:
-        laid_out(parsed(text_of(path)))
-    except Mistake:
-        return True
-    return False

@@ -151,8 +151,8 @@ class Layout:
             else:
                 self.lines[-1] += "  " + comment.text
 
-    def has_comments(self, line):
-        return bool(self.left) and self.left[0].line <= line
+    def has_comments_in(self, block):
+        return bool(self.left) and block.line <= self.left[0].line < block.last
 
     # ---- blocks
 
@@ -163,26 +163,27 @@ class Layout:
         if self.left and self.left[0].line == begin and not self.left[0].is_alone and begin != block.last:
             self.lines[-1] += "  " + self.left.pop(0).text
         self.depth += 1
-        for statement in parts(block):
+        statements = parts(block)
+        for place, statement in enumerate(statements):
             self.begin(statement.line)
-            self.statement(statement)
+            # A comment at the end of a line is of the last that ends there.
+            after = statements[place + 1].line if place + 1 < len(statements) else block.last
+            self.statement(statement, is_last=after > statement.last)
         if block.last > block.line:
             while self.left and self.left[0].line < block.last:
                 self.put(self.left.pop(0).text)
         self.depth -= 1
 
-    def statement(self, spot):
+    def statement(self, spot, is_last):
         line = simple(spot)
         if line is not None:
             self.put(line)
+        elif not self.brief(spot):
+            head, blocks = head_of(spot)
+            self.block(blocks[0], head)
+            self.others(blocks)
+        if is_last:
             self.end(spot.last)
-            return
-        if self.brief(spot):
-            return
-        head, blocks = head_of(spot)
-        self.block(blocks[0], head)
-        self.others(blocks)
-        self.end(spot.last)
 
     def brief(self, spot):
         """Writes an `if` of one statement without blocks on one line, where it fits and has no comment within."""
@@ -195,12 +196,11 @@ class Layout:
         if not line or within or len(line) + len(INDENT) * self.depth > WIDTH:
             return False
         self.put(line)
-        self.end(spot.last)
         return True
 
     def others(self, blocks):
         """Writes the second block of an `if`, if it has one."""
-        while len(blocks) == 2 and parts(blocks[1]):
+        while len(blocks) == 2 and (parts(blocks[1]) or self.has_comments_in(blocks[1])):
             second = parts(blocks[1])
             is_if = len(second) == 1 and second[0].is_list and second[0].value and second[0].value[0].value == "if"
             if not is_if:
@@ -218,11 +218,7 @@ class Layout:
 
     def header(self, item):
         version, *rest = item.spots
-        words = ["setup", number(version)]
-        if rest:
-            words += ["retries", number(rest[0])]
-        if rest[1:]:
-            words += ["digest", name(rest[1])]
+        words = ["setup", number(version)] + [word for it in rest for word in ("retries", number(it))]
         self.put(" ".join(words))
         self.end(item.last)
 
@@ -245,6 +241,9 @@ class Layout:
 
     def procedure(self, item):
         procedure, parameters, footprint, body = parts(item.spots[0], 4)
+        # (a comment within the head stands before it)
+        while self.left and self.left[0].line < body.line:
+            self.put(self.left.pop(0).text)
         head = f"proc {name(procedure)}({typed(parameters)})"
         rights = rights_of(footprint)
         line = " ".join([head, *rights])

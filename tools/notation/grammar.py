@@ -9,14 +9,24 @@ OPERATORS = {"==": "=", "!=": "<>", "<": "<", "<=": "<="}
 TYPES = ("int", "text")
 
 
+# As many operators as may follow each other in one expression. An expression may be 24 deep.
+LONGEST = 100
+STATEMENTS = "`let`, `insert`, `delete`, `if`, `for`, `each`, `abort`, `reply` or `TABLE[KEY].COLUMN = ..`"
+
+
 def shown(word):
-    return f"`{word.text}`" if word.kind in (NAME, SIGN, QUOTED) else "this" if word.kind in (NUMBER, TEXT) else f"the {word.kind}"
+    """A word as it is told of."""
+    if word.kind in (LINE_END, END):
+        return f"the {word.kind}"
+    text = f'"{word.text}"' if word.kind == TEXT else str(word.text)
+    return f"`{text if len(text) <= 40 else text[:40] + '..'}`"
 
 
 class Parser:
     def __init__(self, source):
         self.words, self.comments = words_of(source)
         self.place = self.depth = 0
+        self.blocks = []  # the lines on which blocks begin that aren't closed yet
 
     # ---- words
 
@@ -75,6 +85,8 @@ class Parser:
             self.place += 1
         word = self.word
         if word.kind != NUMBER or sign and (word.line, word.column) != (sign.line, sign.column + 1):
+            if sign and word.kind in (NAME, QUOTED):
+                raise Mistake(f"a minus sign stands before digits: write `0 - {word.text}`", sign.line, sign.column)
             self.refuse(what)
         self.place += 1
         return self.spot(-word.text if sign else word.text, sign or word)
@@ -126,12 +138,10 @@ class Parser:
         return Item(begin.text, spots, begin.line, self.words[self.place - 1].line, name)
 
     def header(self, _):
-        """setup VERSION [retries N [digest WORD]]"""
+        """setup VERSION [retries N]"""
         spots = [self.number("the setup's version")]
         if self.take("retries"):
             spots.append(self.number("how often a stale call is tried again"))
-            if self.take("digest"):
-                spots.append(self.name("`rows` or `partitions`"))
         return spots, None
 
     def catalogue(self, _):
@@ -179,6 +189,8 @@ class Parser:
             entries.append(self.entry(right))
             while self.take(","):
                 self.skip_lines()
+                if self.at("reads", "writes"):
+                    raise Mistake(f"no comma is due before `{self.word.text}`", self.word.line, self.word.column)
                 entries.append(self.entry(right))
             begin = self.place
             self.skip_lines()
@@ -242,18 +254,28 @@ class Parser:
 
     def block_here(self):
         begin, statements = self.expect("{"), []
+        self.blocks.append(begin.line)
         while True:
             while self.word.kind == LINE_END or self.at(";"):
                 self.place += 1
             if self.at("}"):
                 block = self.spot(statements, begin)
                 block.last = self.next().line
+                self.blocks.pop()
                 return block
+            self.refuse_items()
             statement = self.statement()
             statement.last = self.words[self.place - 1].line
             statements.append(statement)
             if not self.at("}", ";") and self.word.kind != LINE_END:
                 self.refuse("the end of the statement")
+
+    def refuse_items(self):
+        """Refuses an item, or the end of the file, where a block isn't closed."""
+        after = self.words[min(self.place + 1, len(self.words) - 1)]
+        is_item = self.at(TABLE, PROCEDURE, ROWS) and after.kind in (NAME, QUOTED)
+        if is_item or self.word.kind == END:
+            raise Mistake(f"the `{{` of line {self.blocks[-1]} isn't closed", self.word.line, self.word.column)
 
     def statement(self):
         readers = {
@@ -273,6 +295,8 @@ class Parser:
         table = self.name("a statement")
         if self.at("="):
             raise table.mistake(f"a variable is given its value by `let {table.value} = ..`")
+        if not self.at("["):
+            raise table.mistake(f"a statement is {STATEMENTS}")
         key = self.key()
         self.expect(".")
         column = self.name("a column's name")
@@ -304,7 +328,10 @@ class Parser:
     def choice(self, head):
         """if CONDITION { .. } [else { .. } | else if ..]"""
         condition, first = self.expression(), self.block()
+        before = self.place
+        self.skip_lines()
         if not self.take("else"):
+            self.place = before
             return listed(head, condition, first, Spot([], head.line, head.column), at=head)
         if self.at("if"):
             begin = self.next()
@@ -325,9 +352,15 @@ class Parser:
         """each NAME in TABLE/PART { .. }"""
         name = self.name("a variable's name")
         self.expect("in")
-        table = self.name("a table's name")
-        self.expect("/")
+        table = self.partitioned()
         return listed(head, name, table, self.operand(), self.block(), at=head)
+
+    def partitioned(self):
+        """The table of TABLE/PART, and the sign after it."""
+        table = self.name("a table's name")
+        if not self.take("/"):
+            self.refuse(f"a partition, as `{table.value}/0`,")
+        return table
 
     def abort(self, head):
         return listed(head, self.number("an abort code"), at=head)
@@ -363,9 +396,11 @@ class Parser:
         return self.deeper(lambda: self.chained(("or",), lambda: self.chained(("and",), self.negation)))
 
     def chained(self, signs, part):
-        found = part()
+        found, many = part(), 0
         while self.at(*signs):
-            sign = self.next()
+            sign, many = self.next(), many + 1
+            if many > LONGEST:
+                raise Mistake("too many operators in one expression", sign.line, sign.column)
             self.skip_lines()
             found = listed(self.spot(sign.text, sign), found, part(), at=found)
         return found
@@ -404,7 +439,9 @@ class Parser:
             return found
         if self.at("exists", "count", "sum") and self.comes("("):
             return self.of_rows(self.next())
-        if word.kind not in (NAME, QUOTED):
+        if self.at("exists"):
+            raise Mistake("`exists` has its row in round brackets, as `exists(acct[1])`", word.line, word.column)
+        if word.kind not in (NAME, QUOTED) or word.kind == NAME and word.text in RESERVED:
             self.refuse("a number, a text, a variable or a bracket")
         found = self.name("a variable")
         if self.at("["):
@@ -415,12 +452,10 @@ class Parser:
         """exists(TABLE[KEY]), count(TABLE/PART) or sum(TABLE/PART, COLUMN)"""
         begin = self.spot(head.text, head)
         self.expect("(")
-        table = self.name("a table's name")
         if head.text == "exists":
-            parts = [table, self.key()]
+            parts = [self.name("a table's name"), self.key()]
         else:
-            self.expect("/")
-            parts = [table, self.deeper(self.operand)]
+            parts = [self.partitioned(), self.deeper(self.operand)]
         if head.text == "sum":
             self.expect(",")
             parts.append(self.name("a column's name"))

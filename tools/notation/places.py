@@ -48,15 +48,13 @@ def of_setup(setup):
         yield 42, setup
     elif not is_text(setup.value[0]) or setup.value[0].value != "setup":
         yield 42, setup.value[0]
-    elif len(setup.value) < len(heads) or not one_of(1, 2, 3)(setup.value[1]):
+    elif len(setup.value) < len(heads) or not one_of(1, 2)(setup.value[1]):
         yield 42, setup.value[1] if len(setup.value) > 1 else setup
     elif len(setup.value) != 4 + setup.value[1].value:
         yield 42, setup
     else:
         if setup.value[1].value > 1 and not one_of(0, 1, 2)(setup.value[5]):
             yield 42, setup.value[5]
-        if setup.value[1].value > 2 and not any(word(it)(setup.value[6]) for it in ("rows", "partitions")):
-            yield 42, setup.value[6]
 
 
 # ---- catalogues
@@ -65,7 +63,7 @@ def of_setup(setup):
 def of_catalogue(catalogue):
     """The faults of a catalogue, in their order."""
     if not is_list(catalogue, word("catalogue"), one_of(1, 2), is_array):
-        yield 1, catalogue
+        yield 1, catalogue.value[1] if is_list(catalogue, word("catalogue"), anything, is_array) else catalogue
         return
     version, tables = catalogue.value[1].value, catalogue.value[2]
     if not 1 <= len(tables.value) <= 64:

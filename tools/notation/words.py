@@ -29,6 +29,22 @@ PATTERN = re.compile(
 )
 
 
+# What is written in the notation in place of a character that it doesn't have.
+IN_PLACE = {
+    ">": "turn the operands and write `<`",
+    "!": "write `not` or `!=`",
+    "&": "write `and`",
+    "|": "write `or`",
+    "'": "texts are in double quotes",
+    "\ufeff": "it is a byte order mark, at the begin of the file",
+}
+
+
+def meaningless(sign):
+    shown = f"`{sign}`" if sign.isprintable() and sign != "`" else f"U+{ord(sign):04X}"
+    return f"the character {shown} has no meaning here" + (f": {IN_PLACE[sign]}" if sign in IN_PLACE else "")
+
+
 def number_of(text, line, column):
     if len(text) > 1 and text.startswith("0"):
         raise Mistake("a number doesn't begin with 0", line, column)
@@ -48,18 +64,19 @@ def text_of(text, line, column):
 
 def words_of(source):
     """The words of a source, the last of which is its end, and its comments."""
-    words, comments, place, line, begin = [], [], 0, 1, 0
+    words, comments, place, line, begin, depth = [], [], 0, 1, 0, 0
     while place < len(source):
         found, column = PATTERN.match(source, place), place - begin + 1
         if found is None:
-            what = "a text that doesn't end on its line" if source[place] == '"' else "a character that has no meaning"
-            raise Mistake(f"{what} here", line, column)
+            is_text = source[place] == '"'
+            raise Mistake("a text that doesn't end on its line" if is_text else meaningless(source[place]), line, column)
         kind, text = found.lastgroup, found.group()
         if kind == "comment":
             is_alone = not source[begin:place].strip()
             comments.append(Comment(text.rstrip(), line, column, is_alone))
         elif kind == "newline":
-            words.append(Word(LINE_END, "", line, column))
+            if depth == 0:
+                words.append(Word(LINE_END, "", line, column))
             line, begin = line + 1, found.end()
         elif kind == "name":
             words.append(Word(NAME, text, line, column))
@@ -71,6 +88,8 @@ def words_of(source):
             words.append(Word(TEXT, text_of(text, line, column), line, column))
         elif kind == "sign":
             words.append(Word(SIGN, text, line, column))
+            # (lines end nothing within round and square brackets; a block has none of them open)
+            depth = 0 if text in "{}" else max(0, depth + (text in "([") - (text in ")]"))
         place = found.end()
     words.append(Word(END, "", line, place - begin + 1))
     return words, comments

@@ -1,5 +1,5 @@
 #!/usr/bin/env -S python3 -B
-"""SmallBank's rows and calls: `generate.py FOLDER [--customers N] [--hot N] [--share F] [--version 1|3] ..`.
+"""SmallBank's rows and calls: `generate.py FOLDER [--customers N] [--hot N] [--share F] ..`.
 
 A share F of the customers that calls name is drawn from the first N of them, the hot set, as in Alomari and others,
 "The Cost of Serializability on Platforms That Use Snapshot Isolation" (ICDE 2008); the mix is H-Store's.
@@ -27,12 +27,12 @@ def call(chance, words):
 
 
 def main():
-    words = reader(__doc__, customers=10_000, hot=100, share=0.9, version=1).parse_args()
+    words = reader(__doc__, customers=10_000, hot=100, share=0.9).parse_args()
     chance = random.Random(words.seed)
     rows = [[table, key, [chance.randint(10_00, 500_00)]] for table in ("savings", "checking") for key in range(words.customers)]
     calls = [call(chance, words) for _ in range(words.calls)]
     notation = Path(__file__).with_name("setup.calvin").read_text()
-    write(words.folder, setup_with(notation, rows, words.version), calls, words.batch)
+    write(words.folder, setup_with(notation, rows), calls, words.batch)
 
 
 if __name__ == "__main__":

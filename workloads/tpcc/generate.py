@@ -79,12 +79,12 @@ def rows_of(words, chance):
 
 
 def main():
-    words = reader(__doc__, warehouses=2, customers=300, items=1_000, mix="all", version=1).parse_args()
+    words = reader(__doc__, warehouses=2, customers=300, items=1_000, mix="all").parse_args()
     chance = random.Random(words.seed)
     terminal, mix = Terminal(words, chance), MIX[words.mix]
     rows = list(rows_of(words, chance))
     calls = [getattr(terminal, chance.choices(list(mix), mix.values())[0])() for _ in range(words.calls)]
-    write(words.folder, setup_with(notation(words.warehouses), rows, words.version), calls, words.batch)
+    write(words.folder, setup_with(notation(words.warehouses), rows), calls, words.batch)
 
 
 if __name__ == "__main__":

@@ -46,11 +46,11 @@ def operations(words, chance, keys):
 
 
 def main():
-    words = reader(__doc__, workload="a", keys="zipf", records=10_000, version=1).parse_args()
+    words = reader(__doc__, workload="a", keys="zipf", records=10_000).parse_args()
     chance = random.Random(words.seed)
     keys = Zipf(words.records, 0.99, chance) if words.keys == "zipf" else Uniform(words.records, chance)
     rows = [["record", key, [text(chance) for _ in FIELDS]] for key in range(words.records)]
-    write(words.folder, setup_with(notation(words.records), rows, words.version), operations(words, chance, keys), words.batch)
+    write(words.folder, setup_with(notation(words.records), rows), operations(words, chance, keys), words.batch)
 
 
 if __name__ == "__main__":
