@@ -19,14 +19,21 @@ MAY_BE_UNSAFE = {
     "calvin_c/src/handle.rt",
     "calvin_c/src/lib.rt",
     "calvin_c/src/loose.rt",
+    "calvin_c/src/opening.rt",
 }
-UNSAFE = re.compile(r"\b(unsafe|into_raw|from_raw|into_raw_parts|from_raw_parts|transmute)\b")
-LETS_GO = re.compile(r"\b(ManuallyDrop|MaybeUninit|forget|leak)\b")
+UNSAFE = re.compile(
+    r"\b(?:unsafe|into_raw|from_raw|into_raw_parts|from_raw_parts|transmute|NonNull)\b"
+    r"|\.(?:de)?allocate\(|\*\s*(?:mut|const)\b|&raw\b"
+)
+LETS_GO = re.compile(r"\b(?:ManuallyDrop|MaybeUninit|forget|leak)\b")
+TEXTS = re.compile(
+    r"""\bb?r(#*)".*?"\1|"(?:[^"\\]|\\.)*"|b?'(?:[^'\\\n]|\\[^\n]{1,9}?)'|//[^\n]*|/\*.*?\*/""", re.DOTALL
+)
 
 
 def code(text):
     """The text without its comments and string literals, line for line."""
-    return re.sub(r'"(?:[^"\\\n]|\\.)*"|//[^\n]*', "", text)
+    return TEXTS.sub(lambda found: "\n" * found[0].count("\n"), text)
 
 
 def findings(name, text):
