@@ -11,6 +11,7 @@ from faults import MEANINGS, told
 from formatter import laid_out
 from json_reader import document, source_of
 from json_writer import written
+from kinds import told_of
 from grammar import parsed
 from places import place_of
 from spots import Mistake
@@ -18,6 +19,7 @@ from tree import setup_of
 
 TOP = Path(__file__).resolve().parent.parent.parent
 BUILT = TOP / "crates/cli/out/cli"
+OF_TYPE = 15
 
 
 def is_json(path):
@@ -61,6 +63,11 @@ def answer_of(program, path):
     return found.returncode, found.stdout.decode(), found.stderr.decode(errors="replace")
 
 
+def meaning_of(setup, fault, path):
+    """What a fault says in words."""
+    return (fault == OF_TYPE and told_of(setup, path)) or MEANINGS[fault]
+
+
 def check(path, program):
     """Has the executor check a setup in either form, and says where its first fault is."""
     if is_json(path):
@@ -75,7 +82,7 @@ def check(path, program):
     fault = told(err)
     if fault and setup:
         spot = place_of(setup, *fault)
-        show(path, spot.line, spot.column, f"fault {fault[0]}: {MEANINGS[fault[0]]}")
+        show(path, spot.line, spot.column, f"fault {fault[0]}: {meaning_of(setup, *fault)}")
     else:
         sys.stdout.write(out)
         sys.stderr.write(err)
