@@ -25,7 +25,7 @@ cd -- "$(dirname -- "$0")/../crates/test_memory_refusals"
 # The number of the allocation that is refused, which is that of src/refusal.rt.
 refused=20000
 # Runs with threads don't always make the same number of allocations: so many more are tried.
-spare=10
+spare=80
 every=${EVERY:-1}
 
 folder=$(mktemp -d)
