@@ -5,8 +5,8 @@
 #   with what the documents say, and `scripts/unsafe.py`, which refuses words that let a value go without its end,
 # - `scripts/cases.py`, which runs the stored cases, and `scripts/hostile_documents.py`, which runs 1,000 setups and logs made at
 #   random, each on the program as either compiler makes it,
-# - `tools/notation/tests.py`, which tries the notation of setups, and `workloads/cases.py --check`, which compares the stored
-#   cases of the workloads with what their models say,
+# - `tools/notation/tests.py`, which tries the notation of setups, `workloads/cases.py --check`, which compares the stored cases of
+#   the workloads with what their models say, and `bench/tests.py`, which tries the benchmarks that are built,
 # - `scripts/refuse_memory.sh`, which refuses each 40th allocation;
 #
 # and then `scripts/edits.py together`, which tries the edits that must be refused, many in one check. It says before its last line how much of a
@@ -63,6 +63,7 @@ gate() {
     counted scripts/unsafe.py || status=1
     counted tools/notation/tests.py || status=1
     counted workloads/cases.py --check || status=1
+    counted bench/tests.py || status=1
     for program in crates/cli/out/cli{,.by-rattle}; do
         if [[ $program == *.by-rattle && ! -x $program ]]; then
             echo "the second compiler didn't make the program: its runs are left out"

@@ -65,22 +65,35 @@ def texts_in(value):
             yield from texts_in(part)
 
 
-def has_loop(value):
-    """Whether a loop stands in a block or a statement."""
-    return isinstance(value, list) and (value[:1] in (["for"], ["each"]) or any(map(has_loop, value)))
+def count_steps(block):
+    """About how many steps a block takes, without those of its expressions; 10,000 where a loop's turns are unknown."""
+    return sum(map(count_statement, block))
+
+
+def count_statement(statement):
+    """The same of a statement."""
+    match statement:
+        case ["if", _, first, second]:
+            return 1 + max(count_steps(first), count_steps(second))
+        case ["for", _, int(low), int(high), block]:
+            return 1 + max(high - low + 1, 0) * (1 + count_steps(block))
+        case ["for" | "each", *_]:
+            return 10_000
+        case _:
+            return 1
 
 
 def with_loops(setup):
-    """A setup without a fault, each of whose bodies has a loop: where it has none, one of one turn stands before it.
+    """A setup without a fault, no call of which is brief: before each body of few steps stands a loop of one turn.
 
-    A call of a body with a loop isn't brief, so the scheduler's thread doesn't run it in place: it gets a plan, locks,
-    a loan and a lane, and a worker may run it. The setup means the same but for two steps a call. A call may take
-    10,000, and one of a body that had no loop takes at most one for each statement and scan that stands there.
+    How many turns the loop has isn't known before, since it goes to a sum. So the scheduler's thread doesn't run such a
+    call in place: it gets a plan, locks, a loan and a lane, and a worker may run it. The setup means the same but for
+    two steps a call. A call may take 10,000, and one of few steps is far from that.
     """
     document = json.loads(setup)
     for procedure in document[3][2]:
-        if not has_loop(procedure[3]):
+        if count_steps(procedure[3]) <= 100:
             taken = set(texts_in(procedure))
             name = next(name for name in map("turn{}".format, range(len(taken) + 1)) if name not in taken)
-            procedure[3].insert(0, ["for", name, 0, 0, []])
+            procedure[3].insert(0, ["for", name, 0, ["+", 0, 0], []])
     return json.dumps(document).encode()

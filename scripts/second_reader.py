@@ -401,12 +401,16 @@ def read_rows(rows, tables):
 
 
 def is_setup(document):
-    """Whether the outer form is that of a setup of version 1, or of version 2, which says how often a stale call is tried again."""
+    """Whether the outer form is that of a setup of version 1; of version 2, which says how often a stale call is tried again; or of
+    version 3, which says beside it of which text of the rows digests are."""
     if is_array(document, 5):
         return document[0] == "setup" and is_number(document[1]) and document[1] == 1
     if is_array(document, 6):
         versioned = document[0] == "setup" and is_number(document[1]) and document[1] == 2
         return versioned and is_number(document[5]) and 0 <= document[5] <= 2
+    if is_array(document, 7):
+        versioned = document[0] == "setup" and is_number(document[1]) and document[1] == 3
+        return versioned and is_number(document[5]) and 0 <= document[5] <= 2 and document[6] in ("rows", "partitions")
     return False
 
 

@@ -1,5 +1,5 @@
 #!/usr/bin/env bash
-# Writes the setups and logs that docs/performance.md measures into a folder:
+# Writes setups and logs into a folder, with which to measure the executor:
 #
 #     scripts/workloads.sh FOLDER
 #

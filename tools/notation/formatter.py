@@ -2,7 +2,7 @@
 import json
 import re
 
-from tree import CATALOGUE, HEADER, PROCEDURE, ROWS, TABLE
+from tree import CATALOGUE, DIGESTS, HEADER, PROCEDURE, ROWS, TABLE
 from words import RESERVED
 
 WIDTH = 100
@@ -28,6 +28,12 @@ def number(spot):
     if not spot.is_number:
         raise unsayable(spot)
     return str(spot.value)
+
+
+def digest(spot):
+    if not spot.is_text or spot.value not in DIGESTS:
+        raise unsayable(spot)
+    return spot.value
 
 
 def text(value):
@@ -218,7 +224,11 @@ class Layout:
 
     def header(self, item):
         version, *rest = item.spots
-        words = ["setup", number(version)] + [word for it in rest for word in ("retries", number(it))]
+        words = ["setup", number(version)]
+        if rest:
+            words += ["retries", number(rest[0])]
+        if rest[1:]:
+            words += ["digest", digest(rest[1])]
         self.put(" ".join(words))
         self.end(item.last)
 

@@ -1,6 +1,6 @@
 """The parser: from a source in the notation to its items. docs/notation.md has the grammar."""
 from spots import Mistake, Spot
-from tree import CATALOGUE, HEADER, PROCEDURE, ROWS, TABLE, Item, Source, listed
+from tree import CATALOGUE, DIGESTS, HEADER, PROCEDURE, ROWS, TABLE, Item, Source, listed
 from words import END, LINE_END, NAME, NUMBER, QUOTED, RESERVED, SIGN, TEXT, words_of
 
 # How deep brackets and blocks may be nested together. A setup may nest 24 of each.
@@ -138,10 +138,14 @@ class Parser:
         return Item(begin.text, spots, begin.line, self.words[self.place - 1].line, name)
 
     def header(self, _):
-        """setup VERSION [retries N]"""
+        """setup VERSION [retries N [digest rows | digest partitions]]"""
         spots = [self.number("the setup's version")]
         if self.take("retries"):
             spots.append(self.number("how often a stale call is tried again"))
+            if self.take("digest"):
+                if not self.at(*DIGESTS):
+                    self.refuse("`rows` or `partitions`")
+                spots.append(self.spot(self.word.text, self.next()))
         return spots, None
 
     def catalogue(self, _):

@@ -184,7 +184,7 @@ def item(kind, spot, count):
 
 def source_of(setup):
     """The items of a setup document."""
-    word, version, catalogue, procedures, rows, *rest = parts_of(setup, 5, 6)
+    word, version, catalogue, procedures, rows, *rest = parts_of(setup, 5, 6, 7)
     head, told, tables = parts_of(catalogue, 3)
     if (word.value, head.value) != ("setup", "catalogue"):
         refuse(setup)

@@ -3,6 +3,7 @@ or of rows, for which it names none. The orders are those of docs/faults.md."""
 import re
 
 from spots import at_path
+from tree import DIGESTS
 
 NAME = re.compile("[a-z][a-z0-9_]{0,31}")
 LEAST, MOST = -(2**63), 2**63 - 1
@@ -48,13 +49,15 @@ def of_setup(setup):
         yield 42, setup
     elif not is_text(setup.value[0]) or setup.value[0].value != "setup":
         yield 42, setup.value[0]
-    elif len(setup.value) < len(heads) or not one_of(1, 2)(setup.value[1]):
+    elif len(setup.value) < len(heads) or not one_of(1, 2, 3)(setup.value[1]):
         yield 42, setup.value[1] if len(setup.value) > 1 else setup
     elif len(setup.value) != 4 + setup.value[1].value:
         yield 42, setup
     else:
         if setup.value[1].value > 1 and not one_of(0, 1, 2)(setup.value[5]):
             yield 42, setup.value[5]
+        if setup.value[1].value > 2 and not any(word(it)(setup.value[6]) for it in DIGESTS):
+            yield 42, setup.value[6]
 
 
 # ---- catalogues

@@ -2,10 +2,12 @@
 from spots import Spot
 
 HEADER, CATALOGUE, TABLE, PROCEDURE, ROWS = "setup", "catalogue", "table", "proc", "rows"
+# Of which text of the rows the digests in a report are.
+DIGESTS = ("rows", "partitions")
 
 
 class Item:
-    """A part of a source. Its spots are, for the header, version and retries, where they are written; for the
+    """A part of a source. Its spots are, for the header, version, retries and digest, where they are written; for the
     version of the catalogue that number; for a table or a procedure its document; for rows the documents of rows."""
 
     def __init__(self, kind, spots, line, last, name=None):

@@ -4,7 +4,7 @@ use Rattle.std.specs.FinMap as map_of
 use Rattle.std.specs.declared.alloc.Global.{Global}
 use Rattle.row_store.specs.Stock.{with_rows}
 use Rattle.setup.specs.declared.fault.SetupFault.{SetupFault}
-use Rattle.requests.specs.declared.setup.Setup.{Setup}
+use Rattle.setup.specs.declared.document.SetupDocument.{SetupDocument}
 use Rattle.setup.specs.Faults.{is_memory}
 use Rattle.setup.specs.FirstFault.{BreaksFirst}
 use Rattle.dispatcher.specs.declared.settings.Settings.{Settings}
@@ -23,15 +23,15 @@ without_setup holds text fault status held first is = elim (is_memory fault) as 
   | false ↦ λ m. inr (inl (is ∙ ap (λ b. if b then 3 else 1) m, text, held, fault, first m))
 ] refl
 
-pub run_at : (alone : Bool) (holds : Option (List ℕ) → Type 0) (source spent sink filled : Device) (status : ℕ) (setup : Setup) (result : Result ℕ RunFault) → IsSetupAt holds setup →
-    IsRunOfLog (start_in setup) source spent sink filled result → (alone ≡ true → IsNotOfThread result) → status ≡ run_status result →
+pub run_at : (alone : Bool) (holds : Option (List ℕ) → Type 0) (source spent sink filled : Device) (status : ℕ) (document : SetupDocument) (result : Result ℕ RunFault) → IsSetupAt holds document →
+    IsRunOfLog (start_in document) source spent sink filled result → (alone ≡ true → IsNotOfThread result) → status ≡ run_status result →
     IsRunAt alone holds source spent sink filled status
-run_at alone holds source spent sink filled status setup result is run threadless ends = record { setup = setup; is_setup = is; result = result; run = run; threadless = threadless; ends = ends }
+run_at alone holds source spent sink filled status document result is run threadless ends = record { document = document; is_setup = is; result = result; run = run; threadless = threadless; ends = ends }
 
-pub locks_at : (holds : Option (List ℕ) → Type 0) (settings : Settings) (source spent sink filled : Device) (status : ℕ) (setup : Setup) (result told : Result (String Global) RunFault) → IsSetupAt holds setup →
-    IsFirstBatchPlanned setup.procs setup.retries (with_rows map_of.empty setup.rows.items) settings source spent result → result ≡ told → IsTold told sink filled status → AreLocksAt holds settings source spent sink filled status
-locks_at holds settings source spent sink filled status setup result told is planned same ends = record {
-  setup = setup;
+pub locks_at : (holds : Option (List ℕ) → Type 0) (settings : Settings) (source spent sink filled : Device) (status : ℕ) (document : SetupDocument) (result told : Result (String Global) RunFault) → IsSetupAt holds document →
+    IsFirstBatchPlanned document.setup.procs document.setup.retries (with_rows map_of.empty document.setup.rows.items) settings source spent result → result ≡ told → IsTold told sink filled status → AreLocksAt holds settings source spent sink filled status
+locks_at holds settings source spent sink filled status document result told is planned same ends = record {
+  document = document;
   is_setup = is;
   result = result;
   planned = planned;
@@ -49,17 +49,17 @@ not_compared result fault full report other sink status is ends = subst (λ r. I
 abbrev kept : List ℕ → Bool → Device
 kept report full = record { bytes = Some report; failed = full }
 
-pub replicas_at : (holds holds_other : Option (List ℕ) → Type 0) (source spent sink filled : Device) (status : ℕ) (other : List ℕ) (setup : Setup) (result : Result ℕ RunFault) (before report : List ℕ) (was full : Bool) →
-    holds_other (Some other) → IsSetupAt holds setup → before ≡ [] → was ≡ false →
-    IsRunOfLog (start_in setup) source spent (kept before was) (kept report full) result →
+pub replicas_at : (holds holds_other : Option (List ℕ) → Type 0) (source spent sink filled : Device) (status : ℕ) (other : List ℕ) (document : SetupDocument) (result : Result ℕ RunFault) (before report : List ℕ) (was full : Bool) →
+    holds_other (Some other) → IsSetupAt holds document → before ≡ [] → was ≡ false →
+    IsRunOfLog (start_in document) source spent (kept before was) (kept report full) result →
     IsCompared result full report other sink filled status → AreReplicas holds holds_other source spent sink filled status
-replicas_at holds holds_other source spent sink filled status other setup result before report was full held is nothing room run ends =
-    let from : IsRunOfLog (start_in setup) source spent (kept [] false) (kept report full) result =
-    subst (λ (d : Device). IsRunOfLog (start_in setup) source spent d (kept report full) result) (λ i. kept (nothing i) (room i)) run in
+replicas_at holds holds_other source spent sink filled status other document result before report was full held is nothing room run ends =
+    let from : IsRunOfLog (start_in document) source spent (kept [] false) (kept report full) result =
+    subst (λ (d : Device). IsRunOfLog (start_in document) source spent d (kept report full) result) (λ i. kept (nothing i) (room i)) run in
     record {
       other = other;
       held = held;
-      setup = setup;
+      document = document;
       is_setup = is;
       result = result;
       report = report;

@@ -23,17 +23,17 @@ use Rattle.dispatcher.specs.declared.settings.Settings.{Settings}
 use Rattle.running.specs.declared.run_fault.RunFault.{RunFault}
 use Rattle.running.specs.declared.run_fault.RunFault.TheVariants as runs
 use Rattle.report_text.specs.Report.{entries_in}
-use Rattle.retries.specs.Standings.{closed, closing, in_turn, start_of, transaction_of}
+use Rattle.retries.specs.Standings.{closed, closing_within, in_turn, start_of, transaction_of}
 use Rattle.running.specs.Reports.{whole_log}
 use Rattle.running.specs.Runs.{device_with}
 use Rattle.running.proofs.RunEnds.{or_nothing}
-use Rattle.running.proofs.Stopping.{line_begun_is, line_of_fault, not_of_line, start, taken_and_came}
+use Rattle.running.proofs.Stopping.{line_begun_is, line_of_fault, not_of_line, nothing_taken, taken_and_came}
 use Rattle.calvin.specs.FirstBatches.{first_batch, first_of, IsFirstBatchPlanned, IsPlansText}
 
 -- ---- the first batch of a log, by its batches and its fault
 
 -- nothing is carried before the first batch
-none_carried : (retries most : ℕ) (db : Database) → closing retries most (start_of db) ≡ []
+none_carried : (retries most : ℕ) (db : Database) → closing_within retries most (start_of db) ≡ []
 none_carried retries zero db = refl
 none_carried retries (suc most) db = refl
 
@@ -97,7 +97,7 @@ fault_first procs retries db left now newlines calls fault n k p = Passes-first 
 
 -- ---- how it ends
 
-module _ (procs : ProcsParts) (retries : ℕ) (db : Database) (settings : Settings) (left last : Option (List ℕ)) (came : List ℕ) (at : Position) (f f2 : Bool) (moves : Moves left (prepend_known came last) start at) where
+module _ (procs : ProcsParts) (retries : ℕ) (db : Database) (settings : Settings) (left last : Option (List ℕ)) (came : List ℕ) (at : Position) (f f2 : Bool) (moves : Moves left (prepend_known came last) nothing_taken at) where
   was_read : (taken : List ℕ) × Consumes left last taken
   was_read = (moves.bytes ++ came, taken_and_came left last moves.bytes came moves.takes.0)
 

@@ -8,6 +8,7 @@ use Rattle.std.specs.Io.KnownBytes.{Appends}
 use Rattle.devices.specs.Devices.{AppendsFront}
 use Rattle.row_store.specs.Stock.{with_rows}
 use Rattle.setup.specs.declared.fault.SetupFault.{SetupFault}
+use Rattle.setup.specs.declared.document.SetupDocument.{SetupDocument}
 use Rattle.requests.specs.declared.setup.Setup.{Setup}
 use Rattle.setup.specs.Faults.{is_memory}
 use Rattle.setup.specs.FirstFault.{BreaksFirst}
@@ -63,21 +64,21 @@ IsWithoutSetup holds status =
     ⊎ (((status ≡ 1) × (text : List ℕ) × holds (Some text) × (fault : SetupFault) × BreaksFirst text fault)
     ⊎ (status ≡ 3))
 
--- the setup is what the text at its path says, and each of its procedures is over its catalogue
-pub record IsSetupAt (holds : Holding) (setup : Setup) : Type 0 where
+-- the setup document is what the text at its path says, and each of its procedures is over its catalogue
+pub record IsSetupAt (holds : Holding) (document : SetupDocument) : Type 0 where
   pub text : List ℕ
   pub held : holds (Some text)
-  pub says : SaysSetup text (setup_view setup)
-  pub over : AreOver setup.catalogue setup.procs.procs
+  pub says : SaysSetup text (setup_view document)
+  pub over : AreOver document.setup.catalogue document.setup.procs.procs
 
 -- ---- the command `run`
 
 -- The log was run on the setup at a path, alone on one thread or on several.
 pub record IsRunAt (alone : Bool) (holds : Holding) (source spent sink filled : Device) (status : ℕ) : Type 0 where
-  pub setup : Setup
-  pub is_setup : IsSetupAt holds setup
+  pub document : SetupDocument
+  pub is_setup : IsSetupAt holds document
   pub result : Result ℕ RunFault
-  pub run : IsRunOfLog (start_in setup) source spent sink filled result
+  pub run : IsRunOfLog (start_in document) source spent sink filled result
   -- Alone on one thread, no thread is refused.
   pub threadless : alone ≡ true → IsNotOfThread result
   pub ends : status ≡ run_status result
@@ -126,17 +127,16 @@ IsCompared (Ok count) full report other sink filled status = IsAnswered report o
 pub record AreReplicas (holds holds_other : Holding) (source spent sink filled : Device) (status : ℕ) : Type 0 where
   pub other : List ℕ
   pub held : holds_other (Some other)
-  pub setup : Setup
-  pub is_setup : IsSetupAt holds setup
+  pub document : SetupDocument
+  pub is_setup : IsSetupAt holds document
   pub result : Result ℕ RunFault
   -- what was kept of the report, and whether memory was refused for it
   pub report : List ℕ
   pub is_full : Bool
-  pub run : IsRunOfLog (start_in setup) source spent (record { bytes = Some []; failed = false })
+  pub run : IsRunOfLog (start_in document) source spent (record { bytes = Some []; failed = false })
       (record { bytes = Some report; failed = is_full }) result
   pub whole : OnOk result
-      (IfSome source.bytes
-      (λ log. report ≡ report_of setup.procs setup.retries (with_rows map_of.empty setup.rows.items) log))
+      (IfSome source.bytes (λ log. report ≡ report_of (start_in document) log))
   pub ends : IsCompared result is_full report other sink filled status
 
 -- The other report is read first, and then the setup. Without either nothing is read of the log, and nothing is
@@ -163,7 +163,8 @@ check_text setup = counts_text (length setup.catalogue) (length setup.procs.proc
 abbrev pub IsCheckCommand : Holding → Device → Device → ℕ → Type 0
 IsCheckCommand holds sink filled status =
     (IsWithoutSetup holds status × (filled ≡ sink))
-    ⊎ ((setup : Setup) × IsSetupAt holds setup × IsWritten (check_text setup) sink filled 0 status)
+    ⊎ ((document : SetupDocument) × IsSetupAt holds document
+    × IsWritten (check_text document.setup) sink filled 0 status)
 
 -- ---- the command `locks`
 
@@ -175,11 +176,11 @@ IsTold (Err fault) sink filled status = (status ≡ fault_status fault) × (fill
 -- The plans of the log's first batch were made on the setup at a path, and their text was written.
 pub record AreLocksAt (holds : Holding) (settings : Settings) (source spent sink filled : Device) (status : ℕ) : Type
     0 where
-  pub setup : Setup
-  pub is_setup : IsSetupAt holds setup
+  pub document : SetupDocument
+  pub is_setup : IsSetupAt holds document
   pub result : Result (String Global) RunFault
-  pub planned : IsFirstBatchPlanned setup.procs setup.retries (with_rows map_of.empty setup.rows.items) settings source
-      spent result
+  pub planned : IsFirstBatchPlanned document.setup.procs document.setup.retries
+      (with_rows map_of.empty document.setup.rows.items) settings source spent result
   pub ends : IsTold result sink filled status
 
 -- Without a setup nothing is read of the log, and nothing is written.

@@ -67,7 +67,7 @@ pub(crate) fn check<F: Files, K: Sink, E: Sink>(
         (device_with (K.taken out.new) (K.broken out.new)) result }
 {
     match setup_at(alloc, files, path, err) {
-        Ok(setup) => count(alloc, &setup, out, err),
+        Ok(document) => count(alloc, &document.setup, out, err),
         Err(status) => status,
     }
 }

@@ -37,11 +37,13 @@ fn run<R: Threads + Wait + Sync, F: Files, S: Source, K: Sink, E: Sink + Send>(
         (device_with (K.taken out.old) (K.broken out.old))
         (device_with (K.taken out.new) (K.broken out.new)) result }
 {
-    let setup = match setup_at(alloc, files, path, err) {
-        Ok(setup) => setup,
+    let document = match setup_at(alloc, files, path, err) {
+        Ok(document) => document,
         Err(status) => return status,
     };
-    match run_setup(rt, alloc, alone, lines, setup, settings, source, out, err) {
+    match run_setup(
+        rt, alloc, alone, lines, document, settings, source, out, err,
+    ) {
         Ok(_) => DONE,
         Err(fault) => refused(alloc, err, fault),
     }
@@ -63,11 +65,11 @@ fn locks<F: Files, S: Source, K: Sink, E: Sink>(
         (device_with (K.taken out.old) (K.broken out.old))
         (device_with (K.taken out.new) (K.broken out.new)) result }
 {
-    let setup = match setup_at(alloc, files, path, err) {
-        Ok(setup) => setup,
+    let document = match setup_at(alloc, files, path, err) {
+        Ok(document) => document,
         Err(status) => return status,
     };
-    let lines = match plans_of(alloc, setup, settings, source) {
+    let lines = match plans_of(alloc, document.setup, settings, source) {
         Ok(lines) => lines,
         Err(fault) => return refused(alloc, err, fault),
     };

@@ -12,7 +12,7 @@ use engine::{
     Batch, BatchDone, Engine, ExecFault, Gate, HeadSeat, Settings, WorkerPool, Workplace,
 };
 use running::{RunFault, run_log_on};
-use setup::Setup;
+use setup::{DigestForm, SetupDocument};
 use std::alloc::Global;
 use std::sync::{Mutex, Wait};
 use std::thread;
@@ -23,11 +23,13 @@ fn take_back<T>(reference: &mut T)
     ensures { reference.new ≡ reference.old }
 {}
 
-/// Runs a log on an engine that has run none, on workers that are started at a workplace, of which this is the seat.
+/// Runs a log on an engine that has run none, on workers that are started at a workplace, of which this is the
+/// seat, with digests of rows in that form.
 fn run_log_at<'a, R: Threads + Wait + Sync, G: Gate, S: Source, K: Sink>(
     rt: &R,
     alloc: Global,
     engine: &'a mut Engine,
+    form: DigestForm,
     place: &Workplace,
     head: HeadSeat,
     gate: &G,
@@ -37,7 +39,7 @@ fn run_log_at<'a, R: Threads + Wait + Sync, G: Gate, S: Source, K: Sink>(
     requires place { head ≡ place.now }
     requires idle { is_busy engine.old.core ≡ false }
     requires unused { engine.old.core.next ≡ 0 }
-    ensures { RunsLog S.left S.failed K.taken K.broken (start_of engine.old.core)
+    ensures { RunsLog S.left S.failed K.taken K.broken (start_of engine.old.core form)
         source.old source.new sink.old sink.new result }
 {
     let (ended, engine, source, sink) = thread::scope(
@@ -48,7 +50,7 @@ fn run_log_at<'a, R: Threads + Wait + Sync, G: Gate, S: Source, K: Sink>(
             ensures engine { result.1.ghost_name ≡ engine.entry.ghost_name }
             ensures source { result.2.ghost_name ≡ source.entry.ghost_name }
             ensures sink { result.3.ghost_name ≡ sink.entry.ghost_name }
-            ensures run { RunsLog S.left S.failed K.taken K.broken (start_of engine.entry.now.core)
+            ensures run { RunsLog S.left S.failed K.taken K.broken (start_of engine.entry.now.core form)
                 source.entry.now result.2.now sink.entry.now result.3.now result.0 }
         {
             let pool = Mutex::new(WorkerPool::new(rt, scope, gate, place, head));
@@ -56,7 +58,7 @@ fn run_log_at<'a, R: Threads + Wait + Sync, G: Gate, S: Source, K: Sink>(
                 requires { AreOver (tables_of engine.old.core) (items_of batch) }
                 ensures { IsExecution engine.old.core batch result engine.new.core }
             { engine.execute_in(alloc, batch, &mut pool.lock(rt)) };
-            let ended = run_log_on(rt, alloc, &executor, engine, source, sink);
+            let ended = run_log_on(rt, alloc, &executor, engine, form, source, sink);
             (ended, engine, source, sink)
         },
     );
@@ -66,28 +68,30 @@ fn run_log_at<'a, R: Threads + Wait + Sync, G: Gate, S: Source, K: Sink>(
     ended
 }
 
-/// Runs a log on an engine that has run none, on worker threads that live as long as the run.
+/// Runs a log on an engine that has run none, on worker threads that live as long as the run, with digests of rows in
+/// that form.
 pub(crate) fn run_log_in_pool<R: Threads + Wait + Sync, G: Gate, S: Source, K: Sink>(
     rt: &R,
     alloc: Global,
     engine: &mut Engine,
+    form: DigestForm,
     gate: &G,
     source: &mut S,
     sink: &mut K,
 ) -> Result<u64, RunFault>
     requires idle { is_busy engine.old.core ≡ false }
     requires unused { engine.old.core.next ≡ 0 }
-    ensures { RunsLog S.left S.failed K.taken K.broken (start_of engine.old.core)
+    ensures { RunsLog S.left S.failed K.taken K.broken (start_of engine.old.core form)
         source.old source.new sink.old sink.new result }
 {
     match Workplace::new(alloc, engine.settings()) {
-        Ok((place, head)) => run_log_at(rt, alloc, engine, &place, head, gate, source, sink),
+        Ok((place, head)) => run_log_at(rt, alloc, engine, form, &place, head, gate, source, sink),
         Err(_) => Err(RunFault::at(LogFaultKind::Memory, 0)),
     }
 }
 
-/// Runs the log that a source gives on a setup, on worker threads, and writes its report into a sink: for each batch a
-/// reply line a call and a batch line, and then the end line. The answer is the number of transactions.
+/// Runs the log that a source gives on a setup document, on worker threads, and writes its report into a sink: for each
+/// batch a reply line a call and a batch line, and then the end line. The answer is the number of transactions.
 ///
 /// A batch is read whole before it runs, and its report is written after it ended. A fault ends the run: one of a line
 /// of the log (31 to 35), a failed device (36), want of memory (37), or a refused thread (38). What was written then is
@@ -95,17 +99,18 @@ pub(crate) fn run_log_in_pool<R: Threads + Wait + Sync, G: Gate, S: Source, K: S
 pub fn run_text<R: Threads + Wait + Sync, G: Gate, S: Source, K: Sink>(
     rt: &R,
     alloc: Global,
-    setup: Setup,
+    document: SetupDocument,
     settings: Settings,
     gate: &G,
     source: &mut S,
     sink: &mut K,
 ) -> Result<u64, RunFault>
-    ensures { RunsLog S.left S.failed K.taken K.broken (start_in setup)
+    ensures { RunsLog S.left S.failed K.taken K.broken (start_in document)
         source.old source.new sink.old sink.new result }
 {
+    let SetupDocument { setup, digest } = document;
     match Engine::new(alloc, setup, settings) {
-        Ok(mut engine) => run_log_in_pool(rt, alloc, &mut engine, gate, source, sink),
+        Ok(mut engine) => run_log_in_pool(rt, alloc, &mut engine, digest, gate, source, sink),
         Err(_) => Err(RunFault::at(LogFaultKind::Memory, 0)),
     }
 }

@@ -9,7 +9,7 @@ use crate::files::{FileFault, Files};
 use crate::status::{DEVICE, MEMORY, run_status, setup_status};
 use batch_log::{LogFaultKind, Sink, write_all};
 use running::RunFault;
-use setup::{Setup, read_setup};
+use setup::{SetupDocument, read_setup};
 use std::alloc::{AllocError, Global};
 use std::fmt::Display;
 
@@ -57,19 +57,19 @@ pub(crate) fn file_at<F: Files, E: Sink>(
     }
 }
 
-/// Reads the setup of a path, or says why not and gives the exit status.
+/// Reads the setup document of a path, or says why not and gives the exit status.
 pub(crate) fn setup_at<F: Files, E: Sink>(
     alloc: Global,
     files: &F,
     path: &str,
     err: &mut E,
-) -> Result<Setup, u8>
+) -> Result<SetupDocument, u8>
     ensures setup { IfOk result (IsSetupAt (F.holds files.now path.now)) }
     ensures status { IfErr result (IsWithoutSetup (F.holds files.now path.now)) }
 {
     let bytes = file_at(alloc, files, path, err)?;
     match read_setup(alloc, &bytes) {
-        Ok(setup) => Ok(setup),
+        Ok(document) => Ok(document),
         Err(fault) => {
             say(alloc, err, &fault);
             Err(setup_status(&fault))

@@ -29,4 +29,4 @@ pub use files::{FileFault, Files};
 pub use laws::plans_have_one_text;
 pub use programs::program;
 pub use running::RunFault;
-pub use setup::{Setup, SetupFault, read_setup};
+pub use setup::{DigestForm, Setup, SetupDocument, SetupFault, read_setup};

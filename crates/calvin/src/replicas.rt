@@ -83,13 +83,13 @@ pub(crate) fn replicas<R: Threads + Wait + Sync, F: Files, S: Source, K: Sink, E
         Ok(other) => other,
         Err(status) => return status,
     };
-    let setup = match setup_at(alloc, files, path, err) {
-        Ok(setup) => setup,
+    let document = match setup_at(alloc, files, path, err) {
+        Ok(document) => document,
         Err(status) => return status,
     };
     let mut kept = KeptReport::new(alloc);
     match run_setup(
-        rt, alloc, false, lines, setup, settings, source, &mut kept, err,
+        rt, alloc, false, lines, document, settings, source, &mut kept, err,
     ) {
         Ok(_) => answer(alloc, kept.bytes(), &other, out, err),
         Err(fault) => refused(alloc, err, kept.fault_of(fault)),

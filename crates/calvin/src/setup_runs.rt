@@ -15,7 +15,7 @@ use crate::telling::{Lines, RunEnd, tell_engine, tell_until};
 use batch_log::{LogFaultKind, Sink, Source};
 use engine::{Batch, BatchDone, Engine, ExecFault, OpenGate, Settings, Watcher};
 use running::{RunFault, run_log_on};
-use setup::Setup;
+use setup::{DigestForm, SetupDocument};
 use std::alloc::Global;
 use std::cell::RefCell;
 use std::sync::Wait;
@@ -28,13 +28,14 @@ fn run_telling<R: Wait, S: Source, K: Sink, E: Sink>(
     alloc: Global,
     lines: Option<Lines>,
     engine: &mut Engine,
+    form: DigestForm,
     source: &mut S,
     sink: &mut K,
     err: &RefCell<&mut E>,
 ) -> Result<u64, RunFault>
     requires idle { is_busy engine.old.core ≡ false }
     requires unused { engine.old.core.next ≡ 0 }
-    ensures run { RunsLog S.left S.failed K.taken K.broken (start_of engine.old.core)
+    ensures run { RunsLog S.left S.failed K.taken K.broken (start_of engine.old.core form)
         source.old source.new sink.old sink.new result }
     ensures threadless { IsNotOfThread result }
 {
@@ -49,7 +50,7 @@ fn run_telling<R: Wait, S: Source, K: Sink, E: Sink>(
         }
         done
     };
-    run_log_on(rt, alloc, &executor, engine, source, sink)
+    run_log_on(rt, alloc, &executor, engine, form, source, sink)
 }
 
 /// Runs the log that a source gives on a setup, on one thread, and writes its report into a sink. Where it is asked for
@@ -58,21 +59,22 @@ fn run_alone<R: Wait, S: Source, K: Sink, E: Sink>(
     rt: &R,
     alloc: Global,
     lines: Option<Lines>,
-    setup: Setup,
+    document: SetupDocument,
     settings: Settings,
     source: &mut S,
     sink: &mut K,
     err: &mut E,
 ) -> Result<u64, RunFault>
-    ensures run { RunsLog S.left S.failed K.taken K.broken (start_in setup)
+    ensures run { RunsLog S.left S.failed K.taken K.broken (start_in document)
         source.old source.new sink.old sink.new result }
     ensures threadless { IsNotOfThread result }
 {
+    let SetupDocument { setup, digest } = document;
     let Ok(mut engine) = Engine::new(alloc, setup, settings) else {
         return Err(RunFault::at(LogFaultKind::Memory, 0));
     };
     let cell = RefCell::new(&mut *err);
-    let ended = run_telling(rt, alloc, lines, &mut engine, source, sink, &cell);
+    let ended = run_telling(rt, alloc, lines, &mut engine, digest, source, sink, &cell);
     let err = cell.into_inner();
     if let Some(Lines::Over) = lines {
         tell_engine(rt, alloc, Lines::Over, &mut engine, true, err);
@@ -85,16 +87,17 @@ fn run_to_end<R: Threads + Wait + Sync, S: Source, K: Sink>(
     rt: &R,
     alloc: Global,
     engine: &mut Engine,
+    form: DigestForm,
     source: &mut S,
     sink: &mut K,
     end: &RunEnd,
 ) -> Result<u64, RunFault>
     requires idle { is_busy engine.old.core ≡ false }
     requires unused { engine.old.core.next ≡ 0 }
-    ensures { RunsLog S.left S.failed K.taken K.broken (start_of engine.old.core)
+    ensures { RunsLog S.left S.failed K.taken K.broken (start_of engine.old.core form)
         source.old source.new sink.old sink.new result }
 {
-    let ended = run_log_in_pool(rt, alloc, engine, &OpenGate, source, sink);
+    let ended = run_log_in_pool(rt, alloc, engine, form, &OpenGate, source, sink);
     end.come();
     ended
 }
@@ -106,6 +109,7 @@ fn run_beside_teller<R: Threads + Wait + Sync, S: Source, K: Sink, E: Sink + Sen
     alloc: Global,
     lines: Lines,
     engine: &mut Engine,
+    form: DigestForm,
     watcher: &mut Watcher,
     source: &mut S,
     sink: &mut K,
@@ -113,7 +117,7 @@ fn run_beside_teller<R: Threads + Wait + Sync, S: Source, K: Sink, E: Sink + Sen
 ) -> Result<u64, RunFault>
     requires idle { is_busy engine.old.core ≡ false }
     requires unused { engine.old.core.next ≡ 0 }
-    ensures { RunsLog S.left S.failed K.taken K.broken (start_of engine.old.core)
+    ensures { RunsLog S.left S.failed K.taken K.broken (start_of engine.old.core form)
         source.old source.new sink.old sink.new result }
 {
     let end = RunEnd::new();
@@ -123,9 +127,9 @@ fn run_beside_teller<R: Threads + Wait + Sync, S: Source, K: Sink, E: Sink + Sen
         &mut || tell_until(rt, alloc, lines, watcher, end, err),
         &mut || -> Result<u64, RunFault>
             requires { (is_busy engine.now.core ≡ false) × (engine.now.core.next ≡ 0) }
-            ensures { RunsLog S.left S.failed K.taken K.broken (start_of engine.entry.now.core)
+            ensures { RunsLog S.left S.failed K.taken K.broken (start_of engine.entry.now.core form)
                 source.entry.now source.exit.now sink.entry.now sink.exit.now result }
-        { run_to_end(rt, alloc, engine, source, sink, end) },
+        { run_to_end(rt, alloc, engine, form, source, sink, end) },
     );
     ended
 }
@@ -136,20 +140,21 @@ fn run_on_workers<R: Threads + Wait + Sync, S: Source, K: Sink, E: Sink + Send>(
     rt: &R,
     alloc: Global,
     lines: Option<Lines>,
-    setup: Setup,
+    document: SetupDocument,
     settings: Settings,
     source: &mut S,
     sink: &mut K,
     err: &mut E,
 ) -> Result<u64, RunFault>
-    ensures { RunsLog S.left S.failed K.taken K.broken (start_in setup)
+    ensures { RunsLog S.left S.failed K.taken K.broken (start_in document)
         source.old source.new sink.old sink.new result }
 {
+    let SetupDocument { setup, digest } = document;
     let Ok(mut engine) = Engine::new(alloc, setup, settings) else {
         return Err(RunFault::at(LogFaultKind::Memory, 0));
     };
     let Some(lines) = lines else {
-        return run_log_in_pool(rt, alloc, &mut engine, &OpenGate, source, sink);
+        return run_log_in_pool(rt, alloc, &mut engine, digest, &OpenGate, source, sink);
     };
     let Ok(mut watcher) = engine.watcher(rt) else {
         return Err(RunFault::at(LogFaultKind::Memory, 0));
@@ -159,6 +164,7 @@ fn run_on_workers<R: Threads + Wait + Sync, S: Source, K: Sink, E: Sink + Send>(
         alloc,
         lines,
         &mut engine,
+        digest,
         &mut watcher,
         source,
         sink,
@@ -172,19 +178,19 @@ pub(crate) fn run_setup<R: Threads + Wait + Sync, S: Source, K: Sink, E: Sink + 
     alloc: Global,
     alone: bool,
     lines: Option<Lines>,
-    setup: Setup,
+    document: SetupDocument,
     settings: Settings,
     source: &mut S,
     out: &mut K,
     err: &mut E,
 ) -> Result<u64, RunFault>
-    ensures run { RunsLog S.left S.failed K.taken K.broken (start_in setup)
+    ensures run { RunsLog S.left S.failed K.taken K.broken (start_in document)
         source.old source.new out.old out.new result }
     ensures threadless { alone ≡ true → IsNotOfThread result }
 {
     if alone {
-        run_alone(rt, alloc, lines, setup, settings, source, out, err)
+        run_alone(rt, alloc, lines, document, settings, source, out, err)
     } else {
-        run_on_workers(rt, alloc, lines, setup, settings, source, out, err)
+        run_on_workers(rt, alloc, lines, document, settings, source, out, err)
     }
 }

@@ -29,15 +29,15 @@ pub extern "C" fn calvin_c_open(
 ) -> i32
     ensures bound { written.new ≤ length message.new }
 {
-    let setup = match setup_of(alloc, setup, message, written) {
-        Ok(setup) => setup,
+    let document = match setup_of(alloc, setup, message, written) {
+        Ok(document) => document,
         Err(status) => return status,
     };
     let settings = match settings_of(threshold, arena) {
         Ok(settings) => settings,
         Err(status) => return status,
     };
-    match opened(alloc, setup, settings) {
+    match opened(alloc, document, settings) {
         Ok(pointer) => {
             *out = pointer;
             DONE

@@ -6,12 +6,16 @@ use crate::handle::{Opaque, pointer_to};
 use crate::status::{DONE, MISUSED, NO_MEMORY, setup_status};
 use engine::Settings;
 use session::Session;
-use setup::{Setup, SetupFault, read_setup};
+use setup::{SetupDocument, SetupFault, read_setup};
 use std::alloc::{AllocError, Global};
 
-/// A session on a setup, as the pointer that C is given; or the status that says why there is none.
-pub(crate) fn opened(alloc: Global, setup: Setup, settings: Settings) -> Result<*mut Opaque, i32> {
-    let Ok(session) = Session::new(alloc, setup, settings) else {
+/// A session on a setup document, as the pointer that C is given; or the status that says why there is none.
+pub(crate) fn opened(
+    alloc: Global,
+    document: SetupDocument,
+    settings: Settings,
+) -> Result<*mut Opaque, i32> {
+    let Ok(session) = Session::new(alloc, document, settings) else {
         return Err(NO_MEMORY);
     };
     match Box::new(alloc, session) {
@@ -47,18 +51,19 @@ fn write_fault(alloc: Global, fault: &SetupFault, message: &mut [u8]) -> usize
     count
 }
 
-/// The setup that a text says. Where it is refused, its fault goes to `message`, and the length of that to `written`.
+/// The setup document that a text is. Where it is refused, its fault goes to `message`, and the length of that to
+/// `written`.
 pub(crate) fn setup_of(
     alloc: Global,
     text: &[u8],
     message: &mut [u8],
     written: &mut usize,
-) -> Result<Setup, i32>
+) -> Result<SetupDocument, i32>
     ensures bound { written.new ≤ length message.new }
 {
     *written = 0;
     match read_setup(alloc, text) {
-        Ok(setup) => Ok(setup),
+        Ok(document) => Ok(document),
         Err(fault) => {
             *written = write_fault(alloc, &fault, message);
             Err(setup_status(&fault))

@@ -1,32 +1,30 @@
 -- A job that is lent, run and settled at once: what is in the lanes is as before.
-use Rattle.std.proofs.Common.{◌≡◌, ◌≢◌, ℕ, ◌+◌, ◌-◌, ◌≤◌, Bool, true, false, List, Option, None, Some, refl, sym, ap, ◌∙◌, subst, arith, slice_get, slice_set}
-use Rattle.std.specs.Prelude.{IfSome}
+use Rattle.std.proofs.Common.{◌≡◌, ◌≢◌, ℕ, ◌+◌, ◌-◌, true, false, List, Option, None, Some, refl, sym, ap, ◌∙◌, subst, arith, slice_get, slice_set}
+use Rattle.std.specs.Prelude.{IfSome, is_some}
 use Rattle.meaning.specs.declared.outcome.Outcome.{Outcome}
 use Rattle.scheduler.specs.JobRuns.{JobOf, DoneOf, IsDoneOf}
 use Rattle.scheduler_core.specs.declared.event.Event.TheVariants as events
-use Rattle.scheduler_core.specs.Phases.{is_idle, is_out, is_settled, phase_of}
+use Rattle.scheduler_core.specs.Phases.{is_out, is_settled}
 use Rattle.scheduler_core.specs.Events.{enabled}
 use Rattle.scheduler.specs.declared.slot.Slot.{Slot}
 use Rattle.scheduler.specs.declared.slot.Slot.TheVariants.{Idle, Lent, Settled}
 use Rattle.scheduler.specs.Schedules.{Schedule, log_of, phase_in, phases_of}
-use Rattle.scheduler.specs.Jobs.{LendsJob}
+use Rattle.scheduler.specs.Moments.{can_make, IsLeastLendAt}
+use Rattle.scheduler.specs.Jobs.{LendsJob, LendsTo, number_of_job}
 use Rattle.scheduler.proofs.Places.{set_twice}
 use Rattle.lanes.specs.Seats.{SchedulerSeatOf}
-use Rattle.progress.specs.Accounts.{Account}
-use Rattle.dispatcher.specs.Runs.{StaysSettled}
-use Rattle.dispatcher.specs.Dispatched.{IsOut, AreInLanes}
-use Rattle.dispatcher.specs.Listeners.{AreCounted, AreOthersCounted}
-use Rattle.dispatcher.proofs.Facts.{and_left}
+use Rattle.dispatcher.specs.Dispatched.{IsOut, AreInLanes, GetsFurther}
 use Rattle.dispatcher.proofs.Told.{set_phase, others_counted}
-use Rattle.dispatcher.proofs.InLanes.{set_past, out_at, set_settled, set_out, idle_slot, at_place, apart_places, done_number}
+use Rattle.dispatcher.proofs.Further.{run_further}
+use Rattle.dispatcher.proofs.InLanes.{StaysInLanes, set_past, out_at, set_settled, set_out, was_idle_at, apart_places, done_number}
 
--- what is known of a schedule after a job that it had lent was settled or taken back
-pub record StaysInLanes (s new : Schedule) (seat : SchedulerSeatOf) (number : ℕ) : Type 0 where
-  pub lanes : AreInLanes new seat
-  pub settled : StaysSettled (phases_of s) (phases_of new)
-  pub work : new.work ≡ s.work
-  pub above : new.work.first ≤ number
-  pub told : (a : Option Account) → AreCounted s a → AreOthersCounted new number a
+-- a job that was lent is of a transaction to which rows could be lent
+pub lends_some : (s mid : Schedule) (o : Option JobOf) (job : JobOf) → o ≡ Some job → LendsTo s o mid → IsLeastLendAt s (number_of_job o)
+    → LendsJob s job mid × (can_make s (events.Lend job.no) ≡ true)
+lends_some s mid o job is lends least = (
+  subst (λ (p : Option JobOf). LendsTo s p mid) is lends,
+  (subst (λ (p : Option JobOf). IsLeastLendAt s (number_of_job p)) is least).0,
+)
 
 module _ (s : Schedule) (seat : SchedulerSeatOf) (h : AreInLanes s seat) (job : JobOf) (mid : Schedule) (lends : LendsJob s job mid)
     (can : enabled s.work.arena s.work.first (log_of s.work) (phases_of s) (events.Lend job.no) ≡ true) (done : DoneOf) (is : IsDoneOf job done) where
@@ -37,10 +35,7 @@ module _ (s : Schedule) (seat : SchedulerSeatOf) (h : AreInLanes s seat) (job : 
   numbered = lends.lent.job_at.no
 
   was_idle : slice_get s.slots place ≡ Some Idle
-  was_idle = idle_slot s.slots place (
-      ap is_idle (sym (at_place s.work.first place (phases_of s)))
-      ∙ ap (λ (n : ℕ). is_idle (phase_of s.work.first (phases_of s) n)) (sym numbered)
-      ∙ and_left (is_idle (phase_of s.work.first (phases_of s) job.no)) _ can)
+  was_idle = was_idle_at s mid job lends can
 
   other_slot : (other : JobOf) → IsOut s other → other.no - s.work.first ≢ place
   other_slot other o = apart_places s.slots (other.no - s.work.first) place Lent Idle o.out was_idle (λ e. let x : Lent ≡ Idle = e in cc)
@@ -76,3 +71,9 @@ module _ (s : Schedule) (seat : SchedulerSeatOf) (h : AreInLanes s seat) (job : 
       → StaysInLanes s new seat job.no
   stays_by new None settled back = subst (λ (t : Schedule). StaysInLanes s t seat job.no) (sym (back refl ∙ again Idle)) (stays Idle refl)
   stays_by new (Some outcome) settled back = subst (λ (t : Schedule). StaysInLanes s t seat job.no) (sym (settled ∙ again (Settled outcome))) (stays (Settled outcome) refl)
+
+  -- and the run got further, where the job was run
+  pub stays_further : (new : Schedule) (o : Option Outcome) → is_some o ≡ true
+      → IfSome o (λ outcome. new ≡ record mid { slots = slice_set mid.slots (done.job.no - mid.work.first) (Settled outcome) }) → GetsFurther s new
+  stays_further new None some settled = absurd (let e : false ≡ true = some in cc)
+  stays_further new (Some outcome) some settled = run_further s new place outcome was_idle (settled ∙ again (Settled outcome))

@@ -24,6 +24,14 @@ use Rattle.dispatcher.proofs.Facts.{none_some, some_is, and_left}
 use Rattle.dispatcher.proofs.Counting.{pushed_same}
 use Rattle.dispatcher.proofs.Told.{set_phase, open_counted, others_counted}
 
+-- what is known of a schedule after a job was settled or taken back
+pub record StaysInLanes (s new : Schedule) (seat : SchedulerSeatOf) (number : ℕ) : Type 0 where
+  pub lanes : AreInLanes new seat
+  pub settled : StaysSettled (phases_of s) (phases_of new)
+  pub work : new.work ≡ s.work
+  pub above : new.work.first ≤ number
+  pub told : (a : Option Account) → AreCounted s a → AreOthersCounted new number a
+
 -- ---- places of lists
 
 pushed_at : {X : Type 0} (xs : List X) (y x : X) (k : ℕ) → slice_get xs k ≡ Some x → slice_get (xs ++ y ∷ []) k ≡ Some x
@@ -123,7 +131,7 @@ admitted_lanes s seat h = pushed_lanes s Idle refl seat h
 pub admitted_settled : (s : Schedule) → StaysSettled (phases_of s) (phases_of (record s { slots = s.slots ++ Idle ∷ [] }))
 admitted_settled s = pushed_settled s.slots
 
-pushed_phase : (slots : List Slot) → map phase_in (slots ++ Idle ∷ []) ≡ map phase_in slots ++ phase.Idle ∷ []
+pub pushed_phase : (slots : List Slot) → map phase_in (slots ++ Idle ∷ []) ≡ map phase_in slots ++ phase.Idle ∷ []
 pushed_phase [] = refl
 pushed_phase (s ∷ slots) = ap (λ (ps : List Phase). phase_in s ∷ ps) (pushed_phase slots)
 
@@ -153,6 +161,16 @@ at_place first place phases =
 pub apart_places : (slots : List Slot) (i k : ℕ) (a b : Slot) → slice_get slots i ≡ Some a → slice_get slots k ≡ Some b → a ≢ b → i ≢ k
 apart_places slots i k a b at_i at_k d e = d (some_is a b (sym at_i ∙ ap (slice_get slots) e ∙ at_k))
 
+-- a transaction that is lent its rows was not out
+pub was_idle_at : (s new : Schedule) (job : JobOf) → LendsJob s job new → enabled s.work.arena s.work.first (log_of s.work) (phases_of s) (events.Lend job.no) ≡ true
+    → slice_get s.slots (job.no - s.work.first) ≡ Some Idle
+was_idle_at s new job lends can =
+    let numbered : job.no ≡ s.work.first + (job.no - s.work.first) = lends.lent.job_at.no in
+    idle_slot s.slots (job.no - s.work.first) (
+    ap is_idle (sym (at_place s.work.first (job.no - s.work.first) (phases_of s)))
+    ∙ ap (λ (n : ℕ). is_idle (phase_of s.work.first (phases_of s) n)) (sym numbered)
+    ∙ and_left (is_idle (phase_of s.work.first (phases_of s) job.no)) _ can)
+
 module _ (s : Schedule) (seat : SchedulerSeatOf) (h : AreInLanes s seat) (job : JobOf) (new : Schedule) (lends : LendsJob s job new)
     (can : enabled s.work.arena s.work.first (log_of s.work) (phases_of s) (events.Lend job.no) ≡ true) (lane : ℕ) (lowest : IsLowestFree seat.jobs lane) where
   abbrev place : ℕ
@@ -162,10 +180,7 @@ module _ (s : Schedule) (seat : SchedulerSeatOf) (h : AreInLanes s seat) (job : 
   numbered = lends.lent.job_at.no
 
   was_idle : slice_get s.slots place ≡ Some Idle
-  was_idle = idle_slot s.slots place (
-      ap is_idle (sym (at_place s.work.first place (phases_of s)))
-      ∙ ap (λ (n : ℕ). is_idle (phase_of s.work.first (phases_of s) n)) (sym numbered)
-      ∙ and_left (is_idle (phase_of s.work.first (phases_of s) job.no)) _ can)
+  was_idle = was_idle_at s new job lends can
 
   pub lent_settled : StaysSettled (phases_of s) (phases_of new)
   lent_settled = subst (λ (t : Schedule). StaysSettled (phases_of s) (phases_of t)) (sym lends.new_is) (set_settled s.slots place Idle Lent was_idle refl)
@@ -273,14 +288,14 @@ module _ (s : Schedule) (seat new_seat : SchedulerSeatOf) (h : AreInLanes s seat
   abbrev with_slot : Slot → Schedule
   with_slot slot = record s { slots = slice_set s.slots spot slot }
 
-  pub settled_stays : (slot : Slot) → StaysSettled (phases_of s) (phases_of (with_slot slot))
+  settled_stays : (slot : Slot) → StaysSettled (phases_of s) (phases_of (with_slot slot))
   settled_stays slot = set_settled s.slots spot Lent slot was_lent refl
 
   -- whatever was settled there, the others are counted
-  pub others_told : (slot : Slot) (a : Option Account) → AreCounted s a → AreOthersCounted (with_slot slot) done.job.no a
+  others_told : (slot : Slot) (a : Option Account) → AreCounted s a → AreOthersCounted (with_slot slot) done.job.no a
   others_told slot a h = others_counted s (with_slot slot) done.job.no (phase_in slot) a refl (set_phase s.slots spot slot) (ap is_settled (out_at s.slots spot Lent was_lent)) h
 
-  pub above : s.work.first ≤ done.job.no
+  above : s.work.first ≤ done.job.no
   above = let at : c.job.no ≡ s.work.first + (c.job.no - s.work.first) = out.lent.job_at.no in omega (arith, at, number)
 
   gone : slice_get new_seat.jobs lane ≡ Some None
@@ -312,7 +327,7 @@ module _ (s : Schedule) (seat new_seat : SchedulerSeatOf) (h : AreInLanes s seat
       was.0 (omega (arith, n, number))) in
       record { lane = has.lane; job = has.job; there = other_lane has.lane d ∙ has.there; numbered = has.numbered }
 
-  pub settled_lanes : (slot : Slot) → is_out (Some (phase_in slot)) ≡ false → AreInLanes (with_slot slot) new_seat
+  settled_lanes : (slot : Slot) → is_out (Some (phase_in slot)) ≡ false → AreInLanes (with_slot slot) new_seat
   settled_lanes slot home = record {
     each = λ k job there. let o = h.each k job (before k job there) in record {
       out = set_past s.slots spot (job.no - s.work.first) slot (other_spot k job there) ∙ o.out;
@@ -322,29 +337,24 @@ module _ (s : Schedule) (seat new_seat : SchedulerSeatOf) (h : AreInLanes s seat
     all = has_still slot home;
   }
 
+  pub settles : (slot : Slot) → is_out (Some (phase_in slot)) ≡ false → StaysInLanes s (with_slot slot) new_seat done.job.no
+  settles slot home = record {
+    lanes = settled_lanes slot home;
+    settled = settled_stays slot;
+    work = refl;
+    above = above;
+    told = others_told slot;
+  }
+
 -- settling what was collected
 pub settled_by : (s new : Schedule) (seat new_seat : SchedulerSeatOf) → AreInLanes s seat → (lane : ℕ) (done : DoneOf) → Collects seat lane done new_seat → (o : Option Outcome)
     → IfSome o (λ outcome. new ≡ record s { slots = slice_set s.slots (done.job.no - s.work.first) (Settled outcome) })
     → (o ≡ None → new ≡ record s { slots = slice_set s.slots (done.job.no - s.work.first) Idle })
-    → AreInLanes new new_seat × StaysSettled (phases_of s) (phases_of new)
+    → StaysInLanes s new new_seat done.job.no
 settled_by s new seat new_seat h lane done c None settled back =
-    subst (λ (t : Schedule). AreInLanes t new_seat × StaysSettled (phases_of s) (phases_of t)) (sym (back refl))
-    (settled_lanes s seat new_seat h lane done c Idle refl, settled_stays s seat new_seat h lane done c Idle)
+    subst (λ (t : Schedule). StaysInLanes s t new_seat done.job.no) (sym (back refl)) (settles s seat new_seat h lane done c Idle refl)
 settled_by s new seat new_seat h lane done c (Some outcome) settled back =
-    subst (λ (t : Schedule). AreInLanes t new_seat × StaysSettled (phases_of s) (phases_of t)) (sym settled)
-    (settled_lanes s seat new_seat h lane done c (Settled outcome) refl, settled_stays s seat new_seat h lane done c (Settled outcome))
-
--- and who is told has heard of the others
-pub settled_told : (s new : Schedule) (seat new_seat : SchedulerSeatOf) → AreInLanes s seat → (lane : ℕ) (done : DoneOf) → Collects seat lane done new_seat → (o : Option Outcome)
-    → IfSome o (λ outcome. new ≡ record s { slots = slice_set s.slots (done.job.no - s.work.first) (Settled outcome) })
-    → (o ≡ None → new ≡ record s { slots = slice_set s.slots (done.job.no - s.work.first) Idle })
-    → (a : Option Account) → AreCounted s a → (new.work.first ≤ done.job.no) × AreOthersCounted new done.job.no a
-settled_told s new seat new_seat h lane done c None settled back a told =
-    subst (λ (t : Schedule). (t.work.first ≤ done.job.no) × AreOthersCounted t done.job.no a) (sym (back refl))
-    (above s seat new_seat h lane done c, others_told s seat new_seat h lane done c Idle a told)
-settled_told s new seat new_seat h lane done c (Some outcome) settled back a told =
-    subst (λ (t : Schedule). (t.work.first ≤ done.job.no) × AreOthersCounted t done.job.no a) (sym settled)
-    (above s seat new_seat h lane done c, others_told s seat new_seat h lane done c (Settled outcome) a told)
+    subst (λ (t : Schedule). StaysInLanes s t new_seat done.job.no) (sym settled) (settles s seat new_seat h lane done c (Settled outcome) refl)
 
 -- where nothing was collected
 pub same_jobs : (s : Schedule) (seat new_seat : SchedulerSeatOf) → AreInLanes s seat → CollectsNothing seat new_seat → AreInLanes s new_seat

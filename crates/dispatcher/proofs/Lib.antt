@@ -10,3 +10,5 @@ pub mod EmptyLanes
 pub mod Sent
 pub mod Worked
 pub mod Straight
+pub mod Further
+pub mod Resting

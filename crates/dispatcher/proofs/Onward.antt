@@ -6,7 +6,11 @@ use Rattle.progress.specs.Tallies.{latest}
 use Rattle.progress.proofs.Pushed.{last_from, latest_append}
 use Rattle.progress.specs.Accounts.{Account}
 use Rattle.dispatcher.specs.Tallies.{counted, RiseByOne, GainsTallies}
-use Rattle.dispatcher.specs.Listeners.{Hears, HearsOn}
+use Rattle.scheduler.specs.Schedules.{Schedule, phases_of}
+use Rattle.dispatcher.specs.Runs.{StaysSettled}
+use Rattle.dispatcher.specs.Listeners.{Hears, HearsOn, AreCounted, settled_in}
+use Rattle.dispatcher.specs.Dispatched.{RunsOn}
+use Rattle.dispatcher.proofs.Told.{same_counted}
 
 rise_append : (t : Tally) (us vs : List Tally) → RiseByOne t us → RiseByOne (last_from t us) vs → RiseByOne t (us ++ vs)
 rise_append t [] vs one two = two
@@ -42,3 +46,18 @@ pub hears_one : (a b : Option Account) (r : Reply) → Hears a r b → HearsOn a
 hears_one None b r h = h
 hears_one (Some a) b r h =
     subst (λ (o : Option Account). HearsOn (Some a) o) (sym h) (refl, record { place = refl; list = goes_on_by_one a.published r })
+
+-- ---- runs that go on
+
+-- no more is settled
+pub runs_unheard : (s new : Schedule) (a : Option Account) → new.work ≡ s.work → StaysSettled (phases_of s) (phases_of new) → settled_in new ≡ settled_in s
+    → AreCounted s a → RunsOn s a new a
+runs_unheard s new a work settled none told = record { work = work; settled = settled; told = same_counted s new a work none told; onward = hears_nothing a }
+
+pub runs_twice : (s t u : Schedule) (a b c : Option Account) → RunsOn s a t b → RunsOn t b u c → RunsOn s a u c
+runs_twice s t u a b c one two = record {
+  work = two.work ∙ one.work;
+  settled = λ place is. two.settled place (one.settled place is);
+  told = two.told;
+  onward = hears_on a b c one.onward two.onward;
+}

@@ -24,7 +24,7 @@ split true x test none is = absurd (let e : true ≡ false = sym is ∙ none in 
 split false x test none is = (refl, is)
 
 -- a number that has a phase is not below the first
-phase_there : (first number : ℕ) (phases : List Phase) (test : Option Phase → Bool) → test None ≡ false → test (phase_of first phases number) ≡ true
+pub phase_there : (first number : ℕ) (phases : List Phase) (test : Option Phase → Bool) → test None ≡ false → test (phase_of first phases number) ≡ true
     → (nat_lt number first ≡ false) × (test (slice_get phases (number - first)) ≡ true)
 phase_there first number phases test none is = split (nat_lt number first) (slice_get phases (number - first)) test none is
 

@@ -1,19 +1,21 @@
 //! What the scheduler's thread does with the transactions that come next: it runs, admits and hands out.
 
-ghost use Rattle.std.specs.Prelude.{◌≡◌};
+ghost use Rattle.std.specs.Prelude.{◌≡◌, ◌<◌, true, false, None, IfOk};
+ghost use Rattle.scheduler_core.specs.declared.event.Event.{Event as AnyEvent};
 ghost use Rattle.scheduler.specs.Schedules.{phases_of};
+ghost use Rattle.scheduler.specs.Moments.{can_make, IsLeastLendAt};
 ghost use Rattle.lanes.specs.Seats.{SchedulerSeatOf, jobs_in};
 ghost use Rattle.dispatcher.specs.Runs.{StaysSettled};
-ghost use Rattle.dispatcher.specs.Dispatched.{AreInLanes};
-ghost use Rattle.dispatcher.specs.Listeners.{AreCounted, HearsOn, settled_in};
+ghost use Rattle.dispatcher.specs.Dispatched.{AreInLanes, AreStillInLanes, RunsOn, GetsFurther};
+ghost use Rattle.dispatcher.specs.Listeners.{AreCounted, settled_in};
 
 use crate::alone::run_next;
 use crate::brief::is_brief;
+use crate::dispatcher::Dispatcher;
 use crate::gate::Gate;
 use crate::listener::{Listener, tell};
-use crate::parking::Parking;
-use lanes::{Lanes, SchedulerSeat};
 use scheduler::{AdmitFault, Scheduler, lent_jobs_come_back, run_job};
+use std::sync::Wait;
 use values::NoMemory;
 
 /// Whether the next transaction is a brief call.
@@ -23,35 +25,15 @@ fn is_next_brief(scheduler: &Scheduler) -> bool {
         .is_some_and(|entry| is_brief(entry, scheduler.rows()))
 }
 
-/// Runs the next transaction here, where the gate is open, the call is brief, and it is ready as soon as it is
-/// admitted: whatever jobs are out have nothing to do with it. A job that still waits gets a worker before that, since
-/// this thread has something else to do. Whether it did so.
-pub(crate) fn run_brief<G: Gate, L: Listener>(
-    scheduler: &mut Scheduler,
-    listener: &mut L,
-    parking: &Parking,
-    gate: &G,
-) -> Result<bool, NoMemory>
-    requires told { AreCounted scheduler.old (L.account listener.old) }
-    ensures work { scheduler.new.work ≡ scheduler.old.work }
-    ensures lanes { (seat : SchedulerSeatOf) → AreInLanes scheduler.old seat → AreInLanes scheduler.new seat }
-    ensures settled { StaysSettled (phases_of scheduler.old) (phases_of scheduler.new) }
-    ensures told { AreCounted scheduler.new (L.account listener.new) }
-    ensures onward { HearsOn (L.account listener.old) (L.account listener.new) }
-{
-    if !gate.is_open() || !is_next_brief(scheduler) {
-        return Ok(false);
-    }
-    parking.wake_worker();
-    run_next(scheduler, listener)
-}
-
-/// Admits the next transaction. `false` where all are admitted, or there is no room for its requests.
+/// Admits the next transaction. `false` exactly where all are admitted, or there is no room for its requests.
 pub(crate) fn admit_next(scheduler: &mut Scheduler) -> Result<bool, NoMemory>
     ensures work { scheduler.new.work ≡ scheduler.old.work }
     ensures lanes { (seat : SchedulerSeatOf) → AreInLanes scheduler.old seat → AreInLanes scheduler.new seat }
     ensures settled { StaysSettled (phases_of scheduler.old) (phases_of scheduler.new) }
     ensures none_settled { settled_in scheduler.new ≡ settled_in scheduler.old }
+    ensures further { IfOk result (λ more. more ≡ true → GetsFurther scheduler.old scheduler.new) }
+    ensures none { IfOk result (λ more. more ≡ false →
+        (scheduler.new ≡ scheduler.old) × (can_make scheduler.new AnyEvent.Admit ≡ false)) }
 {
     match scheduler.admit() {
         Ok(_) => Ok(true),
@@ -60,55 +42,79 @@ pub(crate) fn admit_next(scheduler: &mut Scheduler) -> Result<bool, NoMemory>
     }
 }
 
-/// Lends its rows to the next ready transaction. Where the gate is open and the call is brief, it is run here and
-/// settled; else its job is put into a lane, and a worker is called for it where it is not the only one that is out.
-/// `false` where none is ready, or each of the `count` lanes has a job. An error says that an allocation failed.
-pub(crate) fn hand_out_next<G: Gate, L: Listener>(
-    scheduler: &mut Scheduler,
-    listener: &mut L,
-    lanes: &Lanes,
-    seat: &mut SchedulerSeat,
-    count: usize,
-    out: &mut usize,
-    parking: &Parking,
-    gate: &G,
-) -> Result<bool, NoMemory>
-    requires seat { seat.old.lanes ≡ lanes.now }
-    requires lanes { AreInLanes scheduler.old seat.old }
-    requires count { count ≡ lanes.now.count }
-    requires out { out.old ≡ jobs_in seat.old.jobs }
-    requires told { AreCounted scheduler.old (L.account listener.old) }
-    ensures seat { seat.new.lanes ≡ lanes.now }
-    ensures work { scheduler.new.work ≡ scheduler.old.work }
-    ensures lanes { AreInLanes scheduler.new seat.new }
-    ensures settled { StaysSettled (phases_of scheduler.old) (phases_of scheduler.new) }
-    ensures told { AreCounted scheduler.new (L.account listener.new) }
-    ensures onward { HearsOn (L.account listener.old) (L.account listener.new) }
-    ensures out { out.new ≡ jobs_in seat.new.jobs }
-{
-    // proof: what comes of a job that was lent can be settled.
-    lent_jobs_come_back();
-    if *out >= count {
-        return Ok(false);
-    }
-    let Some(job) = scheduler.lend()? else {
-        return Ok(false);
-    };
-    if gate.is_open() && is_brief(job.entry(), scheduler.rows()) {
-        let no = job.no();
-        let done = run_job(job);
-        let is_run = done.is_run();
-        scheduler.settle(done);
-        tell(scheduler, no, listener);
-        return if is_run { Ok(true) } else { Err(NoMemory) };
-    }
-    parking.expect_job();
-    match lanes.put(seat, job) {
-        Ok(_) => {
-            parking.wake_worker_beside(*out);
-            *out += 1;
-            Ok(true)
+impl<'s, R: Wait, G: Gate> Dispatcher<'s, R, G> {
+    /// Runs the next transaction here, where the gate is open, the call is brief, and it is ready as soon as it is
+    /// admitted: whatever jobs are out have nothing to do with it. A job that still waits gets a worker then, since
+    /// this thread has something else to do. Whether it did so; where it did not, nothing has changed.
+    pub(crate) fn run_brief<L: Listener>(
+        &self,
+        scheduler: &mut Scheduler,
+        listener: &mut L,
+    ) -> Result<bool, NoMemory>
+        requires lanes { AreInLanes scheduler.old self.now }
+        requires told { AreCounted scheduler.old (L.account listener.old) }
+        ensures runs { RunsOn scheduler.old (L.account listener.old) scheduler.new (L.account listener.new) }
+        ensures lanes { AreInLanes scheduler.new self.now }
+        ensures further { IfOk result (λ ran. ran ≡ true → GetsFurther scheduler.old scheduler.new) }
+        ensures none { IfOk result (λ ran. ran ≡ false → scheduler.new ≡ scheduler.old) }
+    {
+        if !self.gate.is_open() || !is_next_brief(scheduler) {
+            return Ok(false);
         }
-        Err(_) => unreachable!(),
+        let ran = run_next(scheduler, listener)?;
+        if ran {
+            let place = self.place;
+            place.parking.wake_worker();
+        }
+        Ok(ran)
+    }
+
+    /// Lends its rows to the next ready transaction. Where the gate is open and the call is brief, it is run here and
+    /// settled, and a job that waits gets a worker before that; else its job is put into a lane, and a worker is called
+    /// for it where it is not the only one that is out. `false` exactly where each lane has a job, or none is ready. An
+    /// error says that an allocation failed.
+    pub(crate) fn hand_out_next<L: Listener>(
+        &mut self,
+        scheduler: &mut Scheduler,
+        listener: &mut L,
+    ) -> Result<bool, NoMemory>
+        requires lanes { AreInLanes scheduler.old self.old }
+        requires told { AreCounted scheduler.old (L.account listener.old) }
+        ensures runs { RunsOn scheduler.old (L.account listener.old) scheduler.new (L.account listener.new) }
+        ensures lanes { AreStillInLanes scheduler.new self.old self.new }
+        ensures further { IfOk result (λ more. more ≡ true → GetsFurther scheduler.old scheduler.new) }
+        ensures none { IfOk result (λ more. more ≡ false → (scheduler.new ≡ scheduler.old) ×
+            (jobs_in self.new.jobs < self.new.lanes.count → IsLeastLendAt scheduler.new None)) }
+    {
+        // proof: what comes of a job that was lent can be settled.
+        lent_jobs_come_back();
+        let place = self.place;
+        if self.out >= place.count {
+            return Ok(false);
+        }
+        let Some(job) = scheduler.lend()? else {
+            return Ok(false);
+        };
+        self.waiting = self.waiting.saturating_sub(1);
+        if self.gate.is_open() && is_brief(job.entry(), scheduler.rows()) {
+            place.parking.wake_worker();
+            let no = job.no();
+            let done = run_job(job);
+            let is_run = done.is_run();
+            scheduler.settle(done);
+            tell(scheduler, no, listener);
+            return if is_run { Ok(true) } else { Err(NoMemory) };
+        }
+        place.parking.expect_job();
+        match place.lanes.put(&mut self.seat, job) {
+            Ok(_) => {
+                if self.out > 0 {
+                    place.parking.wake_worker();
+                }
+                self.out += 1;
+                Ok(true)
+            }
+            Err(_) => unreachable!(),
+        }
     }
 }

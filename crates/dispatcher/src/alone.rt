@@ -1,14 +1,14 @@
 //! Running the transactions of a batch on one thread, event by event.
 
-ghost use Rattle.std.specs.Prelude.{◌≡◌, ◌+◌, ◌*◌, ◌-◌, ◌<◌, ◌≤◌, ◌^◌, ℕ, true, false, length, slice_get, IfOk, OnOk, OnErr};
+ghost use Rattle.std.specs.Prelude.{◌≡◌, ◌+◌, ◌*◌, ◌-◌, ◌≤◌, ℕ, true, false, length, slice_get, IfOk, OnOk, OnErr};
 ghost use Rattle.scheduler_core.specs.Events.{step};
 ghost use Rattle.scheduler_core.specs.Phases.{is_done, progress, was_run};
 ghost use Rattle.scheduler.specs.Schedules.{log_of, phases_of, KeepsItsJobs};
 ghost use Rattle.scheduler.specs.Moments.{can_make};
 ghost use Rattle.lanes.specs.Seats.{SchedulerSeatOf};
 ghost use Rattle.dispatcher.specs.Runs.{AreNumberedFrom, NoneIsOut, StaysSettled};
-ghost use Rattle.dispatcher.specs.Dispatched.{AreInLanes};
-ghost use Rattle.dispatcher.specs.Listeners.{AreCounted, HearsOn, IsToldOf};
+ghost use Rattle.dispatcher.specs.Dispatched.{AreInLanes, RunsOn, GetsFurther};
+ghost use Rattle.dispatcher.specs.Listeners.{AreCounted, IsToldOf};
 
 use crate::listener::{Listener, tell};
 use scheduler::{Event, Scheduler, StepAnswer};
@@ -29,8 +29,7 @@ fn make<L: Listener>(
     ensures made { OnOk result (phases_of scheduler.new
         ≡ step scheduler.old.work.first (phases_of scheduler.old) event) }
     ensures err { OnErr result (phases_of scheduler.new ≡ phases_of scheduler.old) }
-    ensures told { AreCounted scheduler.new (L.account listener.new) }
-    ensures onward { HearsOn (L.account listener.old) (L.account listener.new) }
+    ensures told { IsToldOf scheduler.new (L.account listener.old) (L.account listener.new) }
 {
     match scheduler.step(event) {
         StepAnswer::Made => {}
@@ -54,13 +53,10 @@ fn go_on<L: Listener>(
     requires keeps { KeepsItsJobs scheduler.old }
     requires enabled { can_make scheduler.old event ≡ true }
     requires told { AreCounted scheduler.old (L.account listener.old) }
-    ensures work { scheduler.new.work ≡ scheduler.old.work }
+    ensures runs { RunsOn scheduler.old (L.account listener.old) scheduler.new (L.account listener.new) }
     ensures keeps { KeepsItsJobs scheduler.new }
     ensures further { OnOk result (progress (phases_of scheduler.new) ≡ progress (phases_of scheduler.old) + 1) }
     ensures most { progress (phases_of scheduler.new) ≤ 4 * length scheduler.new.work.entries }
-    ensures settled { StaysSettled (phases_of scheduler.old) (phases_of scheduler.new) }
-    ensures told { AreCounted scheduler.new (L.account listener.new) }
-    ensures onward { HearsOn (L.account listener.old) (L.account listener.new) }
 {
     // proof: an enabled event brings the state one step on.
     each_step_goes_on();
@@ -77,15 +73,11 @@ pub(crate) fn run_next<L: Listener>(
     listener: &mut L,
 ) -> Result<bool, NoMemory>
     requires told { AreCounted scheduler.old (L.account listener.old) }
-    ensures work { scheduler.new.work ≡ scheduler.old.work }
+    ensures runs { RunsOn scheduler.old (L.account listener.old) scheduler.new (L.account listener.new) }
     ensures keeps { KeepsItsJobs scheduler.old → KeepsItsJobs scheduler.new }
     ensures lanes { (seat : SchedulerSeatOf) → AreInLanes scheduler.old seat → AreInLanes scheduler.new seat }
-    ensures further { IfOk result (λ ran. ran ≡ true →
-        progress (phases_of scheduler.old) < progress (phases_of scheduler.new)) }
+    ensures further { IfOk result (λ ran. ran ≡ true → GetsFurther scheduler.old scheduler.new) }
     ensures same { IfOk result (λ ran. ran ≡ false → scheduler.new ≡ scheduler.old) }
-    ensures settled { StaysSettled (phases_of scheduler.old) (phases_of scheduler.new) }
-    ensures told { AreCounted scheduler.new (L.account listener.new) }
-    ensures onward { HearsOn (L.account listener.old) (L.account listener.new) }
 {
     let Some(no) = scheduler.run_next()? else {
         return Ok(false);
@@ -98,14 +90,10 @@ pub(crate) fn run_next<L: Listener>(
 fn run_between<L: Listener>(scheduler: &mut Scheduler, listener: &mut L) -> Result<bool, NoMemory>
     requires keeps { KeepsItsJobs scheduler.old }
     requires told { AreCounted scheduler.old (L.account listener.old) }
-    ensures work { scheduler.new.work ≡ scheduler.old.work }
+    ensures runs { RunsOn scheduler.old (L.account listener.old) scheduler.new (L.account listener.new) }
     ensures keeps { KeepsItsJobs scheduler.new }
-    ensures further { IfOk result (λ ran. ran ≡ true →
-        progress (phases_of scheduler.old) < progress (phases_of scheduler.new)) }
+    ensures further { IfOk result (λ ran. ran ≡ true → GetsFurther scheduler.old scheduler.new) }
     ensures same { IfOk result (λ ran. ran ≡ false → scheduler.new ≡ scheduler.old) }
-    ensures settled { StaysSettled (phases_of scheduler.old) (phases_of scheduler.new) }
-    ensures told { AreCounted scheduler.new (L.account listener.new) }
-    ensures onward { HearsOn (L.account listener.old) (L.account listener.new) }
 {
     match scheduler.next_event() {
         Some(Event::Admit) => run_next(scheduler, listener),
@@ -118,17 +106,13 @@ fn run_between<L: Listener>(scheduler: &mut Scheduler, listener: &mut L) -> Resu
 fn step_on<L: Listener>(scheduler: &mut Scheduler, listener: &mut L) -> Result<bool, NoMemory>
     requires keeps { KeepsItsJobs scheduler.old }
     requires told { AreCounted scheduler.old (L.account listener.old) }
-    ensures work { scheduler.new.work ≡ scheduler.old.work }
+    ensures runs { RunsOn scheduler.old (L.account listener.old) scheduler.new (L.account listener.new) }
     ensures keeps { KeepsItsJobs scheduler.new }
-    ensures further { IfOk result (λ more. more ≡ true →
-        progress (phases_of scheduler.old) < progress (phases_of scheduler.new)) }
+    ensures further { IfOk result (λ more. more ≡ true → GetsFurther scheduler.old scheduler.new) }
     ensures most { IfOk result (λ more. more ≡ true →
         progress (phases_of scheduler.new) ≤ 4 * length scheduler.new.work.entries) }
     ensures done { IfOk result (λ more. more ≡ false →
         is_done (log_of scheduler.new.work) (phases_of scheduler.new) ≡ true) }
-    ensures settled { StaysSettled (phases_of scheduler.old) (phases_of scheduler.new) }
-    ensures told { AreCounted scheduler.new (L.account listener.new) }
-    ensures onward { HearsOn (L.account listener.old) (L.account listener.new) }
 {
     // proof: an enabled event brings the state one step on.
     each_step_goes_on();
@@ -151,11 +135,8 @@ fn make_chosen<L: Listener>(
 ) -> Result<(), NoMemory>
     requires keeps { KeepsItsJobs scheduler.old }
     requires told { AreCounted scheduler.old (L.account listener.old) }
-    ensures work { scheduler.new.work ≡ scheduler.old.work }
+    ensures runs { RunsOn scheduler.old (L.account listener.old) scheduler.new (L.account listener.new) }
     ensures keeps { KeepsItsJobs scheduler.new }
-    ensures settled { StaysSettled (phases_of scheduler.old) (phases_of scheduler.new) }
-    ensures told { AreCounted scheduler.new (L.account listener.new) }
-    ensures onward { HearsOn (L.account listener.old) (L.account listener.new) }
 {
     for choice in choices {
         let Some(event) = scheduler.choose(*choice)? else {
@@ -166,24 +147,6 @@ fn make_chosen<L: Listener>(
     Ok(())
 }
 
-/// Goes on until all is done or allocation fails.
-fn make_rest<L: Listener>(scheduler: &mut Scheduler, listener: &mut L) -> Result<(), NoMemory>
-    requires keeps { KeepsItsJobs scheduler.old }
-    requires told { AreCounted scheduler.old (L.account listener.old) }
-    ensures work { scheduler.new.work ≡ scheduler.old.work }
-    ensures keeps { KeepsItsJobs scheduler.new }
-    ensures settled { StaysSettled (phases_of scheduler.old) (phases_of scheduler.new) }
-    ensures told { AreCounted scheduler.new (L.account listener.new) }
-    ensures onward { HearsOn (L.account listener.old) (L.account listener.new) }
-    ensures done { OnOk result (is_done (log_of scheduler.new.work) (phases_of scheduler.new) ≡ true) }
-{
-    'steps: loop {
-        if !step_on(scheduler, listener)? {
-            return Ok(());
-        }
-    }
-}
-
 /// Makes the events of the choices, and goes on after the last, until all is done or allocation fails.
 fn make_all<L: Listener>(
     scheduler: &mut Scheduler,
@@ -192,15 +155,16 @@ fn make_all<L: Listener>(
 ) -> Result<(), NoMemory>
     requires keeps { KeepsItsJobs scheduler.old }
     requires told { AreCounted scheduler.old (L.account listener.old) }
-    ensures work { scheduler.new.work ≡ scheduler.old.work }
+    ensures runs { RunsOn scheduler.old (L.account listener.old) scheduler.new (L.account listener.new) }
     ensures keeps { KeepsItsJobs scheduler.new }
-    ensures settled { StaysSettled (phases_of scheduler.old) (phases_of scheduler.new) }
-    ensures told { AreCounted scheduler.new (L.account listener.new) }
-    ensures onward { HearsOn (L.account listener.old) (L.account listener.new) }
     ensures done { OnOk result (is_done (log_of scheduler.new.work) (phases_of scheduler.new) ≡ true) }
 {
     make_chosen(scheduler, listener, choices)?;
-    make_rest(scheduler, listener)
+    'steps: loop {
+        if !step_on(scheduler, listener)? {
+            return Ok(());
+        }
+    }
 }
 
 /// Settles the transaction of a number, if it was run, and tells the listener.
@@ -208,14 +172,11 @@ fn settle_run<L: Listener>(scheduler: &mut Scheduler, listener: &mut L, no: u64)
     requires keeps { KeepsItsJobs scheduler.old }
     requires told { AreCounted scheduler.old (L.account listener.old) }
     requires number { scheduler.old.work.first ≤ no }
-    ensures work { scheduler.new.work ≡ scheduler.old.work }
+    ensures runs { RunsOn scheduler.old (L.account listener.old) scheduler.new (L.account listener.new) }
     ensures keeps { KeepsItsJobs scheduler.new }
-    ensures settled { StaysSettled (phases_of scheduler.old) (phases_of scheduler.new) }
     ensures this { was_run (slice_get (phases_of scheduler.new) (no - scheduler.new.work.first)) ≡ false }
     ensures others { (place : ℕ) → was_run (slice_get (phases_of scheduler.old) place) ≡ false →
         was_run (slice_get (phases_of scheduler.new) place) ≡ false }
-    ensures told { AreCounted scheduler.new (L.account listener.new) }
-    ensures onward { HearsOn (L.account listener.old) (L.account listener.new) }
 {
     match scheduler.step(Event::Settle(no)) {
         StepAnswer::Made => tell(scheduler, no, listener),
@@ -229,12 +190,9 @@ fn settle_runs<L: Listener>(scheduler: &mut Scheduler, listener: &mut L, first: 
     requires keeps { KeepsItsJobs scheduler.old }
     requires numbered { AreNumberedFrom first count scheduler.old }
     requires told { AreCounted scheduler.old (L.account listener.old) }
-    ensures work { scheduler.new.work ≡ scheduler.old.work }
+    ensures runs { RunsOn scheduler.old (L.account listener.old) scheduler.new (L.account listener.new) }
     ensures keeps { KeepsItsJobs scheduler.new }
-    ensures settled { StaysSettled (phases_of scheduler.old) (phases_of scheduler.new) }
     ensures none_out { NoneIsOut (phases_of scheduler.new) }
-    ensures told { AreCounted scheduler.new (L.account listener.new) }
-    ensures onward { HearsOn (L.account listener.old) (L.account listener.new) }
 {
     for place in 0..count {
         settle_run(scheduler, listener, first + place as u64);

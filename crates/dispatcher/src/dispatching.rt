@@ -1,312 +1,186 @@
-//! What the scheduler's thread does beside its workers.
+//! What the scheduler's thread does beside its workers: it takes in what they deliver, and goes on step by step.
 
-ghost use Rattle.std.specs.Prelude.{◌≡◌, true, OnOk};
+ghost use Rattle.std.specs.Prelude.{◌≡◌, ◌≤◌, true, false, IfOk, OnOk};
 ghost use Rattle.scheduler_core.specs.Phases.{is_done};
 ghost use Rattle.scheduler.specs.Schedules.{log_of, phases_of};
 ghost use Rattle.lanes.specs.Seats.{jobs_in};
-ghost use Rattle.dispatcher.specs.Runs.{NoneIsOut, StaysSettled};
-ghost use Rattle.dispatcher.specs.Dispatched.{AreInLanes};
-ghost use Rattle.dispatcher.specs.Listeners.{AreCounted, HearsOn};
-ghost use Rattle.dispatcher.specs.Workers.{HoldsNoJob};
+ghost use Rattle.dispatcher.specs.Runs.{NoneIsOut};
+ghost use Rattle.dispatcher.specs.Dispatched.{AreInLanes, AreStillInLanes, RunsOn, GetsFurther, MustWait};
+ghost use Rattle.dispatcher.specs.Listeners.{AreCounted};
 
-use crate::advancing::{admit_next, hand_out_next, run_brief};
+use crate::advancing::admit_next;
+use crate::dispatcher::Dispatcher;
 use crate::gate::Gate;
 use crate::listener::{Listener, tell};
-use crate::parking::{Idling, Parking};
+use crate::parking::Idling;
 use crate::worker::run_one;
-use lanes::{Lanes, SchedulerSeat, WorkerSeat};
 use scheduler::Scheduler;
 use std::sync::Wait;
 use values::NoMemory;
 
-/// How many transactions at most are admitted and neither out nor settled: workers find jobs among them that don't wait
-/// for one another, and their requests stay in the cache.
-const AHEAD: usize = 256;
-
-/// Settles what a worker delivered, if anything was found, and tells the listener; `false` where nothing was. An error
-/// says that a job came back without a run, since an allocation failed.
-fn take_in<L: Listener>(
-    scheduler: &mut Scheduler,
-    listener: &mut L,
-    lanes: &Lanes,
-    seat: &mut SchedulerSeat,
-    out: &mut usize,
-    parking: &Parking,
-) -> Result<bool, NoMemory>
-    requires seat { seat.old.lanes ≡ lanes.now }
-    requires lanes { AreInLanes scheduler.old seat.old }
-    requires out { out.old ≡ jobs_in seat.old.jobs }
-    requires told { AreCounted scheduler.old (L.account listener.old) }
-    ensures seat { seat.new.lanes ≡ lanes.now }
-    ensures work { scheduler.new.work ≡ scheduler.old.work }
-    ensures lanes { AreInLanes scheduler.new seat.new }
-    ensures settled { StaysSettled (phases_of scheduler.old) (phases_of scheduler.new) }
-    ensures told { AreCounted scheduler.new (L.account listener.new) }
-    ensures onward { HearsOn (L.account listener.old) (L.account listener.new) }
-    ensures out { out.new ≡ jobs_in seat.new.jobs }
-{
-    if !parking.has_results() {
-        return Ok(false);
-    }
-    let Some((_, done)) = lanes.collect(seat) else {
-        return Ok(false);
-    };
-    parking.take_result();
-    let is_run = done.is_run();
-    let no = done.no();
-    scheduler.settle(done);
-    *out -= 1;
-    tell(scheduler, no, listener);
-    if is_run { Ok(true) } else { Err(NoMemory) }
-}
-
-/// Runs a job that waits, where it is the only one out; `false` where none was run.
-fn run_only_job<G: Gate>(
-    lanes: &Lanes,
-    own: &mut WorkerSeat,
-    out: usize,
-    parking: &Parking,
-    gate: &G,
-) -> bool
-    requires own { own.old.lanes ≡ lanes.now }
-    requires free { HoldsNoJob own.old }
-    ensures own { own.new.lanes ≡ lanes.now }
-    ensures free { HoldsNoJob own.new }
-{
-    out == 1 && run_one(lanes, own, parking, gate)
-}
-
-/// Settles what is delivered next, until nothing more is found, and tells the listener. Where one job alone is out and
-/// waits, no worker could do anything beside it, so it is run here. Else this parks until something is delivered. An
-/// error says that a job came back without a run, since an allocation failed.
-fn take_in_next<R: Wait, G: Gate, L: Listener>(
-    rt: &R,
-    scheduler: &mut Scheduler,
-    listener: &mut L,
-    lanes: &Lanes,
-    seat: &mut SchedulerSeat,
-    own: &mut WorkerSeat,
-    out: &mut usize,
-    parking: &Parking,
-    gate: &G,
-) -> Result<(), NoMemory>
-    requires seat { seat.old.lanes ≡ lanes.now }
-    requires own { own.old.lanes ≡ lanes.now }
-    requires free { HoldsNoJob own.old }
-    requires lanes { AreInLanes scheduler.old seat.old }
-    requires out { out.old ≡ jobs_in seat.old.jobs }
-    requires told { AreCounted scheduler.old (L.account listener.old) }
-    ensures seat { seat.new.lanes ≡ lanes.now }
-    ensures own { own.new.lanes ≡ lanes.now }
-    ensures free { HoldsNoJob own.new }
-    ensures work { scheduler.new.work ≡ scheduler.old.work }
-    ensures lanes { AreInLanes scheduler.new seat.new }
-    ensures settled { StaysSettled (phases_of scheduler.old) (phases_of scheduler.new) }
-    ensures told { AreCounted scheduler.new (L.account listener.new) }
-    ensures onward { HearsOn (L.account listener.old) (L.account listener.new) }
-    ensures out { out.new ≡ jobs_in seat.new.jobs }
-{
-    let mut idling = Idling::Busy;
-    let mut is_found = false;
-    for _ in rt.forever() {
-        if take_in(scheduler, listener, lanes, seat, out, parking)? {
-            parking.end_idling(idling);
-            idling = Idling::Busy;
-            is_found = true;
-        } else if is_found {
-            break;
-        } else if run_only_job(lanes, own, *out, parking, gate) {
-            parking.end_idling(idling);
-            idling = Idling::Busy;
-        } else {
-            idling = parking.idle_scheduler(rt, idling);
+impl<'s, R: Wait, G: Gate> Dispatcher<'s, R, G> {
+    /// Settles what a worker delivered, if anything was found, and tells the listener; `false` where nothing was. An
+    /// error says that a job came back without a run, since an allocation failed.
+    fn take_in<L: Listener>(
+        &mut self,
+        scheduler: &mut Scheduler,
+        listener: &mut L,
+    ) -> Result<bool, NoMemory>
+        requires lanes { AreInLanes scheduler.old self.old }
+        requires told { AreCounted scheduler.old (L.account listener.old) }
+        ensures runs { RunsOn scheduler.old (L.account listener.old) scheduler.new (L.account listener.new) }
+        ensures lanes { AreStillInLanes scheduler.new self.old self.new }
+        ensures further { IfOk result (λ more. more ≡ true → GetsFurther scheduler.old scheduler.new) }
+        ensures none { IfOk result (λ more. more ≡ false → scheduler.new ≡ scheduler.old) }
+    {
+        let place = self.place;
+        if !place.parking.has_results() {
+            return Ok(false);
         }
+        let Some((_, done)) = place.lanes.collect(&mut self.seat) else {
+            return Ok(false);
+        };
+        self.out -= 1;
+        place.parking.take_result();
+        let is_run = done.is_run();
+        let no = done.no();
+        scheduler.settle(done);
+        tell(scheduler, no, listener);
+        if is_run { Ok(true) } else { Err(NoMemory) }
     }
-    Ok(())
-}
 
-/// Does what can be done without waiting: settles what was delivered, hands out a job that is ready, runs a brief call,
-/// or, while workers may want more jobs, admits one more transaction. `waiting` says how many are admitted and neither
-/// out nor settled. `false` where there was nothing to do.
-fn step<G: Gate, L: Listener>(
-    scheduler: &mut Scheduler,
-    listener: &mut L,
-    lanes: &Lanes,
-    seat: &mut SchedulerSeat,
-    count: usize,
-    out: &mut usize,
-    waiting: &mut usize,
-    parking: &Parking,
-    gate: &G,
-) -> Result<bool, NoMemory>
-    requires seat { seat.old.lanes ≡ lanes.now }
-    requires lanes { AreInLanes scheduler.old seat.old }
-    requires count { count ≡ lanes.now.count }
-    requires out { out.old ≡ jobs_in seat.old.jobs }
-    requires told { AreCounted scheduler.old (L.account listener.old) }
-    ensures seat { seat.new.lanes ≡ lanes.now }
-    ensures work { scheduler.new.work ≡ scheduler.old.work }
-    ensures lanes { AreInLanes scheduler.new seat.new }
-    ensures settled { StaysSettled (phases_of scheduler.old) (phases_of scheduler.new) }
-    ensures told { AreCounted scheduler.new (L.account listener.new) }
-    ensures onward { HearsOn (L.account listener.old) (L.account listener.new) }
-    ensures out { out.new ≡ jobs_in seat.new.jobs }
-{
-    if take_in(scheduler, listener, lanes, seat, out, parking)? {
-        return Ok(true);
-    }
-    if hand_out_next(scheduler, listener, lanes, seat, count, out, parking, gate)? {
-        *waiting = waiting.saturating_sub(1);
-        return Ok(true);
-    }
-    if run_brief(scheduler, listener, parking, gate)? {
-        return Ok(true);
-    }
-    if *out >= count || *waiting >= AHEAD {
-        return Ok(false);
-    }
-    if !admit_next(scheduler)? {
-        return Ok(false);
-    }
-    *waiting += 1;
-    Ok(true)
-}
-
-/// Goes on step by step, and waits for the workers where there is nothing to do, until all is done or allocation fails.
-fn dispatch<R: Wait, G: Gate, L: Listener>(
-    rt: &R,
-    scheduler: &mut Scheduler,
-    listener: &mut L,
-    lanes: &Lanes,
-    seat: &mut SchedulerSeat,
-    own: &mut WorkerSeat,
-    count: usize,
-    out: &mut usize,
-    parking: &Parking,
-    gate: &G,
-) -> Result<(), NoMemory>
-    requires seat { seat.old.lanes ≡ lanes.now }
-    requires own { own.old.lanes ≡ lanes.now }
-    requires free { HoldsNoJob own.old }
-    requires lanes { AreInLanes scheduler.old seat.old }
-    requires count { count ≡ lanes.now.count }
-    requires out { out.old ≡ jobs_in seat.old.jobs }
-    requires told { AreCounted scheduler.old (L.account listener.old) }
-    ensures seat { seat.new.lanes ≡ lanes.now }
-    ensures own { own.new.lanes ≡ lanes.now }
-    ensures free { HoldsNoJob own.new }
-    ensures work { scheduler.new.work ≡ scheduler.old.work }
-    ensures lanes { AreInLanes scheduler.new seat.new }
-    ensures settled { StaysSettled (phases_of scheduler.old) (phases_of scheduler.new) }
-    ensures told { AreCounted scheduler.new (L.account listener.new) }
-    ensures onward { HearsOn (L.account listener.old) (L.account listener.new) }
-    ensures out { out.new ≡ jobs_in seat.new.jobs }
-    ensures done { OnOk result (is_done (log_of scheduler.new.work) (phases_of scheduler.new) ≡ true) }
-{
-    let mut waiting = 0;
-    for _ in rt.forever() {
-        if scheduler.is_done() {
-            break;
+    /// Runs a job that waits, where it is the only one out; `false` where none was run.
+    fn run_only_job(&mut self) -> bool
+        ensures { self.new ≡ self.old }
+    {
+        if self.out != 1 {
+            return false;
         }
-        if !step(
-            scheduler,
-            listener,
-            lanes,
-            seat,
-            count,
-            out,
-            &mut waiting,
-            parking,
-            gate,
-        )? {
-            take_in_next(
-                rt, scheduler, listener, lanes, seat, own, out, parking, gate,
-            )?;
-        }
+        let place = self.place;
+        run_one(&place.lanes, &mut self.own, &place.parking, self.gate)
     }
-    Ok(())
-}
 
-/// Takes in what comes of the jobs that are out, until none is.
-#[tactic(auto, using(crate::proofs::EmptyLanes::empty_rests))]
-fn take_in_all<R: Wait, G: Gate, L: Listener>(
-    rt: &R,
-    scheduler: &mut Scheduler,
-    listener: &mut L,
-    lanes: &Lanes,
-    seat: &mut SchedulerSeat,
-    own: &mut WorkerSeat,
-    out: &mut usize,
-    parking: &Parking,
-    gate: &G,
-)
-    requires seat { seat.old.lanes ≡ lanes.now }
-    requires own { own.old.lanes ≡ lanes.now }
-    requires free { HoldsNoJob own.old }
-    requires lanes { AreInLanes scheduler.old seat.old }
-    requires out { out.old ≡ jobs_in seat.old.jobs }
-    requires told { AreCounted scheduler.old (L.account listener.old) }
-    ensures seat { seat.new.lanes ≡ lanes.now }
-    ensures own { own.new.lanes ≡ lanes.now }
-    ensures free { HoldsNoJob own.new }
-    ensures empty { jobs_in seat.new.jobs ≡ 0 }
-    ensures work { scheduler.new.work ≡ scheduler.old.work }
-    ensures settled { StaysSettled (phases_of scheduler.old) (phases_of scheduler.new) }
-    ensures told { AreCounted scheduler.new (L.account listener.new) }
-    ensures onward { HearsOn (L.account listener.old) (L.account listener.new) }
-    ensures none_out { NoneIsOut (phases_of scheduler.new) }
-{
-    for _ in rt.forever() {
-        if *out == 0 {
-            break;
+    /// Takes in what comes of jobs, until so many at most are out and nothing more is found. Where one job alone is out
+    /// and waits, no worker could do anything beside it, so it is run here. Else this parks until something is
+    /// delivered. An error says that a job came back without a run, since an allocation failed.
+    fn take_in_until<L: Listener>(
+        &mut self,
+        scheduler: &mut Scheduler,
+        listener: &mut L,
+        most: usize,
+    ) -> Result<(), NoMemory>
+        requires lanes { AreInLanes scheduler.old self.old }
+        requires told { AreCounted scheduler.old (L.account listener.old) }
+        ensures runs { RunsOn scheduler.old (L.account listener.old) scheduler.new (L.account listener.new) }
+        ensures lanes { AreStillInLanes scheduler.new self.old self.new }
+        ensures few { OnOk result (jobs_in self.new.jobs ≤ most) }
+    {
+        let (rt, place) = (self.rt, self.place);
+        let parking = &place.parking;
+        let mut idling = Idling::Busy;
+        for _ in rt.forever() {
+            if self.take_in(scheduler, listener)? {
+                parking.end_idling(idling);
+                idling = Idling::Busy;
+            } else if self.jobs_out() <= most {
+                return Ok(());
+            } else if self.run_only_job() {
+                parking.end_idling(idling);
+                idling = Idling::Busy;
+            } else {
+                idling = parking.idle_scheduler(rt, idling);
+            }
         }
-        let _ = take_in_next(
-            rt, scheduler, listener, lanes, seat, own, out, parking, gate,
-        );
+        unreachable!()
     }
-}
 
-/// Dispatches the transactions that are left to the workers, and settles them as they come back. If allocation fails,
-/// no more are dispatched, and those that are out are taken in first. Each job that the seat has put is collected,
-/// before and after. The listener hears of each transaction as it is settled.
-pub(crate) fn schedule<R: Wait, G: Gate, L: Listener>(
-    rt: &R,
-    scheduler: &mut Scheduler,
-    listener: &mut L,
-    lanes: &Lanes,
-    seat: &mut SchedulerSeat,
-    own: &mut WorkerSeat,
-    count: usize,
-    parking: &Parking,
-    gate: &G,
-) -> Result<(), NoMemory>
-    requires seat { seat.old.lanes ≡ lanes.now }
-    requires own { own.old.lanes ≡ lanes.now }
-    requires free { HoldsNoJob own.old }
-    requires count { count ≡ lanes.now.count }
-    requires empty { jobs_in seat.old.jobs ≡ 0 }
-    requires none_out { NoneIsOut (phases_of scheduler.old) }
-    requires told { AreCounted scheduler.old (L.account listener.old) }
-    ensures seat { seat.new.lanes ≡ lanes.now }
-    ensures own { own.new.lanes ≡ lanes.now }
-    ensures free { HoldsNoJob own.new }
-    ensures empty { jobs_in seat.new.jobs ≡ 0 }
-    ensures work { scheduler.new.work ≡ scheduler.old.work }
-    ensures settled { StaysSettled (phases_of scheduler.old) (phases_of scheduler.new) }
-    ensures told { AreCounted scheduler.new (L.account listener.new) }
-    ensures onward { HearsOn (L.account listener.old) (L.account listener.new) }
-    ensures none_out { NoneIsOut (phases_of scheduler.new) }
-    ensures done { OnOk result (is_done (log_of scheduler.new.work) (phases_of scheduler.new) ≡ true) }
-{
-    let mut out = 0;
-    let ended = dispatch(
-        rt, scheduler, listener, lanes, seat, own, count, &mut out, parking, gate,
-    );
-    if ended.is_err() {
-        parking.wake_worker();
-        take_in_all(
-            rt, scheduler, listener, lanes, seat, own, &mut out, parking, gate,
-        );
+    /// Does what can be done without waiting: settles what was delivered, hands out a job that is ready, runs a brief
+    /// call, or, while workers may want more jobs, admits one more transaction. `false` where there was nothing to do.
+    fn step<L: Listener>(
+        &mut self,
+        scheduler: &mut Scheduler,
+        listener: &mut L,
+    ) -> Result<bool, NoMemory>
+        requires lanes { AreInLanes scheduler.old self.old }
+        requires told { AreCounted scheduler.old (L.account listener.old) }
+        ensures runs { RunsOn scheduler.old (L.account listener.old) scheduler.new (L.account listener.new) }
+        ensures lanes { AreStillInLanes scheduler.new self.old self.new }
+        ensures further { IfOk result (λ more. more ≡ true → GetsFurther scheduler.old scheduler.new) }
+        ensures rest { IfOk result (λ more. more ≡ false → MustWait scheduler.new self.new) }
+    {
+        if self.take_in(scheduler, listener)? {
+            return Ok(true);
+        }
+        if self.hand_out_next(scheduler, listener)? {
+            return Ok(true);
+        }
+        if self.run_brief(scheduler, listener)? {
+            return Ok(true);
+        }
+        if self.has_enough() || !admit_next(scheduler)? {
+            return Ok(false);
+        }
+        self.waiting = self.waiting.saturating_add(1);
+        Ok(true)
     }
-    ended
+
+    /// Goes on step by step, and waits for the workers where there is nothing to do and a job is out, until all is done
+    /// or allocation fails.
+    fn dispatch<L: Listener>(
+        &mut self,
+        scheduler: &mut Scheduler,
+        listener: &mut L,
+    ) -> Result<(), NoMemory>
+        requires lanes { AreInLanes scheduler.old self.old }
+        requires told { AreCounted scheduler.old (L.account listener.old) }
+        ensures runs { RunsOn scheduler.old (L.account listener.old) scheduler.new (L.account listener.new) }
+        ensures lanes { AreStillInLanes scheduler.new self.old self.new }
+        ensures done { OnOk result (is_done (log_of scheduler.new.work) (phases_of scheduler.new) ≡ true) }
+    {
+        let rt = self.rt;
+        for _ in rt.forever() {
+            if !self.step(scheduler, listener)? {
+                let out = self.jobs_out();
+                if out == 0 {
+                    // proof: with no job out there is something to do, unless all is done.
+                    let _none = scheduler.next_event();
+                    return Ok(());
+                }
+                self.take_in_until(scheduler, listener, out - 1)?;
+            }
+        }
+        unreachable!()
+    }
+
+    /// Dispatches the transactions that are left to the workers, and settles them as they come back. If allocation
+    /// fails, no more are dispatched, and those that are out are taken in first. Each job that the seat has put is
+    /// collected, before and after. The listener hears of each transaction as it is settled.
+    pub(crate) fn run<L: Listener>(
+        &mut self,
+        scheduler: &mut Scheduler,
+        listener: &mut L,
+    ) -> Result<(), NoMemory>
+        requires empty { jobs_in self.old.jobs ≡ 0 }
+        requires none_out { NoneIsOut (phases_of scheduler.old) }
+        requires told { AreCounted scheduler.old (L.account listener.old) }
+        ensures runs { RunsOn scheduler.old (L.account listener.old) scheduler.new (L.account listener.new) }
+        ensures lanes { self.new.lanes ≡ self.old.lanes }
+        ensures empty { jobs_in self.new.jobs ≡ 0 }
+        ensures none_out { NoneIsOut (phases_of scheduler.new) }
+        ensures done { OnOk result (is_done (log_of scheduler.new.work) (phases_of scheduler.new) ≡ true) }
+    {
+        self.waiting = 0;
+        let ended = self.dispatch(scheduler, listener);
+        if ended.is_ok() {
+            return ended;
+        }
+        let (rt, place) = (self.rt, self.place);
+        place.parking.wake_worker();
+        for _ in rt.forever() {
+            if self.take_in_until(scheduler, listener, 0).is_ok() {
+                return ended;
+            }
+        }
+        unreachable!()
+    }
 }

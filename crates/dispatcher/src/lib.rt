@@ -5,6 +5,7 @@
 mod advancing;
 mod alone;
 mod brief;
+mod dispatcher;
 mod dispatching;
 mod gate;
 mod laws;

@@ -134,13 +134,6 @@ impl Parking {
         }
     }
 
-    /// Wakes a worker as `wake_worker` does, where other jobs are out beside the one that was put.
-    pub(crate) fn wake_worker_beside(&self, others: usize) {
-        if others > 0 {
-            self.wake_worker();
-        }
-    }
-
     /// Takes a worker that has found no job a step nearer to being parked, or parks it until it is woken. It announces
     /// that it will park before it is no longer counted among those that look, and looks once more after that.
     pub(crate) fn idle_worker<R: Wait>(&self, rt: &R, spot: &Spot, idling: Idling) -> Idling {

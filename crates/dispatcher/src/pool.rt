@@ -6,15 +6,12 @@ ghost use Rattle.scheduler.specs.Schedules.{log_of, phases_of};
 ghost use Rattle.lanes.specs.Seats.{jobs_in};
 ghost use Rattle.dispatcher.specs.Runs.{NoneIsOut, StaysSettled};
 ghost use Rattle.dispatcher.specs.Listeners.{AreCounted, IsToldOf};
-ghost use Rattle.dispatcher.specs.Workers.{HoldsNoJob};
 
-use crate::dispatching::schedule;
+use crate::dispatcher::Dispatcher;
 use crate::gate::Gate;
 use crate::listener::Listener;
 use crate::refusal::Refusal;
-use crate::worker::{Worker, start};
 use crate::workplace::{HeadSeat, Workplace};
-use lanes::{SchedulerSeat, WorkerSeat};
 use scheduler::Scheduler;
 use std::sync::Wait;
 use std::thread::Scope;
@@ -22,37 +19,25 @@ use std::thread::Scope;
 /// Worker threads of a scope at a workplace. They are started as batches need them, work at one batch after another,
 /// park in between, and end when the pool goes: the scope doesn't end before.
 pub struct WorkerPool<'s, E, R, G> {
-    rt: &'s R,
     scope: &'s Scope<'s, E>,
-    gate: &'s G,
-    place: &'s Workplace,
-    seat: SchedulerSeat,
-    own: WorkerSeat,
+    dispatcher: Dispatcher<'s, R, G>,
     /// How many workers were started.
     started: usize,
-    ghost seated: { seat.lanes ≡ place.now },
-    ghost empty: { jobs_in seat.jobs ≡ 0 },
-    ghost at_hand: { own.lanes ≡ place.now },
-    ghost free: { HoldsNoJob own },
+    ghost empty: { jobs_in dispatcher.jobs ≡ 0 },
 }
 
 impl<'s, E, R, G> Drop for WorkerPool<'s, E, R, G> {
     fn drop(self) {
         let Self {
-            rt: _,
             scope: _,
-            gate: _,
-            place,
-            seat: _,
-            own: _,
+            dispatcher: _,
             started: _,
         } = self;
-        place.parking.end();
     }
 }
 
 impl<'s, E, R: Wait + Sync, G: Gate> WorkerPool<'s, E, R, G> {
-    /// A pool without a worker. Who runs a job passes this gate, once for each job that it claimed, before it runs it.
+    /// A pool without a worker. Who claims a job passes this gate, once for it, before it runs it.
     pub fn new(
         rt: &'s R,
         scope: &'s Scope<'s, E>,
@@ -63,13 +48,20 @@ impl<'s, E, R: Wait + Sync, G: Gate> WorkerPool<'s, E, R, G> {
         requires { head ≡ place.now }
     {
         let HeadSeat { seat, own } = head;
-        WorkerPool {
+        // proof: there is a lane.
+        let _count = place.count;
+        let dispatcher = Dispatcher {
             rt,
-            scope,
             gate,
             place,
             seat,
             own,
+            out: 0,
+            waiting: 0,
+        };
+        WorkerPool {
+            scope,
+            dispatcher,
             started: 0,
         }
     }
@@ -77,27 +69,16 @@ impl<'s, E, R: Wait + Sync, G: Gate> WorkerPool<'s, E, R, G> {
     /// The runtime on which its workers were started.
     #[inline]
     pub fn runtime(&self) -> &'s R {
-        self.rt
+        let dispatcher = &self.dispatcher;
+        dispatcher.rt
     }
 
     /// Sees to it that the wanted number of workers is started, or as many as the workplace has room for. Where one is
     /// refused, those before it are at work.
-    #[tactic(auto, using(crate::proofs::Worked::none_at_first))]
     fn start_workers(&mut self, wanted: usize) -> Result<(), Refusal> {
-        let place = self.place;
         'workers: while self.started < wanted {
-            let Some(spot) = place.parking.workers.get(self.started) else {
+            if !self.dispatcher.start_worker(self.scope, self.started)? {
                 return Ok(());
-            };
-            let seat = place.lanes.worker_seat(&mut self.seat)?;
-            let worker = Worker {
-                lanes: &place.lanes,
-                seat,
-                parking: &place.parking,
-                spot,
-            };
-            if !start(self.rt, self.scope, self.gate, worker) {
-                return Err(Refusal::Thread);
             }
             self.started += 1;
         }
@@ -123,18 +104,8 @@ impl<'s, E, R: Wait + Sync, G: Gate> WorkerPool<'s, E, R, G> {
         ensures told { IsToldOf scheduler.new (L.account listener.old) (L.account listener.new) }
     {
         self.start_workers(transactions)?;
-        let place = self.place;
-        schedule(
-            self.rt,
-            scheduler,
-            listener,
-            &place.lanes,
-            &mut self.seat,
-            &mut self.own,
-            place.count,
-            &place.parking,
-            self.gate,
-        )
-        .map_err(Refusal::from)
+        self.dispatcher
+            .run(scheduler, listener)
+            .map_err(Refusal::from)
     }
 }

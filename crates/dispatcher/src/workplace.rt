@@ -20,7 +20,7 @@ pub struct Workplace {
 }
 
 impl Model for Workplace {
-    ghost use Rattle.std.specs.Prelude.{◌≡◌};
+    ghost use Rattle.std.specs.Prelude.{◌≡◌, ◌<◌};
     ghost use Rattle.lanes.specs.Seats.{LanesOf, lanes_code};
 
     ghost Value = { LanesOf };
@@ -29,7 +29,7 @@ impl Model for Workplace {
 
     ghost view = { λ place. place.lanes };
 
-    ghost invariant = { λ place. place.count ≡ place.lanes.count };
+    ghost invariant = { λ place. (place.count ≡ place.lanes.count) × (0 < place.lanes.count) };
 }
 
 /// The one seat from which jobs are handed out at a workplace, and a worker's seat for the same thread. Each job that

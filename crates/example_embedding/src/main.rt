@@ -61,7 +61,7 @@ fn main(rt: HostRuntime) -> io::Result<()> {
     let alloc = rt.alloc();
     let text = fs::read(&rt, "inventory.json")?;
     let setup = match read_setup(alloc, &text) {
-        Ok(setup) => setup,
+        Ok(document) => document.setup,
         Err(fault) => return println!(rt; "{fault}"),
     };
     let Some(mut engine) = engine_on(alloc, setup) else {

@@ -1,24 +1,28 @@
 -- What an owner has drawn and answered.
-use Rattle.std.proofs.Common.{◌≡◌, ◌≢◌, List, [], ◌∷◌, ◌++◌, map, Vec, Global, Result, Ok, Err, OnOk, is_err, false, refl, sym, ap, ◌∙◌, subst, append_assoc, inr, ⊎_elim}
+use Rattle.std.proofs.Common.{◌≡◌, ◌<◌, List, [], ◌∷◌, ◌++◌, length, map, Vec, Global, Result, Ok, Err, OnOk, is_err, false, refl, sym, ap, ◌∙◌, subst, append_assoc, inr, ⊎_elim, arith}
 use Rattle.std.proofs.lemmas.List.{append-nil}
-use Rattle.intake.specs.declared.view.History.{History}
+use Rattle.intake.specs.declared.intake.Intake.{Intake}
 use Rattle.intake.specs.declared.passes.DrawPass.{DrawPass}
-use Rattle.intake.specs.Histories.{HasAll, IsNumbered}
+use Rattle.intake.specs.Histories.{IsNumbered}
+use Rattle.intake.specs.Rule.{IsWhole}
 use Rattle.intake.specs.Passes.{drawn_by}
 use Rattle.intake.specs.Draining.{all_items}
 use Rattle.engine.specs.Engines.{EngineParts, is_busy}
 use Rattle.example_serving.specs.declared.call.ClientCall.{ClientCall}
 use Rattle.example_serving.specs.Calls.{CallItem}
-use Rattle.example_serving.specs.Logs.{ClientLog, histories_from}
+use Rattle.example_serving.specs.Logs.{ClientLog}
+use Rattle.example_serving.specs.declared.client.Client.{Client}
+use Rattle.example_serving.specs.Clients.{AreAtTheirLogs, HaveSubmitted}
 use Rattle.example_serving.specs.declared.told.Told.{Told}
 use Rattle.example_serving.specs.declared.told.ServeFault.{ServeFault}
 use Rattle.example_serving.specs.declared.told.ServeFault.TheVariants.{NoMemory}
 use Rattle.example_serving.specs.declared.owner.Owner.{Owner}
 use Rattle.example_serving.specs.Serving.{said_in}
 use Rattle.example_serving.specs.Services.{Served, AnswersFirstPart, IsService, calls_of_batches}
-use Rattle.example_serving.specs.Steps.{DrawsOn, HasServed, AnswersAll, ServesOn, ServesRest, IsServedToTheEnd, items_in}
+use Rattle.example_serving.specs.Steps.{DrawsOn, HasServed, AnswersAll, ServesOn, ServesRest, IsServedToTheEnd, histories_at, items_in}
 use Rattle.example_serving.proofs.Answered.{same_answered}
-use Rattle.example_serving.proofs.Served.{holds_none, none_served, nothing_served, then_on, then_served, more_dropped, refused_besides, refused_then}
+use Rattle.example_serving.proofs.Submitted.{all_calls, all_of_logs, all_owned, each_numbered, each_owned, of_logs, of_spare}
+use Rattle.example_serving.proofs.Served.{holds_none, none_served, nothing_served, then_on, then_served, more_dropped, refused_besides}
 
 pub none_had : (owner : Owner) → is_busy owner.engine.core ≡ false → HasServed owner owner (Ok tt)
 none_had owner idle = record { drawn = []; grows = sym (append-nil (drawn_by owner.pass)); serves = nothing_served owner.engine.core owner.told.items idle }
@@ -69,12 +73,12 @@ calls_are (b ∷ bs) = ap (λ l. b.items ++ l) (calls_are bs)
 pub drawn_so : (into more : List (Vec CallItem Global)) (new old : List CallItem) → into ≡ more → new ≡ old ++ all_items (λ (b : Vec CallItem Global). b.items) more → new ≡ old ++ calls_of_batches (items_in into)
 drawn_so into more new old same is = is ∙ ap (λ l. old ++ l) (calls_are more ∙ ap (λ l. calls_of_batches (items_in l)) (sym same))
 
-pub ended_so : (old : Owner) (served : Served) (hs : List (History ClientCall)) (new : EngineParts) (told : List Told) (ended : Served) (drawn now : List CallItem) → now ≡ drawn_by old.pass ++ drawn → IsNumbered now
-    → (ended ≢ Err NoMemory → HasAll now hs) → ServesRest served drawn ended old.engine.core new old.told.items told → IsServedToTheEnd old served hs new told ended
-ended_so old served hs new told ended drawn now list numbered all on = record {
+pub ended_so : (old : Owner) (served : Served) (clients : List Client) (new : EngineParts) (told : List Told) (ended : Served) (drawn now : List CallItem) → now ≡ drawn_by old.pass ++ drawn → IsNumbered now
+    → IsWhole now (histories_at clients) → ServesRest served drawn ended old.engine.core new old.told.items told → IsServedToTheEnd old served clients new told ended
+ended_so old served clients new told ended drawn now list numbered all on = record {
   drawn = drawn;
   numbered = subst IsNumbered list numbered;
-  all = λ not. subst (λ l. HasAll l hs) list (all not);
+  all = subst (λ l. IsWhole l (histories_at clients)) list all;
   goes_on = on;
 }
 
@@ -94,34 +98,27 @@ goes_on_so (Err fault) d e ended old mid new before between after h k =
     ⊎_elim (λ (same : ended ≡ Err fault). subst (λ (r : Served). AnswersFirstPart (d ++ e) r old new before after) (sym same) stopped)
     (λ (refused : ended ≡ Err NoMemory). subst (λ (r : Served). AnswersFirstPart (d ++ e) r old new before after) (sym refused) (refused_besides (d ++ e) (Err fault) old new before after stopped)) k.2
 
--- before anything was drawn memory was refused
+-- memory was refused before a client began
 pub no_service : (engine : EngineParts) (logs : List ClientLog) (told : List Told) → told ≡ [] → is_busy engine ≡ false → IsService engine logs engine told (Err NoMemory)
 no_service engine logs told none idle = record {
-  drawn = [];
-  numbered = λ client. ([], refl);
-  whole = λ not. absurd (not refl);
-  serves = none_served [] (Err NoMemory) engine engine [] told (same_answered engine [] told idle (ap (λ l. map said_in l) none)) (holds_none engine.procs _ [] engine.unfinished idle);
-}
-
--- the passes of the clients did not come back for want of memory
-pub cut_service : (first mid : Owner) (logs : List ClientLog) (served : Served) → drawn_by first.pass ≡ [] → first.told.items ≡ [] → IsNumbered (drawn_by mid.pass) → HasServed first mid served
-    → IsService first.engine.core logs mid.engine.core mid.told.items (Err NoMemory)
-cut_service first mid logs served none empty numbered h = record {
-  drawn = h.drawn;
-  numbered = subst IsNumbered (h.grows ∙ ap (λ l. l ++ h.drawn) none) numbered;
-  whole = λ not. absurd (not refl);
-  serves = refused_then h.drawn served first.engine.core mid.engine.core [] mid.told.items (subst (λ (t : List Told). ServesOn h.drawn served first.engine.core mid.engine.core t mid.told.items) empty h.serves);
+  drawn = all_calls 1 logs;
+  owners = all_owned (length logs) 1 logs (omega arith) (omega arith);
+  numbered = each_numbered 1 logs;
+  whole = all_of_logs logs;
+  serves = none_served (all_calls 1 logs) (Err NoMemory) engine engine [] told (same_answered engine [] told idle (ap (λ l. map said_in l) none)) (holds_none engine.procs _ (all_calls 1 logs) engine.unfinished idle);
 }
 
 -- from the start to the end
-pub whole_service : (first mid : Owner) (hs : List (History ClientCall)) (logs : List ClientLog) (new : EngineParts) (told : List Told) (served ended : Served) → drawn_by first.pass ≡ [] → first.told.items ≡ []
-    → HasServed first mid served → hs ≡ histories_from 1 logs → IsServedToTheEnd mid served hs new told ended → IsService first.engine.core logs new told ended
-whole_service first mid hs logs new told served ended none empty h same k =
+pub whole_service : (first mid : Owner) (intake : Intake ClientCall) (olds news : List Client) (logs : List ClientLog) (new : EngineParts) (told : List Told) (served ended : Served) → drawn_by first.pass ≡ [] → first.told.items ≡ []
+    → HasServed first mid served → 0 < length logs → AreAtTheirLogs intake (length logs) 1 olds logs → HaveSubmitted olds news → IsServedToTheEnd mid served news new told ended → IsService first.engine.core logs new told ended
+whole_service first mid intake olds news logs new told served ended none empty h some at did k =
     let list : drawn_by mid.pass ++ k.drawn ≡ h.drawn ++ k.drawn = ap (λ l. l ++ k.drawn) (h.grows ∙ ap (λ l. l ++ h.drawn) none) in
+    let all : IsWhole (h.drawn ++ k.drawn) (histories_at news) = subst (λ l. IsWhole l (histories_at news)) list k.all in
     record {
       drawn = h.drawn ++ k.drawn;
+      owners = each_owned (length logs) (h.drawn ++ k.drawn) (h.drawn ++ k.drawn) all.1 (of_spare (h.drawn ++ k.drawn) intake (length logs) 1 olds news logs at did some (omega arith) all.0) (λ c none'. none');
       numbered = subst IsNumbered list k.numbered;
-      whole = λ not. subst (λ l. HasAll l (histories_from 1 logs)) list (subst (λ l. HasAll (drawn_by mid.pass ++ k.drawn) l) same (k.all not));
+      whole = of_logs (h.drawn ++ k.drawn) intake (length logs) 1 olds news logs at did all.0;
       serves = goes_on_so served h.drawn k.drawn ended first.engine.core mid.engine.core new [] mid.told.items told
           (subst (λ (t : List Told). ServesOn h.drawn served first.engine.core mid.engine.core t mid.told.items) empty h.serves) k.goes_on;
     }

@@ -1,9 +1,7 @@
 -- Claimed: what contracts promise to a reader rests on these words.
 -- Calls that clients send, and the requests that procedures make of them.
-use Rattle.std.specs.Prelude.{ℕ, List, [], ◌∷◌, ◌++◌, Bool, true, false, ◌&&◌, if◌then◌else◌, Option, Some, None, Result, Ok, Err, map, string_bytes}
-use Rattle.catalogue.specs.Shapes.{TableShape}
+use Rattle.std.specs.Prelude.{ℕ, List, [], ◌∷◌, ◌++◌, Bool, true, false, ◌&&◌, if◌then◌else◌, Option, Some, None, Result, Ok, Err, string_bytes}
 use Rattle.values.specs.declared.value.Value.{Value}
-use Rattle.values.specs.Database.{Database}
 use Rattle.proclang_types.specs.Syntax.{ParamShape}
 use Rattle.proclang_types.specs.Procedures.{ProcParts}
 use Rattle.requests.specs.Requests.{Call, fits}

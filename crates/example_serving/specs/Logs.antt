@@ -1,6 +1,6 @@
 -- Claimed: what contracts promise to a reader rests on these words.
 -- The logs of clients.
-use Rattle.std.specs.Prelude.{ℕ, ◌+◌, ◌≤◌, ◌^◌, List, [], ◌∷◌, length, Vec}
+use Rattle.std.specs.Prelude.{ℕ, ◌+◌, ◌<◌, ◌≤◌, ◌^◌, List, [], ◌∷◌, length, Vec}
 use Rattle.std.specs.declared.alloc.Global.{Global}
 use Rattle.intake.specs.declared.view.History.{History}
 use Rattle.intake.specs.Histories.{history}
@@ -8,6 +8,10 @@ use Rattle.example_serving.specs.declared.call.ClientCall.{ClientCall}
 
 abbrev pub ClientLog : Type 0
 ClientLog = Vec ClientCall Global
+
+-- a client has one of these logs: they are those of clients 1, 2 and so on
+abbrev pub HasLog : List ClientLog → ℕ → Type 0
+HasLog logs client = (0 < client) × (client ≤ length logs)
 
 -- its calls can all be numbered
 abbrev pub IsShortLog : ClientLog → Type 0

@@ -1,6 +1,7 @@
 -- Claimed: what contracts promise to a reader rests on these words.
 -- What serving several clients comes to, however it ends.
-use Rattle.std.specs.Prelude.{◌≡◌, ◌≢◌, ◌+◌, ◌<◌, ◌^◌, List, [], ◌∷◌, ◌++◌, length, map, Option, Some, None, Result, Ok, Err, IfSome, IsSomeAnd, false}
+use Rattle.std.specs.Prelude.{◌≡◌, ◌+◌, ◌<◌, ◌^◌, List, [], ◌∷◌, ◌++◌, length, map, Option, Some, None, Result, Ok, Err, IfSome, IsSomeAnd, false}
+use Rattle.std.specs.List.{AllByRecursion}
 use Rattle.requests.specs.ProcLists.{ProcsParts}
 use Rattle.sequencer.specs.declared.attempts.Carried.{Carried}
 use Rattle.retries.specs.Standings.{Standing}
@@ -9,7 +10,7 @@ use Rattle.intake.specs.Histories.{HasAll, IsNumbered}
 use Rattle.engine.specs.Engines.{EngineParts, Unfinished, is_busy}
 use Rattle.engine.specs.Executions.{KeepsSetting}
 use Rattle.example_serving.specs.Calls.{CallItem}
-use Rattle.example_serving.specs.Logs.{ClientLog, histories_from}
+use Rattle.example_serving.specs.Logs.{ClientLog, HasLog, histories_from}
 use Rattle.example_serving.specs.declared.told.Told.{Told}
 use Rattle.example_serving.specs.declared.told.ServeFault.{ServeFault}
 use Rattle.example_serving.specs.declared.told.ServeFault.TheVariants.{LogFull, Spawn, NoMemory}
@@ -78,11 +79,12 @@ pub record AnswersFirstPart (drawn : List CallItem) (ended : Served) (old new : 
   pub answers : AnswersBatches batches old new before after
   pub ends : EndsSo ended (standing_after old batches) new left
 
--- There is one list of calls, which the owner drew. Each client's are numbered 0, 1, 2 and so on in it, in order and
--- each once. Unless memory was refused, each client's part of it is that client's log. The list was served
+-- There is one list of the clients' calls. Each is of a client that has a log, and each client's are numbered 0, 1, 2
+-- and so on in it, in order and each once: they are that client's log. The list was served
 pub record IsService (old : EngineParts) (logs : List ClientLog) (new : EngineParts) (told : List Told)
     (ended : Served) : Type 0 where
   pub drawn : List CallItem
+  pub owners : AllByRecursion (λ item. HasLog logs item.client) drawn
   pub numbered : IsNumbered drawn
-  pub whole : ended ≢ Err NoMemory → HasAll drawn (histories_from 1 logs)
+  pub whole : HasAll drawn (histories_from 1 logs)
   pub serves : AnswersFirstPart drawn ended old new [] told

@@ -1,18 +1,20 @@
 -- Of the code: invariants and steps; no promise rests on these words.
 -- Steps of a server, and what they come to.
-use Rattle.std.specs.Prelude.{◌≡◌, ◌≢◌, ◌+◌, ◌<◌, ◌^◌, ◌⊎◌, List, [], ◌++◌, length, map, Ok, Err, IsSomeAnd, Vec, false}
+use Rattle.std.specs.Prelude.{◌≡◌, ◌+◌, ◌<◌, ◌^◌, ◌⊎◌, List, [], ◌∷◌, ◌++◌, length, map, Ok, Err, IsSomeAnd, Vec, false}
 use Rattle.std.specs.declared.alloc.Global.{Global}
 use Rattle.sequencer.specs.Attempts.{Attempt}
 use Rattle.sequencer.specs.declared.batch.Batch.{Batch}
 use Rattle.intake.specs.declared.view.History.{History}
 use Rattle.intake.specs.declared.passes.DrawPass.{DrawPass}
-use Rattle.intake.specs.Histories.{HasAll, IsNumbered}
-use Rattle.intake.specs.Passes.{drawn_by}
+use Rattle.intake.specs.Histories.{IsNumbered}
+use Rattle.intake.specs.Rule.{IsWhole}
+use Rattle.intake.specs.Passes.{drawn_by, histories_of}
 use Rattle.engine.specs.declared.replies.Reply.{Reply}
 use Rattle.engine.specs.Batches.{next_attempts}
 use Rattle.engine.specs.Engines.{EngineParts, is_busy}
 use Rattle.engine.specs.Replies.{reply_of}
 use Rattle.example_serving.specs.declared.call.ClientCall.{ClientCall}
+use Rattle.example_serving.specs.declared.client.Client.{Client}
 use Rattle.example_serving.specs.Calls.{CallItem}
 use Rattle.example_serving.specs.declared.told.Told.{Told}
 use Rattle.example_serving.specs.declared.told.ServeFault.{ServeFault}
@@ -71,10 +73,15 @@ ServesRest (Ok done) drawn ended old new before after = AnswersFirstPart drawn e
 ServesRest (Err fault) drawn ended old new before after =
     (new ≡ old) × (after ≡ before) × ((ended ≡ Err fault) ⊎ (ended ≡ Err NoMemory))
 
--- and then what the clients had left was drawn
-pub record IsServedToTheEnd (old : Owner) (served : Served) (clients : List (History ClientCall)) (new : EngineParts)
+-- what the passes of clients know of who has submitted what
+abbrev pub histories_at : List Client → List (History ClientCall)
+histories_at [] = []
+histories_at (c ∷ cs) = histories_of c.pass ++ histories_at cs
+
+-- and then what these clients had left was drawn
+pub record IsServedToTheEnd (old : Owner) (served : Served) (clients : List Client) (new : EngineParts)
     (told : List Told) (ended : Served) : Type 0 where
   pub drawn : List CallItem
   pub numbered : IsNumbered (drawn_by old.pass ++ drawn)
-  pub all : ended ≢ Err NoMemory → HasAll (drawn_by old.pass ++ drawn) clients
+  pub all : IsWhole (drawn_by old.pass ++ drawn) (histories_at clients)
   pub goes_on : ServesRest served drawn ended old.engine.core new old.told.items told

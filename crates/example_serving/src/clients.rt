@@ -1,10 +1,11 @@
 //! Clients, each in a thread of its own.
 
-ghost use Rattle.std.specs.Prelude.{◌≡◌, ◌<◌, ◌≤◌, ◌^◌, ◌++◌, ◌∷◌, [], length, map, vec_len, IfOk};
+ghost use Rattle.std.specs.Prelude.{◌≡◌, ◌<◌, ◌^◌, ◌++◌, ◌∷◌, [], length, vec_len, IfOk};
 ghost use Rattle.std.specs.List.{AllByRecursion};
-ghost use Rattle.intake.specs.Passes.{IsClientOf, AreClientsOf, AreNewClients, own_history, sent_by, client_of};
-ghost use Rattle.example_serving.specs.Logs.{histories_from, IsShortLog};
-ghost use Rattle.example_serving.specs.Clients.{AreAtTheirLogs};
+ghost use Rattle.std.specs.Vec.Iter.{into_iter_items};
+ghost use Rattle.intake.specs.Passes.{IsClientOf, AreNewClients, client_of, sent_by, spare_of};
+ghost use Rattle.example_serving.specs.Logs.{IsShortLog};
+ghost use Rattle.example_serving.specs.Clients.{AreAtTheirLogs, HasSubmitted, HaveSubmitted};
 
 use crate::call::ClientCall;
 use crate::client::Client;
@@ -12,20 +13,21 @@ use intake::{ClientPass, Full, Intake};
 use std::alloc::{AllocError, Global};
 use std::sync::Wait;
 use std::thread;
-use std::thread::{Threads, map_vec};
+use std::thread::{Threads, for_each_mut};
 
-/// Submits all calls of a client's log in their order, each that comes back again until it is accepted.
-fn submit_all<R: Wait>(rt: &R, client: Client<'_>) -> ClientPass<ClientCall>
-    ensures own { IsClientOf client.entry.intake.now result }
-    ensures client { client_of result ≡ client_of client.entry.pass }
-    ensures sent { sent_by result ≡ client.entry.log.items }
+/// How many clients there are at most.
+const MOST_CLIENTS: usize = 4;
+
+/// Submits all calls that are left of a client's log in their order, each that comes back again until it is accepted.
+fn submit_all<R: Wait>(rt: &R, client: &mut Client<'_>)
+    ensures intake { client.new.intake ≡ client.old.intake }
+    ensures client { client_of client.new.pass ≡ client_of client.old.pass }
+    ensures spare { spare_of client.new.pass ≡ spare_of client.old.pass }
+    ensures sent { sent_by client.new.pass ≡ sent_by client.old.pass ++ into_iter_items client.old.log }
 {
-    let Client { intake, pass, log } = client;
-    let mut pass = pass;
-    for call in log {
-        submit(rt, intake, &mut pass, call);
+    'calls: while let Some(call) = client.log.next() {
+        submit(rt, client.intake, &mut client.pass, call);
     }
-    pass
 }
 
 /// Submits a call until it is accepted.
@@ -39,6 +41,7 @@ fn submit<R: Wait>(
     requires room { length (sent_by pass.old) < 2 ^ 48 }
     ensures pass { IsClientOf intake.now pass.new }
     ensures client { client_of pass.new ≡ client_of pass.old }
+    ensures spare { spare_of pass.new ≡ spare_of pass.old }
     ensures sent { sent_by pass.new ≡ sent_by pass.old ++ call ∷ [] }
 {
     let mut call = call;
@@ -52,16 +55,15 @@ fn submit<R: Wait>(
 }
 
 /// The clients of a new intake, each with its log.
-fn clients_of<'a>(
+pub(crate) fn clients_of<'a>(
     alloc: Global,
     intake: &'a Intake<ClientCall>,
     passes: Vec<ClientPass<ClientCall>>,
     logs: Vec<Vec<ClientCall>>,
 ) -> Result<Vec<Client<'a>>, AllocError>
-    requires few { vec_len logs ≤ 4 }
     requires passes { (vec_len passes ≡ vec_len logs) × AreNewClients intake.now (vec_len logs) passes.items }
     requires short { AllByRecursion IsShortLog logs.items }
-    ensures { IfOk result (λ clients. AreAtTheirLogs intake.now 1 clients.items logs.items) }
+    ensures { IfOk result (λ clients. AreAtTheirLogs intake.now (vec_len logs) 1 clients.items logs.items) }
 {
     let mut clients = Vec::with_capacity(alloc, logs.len())?;
     let mut logs = logs.into_iter();
@@ -69,33 +71,26 @@ fn clients_of<'a>(
         let Some(log) = logs.next() else {
             unreachable!()
         };
-        clients.push_reserved(Client { intake, pass, log });
+        clients.push_reserved(Client {
+            intake,
+            pass,
+            log: log.into_iter(),
+        });
     }
     Ok(clients)
 }
 
-/// Lets each client submit its log, in a thread of its own, and gives their passes once all have ended. It may wait.
-pub fn run_clients<R: Threads + Wait + Sync>(
-    rt: &R,
-    alloc: Global,
-    intake: &Intake<ClientCall>,
-    passes: Vec<ClientPass<ClientCall>>,
-    logs: Vec<Vec<ClientCall>>,
-) -> Result<Vec<ClientPass<ClientCall>>, AllocError>
-    requires few { vec_len logs ≤ 4 }
-    requires passes { (vec_len passes ≡ vec_len logs) × AreNewClients intake.now (vec_len logs) passes.items }
-    requires short { AllByRecursion IsShortLog logs.items }
-    ensures clients { IfOk result (λ passes. AreClientsOf intake.now passes.items) }
-    ensures sent { IfOk result (λ passes. map own_history passes.items ≡ histories_from 1 logs.items) }
+/// Lets each client submit what is left of its log, each of four in a thread of its own where one can be made, until
+/// all have ended. It takes no memory. It may wait.
+pub fn run_clients<R: Threads + Wait + Sync>(rt: &R, clients: &mut [Client<'_>])
+    ensures { HaveSubmitted clients.old clients.new }
 {
-    let clients = clients_of(alloc, intake, passes, logs)?;
-    map_vec(
+    for_each_mut(
         rt,
         clients,
-        &move |client: Client<'_>| -> ClientPass<ClientCall>
-            ensures own { IsClientOf client.entry.intake.now result }
-            ensures client { client_of result ≡ client_of client.entry.pass }
-            ensures sent { sent_by result ≡ client.entry.log.items }
+        MOST_CLIENTS,
+        &move |_place: usize, client: &mut Client<'_>|
+            ensures { HasSubmitted client.entry.now client.exit.now }
         { submit_all(rt, client) },
-    )
+    );
 }

@@ -1,43 +1,39 @@
 //! Serving clients.
 
-ghost use Rattle.std.specs.Prelude.{◌≡◌, ◌<◌, ◌≤◌, IfOk, OnOk, false, vec_len, map};
+ghost use Rattle.std.specs.Prelude.{◌≡◌, ◌<◌, ◌≤◌, List, OnOk, false, vec_len};
 ghost use Rattle.std.specs.List.{AllByRecursion};
-ghost use Rattle.intake.specs.Passes.{IsDrawerOf, AreClientsOf, AreNewClients, held_by, own_history};
+ghost use Rattle.intake.specs.Histories.{HasAll};
+ghost use Rattle.intake.specs.Passes.{IsDrawerOf, drawn_by, held_by};
 ghost use Rattle.engine.specs.Engines.{is_busy};
+ghost use Rattle.example_serving.specs.Calls.{CallItem};
+ghost use Rattle.example_serving.specs.Clients.{HaveSubmitted};
 ghost use Rattle.example_serving.specs.Services.{IsService};
-ghost use Rattle.example_serving.specs.Steps.{HasServed, IsServedToTheEnd};
-ghost use Rattle.example_serving.specs.Logs.{IsShortLog, histories_from};
+ghost use Rattle.example_serving.specs.Steps.{HasServed, IsServedToTheEnd, histories_at};
+ghost use Rattle.example_serving.specs.Logs.{IsShortLog};
 
 use crate::call::{CallItem, ClientCall};
-use crate::clients::run_clients;
+use crate::client::Client;
+use crate::clients::{clients_of, run_clients};
 use crate::owner::{Owner, answer_to_the_end, attend};
 use crate::told::{ServeFault, Told};
 use engine::Engine;
-use intake::{ClientPass, Intake};
-use std::alloc::{AllocError, Global};
+use intake::{DrawPass, Intake};
+use std::alloc::Global;
 use std::sync::Wait;
 use std::sync::atomic::{AtomicBool, Ordering};
 use std::thread::{Threads, join};
 
-/// What the clients' threads have come to.
-type Ended = Result<Vec<ClientPass<ClientCall>>, AllocError>;
-
 /// Lets the clients submit while the owner serves them.
-fn serve_beside<R: Threads + Wait + Sync>(
+fn serve_beside<'a, R: Threads + Wait + Sync>(
     rt: &R,
     alloc: Global,
     intake: &Intake<ClientCall>,
-    passes: Vec<ClientPass<ClientCall>>,
-    logs: Vec<Vec<ClientCall>>,
+    clients: Vec<Client<'a>>,
     owner: Owner,
-) -> (Ended, (Owner, Result<(), ServeFault>))
-    requires few { vec_len logs ≤ 4 }
-    requires passes { (vec_len passes ≡ vec_len logs) × AreNewClients intake.now (vec_len logs) passes.items }
-    requires short { AllByRecursion IsShortLog logs.items }
+) -> (Vec<Client<'a>>, (Owner, Result<(), ServeFault>))
     requires pass { IsDrawerOf intake.now owner.pass }
     requires idle { is_busy owner.engine.core ≡ false }
-    ensures clients { IfOk result.0 (λ passes. AreClientsOf intake.now passes.items) }
-    ensures sent { IfOk result.0 (λ passes. map own_history passes.items ≡ histories_from 1 logs.items) }
+    ensures clients { HaveSubmitted clients.entry.items result.0.items }
     ensures pass { IsDrawerOf intake.now result.1.0.pass × (held_by result.1.0.pass ≡ held_by owner.pass) }
     ensures served { HasServed owner result.1.0 result.1.1 }
 {
@@ -45,15 +41,13 @@ fn serve_beside<R: Threads + Wait + Sync>(
     let ended = &flag;
     join(
         rt,
-        move || -> Ended
-            requires { (vec_len logs ≤ 4) × (vec_len passes ≡ vec_len logs) ×
-                AreNewClients intake.now (vec_len logs) passes.items × AllByRecursion IsShortLog logs.items }
-            ensures clients { IfOk result (λ passes. AreClientsOf intake.entry.now passes.items) }
-            ensures sent { IfOk result (λ passes. map own_history passes.items ≡ histories_from 1 logs.items) }
+        move || -> Vec<Client<'_>>
+            ensures { HaveSubmitted clients.entry.items result.items }
         {
-            let passes = run_clients(rt, alloc, intake, passes, logs);
+            let mut clients = clients;
+            run_clients(rt, clients.as_mut_slice());
             ended.store(true, Ordering::SeqCst);
-            passes
+            clients
         },
         move || -> (Owner, Result<(), ServeFault>)
             requires { IsDrawerOf intake.now owner.pass × (is_busy owner.engine.core ≡ false) }
@@ -63,29 +57,46 @@ fn serve_beside<R: Threads + Wait + Sync>(
     )
 }
 
+/// The clients retire.
+fn retire_all(
+    intake: &Intake<ClientCall>,
+    pass: &mut DrawPass<ClientCall>,
+    clients: Vec<Client<'_>>,
+)
+    requires pass { IsDrawerOf intake.now pass.old }
+    requires clients { AllByRecursion (λ client. client.intake.now ≡ intake.now) clients.items }
+    ensures pass { IsDrawerOf intake.now pass.new }
+    ensures drawn { drawn_by pass.new ≡ drawn_by pass.old }
+    ensures held { (items : List CallItem) → HasAll items (held_by pass.new) →
+        HasAll items (histories_at clients.entry.items) }
+{
+    for client in clients {
+        let Client { pass: retired, .. } = client;
+        intake.retire(pass, retired);
+    }
+}
+
 /// Draws what the clients left in the intake, and where nothing was refused before answers it, and what is carried
-/// then.
+/// then. If allocation fails, what is left is drawn all the same, and let go.
 fn serve_left<R: Threads + Wait + Sync>(
     rt: &R,
     alloc: Global,
     intake: &Intake<ClientCall>,
     owner: Owner,
     served: Result<(), ServeFault>,
-    clients: Vec<ClientPass<ClientCall>>,
+    clients: Vec<Client<'_>>,
 ) -> (Engine, Vec<Told>, Result<(), ServeFault>)
     requires pass { IsDrawerOf intake.now owner.pass }
     requires idle { OnOk served (is_busy owner.engine.core ≡ false) }
-    requires clients { AreClientsOf intake.now clients.items }
-    ensures { IsServedToTheEnd owner served (map own_history clients.items) result.0.core result.1.items result.2 }
+    requires clients { AllByRecursion (λ client. client.intake.now ≡ intake.now) clients.items }
+    ensures { IsServedToTheEnd owner served clients.entry.items result.0.core result.1.items result.2 }
 {
     let Owner { engine, pass, told } = owner;
     let (mut engine, mut pass, mut told) = (engine, pass, told);
-    let mut clients = clients;
+    retire_all(intake, &mut pass, clients);
     let mut left: Vec<Vec<CallItem>> = Vec::new(alloc);
-    if intake
-        .drain(rt, &mut pass, clients.as_mut_slice(), &mut left)
-        .is_err()
-    {
+    if intake.drain(rt, &mut pass, &mut [], &mut left).is_err() {
+        intake.discard(rt, &mut pass);
         return (engine, told, Err(ServeFault::NoMemory));
     }
     if let Err(fault) = served {
@@ -100,10 +111,10 @@ fn serve_left<R: Threads + Wait + Sync>(
 /// until all clients have ended and nothing is left. Then it executes batches without calls while requests are carried,
 /// and answers these. It may wait.
 ///
-/// The engine, what was told and whether all was answered come back. There is one list of calls: those that the owner
-/// drew. In it each client's are numbered from 0 in order, each once, and unless memory was refused they are that
-/// client's log. A first part of the list was answered, batch by batch, each batch whole; batches without calls may
-/// stand among these. What was told, in that order, is what the serial run of these batches answers where the engine's
+/// The engine, what was told and whether all was answered come back. There is one list of the clients' calls, in the
+/// order in which the owner drew them. In it each client's are numbered from 0 in order, each once, and they are that
+/// client's log. A first part of the list was answered, batch by batch, each batch whole; batches without calls may be
+/// among these. What was told, in that order, is what the serial run of these batches answers where the engine's
 /// log was, and its rows, its next number and what it carries are those that this run leaves. Of each batch the
 /// requests that were carried to it come first, each told under the client and number that it came with, and then the
 /// calls. So a client is told what came of each attempt of its requests, and that it was stale, where it was. A call
@@ -130,10 +141,10 @@ pub fn serve<R: Threads + Wait + Sync>(
     let Ok((intake, passes, pass)) = Intake::new(alloc, logs.len() as u8, capacity) else {
         return (engine, told, Err(ServeFault::NoMemory));
     };
-    let owner = Owner { engine, pass, told };
-    let (clients, (owner, served)) = serve_beside(rt, alloc, &intake, passes, logs, owner);
-    let Ok(clients) = clients else {
-        return (owner.engine, owner.told, Err(ServeFault::NoMemory));
+    let Ok(clients) = clients_of(alloc, &intake, passes, logs) else {
+        return (engine, told, Err(ServeFault::NoMemory));
     };
+    let owner = Owner { engine, pass, told };
+    let (clients, (owner, served)) = serve_beside(rt, alloc, &intake, clients, owner);
     serve_left(rt, alloc, &intake, owner, served, clients)
 }

@@ -8,8 +8,8 @@ use Rattle.crossbeam_queue.proofs.Lists.{at_set}
 use Rattle.batch_items.specs.declared.item.Item.{Item}
 use Rattle.intake.specs.declared.view.History.{History}
 use Rattle.intake.specs.declared.view.View.{View}
-use Rattle.intake.specs.Histories.{from_client, numbered, HasAll, IsNumbered, view, history, first_view, spent, without_drawing, only_drawing, without_first, only_first, joined, after_submit, after_draw}
-use Rattle.intake.specs.Rule.{times, total, rights, drawers, AreTrue, IsStranger, IsInOrder, IsAccounted}
+use Rattle.intake.specs.Histories.{from_client, numbered, IsNumbered, view, history, first_view, spent, without_drawing, only_drawing, without_first, only_first, joined, after_submit, after_draw}
+use Rattle.intake.specs.Rule.{times, total, rights, drawers, AreTrue, IsStranger, IsWhole, IsInOrder, IsAccounted}
 use Rattle.intake.proofs.Items.{item, log_beginning, log_more, sent_more, sent_more-own, sent_more-other}
 use Rattle.intake.proofs.Places.{AllAt, total_set, total_at, total_two, all_set, all_snoc, total_snoc, times-append, times-split, times-alone, times-other, two_drawers, all_one, true-more, true-append, true-first, true-rest, true_has}
 
@@ -86,10 +86,11 @@ module _ {Q : Type 0} where
         (refl, subst IsNumbered (sym grown) (log_beginning drawn items h.sent logged)),
       )
 
-  pub finds : (pass : ℕ) (v : View Q) → v.draws ≡ true → Learns IsInOrder pass v (λ items. HasAll (v.drawn ++ items) v.histories)
+  pub finds : (pass : ℕ) (v : View Q) → v.draws ≡ true → Learns IsInOrder pass v (λ items. IsWhole (v.drawn ++ items) v.histories)
   finds pass v may items views h at =
       let same : v.drawn ≡ h.drawn = h.draws pass v at may in
-      subst (λ (l : List (Item Q)). HasAll (l ++ items) v.histories) (sym same) (true_has h.sent (h.drawn ++ items) v.histories h.logged (h.histories pass v at))
+      subst (λ (l : List (Item Q)). IsWhole (l ++ items) v.histories) (sym same)
+      (true_has h.sent (h.drawn ++ items) v.histories h.logged (h.histories pass v at), λ k s. h.logged k ∙ ap (λ l. numbered k 0 l) (h.strangers k s))
 
   pub begins : IsInOrder {Q = Q} [] (first_view ∷ [])
   begins = record {

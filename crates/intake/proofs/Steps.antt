@@ -80,3 +80,13 @@ module _ {Q : Type 0} where
         ap (λ (v : View Q). v.histories) is,
         drawn,
       )
+
+  -- the pass takes in all that a client's pass knows
+  pub drawer_takes_all : (intake : Intake Q) (p q : DrawPass Q) (from : ClientPass Q) → IsDrawerOf intake p → IsClientOf intake from → IsPassOf intake.queue q.pass → known q.pass ≡ joined (known p.pass) (known from.pass)
+      → IsDrawerOf intake q × (held_by q ≡ histories_of from ++ held_by p) × (drawn_by q ≡ drawn_by p)
+  drawer_takes_all intake p q from h client pass is =
+      let drawn : drawn_by q ≡ drawn_by p = ap (λ (v : View Q). v.drawn) is in (
+        record { pass = pass; draws = ap (λ (v : View Q). v.draws) is ∙ h.draws; numbered = subst IsNumbered (sym drawn) h.numbered },
+        ap (λ (v : View Q). v.histories) is ∙ ap (λ (v : View Q). v.histories ++ held_by p) client.view,
+        drawn,
+      )

@@ -76,7 +76,7 @@ module _ {Q : Type 0} where
   abbrev pub drawn_by : DrawPass Q → List (Item Q)
   drawn_by p = (known p.pass).drawn
 
-  -- the histories that it holds: none, but while the intake is drained
+  -- the histories that it holds: of clients that have retired, and while the intake is drained of those at hand
   abbrev pub held_by : DrawPass Q → List (History Q)
   held_by p = (known p.pass).histories
 

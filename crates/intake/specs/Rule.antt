@@ -15,6 +15,14 @@ abbrev pub IsStranger : ℕ → Type 0
 IsStranger client = (client ≡ 0) ⊎ (4 < client)
 
 module _ {Q : Type 0} where
+  -- no stranger sent any of these items
+  abbrev pub HasNoStranger : List (Item Q) → Type 0
+  HasNoStranger items = (client : ℕ) → IsStranger client → from_client client items ≡ []
+
+  -- the items are all that was submitted, as far as these histories tell: each of them whole, and nothing of a stranger
+  abbrev pub IsWhole : List (Item Q) → List (History Q) → Type 0
+  IsWhole items histories = HasAll items histories × HasNoStranger items
+
   -- how often the client's history is among these
   abbrev pub times : ℕ → List (History Q) → ℕ
   times client [] = 0
@@ -53,4 +61,4 @@ module _ {Q : Type 0} where
     pub drawn : List (Item Q)
     pub known : v.draws ≡ true → v.drawn ≡ drawn
     pub whole : HasAll (drawn ++ items) v.histories
-    pub strangers : (client : ℕ) → IsStranger client → from_client client (drawn ++ items) ≡ []
+    pub strangers : HasNoStranger (drawn ++ items)

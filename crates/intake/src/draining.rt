@@ -4,12 +4,13 @@ ghost use Rattle.std.specs.Prelude.{◌≡◌, ◌<◌, ◌≤◌, ◌++◌, ◌
 ghost use Rattle.crossbeam_queue.specs.Passes.{IsPassOf};
 ghost use Rattle.crossbeam_queue.specs.Passes.{view as known};
 ghost use Rattle.intake.specs.Histories.{HasAll, without_first, only_first, joined, first_of, rest_of};
+ghost use Rattle.intake.specs.Rule.{IsWhole};
 ghost use Rattle.intake.specs.Passes.{IsClientOf, IsDrawerOf, AreClientsOf, histories_of, own_history, drawn_by, held_by};
 ghost use Rattle.intake.specs.Draining.{all_items, AreBatches, Appends, IsLentBy, IsBackWith};
 
 use crate::intake::{Intake, MOST_DRAWN};
 use crate::passes::{ClientPass, DrawPass};
-use crate::rule::{CutFirst, TakeIn};
+use crate::rule::{CutFirst, Draws, TakeIn};
 use crate::view::View;
 use batch_items::{Batched, Item};
 use crossbeam_queue::Pass;
@@ -39,6 +40,18 @@ impl<Q> Intake<Q> {
         self.hand(&mut pass.pass, &mut client.pass);
     }
 
+    /// A client retires: it submits no more, and the owner's pass takes in what its pass knows.
+    pub fn retire(&self, pass: &mut DrawPass<Q>, client: ClientPass<Q>)
+        requires drawer { IsDrawerOf self.now pass.old }
+        requires client { IsClientOf self.now client }
+        ensures drawer { IsDrawerOf self.now pass.new }
+        ensures held { held_by pass.new ≡ histories_of client ++ held_by pass.old }
+        ensures drawn { drawn_by pass.new ≡ drawn_by pass.old }
+    {
+        let ClientPass { pass: retired, .. } = client;
+        self.queue.absorb::<TakeIn>(&mut pass.pass, retired);
+    }
+
     // The first history goes over.
     fn hand(&self, from: &mut Pass<Item<Q>, View<Q>>, to: &mut Pass<Item<Q>, View<Q>>)
         requires from { IsPassOf self.now.queue from.old }
@@ -63,7 +76,7 @@ impl<Q: Drop> Intake<Q> {
         requires { IsDrawerOf self.now pass.old }
         ensures pass { IsDrawerOf self.now pass.new × (held_by pass.new ≡ held_by pass.old) }
         ensures drawn { Appends B.items_of into.old.items into.new.items (drawn_by pass.old) (drawn_by pass.new) }
-        ensures all { OnOk result (HasAll (drawn_by pass.new) (held_by pass.old)) }
+        ensures all { OnOk result (IsWhole (drawn_by pass.new) (held_by pass.old)) }
     {
         for _ in rt.forever() {
             into.reserve(1)?;
@@ -78,8 +91,8 @@ impl<Q: Drop> Intake<Q> {
     }
 
     /// Draws until a step finds the queue empty, while the passes of these clients are at hand, and appends the batches
-    /// that are not empty, each of at most 4,096. After `Ok` all that these clients ever submitted was drawn. If
-    /// allocation fails, what was drawn is in the list. It may wait.
+    /// that are not empty, each of at most 4,096. After `Ok` all was drawn that these clients ever submitted, and those
+    /// who have retired. If allocation fails, what was drawn is in the list. It may wait.
     pub fn drain<R: Wait, B: Batched<Q>>(
         &self,
         rt: &R,
@@ -94,7 +107,7 @@ impl<Q: Drop> Intake<Q> {
             (map histories_of clients.new ≡ map histories_of clients.old) }
         ensures drawn { Appends B.items_of into.old.items into.new.items (drawn_by pass.old) (drawn_by pass.new) }
         ensures all { OnOk result (HasAll (drawn_by pass.new) (map own_history clients.old) ×
-            HasAll (drawn_by pass.new) (held_by pass.old)) }
+            IsWhole (drawn_by pass.new) (held_by pass.old)) }
     {
         match clients.split_first_mut() {
             None => self.draw_all(rt, pass, into),
@@ -105,6 +118,24 @@ impl<Q: Drop> Intake<Q> {
                 result
             }
         }
+    }
+}
+
+impl<Q: Drop> Intake<Q> {
+    /// Draws and lets go what is left, until a step finds the queue empty: then all was drawn that the clients who have
+    /// retired ever submitted. It takes no memory. It may wait.
+    pub fn discard<R: Wait>(&self, rt: &R, pass: &mut DrawPass<Q>)
+        requires { IsDrawerOf self.now pass.old }
+        ensures pass { IsDrawerOf self.now pass.new × (held_by pass.new ≡ held_by pass.old) }
+        ensures drawn { (more : List (Item Q)) × (drawn_by pass.new ≡ drawn_by pass.old ++ more) }
+        ensures all { IsWhole (drawn_by pass.new) (held_by pass.old) }
+    {
+        for _ in rt.forever() {
+            let Some(_item) = self.queue.pop_as::<Draws, R>(rt, &mut pass.pass) else {
+                return;
+            };
+        }
+        unreachable!()
     }
 }
 

@@ -2,8 +2,7 @@
 
 ghost use Rattle.std.specs.Prelude.{◌≡◌, ◌+◌, ◌<◌, ◌≤◌, ◌^◌, ◌++◌, ◌∷◌, [], length, vec_len, IfOk, IfErr, OnErr};
 ghost use Rattle.crossbeam_queue.specs.Fifo.{Held};
-ghost use Rattle.intake.specs.Histories.{HasAll};
-ghost use Rattle.intake.specs.Rule.{IsAccounted};
+ghost use Rattle.intake.specs.Rule.{IsAccounted, IsWhole};
 ghost use Rattle.intake.specs.Passes.{MaySubmit, IsClientOf, IsDrawerOf, AreNewClients, capacity_of, client_of, sent_by, spare_of, known_by, drawn_by, held_by};
 
 use crate::passes::{ClientPass, DrawPass, Full};
@@ -106,9 +105,10 @@ impl<Q> Intake<Q> {
         ensures pass { IsDrawerOf self.now pass.new × (held_by pass.new ≡ held_by pass.old) }
         ensures drawn { IfOk result (λ batch. drawn_by pass.new ≡ drawn_by pass.old ++ B.items_of batch) }
         ensures most { IfOk result (λ batch. (length (B.items_of batch) ≤ max) × (length (B.items_of batch) ≤ 4096)) }
-        // Where a step found the queue empty, every request of the clients whose histories the pass holds was drawn.
+        // Where a step found the queue empty, every request of the clients whose histories the pass holds was drawn,
+        // and none of a stranger.
         ensures short { IfOk result (λ batch. length (B.items_of batch) < max → length (B.items_of batch) < 4096 →
-            HasAll (drawn_by pass.new) (held_by pass.old)) }
+            IsWhole (drawn_by pass.new) (held_by pass.old)) }
         ensures err { OnErr result (drawn_by pass.new ≡ drawn_by pass.old) }
     {
         let items = self.draw_items(rt, pass, max)?;
@@ -126,9 +126,8 @@ impl<Q> Intake<Q> {
         ensures pass { IsDrawerOf self.now pass.new × (held_by pass.new ≡ held_by pass.old) }
         ensures drawn { IfOk result (λ items. drawn_by pass.new ≡ drawn_by pass.old ++ items.items) }
         ensures most { IfOk result (λ items. (vec_len items ≤ max) × (vec_len items ≤ 4096)) }
-        // Where a step found the queue empty, every request of the clients whose histories the pass holds was drawn.
         ensures short { IfOk result (λ items. vec_len items < max → vec_len items < 4096 →
-            HasAll (drawn_by pass.new) (held_by pass.old)) }
+            IsWhole (drawn_by pass.new) (held_by pass.old)) }
         ensures err { OnErr result (drawn_by pass.new ≡ drawn_by pass.old) }
     {
         let most = if max < MOST_DRAWN { max } else { MOST_DRAWN };

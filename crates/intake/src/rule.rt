@@ -66,7 +66,7 @@ impl<Q> Lesson<Item<Q>, View<Q>> for Submits {
 }
 
 /// The owner draws: what was drawn grows by the item. Where the queue is empty, what was drawn has the histories that
-/// the pass holds.
+/// the pass holds, and nothing of a stranger.
 pub struct Draws;
 
 impl<Q> Outcome<Item<Q>, View<Q>> for Draws {
@@ -78,7 +78,7 @@ impl<Q> Outcome<Item<Q>, View<Q>> for Draws {
 
 impl<Q> Lesson<Item<Q>, View<Q>> for Draws {
     ghost use Rattle.std.specs.Prelude.{◌++◌};
-    ghost use Rattle.intake.specs.Histories.{HasAll};
+    ghost use Rattle.intake.specs.Rule.{IsWhole};
 
-    ghost fact = { λ v items. HasAll (v.drawn ++ items) v.histories };
+    ghost fact = { λ v items. IsWhole (v.drawn ++ items) v.histories };
 }

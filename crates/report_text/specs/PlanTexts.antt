@@ -9,7 +9,7 @@ use Rattle.footprint.specs.declared.resource.InTable.{InTable}
 use Rattle.footprint.specs.declared.resource.InTable.TheVariants.{WholeTable, Part}
 use Rattle.footprint.specs.declared.resource.Resource.{Resource}
 use Rattle.footprint.specs.declared.resource.Resource.TheVariants.{Db, Table}
-use Rattle.report_text.specs.Texts.{table_name}
+use Rattle.row_text.specs.Texts.{table_name}
 use Rattle.modes.specs.declared.mode.Mode.{Mode}
 use Rattle.modes.specs.declared.mode.Mode.TheVariants.{IntentionShared, IntentionExclusive, Shared, SharedIntentionExclusive, Exclusive}
 

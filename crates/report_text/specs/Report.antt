@@ -5,7 +5,10 @@ use Rattle.catalogue.specs.Shapes.{TableShape}
 use Rattle.values.specs.Database.{Database}
 use Rattle.meaning.specs.Entries.{EntryShape, Reply}
 use Rattle.meaning.specs.Serial.{serial_end, serial_replies}
-use Rattle.report_text.specs.Texts.{reply_line, row_text, digest, batch_line, end_line}
+use Rattle.row_text.specs.declared.form.DigestForm.{DigestForm}
+use Rattle.row_text.specs.Partitions.{digested_text}
+use Rattle.row_text.specs.Texts.{digest}
+use Rattle.report_text.specs.Texts.{reply_line, batch_line, end_line}
 
 -- a transaction: its entry and, where it is a later attempt of a request, the number of the first attempt
 pub record Transaction : Type 0 where
@@ -31,29 +34,29 @@ abbrev pub next_batch : ℕ → ℕ
 next_batch batch = min (batch + 1) (2 ^ 64 - 1)
 
 -- the text of a batch that runs on a database: its reply lines, and its batch line with the digests of the rows after
--- it and of those lines
-unfoldable pub batch_text : List TableShape → ℕ → ℕ → Database → List Transaction → List ℕ
-batch_text tables batch number db transactions =
+-- it, in this form, and of those lines
+unfoldable pub batch_text : DigestForm → List TableShape → ℕ → ℕ → Database → List Transaction → List ℕ
+batch_text form tables batch number db transactions =
     reply_lines number transactions (serial_replies (entries_in transactions) db)
-    ++ batch_line batch (digest (row_text tables (serial_end (entries_in transactions) db)))
+    ++ batch_line batch (digest (digested_text form tables (serial_end (entries_in transactions) db)))
     (digest (reply_lines number transactions (serial_replies (entries_in transactions) db)))
 
 -- the texts of batches, each from the database that the one before it left
-abbrev pub batch_texts : List TableShape → ℕ → ℕ → Database → List (List Transaction) → List ℕ
-batch_texts tables batch number db [] = []
-batch_texts tables batch number db (transactions ∷ rest) =
-    batch_text tables batch number db transactions
-    ++ batch_texts tables (next_batch batch) (number + length transactions) (serial_end (entries_in transactions) db)
-    rest
+abbrev pub batch_texts : DigestForm → List TableShape → ℕ → ℕ → Database → List (List Transaction) → List ℕ
+batch_texts form tables batch number db [] = []
+batch_texts form tables batch number db (transactions ∷ rest) =
+    batch_text form tables batch number db transactions
+    ++ batch_texts form tables (next_batch batch) (number + length transactions)
+    (serial_end (entries_in transactions) db) rest
 
 -- the end line over all transactions at once; nothing after a fault
-abbrev pub end_text : Bool → List TableShape → Database → List Transaction → List ℕ
-end_text true tables db transactions = []
-end_text false tables db transactions =
-    end_line (length transactions) (digest (row_text tables (serial_end (entries_in transactions) db)))
+abbrev pub end_text : Bool → DigestForm → List TableShape → Database → List Transaction → List ℕ
+end_text true form tables db transactions = []
+end_text false form tables db transactions =
+    end_line (length transactions) (digest (digested_text form tables (serial_end (entries_in transactions) db)))
     (digest (reply_lines 0 transactions (serial_replies (entries_in transactions) db)))
 
 -- the report of batches on starting rows, where the input ended with a fault or without one
-unfoldable pub report : List TableShape → Database → List (List Transaction) → Bool → List ℕ
-report tables db batches faulty =
-    batch_texts tables 1 0 db batches ++ end_text faulty tables db (all_transactions batches)
+unfoldable pub report : DigestForm → List TableShape → Database → List (List Transaction) → Bool → List ℕ
+report form tables db batches faulty =
+    batch_texts form tables 1 0 db batches ++ end_text faulty form tables db (all_transactions batches)

@@ -4,8 +4,8 @@ ghost use Rattle.std.specs.Prelude.{◌≡◌, ◌++◌, OnOk, string_bytes};
 ghost use Rattle.report_text.specs.Texts.{reply_line, reply_words, of_words, batch_line, end_line};
 ghost use Rattle.meaning.specs.Outcomes.{as_reply};
 
-use crate::values_text::push_values;
 use meaning::Outcome;
+use row_text::push_values;
 use std::alloc::{AllocError, Global};
 
 /// Appends what stands after a transaction's number.

@@ -3,11 +3,11 @@
 ghost use Rattle.std.specs.Prelude.{◌≡◌, ◌++◌, OnOk, string_bytes};
 ghost use Rattle.report_text.specs.PlanTexts.{in_part_text, in_table_text, mode_word, plan_lines, request_line, request_lines, resource_text};
 
-use crate::digest::push_table_name;
 use catalogue::Catalogue;
 use coarsen::Plan;
 use footprint::{InPart, InTable, Resource};
 use modes::Mode;
+use row_text::push_table_name;
 use std::alloc::AllocError;
 
 #[tactic(auto, unfolding(crate::specs::PlanTexts::mode_word))]

@@ -8,7 +8,7 @@ use Rattle.sequencer.specs.Attempts.{Attempt, again, attempts_of, carried_on, tr
 use Rattle.sequencer.specs.declared.attempts.Carried.{Carried}
 use Rattle.sequencer.specs.Again.{IsTriedAgain}
 use Rattle.sequencer.proofs.TriedAgain.{each_is_left, left_is_tried_again}
-use Rattle.retries.specs.Standings.{Standing, start_of, attempts_at, replies_at, after_batch, after_batches, while_carried, closing, closed}
+use Rattle.retries.specs.Standings.{Standing, start_of, attempts_at, replies_at, after_batch, after_batches, while_carried, closing, closing_within, closed}
 use Rattle.retries.proofs.Followed.{after_batches-append}
 use Rattle.retries.proofs.Few.{all_of, AreFew, few, left_few}
 
@@ -50,10 +50,10 @@ while_ends : (retries : ℕ) (s : Standing) (carried : List Carried) (rest : Lis
 while_ends retries s [] rest e h = e
 while_ends retries s (c ∷ cs) rest e h = h
 
-closing_ends : (retries most : ℕ) (s : Standing) → AreTried retries most s.carried → Ends retries s (closing retries most s)
+closing_ends : (retries most : ℕ) (s : Standing) → AreTried retries most s.carried → Ends retries s (closing_within retries most s)
 closing_ends retries zero s h = none_more retries s.carried h
 closing_ends retries (suc most) s h =
-    while_ends retries s s.carried (closing retries most (after_batch retries s [])) refl (closing_ends retries most (after_batch retries s []) (tried_more retries most s h))
+    while_ends retries s s.carried (closing_within retries most (after_batch retries s [])) refl (closing_ends retries most (after_batch retries s []) (tried_more retries most s h))
 
 from_few : (retries : ℕ) (carried : List Carried) → AreFew retries carried → AreTried retries retries carried
 from_few retries carried h =
@@ -67,27 +67,27 @@ closed_ends retries s (calls ∷ batches) h = closed_ends retries (after_batch r
 -- ---- closing batch by batch
 
 -- more batches that might close a log change nothing where so many are enough
-none_closing : (retries most : ℕ) (s : Standing) → s.carried ≡ [] → closing retries most s ≡ []
+none_closing : (retries most : ℕ) (s : Standing) → s.carried ≡ [] → closing_within retries most s ≡ []
 none_closing retries zero s h = refl
-none_closing retries (suc most) s h = ap (λ (carried : List Carried). while_carried carried (closing retries most (after_batch retries s []))) h
+none_closing retries (suc most) s h = ap (λ (carried : List Carried). while_carried carried (closing_within retries most (after_batch retries s []))) h
 
-enough : (retries most extra : ℕ) (s : Standing) → AreTried retries most s.carried → closing retries (most + extra) s ≡ closing retries most s
-enough retries zero extra s h = ap (λ n. closing retries n s) (none_before extra) ∙ none_closing retries extra s (none_more retries s.carried h)
+enough : (retries most extra : ℕ) (s : Standing) → AreTried retries most s.carried → closing_within retries (most + extra) s ≡ closing_within retries most s
+enough retries zero extra s h = ap (λ n. closing_within retries n s) (none_before extra) ∙ none_closing retries extra s (none_more retries s.carried h)
   where
     none_before : (k : ℕ) → 0 + k ≡ k
     none_before k = omega arith
 enough retries (suc most) extra s h =
-    ap (λ n. closing retries n s) (further most extra)
+    ap (λ n. closing_within retries n s) (further most extra)
     ∙ ap (λ (rest : List (List Call)). while_carried s.carried rest) (enough retries most extra (after_batch retries s []) (tried_more retries most s h))
   where
     further : (a b : ℕ) → suc a + b ≡ suc (a + b)
     further a b = omega arith
 
-one_closing : (retries : ℕ) (s : Standing) → AreFew retries s.carried → closing retries retries s ≡ while_carried s.carried (closing retries retries (after_batch retries s []))
-one_closing zero s h = sym (ap (λ (carried : List Carried). while_carried carried (closing zero zero (after_batch zero s []))) (none_more zero s.carried (from_few zero s.carried h)))
+one_closing : (retries : ℕ) (s : Standing) → AreFew retries s.carried → closing retries s ≡ while_carried s.carried (closing retries (after_batch retries s []))
+one_closing zero s h = sym (ap (λ (carried : List Carried). while_carried carried (closing zero (after_batch zero s []))) (none_more zero s.carried (from_few zero s.carried h)))
 one_closing (suc most) s h =
     ap (λ (rest : List (List Call)). while_carried s.carried rest)
-    (sym (ap (λ n. closing (suc most) n (after_batch (suc most) s [])) (last most) ∙ enough (suc most) most 1 (after_batch (suc most) s []) (tried_more (suc most) most s (from_few (suc most) s.carried h))))
+    (sym (ap (λ n. closing_within (suc most) n (after_batch (suc most) s [])) (last most) ∙ enough (suc most) most 1 (after_batch (suc most) s []) (tried_more (suc most) most s (from_few (suc most) s.carried h))))
   where
     last : (n : ℕ) → suc n ≡ n + 1
     last n = omega arith
@@ -101,9 +101,9 @@ at_most_one_more : (carried : List Carried) (rest : List (List Call)) (n : ℕ) 
 at_most_one_more [] rest n h = omega arith
 at_most_one_more (c ∷ cs) rest n h = omega (arith, h)
 
-pub closing_few : (retries most : ℕ) (s : Standing) → length (closing retries most s) ≤ most
+pub closing_few : (retries most : ℕ) (s : Standing) → length (closing_within retries most s) ≤ most
 closing_few retries zero s = omega arith
-closing_few retries (suc most) s = at_most_one_more s.carried (closing retries most (after_batch retries s [])) most (closing_few retries most (after_batch retries s []))
+closing_few retries (suc most) s = at_most_one_more s.carried (closing_within retries most (after_batch retries s [])) most (closing_few retries most (after_batch retries s []))
 
 -- ---- the end
 

@@ -3,7 +3,7 @@ use Rattle.std.proofs.Common.{◌≡◌, ℕ, zero, suc, ◌+◌, Bool, true, fa
 use Rattle.std.proofs.lemmas.List.Sums.{sum_by-cons}
 use Rattle.requests.specs.Requests.{Call}
 use Rattle.sequencer.specs.declared.attempts.Carried.{Carried}
-use Rattle.retries.specs.Standings.{Standing, transactions_at, after_batch, after_batches, in_turn, call_count, while_carried, closing, closed}
+use Rattle.retries.specs.Standings.{Standing, transactions_at, after_batch, after_batches, in_turn, call_count, while_carried, closing, closing_within, closed}
 
 pub after_batches-append : (retries : ℕ) (s : Standing) (batches more : List (List Call)) → after_batches retries s (batches ++ more) ≡ after_batches retries (after_batches retries s batches) more
 after_batches-append retries s [] more = refl
@@ -37,16 +37,16 @@ no_calls_more : (carried : List Carried) (rest : List (List Call)) → call_coun
 no_calls_more [] rest h = refl
 no_calls_more (c ∷ cs) rest h = sum_by-cons (λ (calls : List Call). length calls) [] rest ∙ omega (arith, h)
 
-closing_no_calls : (retries most : ℕ) (s : Standing) → call_count (closing retries most s) ≡ 0
+closing_no_calls : (retries most : ℕ) (s : Standing) → call_count (closing_within retries most s) ≡ 0
 closing_no_calls retries zero s = refl
-closing_no_calls retries (suc most) s = no_calls_more s.carried (closing retries most (after_batch retries s [])) (closing_no_calls retries most (after_batch retries s []))
+closing_no_calls retries (suc most) s = no_calls_more s.carried (closing_within retries most (after_batch retries s [])) (closing_no_calls retries most (after_batch retries s []))
 
 unless_faulty : (faulty : Bool) (batches : List (List Call)) → call_count batches ≡ 0 → call_count (cond faulty [] batches) ≡ 0
 unless_faulty true batches h = refl
 unless_faulty false batches h = h
 
 pub closed_calls : (retries : ℕ) (faulty : Bool) (s : Standing) (batches : List (List Call)) → call_count (closed retries faulty s batches) ≡ call_count batches
-closed_calls retries faulty s [] = unless_faulty faulty (closing retries retries s) (closing_no_calls retries retries s)
+closed_calls retries faulty s [] = unless_faulty faulty (closing retries s) (closing_no_calls retries retries s)
 closed_calls retries faulty s (calls ∷ batches) =
     sum_by-cons (λ (c : List Call). length c) calls (closed retries faulty (after_batch retries s calls) batches)
     ∙ ap (λ n. length calls + n) (closed_calls retries faulty (after_batch retries s calls) batches)

@@ -11,14 +11,14 @@ use Rattle.sequencer.specs.Attempts.{Attempt, Earlier, Numbered, again, own, att
 use Rattle.sequencer.specs.Batches.{RequestItem, items_from}
 use Rattle.sequencer.specs.declared.attempts.Carried.{Carried}
 use Rattle.sequencer.proofs.Carryings.{left_next}
-use Rattle.retries.specs.Standings.{Standing, start_of, attempts_at, transaction_of, transactions_at, transactions_in, replies_at, after_batch, in_turn, is_of}
+use Rattle.retries.specs.Standings.{Standing, start_of, attempts_at, transaction_of, transactions_at, transactions_in, replies_at, after_batch, in_turn, is_later_of}
 use Rattle.retries.proofs.Few.{AreWithin, left_within, one_if, tried_few}
 
 -- of the request whose first attempt has the number `first`
 module _ (retries first : ℕ) where
   -- how many of the transactions are later attempts of it
   abbrev later : List Transaction → ℕ
-  later transactions = count_by (λ t. is_of first t.of) transactions
+  later transactions = count_by (λ t. is_later_of first t.of) transactions
 
   -- the attempts that it may still have, if that one is it
   abbrev one_may : Carried → ℕ
@@ -66,7 +66,7 @@ module _ (retries first : ℕ) where
   again_by false tries rest old few h = omega arith
 
   by_before : (n : ℕ) (before : Option Earlier) → tries_of before ≤ retries
-      → one_if (is_of first (option_map (λ (e : Earlier). e.first) before)) + cond (first_of n before == first) (retries + 1 - (tries_of before + 1)) 0 + to_come (n + 1)
+      → one_if (is_later_of first (option_map (λ (e : Earlier). e.first) before)) + cond (first_of n before == first) (retries + 1 - (tries_of before + 1)) 0 + to_come (n + 1)
       ≤ has_from before + to_come n
   by_before n None few = let next = own_next n in omega (arith, next)
   by_before n (Some earlier) few =
@@ -74,7 +74,7 @@ module _ (retries first : ℕ) where
       again_by (earlier.first == first) earlier.tries (to_come (n + 1)) (to_come n) few (omega (arith, next))
 
   by_head : (n : ℕ) (attempt : Attempt) (b : Bool) (db : Database) → tries_of attempt.before ≤ retries
-      → one_if (is_of first (transaction_of db attempt).of) + may (cond b (carried_on (record { no = n; attempt = attempt }) ∷ []) []) + to_come (n + 1) ≤ one_has attempt + to_come n
+      → one_if (is_later_of first (transaction_of db attempt).of) + may (cond b (carried_on (record { no = n; attempt = attempt }) ∷ []) []) + to_come (n + 1) ≤ one_has attempt + to_come n
   by_head n attempt true db few =
       let next = by_before n attempt.before few in
       omega (arith, next, sum_by-cons one_may (carried_on (record { no = n; attempt = attempt })) [])
@@ -85,11 +85,11 @@ module _ (retries first : ℕ) where
   -- what is left of one attempt, and of those after it
   spent_next : (n : ℕ) (a : Attempt) (attempts : List Attempt) (db : Database) (left head rest : ℕ) → left ≤ head + rest
       → later (map (transaction_of db) attempts) + rest + to_come (n + 1 + length attempts) ≤ has attempts + to_come (n + 1)
-      → one_if (is_of first (transaction_of db a).of) + head + to_come (n + 1) ≤ one_has a + to_come n
+      → one_if (is_later_of first (transaction_of db a).of) + head + to_come (n + 1) ≤ one_has a + to_come n
       → later (map (transaction_of db) (a ∷ attempts)) + left + to_come (n + length (a ∷ attempts)) ≤ has (a ∷ attempts) + to_come n
   spent_next n a attempts db left head rest both after_batch first_one =
       added _ _ _ _ _ _ _ _ _ _
-      (sum_by-cons (λ (t : Transaction). one_if (is_of first t.of)) (transaction_of db a) (map (transaction_of db) attempts))
+      (sum_by-cons (λ (t : Transaction). one_if (is_later_of first t.of)) (transaction_of db a) (map (transaction_of db) attempts))
       (sum_by-cons one_has a attempts) (ap to_come (further n (length attempts))) both after_batch first_one
     where
       further : (a b : ℕ) → a + suc b ≡ a + 1 + b
@@ -133,7 +133,7 @@ module _ (retries first : ℕ) where
   in_batches s (calls ∷ batches) h =
       let rest = all_transactions (in_turn retries (after_batch retries s calls) batches) in
       added _ _ _ _ _ _ _ _
-      (sum_by-append (λ (t : Transaction). one_if (is_of first t.of)) (transactions_at s calls) rest)
+      (sum_by-append (λ (t : Transaction). one_if (is_later_of first t.of)) (transactions_at s calls) rest)
       (spent s.next (attempts_at s calls) (replies_at s calls) s.rows (tried_few retries s.carried (items_from 0 calls) h))
       (have s.carried calls)
       (in_batches (after_batch retries s calls) batches (left_within retries s calls))
@@ -145,10 +145,10 @@ module _ (retries first : ℕ) where
   none_more true = omega arith
   none_more false = omega arith
 
-pub later_few : (retries : ℕ) (db : Database) (batches : List (List Call)) (first : ℕ) → length (filter (λ (t : Transaction). is_of first t.of) (transactions_in retries db batches)) ≤ retries
+pub later_few : (retries : ℕ) (db : Database) (batches : List (List Call)) (first : ℕ) → length (filter (λ (t : Transaction). is_later_of first t.of) (transactions_in retries db batches)) ≤ retries
 later_few retries db batches first =
     counted _ _ _
-    (length-filter (λ (t : Transaction). is_of first t.of) (transactions_in retries db batches))
+    (length-filter (λ (t : Transaction). is_later_of first t.of) (transactions_in retries db batches))
     (in_batches retries first (start_of db) batches tt)
     (none_more retries first (leb 0 first))
   where

@@ -36,9 +36,9 @@ transaction_of db attempt = record {
 }
 
 -- a later attempt of the request whose first attempt has that number
-abbrev pub is_of : ℕ → Option ℕ → Bool
-is_of first None = false
-is_of first (Some n) = n == first
+abbrev pub is_later_of : ℕ → Option ℕ → Bool
+is_later_of first None = false
+is_later_of first (Some n) = n == first
 
 -- the transactions of the next batch
 abbrev pub transactions_at : Standing → List Call → List Transaction
@@ -87,12 +87,17 @@ abbrev pub while_carried : List Carried → List (List Call) → List (List Call
 while_carried [] rest = []
 while_carried (c ∷ cs) rest = [] ∷ rest
 
--- the batches without calls after a log's last one; no request is tried again more often than `most` says
-abbrev pub closing : ℕ → ℕ → Standing → List (List Call)
-closing retries zero s = []
-closing retries (suc most) s = while_carried s.carried (closing retries most (after_batch retries s []))
+-- batches without calls, one after another while something is carried, so many at most
+abbrev pub closing_within : ℕ → ℕ → Standing → List (List Call)
+closing_within retries zero s = []
+closing_within retries (suc most) s = while_carried s.carried (closing_within retries most (after_batch retries s []))
+
+-- the batches without calls after a log's last one: no request is tried again more often than the setup says, so they
+-- are no more than that
+abbrev pub closing : ℕ → Standing → List (List Call)
+closing retries s = closing_within retries retries s
 
 -- the batches of a log: those of its calls, and after them, where it ends without a fault, those that close it
 abbrev pub closed : ℕ → Bool → Standing → List (List Call) → List (List Call)
-closed retries faulty s [] = cond faulty [] (closing retries retries s)
+closed retries faulty s [] = cond faulty [] (closing retries s)
 closed retries faulty s (calls ∷ rest) = calls ∷ closed retries faulty (after_batch retries s calls) rest

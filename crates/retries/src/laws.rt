@@ -11,8 +11,11 @@ ghost use Rattle.sequencer.specs.Attempts.{Attempt, again, carried_on, tries_of}
 ghost use Rattle.sequencer.specs.Again.{IsTriedAgain};
 ghost use Rattle.sequencer.specs.Entries.{prepared};
 ghost use Rattle.report_text.specs.Report.{entries_in, reply_lines, batch_text, batch_texts, end_text, next_batch};
-ghost use Rattle.report_text.specs.Texts.{digest, end_line, row_text};
-ghost use Rattle.retries.specs.Standings.{Standing, start_of, attempts_at, transactions_at, transactions_in, replies_at, after_batch, after_batches, in_turn, is_of, may_have, call_count, while_carried, closing, closed};
+ghost use Rattle.row_text.specs.declared.form.DigestForm.{DigestForm};
+ghost use Rattle.row_text.specs.Partitions.{digested_text};
+ghost use Rattle.row_text.specs.Texts.{digest};
+ghost use Rattle.report_text.specs.Texts.{end_line};
+ghost use Rattle.retries.specs.Standings.{Standing, start_of, attempts_at, transactions_at, transactions_in, replies_at, after_batch, after_batches, in_turn, is_later_of, may_have, call_count, while_carried, closing, closing_within, closed};
 
 use sequencer::found_request_holds_in_its_batch;
 
@@ -35,7 +38,7 @@ pub fn attempts_are_few()
     ensures after { (retries : ℕ) (s : Standing) (calls : List Call) →
         AllByRecursion (λ one. one.tries ≤ retries) (after_batch retries s calls).carried }
     ensures in_log { (retries : ℕ) (db : Database) (batches : List (List Call)) (first : ℕ) →
-        length (filter (λ t. is_of first t.of) (transactions_in retries db batches)) ≤ retries }
+        length (filter (λ t. is_later_of first t.of) (transactions_in retries db batches)) ≤ retries }
 {}
 
 /// Each attempt of a batch that is stale, and has fewer attempts before it than are tried again, is carried into the
@@ -140,7 +143,7 @@ pub fn batches_follow_one_another()
 /// again.
 pub fn log_is_closed_after_its_batches()
     ensures none { (retries : ℕ) (faulty : Bool) (s : Standing) →
-        closed retries faulty s [] ≡ cond faulty [] (closing retries retries s) }
+        closed retries faulty s [] ≡ cond faulty [] (closing retries s) }
     ensures next { (retries : ℕ) (faulty : Bool) (s : Standing) (calls : List Call) (rest : List (List Call)) →
         closed retries faulty s (calls ∷ rest) ≡ calls ∷ closed retries faulty (after_batch retries s calls) rest }
     ensures after { (retries : ℕ) (faulty : Bool) (s : Standing) (batches rest : List (List Call)) →
@@ -154,7 +157,7 @@ pub fn log_is_closed_after_its_batches()
         closed retries false (after_batches retries (start_of db) batches) []
         ≡ while_carried (after_batches retries (start_of db) batches).carried
         (closed retries false (after_batch retries (after_batches retries (start_of db) batches) []) []) }
-    ensures few { (retries most : ℕ) (s : Standing) → length (closing retries most s) ≤ most }
+    ensures few { (retries most : ℕ) (s : Standing) → length (closing_within retries most s) ≤ most }
 {}
 
 /// The serial run over all transactions at once is the same: it ends with the rows that the batches leave, it has as
@@ -184,20 +187,21 @@ pub fn serial_run_is_one_run()
         (replies_at (after_batches retries (start_of db) batches) calls) }
 {}
 
-/// The report of batches grows by the text of each, with the numbers and on the rows that the batches before it leave,
-/// and the end line has the count and the rows that all of them leave.
+/// The report of batches, in either form of the digests of rows, grows by the text of each, with the numbers and on the
+/// rows that the batches before it leave, and the end line has the count and the rows that all of them leave.
 pub fn report_grows_batch_by_batch()
-    ensures texts { (tables : List TableShape) (retries : ℕ) (db : Database)
+    ensures texts { (form : DigestForm) (tables : List TableShape) (retries : ℕ) (db : Database)
         (batches : List (List Call)) (calls : List Call) →
-        batch_texts tables 1 0 db (in_turn retries (start_of db) (batches ++ calls ∷ []))
-        ≡ batch_texts tables 1 0 db (in_turn retries (start_of db) batches)
-        ++ batch_text tables (next_batch (length batches)) (after_batches retries (start_of db) batches).next
+        batch_texts form tables 1 0 db (in_turn retries (start_of db) (batches ++ calls ∷ []))
+        ≡ batch_texts form tables 1 0 db (in_turn retries (start_of db) batches)
+        ++ batch_text form tables (next_batch (length batches)) (after_batches retries (start_of db) batches).next
         (after_batches retries (start_of db) batches).rows
         (transactions_at (after_batches retries (start_of db) batches) calls) }
-    ensures end { (tables : List TableShape) (retries : ℕ) (db : Database) (batches : List (List Call)) →
-        end_text false tables db (transactions_in retries db batches)
+    ensures end { (form : DigestForm) (tables : List TableShape) (retries : ℕ) (db : Database)
+        (batches : List (List Call)) →
+        end_text false form tables db (transactions_in retries db batches)
         ≡ end_line (after_batches retries (start_of db) batches).next
-        (digest (row_text tables (after_batches retries (start_of db) batches).rows))
+        (digest (digested_text form tables (after_batches retries (start_of db) batches).rows))
         (digest (reply_lines 0 (transactions_in retries db batches)
         (serial_replies (entries_in (transactions_in retries db batches)) db))) }
 {}

@@ -5,21 +5,24 @@ use Rattle.std.proofs.KnownBytes.{Appends-trans}
 use Rattle.sha2.specs.Hashers.{Holds256}
 use Rattle.devices.specs.Devices.{AppendsFront}
 use Rattle.catalogue.specs.Shapes.{TableShape}
-use Rattle.values.specs.Database.{Database}
 use Rattle.requests.specs.ProcLists.{ProcsParts}
 use Rattle.requests.specs.Requests.{Call}
 use Rattle.sequencer.specs.declared.attempts.Carried.{Carried}
-use Rattle.report_text.specs.Texts.{digest, end_line, row_text}
+use Rattle.row_text.specs.declared.form.DigestForm.{DigestForm}
+use Rattle.row_text.specs.Partitions.{digested_text}
+use Rattle.row_text.specs.Texts.{digest}
+use Rattle.report_text.specs.Texts.{end_line}
 use Rattle.report_text.specs.Report.{end_text}
-use Rattle.retries.specs.Standings.{after_batch, closing, transactions_in, while_carried, Standing}
+use Rattle.retries.specs.Standings.{after_batch, closing, closing_within, transactions_in, while_carried, Standing}
 use Rattle.retries.proofs.Reported.{end_is}
 use Rattle.engine.specs.Engines.{EngineParts, tables_of}
 use Rattle.running.specs.declared.run_fault.RunFault.{RunFault}
 use Rattle.running.specs.declared.transcript.Transcript.{Transcript}
 use Rattle.running.specs.Batches.{due_text, IsReported}
-use Rattle.running.specs.Hashers.{said_of}
+use Rattle.running.specs.Hashers.{form_of, said_of}
 use Rattle.running.specs.Reported.{lines_of, with_closing, with_drained, HasClosed, HasReported, IsClosing, IsCutAt}
 use Rattle.running.specs.Standings.{standing_of}
+use Rattle.running.specs.Starts.{Start}
 use Rattle.running.specs.Stops.{IsNotOfThread}
 use Rattle.running.specs.Stopped.{at_end, in_closing, standing_after}
 use Rattle.running.proofs.Reported.{next_text_is, standing_next, HasReported-next}
@@ -35,9 +38,9 @@ one_to_come [] rest h = absurd (h refl)
 one_to_come (c ∷ cs) rest h = refl
 
 -- where nothing is carried, no batch is to come, however many might
-closing_none : (retries most : ℕ) (s : Standing) → length s.carried ≡ 0 → closing retries most s ≡ []
+closing_none : (retries most : ℕ) (s : Standing) → length s.carried ≡ 0 → closing_within retries most s ≡ []
 closing_none retries zero s h = refl
-closing_none retries (suc most) s h = none_to_come s.carried (closing retries most (after_batch retries s [])) h
+closing_none retries (suc most) s h = none_to_come s.carried (closing_within retries most (after_batch retries s [])) h
 
 -- ---- what a sink has given on before
 
@@ -66,112 +69,113 @@ AppendsFront-drained drained sink filled text f = (f.0, f.1, f.2, drained_before
 
 -- ---- batch by batch
 
-pub HasClosed-none : (procs : ProcsParts) (retries most : ℕ) (db : Database) (ran : List (List Call)) (engine : EngineParts) (transcript : Transcript) (sink gave : Option (List ℕ)) → most ≡ retries →
-    HasReported procs retries db ran engine transcript sink gave → HasClosed procs retries db ran most engine transcript sink gave
-HasClosed-none procs retries most db ran engine transcript sink gave e h = record {
+pub HasClosed-none : (start : Start) (most : ℕ) (ran : List (List Call)) (engine : EngineParts) (transcript : Transcript) (sink gave : Option (List ℕ)) → most ≡ start.retries →
+    HasReported start ran engine transcript sink gave → HasClosed start ran most engine transcript sink gave
+HasClosed-none start most ran engine transcript sink gave e h = record {
   closers = [];
   reported = rw (append-nil ran) h;
-  first = ap (λ n. closing retries n (standing_after retries db ran)) (sym e) ∙ ap (λ (batches : List (List Call)). closing retries most (standing_after retries db batches)) (sym (append-nil ran));
+  first = ap (λ n. closing_within start.retries n (standing_after start.retries start.rows ran)) (sym e) ∙ ap (λ (batches : List (List Call)). closing_within start.retries most (standing_after start.retries start.rows batches)) (sym (append-nil ran));
 }
 
 -- after the first of the batches that close a log, something is carried, so that one without calls is next
-module _ (procs : ProcsParts) (retries most left n : ℕ) (db : Database) (ran : List (List Call)) (engine : EngineParts) (transcript : Transcript) (sink gave : Option (List ℕ))
-    (h : HasClosed procs retries db ran most engine transcript sink gave) (e : n ≡ length engine.carried) (some : ¬ (n ≡ 0)) (more : most ≡ left + 1) where
+module _ (start : Start) (most left n : ℕ) (ran : List (List Call)) (engine : EngineParts) (transcript : Transcript) (sink gave : Option (List ℕ))
+    (h : HasClosed start ran most engine transcript sink gave) (e : n ≡ length engine.carried) (some : ¬ (n ≡ 0)) (more : most ≡ left + 1) where
   abbrev before : List (List Call)
   before = ran ++ h.closers
 
-  carries : ¬ (length (standing_after retries db before).carried ≡ 0)
+  carries : ¬ (length (standing_after start.retries start.rows before).carried ≡ 0)
   carries none = some (e ∙ ap (λ (s : Standing). length s.carried) h.reported.standing_is ∙ none)
 
   all : before ++ [] ∷ [] ≡ ran ++ (h.closers ++ [] ∷ [])
   all = append_assoc ran h.closers ([] ∷ [])
 
-  next : closing retries most (standing_after retries db before) ≡ [] ∷ closing retries left (standing_after retries db (before ++ [] ∷ []))
+  next : closing_within start.retries most (standing_after start.retries start.rows before) ≡ [] ∷ closing_within start.retries left (standing_after start.retries start.rows (before ++ [] ∷ []))
   next =
-      ap (λ k. closing retries k (standing_after retries db before)) (more ∙ one_more left)
-      ∙ one_to_come (standing_after retries db before).carried (closing retries left (after_batch retries (standing_after retries db before) [])) carries
-      ∙ ap (λ (s : Standing). [] ∷ closing retries left s) (sym (standing_next retries db before []))
+      ap (λ k. closing_within start.retries k (standing_after start.retries start.rows before)) (more ∙ one_more left)
+      ∙ one_to_come (standing_after start.retries start.rows before).carried (closing_within start.retries left (after_batch start.retries (standing_after start.retries start.rows before) [])) carries
+      ∙ ap (λ (s : Standing). [] ∷ closing_within start.retries left s) (sym (standing_next start.retries start.rows before []))
     where
       one_more : (k : ℕ) → k + 1 ≡ suc k
       one_more k = omega arith
 
-  first_with : closing retries retries (standing_after retries db ran) ≡ (h.closers ++ [] ∷ []) ++ closing retries left (standing_after retries db (ran ++ (h.closers ++ [] ∷ [])))
+  first_with : closing start.retries (standing_after start.retries start.rows ran) ≡ (h.closers ++ [] ∷ []) ++ closing_within start.retries left (standing_after start.retries start.rows (ran ++ (h.closers ++ [] ∷ [])))
   first_with =
       h.first ∙ ap (λ (rest : List (List Call)). h.closers ++ rest) next
-      ∙ sym (append_assoc h.closers ([] ∷ []) (closing retries left (standing_after retries db (before ++ [] ∷ []))))
-      ∙ ap (λ (batches : List (List Call)). (h.closers ++ [] ∷ []) ++ closing retries left (standing_after retries db batches)) all
+      ∙ sym (append_assoc h.closers ([] ∷ []) (closing_within start.retries left (standing_after start.retries start.rows (before ++ [] ∷ []))))
+      ∙ ap (λ (batches : List (List Call)). (h.closers ++ [] ∷ []) ++ closing_within start.retries left (standing_after start.retries start.rows batches)) all
 
   -- it was run and reported
-  pub HasClosed-next : (after : EngineParts) (after_it : Transcript) (given : Option (List ℕ)) → after.procs ≡ engine.procs → after.retries ≡ engine.retries →
-      IsReported engine after transcript after_it gave given [] → HasClosed procs retries db ran left after after_it sink given
-  HasClosed-next after after_it given same same_retries reported = record {
+  pub HasClosed-next : (after : EngineParts) (after_it : Transcript) (given : Option (List ℕ)) → after.procs ≡ engine.procs → after.retries ≡ engine.retries → form_of after_it ≡ form_of transcript →
+      IsReported engine after transcript after_it gave given [] → HasClosed start ran left after after_it sink given
+  HasClosed-next after after_it given same same_retries same_form reported = record {
     closers = h.closers ++ [] ∷ [];
-    reported = rw all at (HasReported-next procs retries db before [] engine after transcript after_it sink gave given h.reported same same_retries reported);
+    reported = rw all at (HasReported-next start before [] engine after transcript after_it sink gave given h.reported same same_retries same_form reported);
     first = first_with;
   }
 
   -- or a fault stopped it
-  pub HasClosed-cut : (given : Option (List ℕ)) (fault : RunFault) → AppendsFront gave given (due_text engine transcript []) → IsCutAt in_closing procs retries db ran sink given fault
+  pub HasClosed-cut : (given : Option (List ℕ)) (fault : RunFault) → AppendsFront gave given (due_text engine transcript []) → IsCutAt in_closing start ran sink given fault
   HasClosed-cut given fault front = record {
     closers = h.closers;
     ends = refl;
     closed = (
-      closing retries left (standing_after retries db (before ++ [] ∷ [])),
+      closing_within start.retries left (standing_after start.retries start.rows (before ++ [] ∷ [])),
       h.first ∙ ap (λ (rest : List (List Call)). h.closers ++ rest) next,
     );
-    written = (gave, h.reported.text_is, rw (next_text_is procs retries db before [] engine transcript sink gave h.reported) at front);
+    written = (gave, h.reported.text_is, rw (next_text_is start before [] engine transcript sink gave h.reported) at front);
   }
 
 -- nothing is carried any more, or no batch may be to come
-pub HasClosed-end : (procs : ProcsParts) (retries most : ℕ) (db : Database) (ran : List (List Call)) (engine : EngineParts) (transcript : Transcript) (sink gave : Option (List ℕ))
-    (h : HasClosed procs retries db ran most engine transcript sink gave) → closing retries most (standing_after retries db (ran ++ h.closers)) ≡ [] →
-    HasReported procs retries db (with_closing retries db ran) engine transcript sink gave
-HasClosed-end procs retries most db ran engine transcript sink gave h none =
-    let closers : closing retries retries (standing_after retries db ran) ≡ h.closers = h.first ∙ ap (λ (rest : List (List Call)). h.closers ++ rest) none ∙ append-nil h.closers in
+pub HasClosed-end : (start : Start) (most : ℕ) (ran : List (List Call)) (engine : EngineParts) (transcript : Transcript) (sink gave : Option (List ℕ))
+    (h : HasClosed start ran most engine transcript sink gave) → closing_within start.retries most (standing_after start.retries start.rows (ran ++ h.closers)) ≡ [] →
+    HasReported start (with_closing start.retries start.rows ran) engine transcript sink gave
+HasClosed-end start most ran engine transcript sink gave h none =
+    let closers : closing start.retries (standing_after start.retries start.rows ran) ≡ h.closers = h.first ∙ ap (λ (rest : List (List Call)). h.closers ++ rest) none ∙ append-nil h.closers in
     rw closers h.reported
 
-pub HasClosed-uncarried : (procs : ProcsParts) (retries most n : ℕ) (db : Database) (ran : List (List Call)) (engine : EngineParts) (transcript : Transcript) (sink gave : Option (List ℕ)) →
-    HasClosed procs retries db ran most engine transcript sink gave → n ≡ length engine.carried → n ≡ 0 → HasReported procs retries db (with_closing retries db ran) engine transcript sink gave
-HasClosed-uncarried procs retries most n db ran engine transcript sink gave h e none =
-    HasClosed-end procs retries most db ran engine transcript sink gave h
-    (closing_none retries most (standing_after retries db (ran ++ h.closers)) (sym (e ∙ ap (λ (s : Standing). length s.carried) h.reported.standing_is) ∙ none))
+pub HasClosed-uncarried : (start : Start) (most n : ℕ) (ran : List (List Call)) (engine : EngineParts) (transcript : Transcript) (sink gave : Option (List ℕ)) →
+    HasClosed start ran most engine transcript sink gave → n ≡ length engine.carried → n ≡ 0 → HasReported start (with_closing start.retries start.rows ran) engine transcript sink gave
+HasClosed-uncarried start most n ran engine transcript sink gave h e none =
+    HasClosed-end start most ran engine transcript sink gave h
+    (closing_none start.retries most (standing_after start.retries start.rows (ran ++ h.closers)) (sym (e ∙ ap (λ (s : Standing). length s.carried) h.reported.standing_is) ∙ none))
 
-pub HasClosed-spent : (procs : ProcsParts) (retries most : ℕ) (db : Database) (ran : List (List Call)) (engine : EngineParts) (transcript : Transcript) (sink gave : Option (List ℕ)) →
-    HasClosed procs retries db ran most engine transcript sink gave → most ≡ 0 → HasReported procs retries db (with_closing retries db ran) engine transcript sink gave
-HasClosed-spent procs retries most db ran engine transcript sink gave h none =
-    HasClosed-end procs retries most db ran engine transcript sink gave h (ap (λ n. closing retries n (standing_after retries db (ran ++ h.closers))) none)
+pub HasClosed-spent : (start : Start) (most : ℕ) (ran : List (List Call)) (engine : EngineParts) (transcript : Transcript) (sink gave : Option (List ℕ)) →
+    HasClosed start ran most engine transcript sink gave → most ≡ 0 → HasReported start (with_closing start.retries start.rows ran) engine transcript sink gave
+HasClosed-spent start most ran engine transcript sink gave h none =
+    HasClosed-end start most ran engine transcript sink gave h (ap (λ n. closing_within start.retries n (standing_after start.retries start.rows (ran ++ h.closers))) none)
 
 -- ---- the end line
 
-pub end_line_is : (procs : ProcsParts) (retries : ℕ) (db : Database) (ran : List (List Call)) (engine : EngineParts) (transcript : Transcript) (sink gave : Option (List ℕ)) →
-    HasReported procs retries db ran engine transcript sink gave →
-    end_line engine.next (digest (row_text (tables_of engine) engine.rows)) (digest (lines_of retries db ran)) ≡ end_text false procs.tables db (transactions_in retries db ran)
-end_line_is procs retries db ran engine transcript sink gave h =
-    let line : List TableShape → Standing → List ℕ = λ tables s. end_line s.next (digest (row_text tables s.rows)) (digest (lines_of retries db ran)) in
-    ap (λ (p : ProcsParts). line p.tables (standing_of engine)) h.procs_are ∙ ap (line procs.tables) h.standing_is ∙ sym (end_is procs.tables retries db ran)
+pub end_line_is : (start : Start) (ran : List (List Call)) (engine : EngineParts) (transcript : Transcript) (sink gave : Option (List ℕ)) →
+    HasReported start ran engine transcript sink gave →
+    end_line engine.next (digest (digested_text (form_of transcript) (tables_of engine) engine.rows)) (digest (lines_of start.retries start.rows ran)) ≡ end_text false start.digest start.procs.tables start.rows (transactions_in start.retries start.rows ran)
+end_line_is start ran engine transcript sink gave h =
+    let line : DigestForm → List TableShape → Standing → List ℕ = λ form tables s. end_line s.next (digest (digested_text form tables s.rows)) (digest (lines_of start.retries start.rows ran)) in
+    ap (λ (form : DigestForm). line form (tables_of engine) (standing_of engine)) h.form_is
+    ∙ ap (λ (p : ProcsParts). line start.digest p.tables (standing_of engine)) h.procs_are ∙ ap (line start.digest start.procs.tables) h.standing_is ∙ sym (end_is start.digest start.procs.tables start.retries start.rows ran)
 
 on_ok : (r : Result ℕ RunFault) (gave given : Option (List ℕ)) (text same : List ℕ) → text ≡ same → OnOk r (Appends gave given text) → OnOk r (Appends gave given same)
 on_ok (Ok n) gave given text same e h = rw e at h
 on_ok (Err fault) gave given text same e h = tt
 
 -- all batches that close the log are reported, and the end line is written or not
-ended : (r : Result ℕ RunFault) (procs : ProcsParts) (retries : ℕ) (db : Database) (ran : List (List Call)) (engine : EngineParts) (transcript : Transcript) (sink gave given : Option (List ℕ)) →
-    HasReported procs retries db (with_closing retries db ran) engine transcript sink gave → IfOk r (λ n. n ≡ engine.next) →
-    OnOk r (Appends gave given (end_text false procs.tables db (transactions_in retries db (with_closing retries db ran)))) →
-    AppendsFront gave given (end_text false procs.tables db (transactions_in retries db (with_closing retries db ran))) → IsNotOfThread r → IsClosing procs retries db ran sink given r
-ended (Ok n) procs retries db ran engine transcript sink gave given h count text front threadless = record {
+ended : (r : Result ℕ RunFault) (start : Start) (ran : List (List Call)) (engine : EngineParts) (transcript : Transcript) (sink gave given : Option (List ℕ)) →
+    HasReported start (with_closing start.retries start.rows ran) engine transcript sink gave → IfOk r (λ n. n ≡ engine.next) →
+    OnOk r (Appends gave given (end_text false start.digest start.procs.tables start.rows (transactions_in start.retries start.rows (with_closing start.retries start.rows ran)))) →
+    AppendsFront gave given (end_text false start.digest start.procs.tables start.rows (transactions_in start.retries start.rows (with_closing start.retries start.rows ran))) → IsNotOfThread r → IsClosing start ran sink given r
+ended (Ok n) start ran engine transcript sink gave given h count text front threadless = record {
   count = count ∙ ap (λ (s : Standing). s.next) h.standing_is;
   text = Appends-trans sink gave given _ _ h.text_is text;
   stop = tt;
 }
-ended (Err fault) procs retries db ran engine transcript sink gave given h count text front threadless = record {
+ended (Err fault) start ran engine transcript sink gave given h count text front threadless = record {
   count = tt;
   text = tt;
   stop = record {
     stage = at_end;
     all_read = tt;
     cut = record {
-      closers = closing retries retries (standing_after retries db ran);
+      closers = closing start.retries (standing_after start.retries start.rows ran);
       ends = (refl, threadless);
       closed = refl;
       written = (gave, h.text_is, front);
@@ -179,50 +183,38 @@ ended (Err fault) procs retries db ran engine transcript sink gave given h count
   };
 }
 
-pub IsClosing-end : (r : Result ℕ RunFault) (procs : ProcsParts) (retries : ℕ) (db : Database) (ran : List (List Call)) (engine : EngineParts) (transcript : Transcript) (sink gave given : Option (List ℕ)) →
-    HasReported procs retries db (with_closing retries db ran) engine transcript sink gave → IfOk r (λ n. n ≡ engine.next) →
-    ((m : List ℕ) → Holds256 (said_of transcript) m → OnOk r (Appends gave given (end_line engine.next (digest (row_text (tables_of engine) engine.rows)) (digest m)))) →
-    ((m : List ℕ) → Holds256 (said_of transcript) m → AppendsFront gave given (end_line engine.next (digest (row_text (tables_of engine) engine.rows)) (digest m))) →
-    IsNotOfThread r → IsClosing procs retries db ran sink given r
-IsClosing-end r procs retries db ran engine transcript sink gave given h count text front threadless =
-    let batches : List (List Call) = with_closing retries db ran in
-    let line = end_line_is procs retries db batches engine transcript sink gave h in
-    ended r procs retries db ran engine transcript sink gave given h count
-    (on_ok r gave given _ _ line (text (lines_of retries db batches) h.said_is)) (rw line at (front (lines_of retries db batches) h.said_is)) threadless
+pub IsClosing-end : (r : Result ℕ RunFault) (start : Start) (ran : List (List Call)) (engine : EngineParts) (transcript : Transcript) (sink gave given : Option (List ℕ)) →
+    HasReported start (with_closing start.retries start.rows ran) engine transcript sink gave → IfOk r (λ n. n ≡ engine.next) →
+    ((m : List ℕ) → Holds256 (said_of transcript) m → OnOk r (Appends gave given (end_line engine.next (digest (digested_text (form_of transcript) (tables_of engine) engine.rows)) (digest m)))) →
+    ((m : List ℕ) → Holds256 (said_of transcript) m → AppendsFront gave given (end_line engine.next (digest (digested_text (form_of transcript) (tables_of engine) engine.rows)) (digest m))) →
+    IsNotOfThread r → IsClosing start ran sink given r
+IsClosing-end r start ran engine transcript sink gave given h count text front threadless =
+    let batches : List (List Call) = with_closing start.retries start.rows ran in
+    let line = end_line_is start batches engine transcript sink gave h in
+    ended r start ran engine transcript sink gave given h count
+    (on_ok r gave given _ _ line (text (lines_of start.retries start.rows batches) h.said_is)) (rw line at (front (lines_of start.retries start.rows batches) h.said_is)) threadless
 
 -- ---- nothing was given on
 
-pub undrained : (procs : ProcsParts) (retries : ℕ) (db : Database) (ran : List (List Call)) (engine : EngineParts) (transcript : Transcript) (sink gave : Option (List ℕ)) →
-    HasReported procs retries db ran engine transcript sink gave → HasReported procs retries db ran engine transcript sink (with_drained [] gave)
-undrained procs retries db ran engine transcript sink gave h =
-    subst (λ (o : Option (List ℕ)). HasReported procs retries db ran engine transcript sink o) (sym (none_drained gave)) h
+pub undrained : (start : Start) (ran : List (List Call)) (engine : EngineParts) (transcript : Transcript) (sink gave : Option (List ℕ)) →
+    HasReported start ran engine transcript sink gave → HasReported start ran engine transcript sink (with_drained [] gave)
+undrained start ran engine transcript sink gave h =
+    subst (λ (o : Option (List ℕ)). HasReported start ran engine transcript sink o) (sym (none_drained gave)) h
 
-pub reported_undrained : (procs : ProcsParts) (retries : ℕ) (db : Database) (ran : List (List Call)) (engine : EngineParts) (transcript : Transcript) (sink gave : Option (List ℕ)) →
-    HasReported procs retries db ran engine transcript sink (with_drained [] gave) → HasReported procs retries db ran engine transcript sink gave
-reported_undrained procs retries db ran engine transcript sink gave h =
-    subst (λ (o : Option (List ℕ)). HasReported procs retries db ran engine transcript sink o) (none_drained gave) h
+pub reported_undrained : (start : Start) (ran : List (List Call)) (engine : EngineParts) (transcript : Transcript) (sink gave : Option (List ℕ)) →
+    HasReported start ran engine transcript sink (with_drained [] gave) → HasReported start ran engine transcript sink gave
+reported_undrained start ran engine transcript sink gave h =
+    subst (λ (o : Option (List ℕ)). HasReported start ran engine transcript sink o) (none_drained gave) h
 
 -- a fault stopped the batches that close the log
-pub IsClosing-cut : (procs : ProcsParts) (retries : ℕ) (db : Database) (ran : List (List Call)) (sink gave : Option (List ℕ)) (fault : RunFault) →
-    IsCutAt in_closing procs retries db ran sink (with_drained [] gave) fault → IsClosing procs retries db ran sink gave (Err fault)
-IsClosing-cut procs retries db ran sink gave fault cut = record {
+pub IsClosing-cut : (start : Start) (ran : List (List Call)) (sink gave : Option (List ℕ)) (fault : RunFault) →
+    IsCutAt in_closing start ran sink (with_drained [] gave) fault → IsClosing start ran sink gave (Err fault)
+IsClosing-cut start ran sink gave fault cut = record {
   count = tt;
   text = tt;
   stop = record {
     stage = in_closing;
     all_read = tt;
-    cut = subst (λ (o : Option (List ℕ)). IsCutAt in_closing procs retries db ran sink o fault) (none_drained gave) cut;
+    cut = subst (λ (o : Option (List ℕ)). IsCutAt in_closing start ran sink o fault) (none_drained gave) cut;
   };
 }
-
--- ---- a log that is closed
-
-pub closed_as : (r : Result ℕ RunFault) (procs : ProcsParts) (retries : ℕ) (db : Database) (ran : List (List Call)) (engine : EngineParts) (transcript : Transcript) (sink gave given : Option (List ℕ)) →
-    HasReported procs retries db ran engine transcript sink gave →
-    ((db : Database) (ran : List (List Call)) (start : Option (List ℕ)) → HasReported engine.procs engine.retries db ran engine transcript start gave → IsClosing engine.procs engine.retries db ran start given r) →
-    IsClosing procs retries db ran sink given r
-closed_as r procs retries db ran engine transcript sink gave given h closed =
-    let Reported : ProcsParts → ℕ → Type 0 = λ p k. HasReported p k db ran engine transcript sink gave in
-    let Closing : ProcsParts → ℕ → Type 0 = λ p k. IsClosing p k db ran sink given r in
-    let own : Reported engine.procs engine.retries = subst (λ p. Reported p engine.retries) (sym h.procs_are) (subst (λ k. Reported procs k) (sym h.retries_are) h) in
-    subst (λ k. Closing procs k) h.retries_are (subst (λ p. Closing p engine.retries) h.procs_are (closed db ran sink own))

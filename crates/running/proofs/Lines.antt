@@ -1,7 +1,9 @@
 -- The text of a batch that was run.
-use Rattle.std.proofs.Common.{◌≡◌, ℕ, ◌+◌, List, [], ◌∷◌, map, Option, Some, refl, sym, ap, subst, ◌∙◌}
+use Rattle.std.proofs.Common.{◌≡◌, ℕ, ◌+◌, List, [], ◌∷◌, map, Option, Some, None, refl, sym, ap, subst, ◌∙◌}
 use Rattle.std.specs.Option.{IfSome}
-use Rattle.report_text.specs.Texts.{digest, row_text}
+use Rattle.row_text.specs.declared.form.DigestForm.{DigestForm}
+use Rattle.row_text.specs.Partitions.{digested_text}
+use Rattle.row_text.specs.Texts.{digest}
 use Rattle.catalogue.specs.Shapes.{TableShape}
 use Rattle.values.specs.Database.{Database}
 use Rattle.requests.specs.ProcLists.{ProcsParts}
@@ -19,11 +21,13 @@ use Rattle.engine.specs.declared.replies.BatchDone.{BatchDone}
 use Rattle.engine.specs.declared.replies.Reply.{Reply}
 use Rattle.engine.specs.Batches.{entries_of, next_attempts}
 use Rattle.engine.specs.Engines.{EngineParts, tables_of}
-use Rattle.engine.specs.Executions.{IsExecutionOf, KeepsSetting}
+use Rattle.engine.specs.declared.fault.ExecFault.{ExecFault}
+use Rattle.engine.specs.declared.fault.ExecFault.TheVariants.{Busy, LogFull, Spawn, NoMemory}
+use Rattle.engine.specs.Executions.{IsExecutionOf, IsRefusal, KeepsSetting}
 use Rattle.engine.specs.Replies.{first_attempt, reply_of, sent_of, sent_from, Sent}
 use Rattle.running.specs.declared.transcript.Transcript.{Transcript}
 use Rattle.running.specs.Batches.{KeepsDigest}
-use Rattle.running.specs.Hashers.{rows_digest_of}
+use Rattle.running.specs.Hashers.{form_of, rows_digest_of}
 use Rattle.running.specs.Standings.{standing_of}
 use Rattle.running.specs.Transcripts.{said_lines, with_batch_line}
 
@@ -75,23 +79,41 @@ module _ (old new : EngineParts) (batch : Batch) (run : BatchDone) (calls : List
   pub standing_is : standing_of new ≡ after_batch old.retries (standing_of old) calls
   standing_is = rw (ran.next, rows_are, ran.carried, entries) refl
 
-pub text_is : (tables given : List TableShape) (batch n : ℕ) (db after : Database) (transactions : List Transaction) (lines : List ℕ) →
+pub text_is : (form : DigestForm) (tables given : List TableShape) (batch n : ℕ) (db after : Database) (transactions : List Transaction) (lines : List ℕ) →
     given ≡ tables → after ≡ serial_end (entries_in transactions) db → lines ≡ reply_lines n transactions (serial_replies (entries_in transactions) db) →
-    with_batch_line batch given after lines ≡ batch_text tables batch n db transactions
+    with_batch_line form batch given after lines ≡ batch_text form tables batch n db transactions
 unfolding with_batch_line batch_text
-text_is tables given batch n db after transactions lines t e f = rw (t, e, f) refl
+text_is form tables given batch n db after transactions lines t e f = rw (t, e, f) refl
 
 -- the text of a batch on the engine that has run it
-pub batch_text_is : (old new : EngineParts) (batch : Batch) (run : BatchDone) (calls : List Call) (number : ℕ) (given : List TableShape) (rows : Database) (replies : List Reply) →
+pub batch_text_is : (old new : EngineParts) (batch : Batch) (run : BatchDone) (calls : List Call) (form : DigestForm) (number : ℕ) (given : List TableShape) (rows : Database) (replies : List Reply) →
     IsExecutionOf old new (next_attempts old batch) run → KeepsSetting old new → items_of batch ≡ items_from 0 calls → given ≡ tables_of new → rows ≡ new.rows → replies ≡ run.replies.items →
-    with_batch_line number given rows (said_lines replies) ≡ batch_text (tables_of old) number old.next old.rows (transactions_at (standing_of old) calls)
-batch_text_is old new batch run calls number given rows replies r same e t s f =
-    text_is (tables_of old) given number old.next old.rows rows (transactions_at (standing_of old) calls) (said_lines replies)
+    with_batch_line form number given rows (said_lines replies) ≡ batch_text form (tables_of old) number old.next old.rows (transactions_at (standing_of old) calls)
+batch_text_is old new batch run calls form number given rows replies r same e t s f =
+    text_is form (tables_of old) given number old.next old.rows rows (transactions_at (standing_of old) calls) (said_lines replies)
     (t ∙ ap (λ (p : ProcsParts). p.tables) same.procs) (s ∙ rows_are old new batch run calls r e) (ap said_lines f ∙ lines_are old new batch run calls r e)
 
 -- the digest that is kept is that of the rows
-pub digest_of_rows : (new : EngineParts) (transcript : Transcript) (given : List TableShape) (rows : Database) → rows_digest_of transcript ≡ Some (digest (row_text given rows)) → given ≡ tables_of new → rows ≡ new.rows →
-    KeepsDigest new transcript
-digest_of_rows new transcript given rows kept t s =
-    let same : digest (row_text given rows) ≡ digest (row_text (tables_of new) new.rows) = rw (t, s) refl in
-    subst (λ (o : Option (List ℕ)). IfSome o (λ text. text ≡ digest (row_text (tables_of new) new.rows))) (sym kept) same
+pub digest_of_rows : (new : EngineParts) (transcript : Transcript) (form : DigestForm) (given : List TableShape) (rows : Database) → rows_digest_of transcript ≡ Some (digest (digested_text form given rows)) →
+    form_of transcript ≡ form → given ≡ tables_of new → rows ≡ new.rows → KeepsDigest new transcript
+digest_of_rows new transcript form given rows kept f t s =
+    let text : List ℕ = digested_text (form_of transcript) (tables_of new) new.rows in
+    let same : digest (digested_text form given rows) ≡ digest text = rw (f, t, s) refl in
+    subst (λ (o : Option (List ℕ)). IfSome o (λ made. made ≡ digest text)) (sym kept) same
+
+-- a transcript that keeps no digest
+pub none_kept : (engine : EngineParts) (transcript : Transcript) → rows_digest_of transcript ≡ None → KeepsDigest engine transcript
+none_kept engine transcript none =
+    subst (λ (o : Option (List ℕ)). IfSome o (λ made. made ≡ digest (digested_text (form_of transcript) (tables_of engine) engine.rows))) (sym none) tt
+
+-- an engine that has not run a batch to its end has the rows that it had
+rows_held : (old new : EngineParts) (batch : Batch) (fault : ExecFault) → IsRefusal old new batch fault → new.rows ≡ old.rows
+rows_held old new batch (Busy back) h = ap (λ (e : EngineParts). e.rows) h.2
+rows_held old new batch (LogFull back) h = ap (λ (e : EngineParts). e.rows) h.2
+rows_held old new batch Spawn h = h.1.rows
+rows_held old new batch NoMemory h = h.1.rows
+
+pub still_kept : (old new : EngineParts) (batch : Batch) (fault : ExecFault) (transcript : Transcript) → IsRefusal old new batch fault → KeepsSetting old new → KeepsDigest old transcript → KeepsDigest new transcript
+still_kept old new batch fault transcript refused same kept =
+    let tables : tables_of new ≡ tables_of old = ap (λ (p : ProcsParts). p.tables) same.procs in
+    rw (tables, rows_held old new batch fault refused) kept

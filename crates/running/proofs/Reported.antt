@@ -6,6 +6,7 @@ use Rattle.std.proofs.lemmas.List.Sums.{sum_by-append}
 use Rattle.sha2.specs.Hashers.{Holds256}
 use Rattle.catalogue.specs.Shapes.{TableShape}
 use Rattle.values.specs.Database.{Database}
+use Rattle.row_text.specs.declared.form.DigestForm.{DigestForm}
 use Rattle.requests.specs.ProcLists.{ProcsParts}
 use Rattle.requests.specs.Requests.{Call}
 use Rattle.batch_log.specs.Log.{most_calls}
@@ -18,9 +19,10 @@ use Rattle.retries.proofs.Spent.{at_most_next, fits}
 use Rattle.engine.specs.Engines.{EngineParts}
 use Rattle.running.specs.declared.transcript.Transcript.{Transcript}
 use Rattle.running.specs.Batches.{due_text, IsReported}
-use Rattle.running.specs.Hashers.{batch_of, said_of}
+use Rattle.running.specs.Hashers.{batch_of, form_of, said_of}
 use Rattle.running.specs.Reported.{lines_of, HasReported, IsAfterLog}
 use Rattle.running.specs.Standings.{standing_of}
+use Rattle.running.specs.Starts.{start_of as start_with, Start}
 use Rattle.running.specs.Stopped.{next_text, standing_after, texts_of}
 
 -- ---- nothing has run
@@ -31,12 +33,13 @@ first_number = omega arith
 at_start : (engine : EngineParts) → engine.next ≡ 0 → engine.carried ≡ [] → standing_of engine ≡ start_of engine.rows
 at_start engine e f = rw (e, f) refl
 
-pub HasReported-none : (engine : EngineParts) (transcript : Transcript) (sink : Option (List ℕ)) → engine.next ≡ 0 → engine.carried ≡ [] → batch_of transcript ≡ 1 → Holds256 (said_of transcript) [] →
-    HasReported engine.procs engine.retries engine.rows [] engine transcript sink sink
-HasReported-none engine transcript sink e f b h = record {
+pub HasReported-none : (engine : EngineParts) (form : DigestForm) (transcript : Transcript) (sink : Option (List ℕ)) → engine.next ≡ 0 → engine.carried ≡ [] → batch_of transcript ≡ 1 → Holds256 (said_of transcript) [] →
+    form_of transcript ≡ form → HasReported (start_with engine form) [] engine transcript sink sink
+HasReported-none engine form transcript sink e f b h is = record {
   procs_are = refl;
   retries_are = refl;
   standing_is = at_start engine e f;
+  form_is = is;
   batch_is = b ∙ first_number;
   said_is = h;
   text_is = Appends-nil sink;
@@ -50,33 +53,35 @@ number_next b n m e f = omega arith
 pub standing_next : (retries : ℕ) (db : Database) (ran : List (List Call)) (calls : List Call) → standing_after retries db (ran ++ calls ∷ []) ≡ after_batch retries (standing_after retries db ran) calls
 standing_next retries db ran calls = after_batches-append retries (start_of db) ran (calls ∷ [])
 
-abbrev text_from : List TableShape → ℕ → Standing → List Call → List ℕ
-text_from tables batch standing calls = batch_text tables batch standing.next standing.rows (transactions_at standing calls)
+abbrev text_from : DigestForm → List TableShape → ℕ → Standing → List Call → List ℕ
+text_from form tables batch standing calls = batch_text form tables batch standing.next standing.rows (transactions_at standing calls)
 
 abbrev lines_from : Standing → List Call → List ℕ
 lines_from standing calls = reply_lines standing.next (transactions_at standing calls) (replies_at standing calls)
 
 -- the text of a batch on the engine is that of the next batch
-pub next_text_is : (procs : ProcsParts) (retries : ℕ) (db : Database) (ran : List (List Call)) (calls : List Call) (engine : EngineParts) (transcript : Transcript) (sink gave : Option (List ℕ)) →
-    HasReported procs retries db ran engine transcript sink gave → due_text engine transcript calls ≡ next_text procs retries db ran calls
-next_text_is procs retries db ran calls engine transcript sink gave h =
-    ap (λ (p : ProcsParts). text_from p.tables (batch_of transcript) (standing_of engine) calls) h.procs_are
-    ∙ ap (λ b. text_from procs.tables b (standing_of engine) calls) h.batch_is
-    ∙ ap (λ (s : Standing). text_from procs.tables (next_batch (length ran)) s calls) h.standing_is
+pub next_text_is : (start : Start) (ran : List (List Call)) (calls : List Call) (engine : EngineParts) (transcript : Transcript) (sink gave : Option (List ℕ)) →
+    HasReported start ran engine transcript sink gave → due_text engine transcript calls ≡ next_text start ran calls
+next_text_is start ran calls engine transcript sink gave h =
+    ap (λ (p : ProcsParts). text_from (form_of transcript) p.tables (batch_of transcript) (standing_of engine) calls) h.procs_are
+    ∙ ap (λ (form : DigestForm). text_from form start.procs.tables (batch_of transcript) (standing_of engine) calls) h.form_is
+    ∙ ap (λ b. text_from start.digest start.procs.tables b (standing_of engine) calls) h.batch_is
+    ∙ ap (λ (s : Standing). text_from start.digest start.procs.tables (next_batch (length ran)) s calls) h.standing_is
 
 -- a batch ran and was reported
-pub HasReported-next : (procs : ProcsParts) (retries : ℕ) (db : Database) (ran : List (List Call)) (calls : List Call) (engine after : EngineParts) (transcript after_it : Transcript) (sink gave given : Option (List ℕ)) →
-    HasReported procs retries db ran engine transcript sink gave → after.procs ≡ engine.procs → after.retries ≡ engine.retries →
-    IsReported engine after transcript after_it gave given calls → HasReported procs retries db (ran ++ calls ∷ []) after after_it sink given
-HasReported-next procs retries db ran calls engine after transcript after_it sink gave given h e r reported =
-    let grown : lines_of retries db ran ++ reply_lines engine.next (transactions_at (standing_of engine) calls) (replies_at (standing_of engine) calls) ≡ lines_of retries db (ran ++ calls ∷ []) =
-    ap (λ (s : Standing). lines_of retries db ran ++ lines_from s calls) h.standing_is ∙ sym (lines_grown retries db ran calls) in
-    let texts : texts_of procs retries db ran ++ due_text engine transcript calls ≡ texts_of procs retries db (ran ++ calls ∷ []) =
-    ap (λ t. texts_of procs retries db ran ++ t) (next_text_is procs retries db ran calls engine transcript sink gave h) ∙ sym (texts_grown procs.tables retries db ran calls) in
+pub HasReported-next : (start : Start) (ran : List (List Call)) (calls : List Call) (engine after : EngineParts) (transcript after_it : Transcript) (sink gave given : Option (List ℕ)) →
+    HasReported start ran engine transcript sink gave → after.procs ≡ engine.procs → after.retries ≡ engine.retries → form_of after_it ≡ form_of transcript →
+    IsReported engine after transcript after_it gave given calls → HasReported start (ran ++ calls ∷ []) after after_it sink given
+HasReported-next start ran calls engine after transcript after_it sink gave given h e r f reported =
+    let grown : lines_of start.retries start.rows ran ++ reply_lines engine.next (transactions_at (standing_of engine) calls) (replies_at (standing_of engine) calls) ≡ lines_of start.retries start.rows (ran ++ calls ∷ []) =
+    ap (λ (s : Standing). lines_of start.retries start.rows ran ++ lines_from s calls) h.standing_is ∙ sym (lines_grown start.retries start.rows ran calls) in
+    let texts : texts_of start ran ++ due_text engine transcript calls ≡ texts_of start (ran ++ calls ∷ []) =
+    ap (λ t. texts_of start ran ++ t) (next_text_is start ran calls engine transcript sink gave h) ∙ sym (texts_grown start.digest start.procs.tables start.retries start.rows ran calls) in
     record {
       procs_are = e ∙ h.procs_are;
       retries_are = r ∙ h.retries_are;
-      standing_is = reported.standing ∙ ap (λ k. after_batch k (standing_of engine) calls) h.retries_are ∙ ap (λ (s : Standing). after_batch retries s calls) h.standing_is ∙ sym (standing_next retries db ran calls);
+      standing_is = reported.standing ∙ ap (λ k. after_batch k (standing_of engine) calls) h.retries_are ∙ ap (λ (s : Standing). after_batch start.retries s calls) h.standing_is ∙ sym (standing_next start.retries start.rows ran calls);
+      form_is = f ∙ h.form_is;
       batch_is = reported.batch ∙ number_next (batch_of transcript) (length ran) _ h.batch_is (length-append ran (calls ∷ []));
       said_is = rw grown at (reported.said _ h.said_is);
       text_is = rw texts at (Appends-trans sink gave given _ _ h.text_is reported.text);
@@ -85,21 +90,21 @@ HasReported-next procs retries db ran calls engine after transcript after_it sin
 -- ---- what was reported first
 
 -- the texts of some batches are a beginning of those of more
-pub texts_further : (procs : ProcsParts) (retries : ℕ) (db : Database) (ran more : List (List Call)) → (rest : List ℕ) × (texts_of procs retries db (ran ++ more) ≡ texts_of procs retries db ran ++ rest)
-texts_further procs retries db ran [] = ([], ap (texts_of procs retries db) (append-nil ran) ∙ sym (append-nil (texts_of procs retries db ran)))
-texts_further procs retries db ran (calls ∷ more) =
-    let further = texts_further procs retries db (ran ++ calls ∷ []) more in (
-      next_text procs retries db ran calls ++ further.0,
-      ap (texts_of procs retries db) (sym (append_assoc ran (calls ∷ []) more)) ∙ further.1 ∙ ap (λ text. text ++ further.0) (texts_grown procs.tables retries db ran calls)
-          ∙ append_assoc (texts_of procs retries db ran) (next_text procs retries db ran calls) further.0,
+pub texts_further : (start : Start) (ran more : List (List Call)) → (rest : List ℕ) × (texts_of start (ran ++ more) ≡ texts_of start ran ++ rest)
+texts_further start ran [] = ([], ap (texts_of start) (append-nil ran) ∙ sym (append-nil (texts_of start ran)))
+texts_further start ran (calls ∷ more) =
+    let further = texts_further start (ran ++ calls ∷ []) more in (
+      next_text start ran calls ++ further.0,
+      ap (texts_of start) (sym (append_assoc ran (calls ∷ []) more)) ∙ further.1 ∙ ap (λ text. text ++ further.0) (texts_grown start.digest start.procs.tables start.retries start.rows ran calls)
+          ∙ append_assoc (texts_of start ran) (next_text start ran calls) further.0,
     )
 
 -- and so are they with the text of the next batch
-pub texts_next : (procs : ProcsParts) (retries : ℕ) (db : Database) (ran : List (List Call)) (calls : List Call) (more : List (List Call)) →
-    (rest : List ℕ) × (texts_of procs retries db (ran ++ calls ∷ more) ≡ (texts_of procs retries db ran ++ next_text procs retries db ran calls) ++ rest)
-texts_next procs retries db ran calls more =
-    let further = texts_further procs retries db (ran ++ calls ∷ []) more in
-    (further.0, ap (texts_of procs retries db) (sym (append_assoc ran (calls ∷ []) more)) ∙ further.1 ∙ ap (λ text. text ++ further.0) (texts_grown procs.tables retries db ran calls))
+pub texts_next : (start : Start) (ran : List (List Call)) (calls : List Call) (more : List (List Call)) →
+    (rest : List ℕ) × (texts_of start (ran ++ calls ∷ more) ≡ (texts_of start ran ++ next_text start ran calls) ++ rest)
+texts_next start ran calls more =
+    let further = texts_further start (ran ++ calls ∷ []) more in
+    (further.0, ap (texts_of start) (sym (append_assoc ran (calls ∷ []) more)) ∙ further.1 ∙ ap (λ text. text ++ further.0) (texts_grown start.digest start.procs.tables start.retries start.rows ran calls))
 
 -- ---- the number of calls
 

@@ -3,7 +3,7 @@ use Rattle.std.proofs.Common.{◌≡◌, ℕ, ◌+◌, List, [], ◌∷◌, ◌+
 use Rattle.sha2.specs.Hashers.{Holds256}
 use Rattle.devices.specs.Devices.{Passes}
 use Rattle.devices.proofs.Passing.{Passes-refl, Passes-trans}
-use Rattle.values.specs.Database.{Database}
+use Rattle.row_text.specs.declared.form.DigestForm.{DigestForm}
 use Rattle.requests.specs.ProcLists.{ProcsParts}
 use Rattle.requests.specs.Requests.{Call}
 use Rattle.batch_log.specs.declared.fault.LogFault.{LogFault}
@@ -14,9 +14,10 @@ use Rattle.retries.proofs.Followed.{closed-append}
 use Rattle.engine.specs.Engines.{EngineParts}
 use Rattle.running.specs.declared.transcript.Transcript.{Transcript}
 use Rattle.running.specs.Batches.{IsReported}
-use Rattle.running.specs.Hashers.{batch_of, said_of}
+use Rattle.running.specs.Hashers.{batch_of, form_of, said_of}
 use Rattle.running.specs.Reported.{with_closing, HasReported}
 use Rattle.running.specs.Reports.{calls_in_turn, fault_in, report_of, whole_log}
+use Rattle.running.specs.Starts.{start_of as start_with, Start}
 use Rattle.running.specs.Stopped.{standing_after, texts_of}
 use Rattle.running.proofs.Reported.{calls_grown, HasReported-next, HasReported-none}
 
@@ -40,71 +41,72 @@ After-next procs retries m total next total2 ran calls log mid rest g h = record
 
 -- ---- the batches and the report of a log
 
-pub calls_are : (procs : ProcsParts) (retries : ℕ) (db : Database) (log : List ℕ) (ran more : List (List Call)) (fault : Option LogFault) →
-    batches_of (whole_log procs retries log) ≡ ran ++ more → fault_in procs retries log ≡ fault →
-    calls_in_turn procs retries db log ≡ ran ++ closed retries (is_some fault) (standing_after retries db ran) more
-calls_are procs retries db log ran more fault e f =
-    ap (λ (o : Option LogFault). closed retries (is_some o) (start_of db) (batches_of (whole_log procs retries log))) f
-    ∙ ap (λ (bs : List (List Call)). closed retries (is_some fault) (start_of db) bs) e ∙ closed-append retries (is_some fault) (start_of db) ran more
+pub calls_are : (start : Start) (log : List ℕ) (ran more : List (List Call)) (fault : Option LogFault) →
+    batches_of (whole_log start.procs start.retries log) ≡ ran ++ more → fault_in start.procs start.retries log ≡ fault →
+    calls_in_turn start.procs start.retries start.rows log ≡ ran ++ closed start.retries (is_some fault) (standing_after start.retries start.rows ran) more
+calls_are start log ran more fault e f =
+    ap (λ (o : Option LogFault). closed start.retries (is_some o) (start_of start.rows) (batches_of (whole_log start.procs start.retries log))) f
+    ∙ ap (λ (bs : List (List Call)). closed start.retries (is_some fault) (start_of start.rows) bs) e ∙ closed-append start.retries (is_some fault) (start_of start.rows) ran more
 
-pub report_is : (procs : ProcsParts) (retries : ℕ) (db : Database) (log : List ℕ) (batches : List (List Call)) (fault : Option LogFault) →
-    calls_in_turn procs retries db log ≡ batches → fault_in procs retries log ≡ fault →
-    report_of procs retries db log ≡ texts_of procs retries db batches ++ end_text (is_some fault) procs.tables db (transactions_in retries db batches)
+pub report_is : (start : Start) (log : List ℕ) (batches : List (List Call)) (fault : Option LogFault) →
+    calls_in_turn start.procs start.retries start.rows log ≡ batches → fault_in start.procs start.retries log ≡ fault →
+    report_of start log ≡ texts_of start batches ++ end_text (is_some fault) start.digest start.procs.tables start.rows (transactions_in start.retries start.rows batches)
 unfolding report
-report_is procs retries db log batches fault e f =
-    ap (λ (bs : List (List Call)). report procs.tables db (in_turn retries (start_of db) bs) (is_some (fault_in procs retries log))) e
-    ∙ ap (λ (o : Option LogFault). report procs.tables db (in_turn retries (start_of db) batches) (is_some o)) f
+report_is start log batches fault e f =
+    ap (λ (bs : List (List Call)). report start.digest start.procs.tables start.rows (in_turn start.retries (start_of start.rows) bs) (is_some (fault_in start.procs start.retries log))) e
+    ∙ ap (λ (o : Option LogFault). report start.digest start.procs.tables start.rows (in_turn start.retries (start_of start.rows) batches) (is_some o)) f
 
 -- after the last batch of a log without a fault stand those that close it
-pub calls_at_end : (procs : ProcsParts) (retries m total : ℕ) (db : Database) (ran : List (List Call)) (log rest : List ℕ) → After procs retries m total ran log rest →
-    IsEnd (log_said retries procs.procs m total rest) → calls_in_turn procs retries db log ≡ with_closing retries db ran
-calls_at_end procs retries m total db ran log rest g h =
-    calls_are procs retries db log ran [] None (g.batches ∙ ap (λ (bs : List (List Call)). ran ++ bs) h.batches) (g.fault ∙ h.fault)
+pub calls_at_end : (start : Start) (m total : ℕ) (ran : List (List Call)) (log rest : List ℕ) → After start.procs start.retries m total ran log rest →
+    IsEnd (log_said start.retries start.procs.procs m total rest) → calls_in_turn start.procs start.retries start.rows log ≡ with_closing start.retries start.rows ran
+calls_at_end start m total ran log rest g h =
+    calls_are start log ran [] None (g.batches ∙ ap (λ (bs : List (List Call)). ran ++ bs) h.batches) (g.fault ∙ h.fault)
 
-pub report_at_end : (procs : ProcsParts) (retries m total : ℕ) (db : Database) (ran : List (List Call)) (log rest : List ℕ) → After procs retries m total ran log rest →
-    IsEnd (log_said retries procs.procs m total rest) →
-    report_of procs retries db log ≡ texts_of procs retries db (with_closing retries db ran) ++ end_text false procs.tables db (transactions_in retries db (with_closing retries db ran))
-report_at_end procs retries m total db ran log rest g h =
-    report_is procs retries db log (with_closing retries db ran) None (calls_at_end procs retries m total db ran log rest g h) (g.fault ∙ h.fault)
+pub report_at_end : (start : Start) (m total : ℕ) (ran : List (List Call)) (log rest : List ℕ) → After start.procs start.retries m total ran log rest →
+    IsEnd (log_said start.retries start.procs.procs m total rest) →
+    report_of start log ≡ texts_of start (with_closing start.retries start.rows ran) ++ end_text false start.digest start.procs.tables start.rows (transactions_in start.retries start.rows (with_closing start.retries start.rows ran))
+report_at_end start m total ran log rest g h =
+    report_is start log (with_closing start.retries start.rows ran) None (calls_at_end start m total ran log rest g h) (g.fault ∙ h.fault)
 
 -- a fault is after the last batch, and nothing closes the log
-pub report_at_fault : (procs : ProcsParts) (retries m total : ℕ) (db : Database) (ran : List (List Call)) (log rest : List ℕ) (fault : LogFault) → After procs retries m total ran log rest →
-    IsFault (log_said retries procs.procs m total rest) fault → report_of procs retries db log ≡ texts_of procs retries db ran
-report_at_fault procs retries m total db ran log rest fault g h =
-    report_is procs retries db log ran (Some fault)
-    (calls_are procs retries db log ran [] (Some fault) (g.batches ∙ ap (λ (bs : List (List Call)). ran ++ bs) h.batches) (g.fault ∙ h.first) ∙ append-nil ran)
+pub report_at_fault : (start : Start) (m total : ℕ) (ran : List (List Call)) (log rest : List ℕ) (fault : LogFault) → After start.procs start.retries m total ran log rest →
+    IsFault (log_said start.retries start.procs.procs m total rest) fault → report_of start log ≡ texts_of start ran
+report_at_fault start m total ran log rest fault g h =
+    report_is start log ran (Some fault)
+    (calls_are start log ran [] (Some fault) (g.batches ∙ ap (λ (bs : List (List Call)). ran ++ bs) h.batches) (g.fault ∙ h.first) ∙ append-nil ran)
     (g.fault ∙ h.first)
-    ∙ append-nil (texts_of procs retries db ran)
+    ∙ append-nil (texts_of start ran)
 
 -- ---- how far a run has come
 
 -- the first batches of the log have run and were reported, and the rest of the log isn't read
-pub record SoFar (procs : ProcsParts) (retries : ℕ) (db : Database) (m total : ℕ) (engine : EngineParts) (transcript : Transcript) (left now taken gave : Option (List ℕ)) : Type 0 where
+pub record SoFar (start : Start) (m total : ℕ) (engine : EngineParts) (transcript : Transcript) (left now taken gave : Option (List ℕ)) : Type 0 where
   pub ran : List (List Call)
-  pub reported : HasReported procs retries db ran engine transcript taken gave
+  pub reported : HasReported start ran engine transcript taken gave
   pub total_is : total ≡ call_count ran
-  pub after : Passes (After procs retries m total ran) left now
+  pub after : Passes (After start.procs start.retries m total ran) left now
 
-pub SoFar-start : (m total : ℕ) (engine : EngineParts) (transcript : Transcript) (left now taken : Option (List ℕ)) → m ≡ 0 → total ≡ 0 → now ≡ left → engine.next ≡ 0 → engine.carried ≡ [] →
-    batch_of transcript ≡ 1 → Holds256 (said_of transcript) [] → SoFar engine.procs engine.retries engine.rows m total engine transcript left now taken taken
-SoFar-start m total engine transcript left now taken e f g n c b h =
+pub SoFar-start : (m total : ℕ) (engine : EngineParts) (form : DigestForm) (transcript : Transcript) (left now taken : Option (List ℕ)) → m ≡ 0 → total ≡ 0 → now ≡ left → engine.next ≡ 0 → engine.carried ≡ [] →
+    batch_of transcript ≡ 1 → Holds256 (said_of transcript) [] → form_of transcript ≡ form →
+    SoFar (start_with engine form) m total engine transcript left now taken taken
+SoFar-start m total engine form transcript left now taken e f g n c b h is =
     let none : Passes (After engine.procs engine.retries 0 0 []) left left = Passes-refl _ left (λ x. After-start engine.procs engine.retries x) in
     record {
       ran = [];
-      reported = HasReported-none engine transcript taken n c b h;
+      reported = HasReported-none engine form transcript taken n c b h is;
       total_is = f;
       after = rw (e, f, g) none;
     }
 
 -- a batch ran and was reported
-pub SoFar-next : (procs : ProcsParts) (retries : ℕ) (db : Database) (m total next total2 : ℕ) (calls : List Call) (engine after : EngineParts) (transcript after_it : Transcript)
-    (left now later taken gave given : Option (List ℕ)) → SoFar procs retries db m total engine transcript left now taken gave →
-    Passes (λ xs ys. IsNextBatch (log_said retries procs.procs m total xs) calls (log_said retries procs.procs next total2 ys)) now later → total2 ≡ total + length calls →
-    after.procs ≡ engine.procs → after.retries ≡ engine.retries → IsReported engine after transcript after_it gave given calls →
-    SoFar procs retries db next total2 after after_it left later taken given
-SoFar-next procs retries db m total next total2 calls engine after transcript after_it left now later taken gave given s p n e r reported = record {
+pub SoFar-next : (start : Start) (m total next total2 : ℕ) (calls : List Call) (engine after : EngineParts) (transcript after_it : Transcript)
+    (left now later taken gave given : Option (List ℕ)) → SoFar start m total engine transcript left now taken gave →
+    Passes (λ xs ys. IsNextBatch (log_said start.retries start.procs.procs m total xs) calls (log_said start.retries start.procs.procs next total2 ys)) now later → total2 ≡ total + length calls →
+    after.procs ≡ engine.procs → after.retries ≡ engine.retries → form_of after_it ≡ form_of transcript → IsReported engine after transcript after_it gave given calls →
+    SoFar start next total2 after after_it left later taken given
+SoFar-next start m total next total2 calls engine after transcript after_it left now later taken gave given s p n e r f reported = record {
   ran = s.ran ++ calls ∷ [];
-  reported = HasReported-next procs retries db s.ran calls engine after transcript after_it taken gave given s.reported e r reported;
+  reported = HasReported-next start s.ran calls engine after transcript after_it taken gave given s.reported e r f reported;
   total_is = n ∙ ap (λ k. k + length calls) s.total_is ∙ sym (calls_grown s.ran calls);
   after = Passes-trans _ _ _ _ _ _ s.after p (λ x y z g h. After-next _ _ _ _ _ _ _ _ _ _ _ g h);
 }

@@ -8,7 +8,6 @@ use Rattle.devices.specs.Devices.{AppendsFront, Passes}
 use Rattle.devices.specs.Lines.{line_number, newlines_in, next_number}
 use Rattle.devices.specs.LineReader.{Position}
 use Rattle.devices.proofs.Passing.{Passes-weaken}
-use Rattle.values.specs.Database.{Database}
 use Rattle.requests.specs.ProcLists.{ProcsParts}
 use Rattle.requests.specs.Requests.{Call}
 use Rattle.batch_log.specs.Log.{log_said, IsEnd, IsNextBatch}
@@ -16,19 +15,18 @@ use Rattle.batch_log.specs.Moves.{Moves}
 use Rattle.batch_log.proofs.Moves.{Moves-trans}
 use Rattle.batch_log.specs.Taken.{TakesCalls}
 use Rattle.batch_log.proofs.Taken.{TakesCalls-none}
-use Rattle.report_text.specs.Report.{batch_text}
-use Rattle.retries.specs.Standings.{call_count, transactions_at}
-use Rattle.engine.specs.Engines.{EngineParts, tables_of}
+use Rattle.retries.specs.Standings.{call_count}
+use Rattle.engine.specs.Engines.{EngineParts}
 use Rattle.running.specs.declared.run_fault.RunFault.{RunFault}
 use Rattle.running.specs.declared.transcript.Transcript.{Transcript}
-use Rattle.running.specs.Hashers.{batch_of}
+use Rattle.running.specs.Batches.{due_text}
 use Rattle.running.specs.Reported.{HasReadAll}
-use Rattle.running.specs.Standings.{standing_of}
+use Rattle.running.specs.Starts.{Start}
 use Rattle.running.specs.Stops.{IfOfMachine, IsMachineFault, last_line}
 use Rattle.running.specs.Stopped.{at_end, in_batch, in_closing, line_after, reading, standing_after, text_at, texts_of, AppendsAndFront, HaveClosed, IsEndedBy, IsStop, IsStoppedAt, IsTakenAt, Stage}
 use Rattle.running.proofs.Reported.{calls_grown, next_text_is}
 use Rattle.running.proofs.SoFar.{After, After-start, SoFar}
-use Rattle.running.proofs.Stopping.{at_line, begun_after, newlines_after, next_of_number, start}
+use Rattle.running.proofs.Stopping.{at_line, begun_after, newlines_after, next_of_number, nothing_taken}
 
 -- ---- bytes taken in two calls
 
@@ -86,14 +84,14 @@ taken_at at_end procs retries m total next total2 ran bytes taken rest xs e0 e1 
 
 -- ---- where a run stopped
 
-stopped_known : (stage : Stage) (procs : ProcsParts) (retries : ℕ) (db : Database) (failed : Bool) (m total next total2 line : ℕ) (ran closers : List (List Call)) (log xs ys bytes taken : List ℕ) (sink filled : Option (List ℕ)) →
-    After procs retries m total ran log xs → log ≡ bytes ++ xs → xs ≡ taken ++ ys →
+stopped_known : (stage : Stage) (start : Start) (failed : Bool) (m total next total2 line : ℕ) (ran closers : List (List Call)) (log xs ys bytes taken : List ℕ) (sink filled : Option (List ℕ)) →
+    After start.procs start.retries m total ran log xs → log ≡ bytes ++ xs → xs ≡ taken ++ ys →
     m ≡ line_number (newlines_in bytes) → next ≡ line_number (newlines_in (bytes ++ taken)) → total ≡ call_count ran → total2 ≡ total + calls_at stage →
-    TakesCalls retries procs.procs total failed xs ys → Reads stage procs retries m total next total2 xs ys → HaveClosed stage retries (standing_after retries db ran) closers →
-    AppendsAndFront sink filled (texts_of procs retries db (ran ++ closers)) (text_at stage procs retries db (ran ++ closers)) → line ≡ line_after failed (bytes ++ taken) →
-    IsStoppedAt stage procs retries db failed log sink filled line
-stopped_known stage procs retries db failed m total next total2 line ran closers log xs ys bytes taken sink filled g e f en ex et ec takes reads closed written line_is =
-    let after : After procs retries (line_number (newlines_in bytes)) (call_count ran) ran log (taken ++ ys) = rw (f, en, et) at g in
+    TakesCalls start.retries start.procs.procs total failed xs ys → Reads stage start.procs start.retries m total next total2 xs ys → HaveClosed stage start.retries (standing_after start.retries start.rows ran) closers →
+    AppendsAndFront sink filled (texts_of start (ran ++ closers)) (text_at stage start (ran ++ closers)) → line ≡ line_after failed (bytes ++ taken) →
+    IsStoppedAt stage start failed log sink filled line
+stopped_known stage start failed m total next total2 line ran closers log xs ys bytes taken sink filled g e f en ex et ec takes reads closed written line_is =
+    let after : After start.procs start.retries (line_number (newlines_in bytes)) (call_count ran) ran log (taken ++ ys) = rw (f, en, et) at g in
     record {
       reported = ran;
       closers = closers;
@@ -104,30 +102,30 @@ stopped_known stage procs retries db failed m total next total2 line ran closers
       batches = after.batches;
       fault = after.fault;
       calls = rw (f, et) at takes;
-      at = taken_at stage procs retries m total next total2 ran bytes taken ys xs f en et ex ec reads;
+      at = taken_at stage start.procs start.retries m total next total2 ran bytes taken ys xs f en et ex ec reads;
       closed = closed;
       written = written;
       line_is = line_is;
     }
 
 -- a run stopped after the batches so far, after one more call of the reader
-pub SoFar-stopped : (stage : Stage) (failed : Bool) (procs : ProcsParts) (retries : ℕ) (db : Database) (m total next total2 line : ℕ) (engine : EngineParts) (transcript : Transcript) (closers : List (List Call))
+pub SoFar-stopped : (stage : Stage) (failed : Bool) (start : Start) (m total next total2 line : ℕ) (engine : EngineParts) (transcript : Transcript) (closers : List (List Call))
     (left now after taken gave given : Option (List ℕ)) (p q : Position) →
-    (s : SoFar procs retries db m total engine transcript left now taken gave) → Moves left now start p → Moves now after p q → m ≡ p.newlines → next ≡ q.newlines →
-    total2 ≡ total + calls_at stage → Passes (TakesCalls retries procs.procs total failed) now after → Passes (Reads stage procs retries m total next total2) now after →
-    HaveClosed stage retries (standing_after retries db s.ran) closers →
-    AppendsAndFront taken given (texts_of procs retries db (s.ran ++ closers)) (text_at stage procs retries db (s.ran ++ closers)) → line ≡ line_at failed q →
-    IfSome left (λ log. IsStoppedAt stage procs retries db failed log taken given line)
+    (s : SoFar start m total engine transcript left now taken gave) → Moves left now nothing_taken p → Moves now after p q → m ≡ p.newlines → next ≡ q.newlines →
+    total2 ≡ total + calls_at stage → Passes (TakesCalls start.retries start.procs.procs total failed) now after → Passes (Reads stage start.procs start.retries m total next total2) now after →
+    HaveClosed stage start.retries (standing_after start.retries start.rows s.ran) closers →
+    AppendsAndFront taken given (texts_of start (s.ran ++ closers)) (text_at stage start (s.ran ++ closers)) → line ≡ line_at failed q →
+    IfSome left (λ log. IsStoppedAt stage start failed log taken given line)
 unfolding Passes
-SoFar-stopped stage failed procs retries db m total next total2 line engine transcript closers None now after taken gave given p q s h t em en ec takes reads closed written line_is = tt
-SoFar-stopped stage failed procs retries db m total next total2 line engine transcript closers (Some log) None after taken gave given p q s h t em en ec takes reads closed written line_is = absurd h.takes.0
-SoFar-stopped stage failed procs retries db m total next total2 line engine transcript closers (Some log) (Some xs) None taken gave given p q s h t em en ec takes reads closed written line_is = absurd t.takes.0
-SoFar-stopped stage failed procs retries db m total next total2 line engine transcript closers (Some log) (Some xs) (Some ys) taken gave given p q s h t em en ec takes reads closed written line_is =
-    let all : Moves (Some log) (Some ys) start q = Moves-trans (Some log) (Some xs) (Some ys) start p q h t in
+SoFar-stopped stage failed start m total next total2 line engine transcript closers None now after taken gave given p q s h t em en ec takes reads closed written line_is = tt
+SoFar-stopped stage failed start m total next total2 line engine transcript closers (Some log) None after taken gave given p q s h t em en ec takes reads closed written line_is = absurd h.takes.0
+SoFar-stopped stage failed start m total next total2 line engine transcript closers (Some log) (Some xs) None taken gave given p q s h t em en ec takes reads closed written line_is = absurd t.takes.0
+SoFar-stopped stage failed start m total next total2 line engine transcript closers (Some log) (Some xs) (Some ys) taken gave given p q s h t em en ec takes reads closed written line_is =
+    let all : Moves (Some log) (Some ys) nothing_taken q = Moves-trans (Some log) (Some xs) (Some ys) nothing_taken p q h t in
     let same : all.bytes ≡ h.bytes ++ t.bytes = joined_bytes log xs ys h.bytes t.bytes all.bytes h.takes.0 t.takes.0 all.takes.0 in
     let newlines : q.newlines ≡ line_number (newlines_in (h.bytes ++ t.bytes)) = ap (λ (r : Position). r.newlines) all.takes.1 ∙ newlines_after all.bytes ∙ ap (λ l. line_number (newlines_in l)) same in
     let begun : q.begun ≡ last_line (h.bytes ++ t.bytes) = ap (λ (r : Position). r.begun) all.takes.1 ∙ begun_after all.bytes ∙ ap last_line same in
-    stopped_known stage procs retries db failed m total next total2 line s.ran closers log xs ys h.bytes t.bytes taken given s.after h.takes.0 t.takes.0
+    stopped_known stage start failed m total next total2 line s.ran closers log xs ys h.bytes t.bytes taken given s.after h.takes.0 t.takes.0
     (em ∙ ap (λ (r : Position). r.newlines) h.takes.1 ∙ newlines_after h.bytes) (en ∙ newlines) s.total_is ec takes reads closed
     written (line_is ∙ line_of_bytes failed q (h.bytes ++ t.bytes) newlines begun)
 
@@ -137,50 +135,50 @@ nothing_at : (gave : Option (List ℕ)) → AppendsFront gave gave []
 nothing_at gave = ([], [], refl, Appends-nil gave)
 
 -- nothing closes a log that isn't read to its end
-none_closed : (procs : ProcsParts) (retries : ℕ) (db : Database) (stage : Stage) (ran : List (List Call)) (sink filled : Option (List ℕ)) →
-    AppendsAndFront sink filled (texts_of procs retries db ran) (text_at stage procs retries db ran) →
-    AppendsAndFront sink filled (texts_of procs retries db (ran ++ [])) (text_at stage procs retries db (ran ++ []))
-none_closed procs retries db stage ran sink filled h =
-    let P : List (List Call) → Type 0 = λ bs. AppendsAndFront sink filled (texts_of procs retries db bs) (text_at stage procs retries db bs) in subst P (sym (append-nil ran)) h
+none_closed : (start : Start) (stage : Stage) (ran : List (List Call)) (sink filled : Option (List ℕ)) →
+    AppendsAndFront sink filled (texts_of start ran) (text_at stage start ran) →
+    AppendsAndFront sink filled (texts_of start (ran ++ [])) (text_at stage start (ran ++ []))
+none_closed start stage ran sink filled h =
+    let P : List (List Call) → Type 0 = λ bs. AppendsAndFront sink filled (texts_of start bs) (text_at stage start bs) in subst P (sym (append-nil ran)) h
 
 -- a run that stopped in reading
-pub SoFar-stopped_reading : (failed : Bool) (procs : ProcsParts) (retries : ℕ) (db : Database) (m total next line : ℕ) (engine : EngineParts) (transcript : Transcript) (left now after taken gave : Option (List ℕ)) (p q : Position) →
-    (s : SoFar procs retries db m total engine transcript left now taken gave) → Moves left now start p → Moves now after p q → m ≡ p.newlines → next ≡ q.newlines →
-    Passes (TakesCalls retries procs.procs total failed) now after → line ≡ line_at failed q → IfSome left (λ log. IsStoppedAt reading procs retries db failed log taken gave line)
-SoFar-stopped_reading failed procs retries db m total next line engine transcript left now after taken gave p q s h t em en takes line_is =
-    SoFar-stopped reading failed procs retries db m total next total line engine transcript [] left now after taken gave gave p q s h t em en (plus_none total)
-    takes (Passes-weaken _ _ now after takes (λ x y z. tt)) refl (none_closed procs retries db reading s.ran taken gave (gave, s.reported.text_is, nothing_at gave)) line_is
+pub SoFar-stopped_reading : (failed : Bool) (start : Start) (m total next line : ℕ) (engine : EngineParts) (transcript : Transcript) (left now after taken gave : Option (List ℕ)) (p q : Position) →
+    (s : SoFar start m total engine transcript left now taken gave) → Moves left now nothing_taken p → Moves now after p q → m ≡ p.newlines → next ≡ q.newlines →
+    Passes (TakesCalls start.retries start.procs.procs total failed) now after → line ≡ line_at failed q → IfSome left (λ log. IsStoppedAt reading start failed log taken gave line)
+SoFar-stopped_reading failed start m total next line engine transcript left now after taken gave p q s h t em en takes line_is =
+    SoFar-stopped reading failed start m total next total line engine transcript [] left now after taken gave gave p q s h t em en (plus_none total)
+    takes (Passes-weaken _ _ now after takes (λ x y z. tt)) refl (none_closed start reading s.ran taken gave (gave, s.reported.text_is, nothing_at gave)) line_is
   where
     plus_none : (n : ℕ) → n ≡ n + 0
     plus_none n = omega arith
 
 -- a run that stopped in a batch of its log
-pub SoFar-stopped_in_batch : (procs : ProcsParts) (retries : ℕ) (db : Database) (m total next total2 line : ℕ) (calls : List Call) (engine : EngineParts) (transcript : Transcript)
+pub SoFar-stopped_in_batch : (start : Start) (m total next total2 line : ℕ) (calls : List Call) (engine : EngineParts) (transcript : Transcript)
     (left now after taken gave given : Option (List ℕ)) (p q : Position) →
-    (s : SoFar procs retries db m total engine transcript left now taken gave) → Moves left now start p → Moves now after p q → m ≡ p.newlines → next ≡ q.newlines →
-    total2 ≡ total + length calls → Passes (TakesCalls retries procs.procs total false) now after →
-    Passes (λ xs ys. IsNextBatch (log_said retries procs.procs m total xs) calls (log_said retries procs.procs next total2 ys)) now after →
-    AppendsFront gave given (batch_text (tables_of engine) (batch_of transcript) engine.next engine.rows (transactions_at (standing_of engine) calls)) → line ≡ q.begun →
-    IfSome left (λ log. IsStoppedAt (in_batch calls) procs retries db false log taken given line)
-SoFar-stopped_in_batch procs retries db m total next total2 line calls engine transcript left now after taken gave given p q s h t em en ec takes reads front line_is =
-    SoFar-stopped (in_batch calls) false procs retries db m total next total2 line engine transcript [] left now after taken gave given p q s h t em en ec takes reads refl
-    (none_closed procs retries db (in_batch calls) s.ran taken given (gave, s.reported.text_is, rw (next_text_is procs retries db s.ran calls engine transcript taken gave s.reported) at front)) line_is
+    (s : SoFar start m total engine transcript left now taken gave) → Moves left now nothing_taken p → Moves now after p q → m ≡ p.newlines → next ≡ q.newlines →
+    total2 ≡ total + length calls → Passes (TakesCalls start.retries start.procs.procs total false) now after →
+    Passes (λ xs ys. IsNextBatch (log_said start.retries start.procs.procs m total xs) calls (log_said start.retries start.procs.procs next total2 ys)) now after →
+    AppendsFront gave given (due_text engine transcript calls) → line ≡ q.begun →
+    IfSome left (λ log. IsStoppedAt (in_batch calls) start false log taken given line)
+SoFar-stopped_in_batch start m total next total2 line calls engine transcript left now after taken gave given p q s h t em en ec takes reads front line_is =
+    SoFar-stopped (in_batch calls) false start m total next total2 line engine transcript [] left now after taken gave given p q s h t em en ec takes reads refl
+    (none_closed start (in_batch calls) s.ran taken given (gave, s.reported.text_is, rw (next_text_is start s.ran calls engine transcript taken gave s.reported) at front)) line_is
 
 -- a run that stopped before anything was read
-pub nothing_stopped : (procs : ProcsParts) (retries : ℕ) (db : Database) (left taken : Option (List ℕ)) → IfSome left (λ log. IsStoppedAt reading procs retries db false log taken taken 0)
-nothing_stopped procs retries db None taken = tt
-nothing_stopped procs retries db (Some log) taken =
-    stopped_known reading procs retries db false 0 0 0 0 0 [] [] log log log [] [] taken taken (After-start procs retries log) refl refl refl refl refl refl
-    (TakesCalls-none procs.procs 0 false log (omega arith)) tt refl (taken, Appends-nil taken, nothing_at taken) refl
+pub nothing_stopped : (start : Start) (left taken : Option (List ℕ)) → IfSome left (λ log. IsStoppedAt reading start false log taken taken 0)
+nothing_stopped start None taken = tt
+nothing_stopped start (Some log) taken =
+    stopped_known reading start false 0 0 0 0 0 [] [] log log log [] [] taken taken (After-start start.procs start.retries log) refl refl refl refl refl refl
+    (TakesCalls-none start.procs.procs 0 false log (omega arith)) tt refl (taken, Appends-nil taken, nothing_at taken) refl
 
 -- ---- the fault that it stopped with
 
-pub stop_of_machine : (stage : Stage) (failed : Bool) (fault : RunFault) (procs : ProcsParts) (retries : ℕ) (db : Database) (left taken given : Option (List ℕ)) (line : ℕ) →
-    IsMachineFault line fault → IsEndedBy stage failed fault → IfSome left (λ log. IsStoppedAt stage procs retries db failed log taken given line) →
-    IfOfMachine fault (λ at. IfSome left (λ log. IsStop procs retries db failed fault log taken given at))
-stop_of_machine stage failed fault procs retries db left taken given line h ends stopped =
-    at_line fault line (λ at. IfSome left (λ log. IsStop procs retries db failed fault log taken given at)) h (known left stopped)
+pub stop_of_machine : (stage : Stage) (failed : Bool) (fault : RunFault) (start : Start) (left taken given : Option (List ℕ)) (line : ℕ) →
+    IsMachineFault line fault → IsEndedBy stage failed fault → IfSome left (λ log. IsStoppedAt stage start failed log taken given line) →
+    IfOfMachine fault (λ at. IfSome left (λ log. IsStop start failed fault log taken given at))
+stop_of_machine stage failed fault start left taken given line h ends stopped =
+    at_line fault line (λ at. IfSome left (λ log. IsStop start failed fault log taken given at)) h (known left stopped)
   where
-    known : (left : Option (List ℕ)) → IfSome left (λ log. IsStoppedAt stage procs retries db failed log taken given line) → IfSome left (λ log. IsStop procs retries db failed fault log taken given line)
+    known : (left : Option (List ℕ)) → IfSome left (λ log. IsStoppedAt stage start failed log taken given line) → IfSome left (λ log. IsStop start failed fault log taken given line)
     known None stopped = tt
     known (Some log) stopped = (stage, ends, stopped)

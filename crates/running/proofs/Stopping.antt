@@ -34,17 +34,17 @@ at_line (runs.Spawn at) line P h p = subst P (sym h) p
 
 -- ---- where a reader stands after the bytes that it took
 
-abbrev pub start : Position
-start = record { newlines = 0; begun = 0 }
+abbrev pub nothing_taken : Position
+nothing_taken = record { newlines = 0; begun = 0 }
 
 none_plus : (n : ℕ) → 0 + n ≡ n
 none_plus n = omega arith
 
-pub newlines_after : (taken : List ℕ) → (position_after start taken).newlines ≡ line_number (newlines_in taken)
+pub newlines_after : (taken : List ℕ) → (position_after nothing_taken taken).newlines ≡ line_number (newlines_in taken)
 newlines_after [] = refl
 newlines_after (b ∷ rest) = ap line_number (none_plus (newlines_in (b ∷ rest)))
 
-pub begun_after : (taken : List ℕ) → (position_after start taken).begun ≡ last_line taken
+pub begun_after : (taken : List ℕ) → (position_after nothing_taken taken).begun ≡ last_line taken
 begun_after [] = refl
 begun_after (b ∷ rest) = ap line_number (none_plus (length (lines_of (b ∷ rest))))
 
@@ -61,7 +61,7 @@ taken_and_came (Some x) None taken came h = absurd h
 taken_and_came (Some x) (Some y) taken came h = h ∙ sym (append_assoc taken came y)
 
 line_by : (failed : Bool) (old left : Option (List ℕ)) (came : List ℕ) (p : Position) (line : ℕ) → line ≡ cond failed (next_number p.newlines) p.begun → (failed ≡ true → came ≡ []) →
-    Moves old (prepend_known came left) start p → IsLineOf failed old left line
+    Moves old (prepend_known came left) nothing_taken p → IsLineOf failed old left line
 line_by true old left came p line e spent m =
     let now : Option (List ℕ) → Type 0 = λ o. Consumes old o m.bytes in
     let newlines : p.newlines ≡ line_number (newlines_in m.bytes) = ap (λ (q : Position). q.newlines) m.takes.1 ∙ newlines_after m.bytes in (
@@ -75,12 +75,12 @@ line_by false old left came p line e spent m =
 
 -- the line of the fault of a read, or of memory
 pub line_of_fault : (kind : LogFaultKind) (failed : Bool) (old left : Option (List ℕ)) (came : List ℕ) (p : Position) (line : ℕ) → failed ≡ is_io kind → line ≡ line_named kind p → (is_io kind ≡ true → came ≡ []) →
-    Moves old (prepend_known came left) start p → IsLineOf failed old left line
+    Moves old (prepend_known came left) nothing_taken p → IsLineOf failed old left line
 line_of_fault kind failed old left came p line f e spent m = rw f (line_by (is_io kind) old left came p line e spent m)
 
 -- the line of another fault: the one last begun
 pub line_begun_is : (failed : Bool) (old left : Option (List ℕ)) (came : List ℕ) (p : Position) (line : ℕ) → failed ≡ false → line ≡ p.begun →
-    Moves old (prepend_known came left) start p → IsLineOf failed old left line
+    Moves old (prepend_known came left) nothing_taken p → IsLineOf failed old left line
 line_begun_is failed old left came p line f e m = rw f (line_by false old left came p line e (λ g. cc) m)
 
 -- ---- which devices have failed

@@ -20,7 +20,7 @@ use Rattle.engine.specs.Executions.{IsExecutionOf, KeepsSetting}
 use Rattle.engine.specs.Replies.{reply_of}
 use Rattle.running.specs.declared.transcript.Transcript.{Transcript}
 use Rattle.running.specs.Batches.{KeepsDigest}
-use Rattle.running.specs.Hashers.{rows_digest_of}
+use Rattle.running.specs.Hashers.{form_of, rows_digest_of}
 use Rattle.running.specs.Transcripts.{has_commit, AreRowsAfter}
 
 -- whether an outcome is a commit, by the reply that it stands for
@@ -63,7 +63,7 @@ serial_leaves (r ∷ rs) (x ∷ xs) db e f =
 -- the rows after a batch are reported with the digest that was kept where it has no commit
 pub rows_after : (old new : EngineParts) (transcript : Transcript) (attempts : List Attempt) (run : BatchDone) (replies : List Reply) (store : Stock) →
     IsExecutionOf old new attempts run → KeepsSetting old new → KeepsDigest old transcript → replies ≡ run.replies.items → store.lent ≡ empty → store.tables ≡ tables_of new → store.rows ≡ new.rows →
-    AreRowsAfter replies (rows_digest_of transcript) store
+    AreRowsAfter (form_of transcript) replies (rows_digest_of transcript) store
 rows_after old new transcript attempts run replies store r same kept f unlent t s = record {
   unlent = unlent;
   digest_kept = λ none.

@@ -5,27 +5,35 @@ use Rattle.std.specs.List.{AllByRecursion}
 use Rattle.std.specs.Io.KnownBytes.{Appends}
 use Rattle.sha2.specs.Hashers.{Holds256}
 use Rattle.requests.specs.Requests.{Call}
-use Rattle.report_text.specs.Texts.{digest, row_text}
+use Rattle.row_text.specs.Partitions.{digested_text}
+use Rattle.row_text.specs.Texts.{digest}
 use Rattle.report_text.specs.Report.{batch_text, next_batch, reply_lines}
 use Rattle.retries.specs.Standings.{attempts_at, after_batch, replies_at, transactions_at}
 use Rattle.engine.specs.Engines.{EngineParts, is_busy, tables_of}
 use Rattle.running.specs.declared.transcript.Transcript.{Transcript}
-use Rattle.running.specs.Hashers.{batch_of, rows_digest_of, said_of}
+use Rattle.running.specs.Hashers.{batch_of, form_of, rows_digest_of, said_of}
 use Rattle.running.specs.Standings.{standing_of}
 
 -- the text of a batch of these calls, the next one after what was reported
 abbrev pub due_text : EngineParts → Transcript → List Call → List ℕ
 due_text engine transcript calls =
-    batch_text (tables_of engine) (batch_of transcript) engine.next engine.rows
+    batch_text (form_of transcript) (tables_of engine) (batch_of transcript) engine.next engine.rows
     (transactions_at (standing_of engine) calls)
 
--- the digest of the rows that a transcript keeps, if it keeps one, is that of the engine's rows
+-- The digest that the transcript keeps, if it keeps one, is that of the engine's rows.
 abbrev pub KeepsDigest : EngineParts → Transcript → Type 0
 KeepsDigest engine transcript =
-    IfSome (rows_digest_of transcript) (λ text. text ≡ digest (row_text (tables_of engine) engine.rows))
+    IfSome (rows_digest_of transcript) (λ text.
+    text ≡ digest (digested_text (form_of transcript) (tables_of engine) engine.rows))
+
+-- reply lines were reported, and the batch line after them
+pub record HasAdded (old new : Transcript) (lines : List ℕ) : Type 0 where
+  pub batch : batch_of new ≡ next_batch (batch_of old)
+  pub said : (m : List ℕ) → Holds256 (said_of old) m → Holds256 (said_of new) (m ++ lines)
 
 -- An idle engine can run these calls as its next batch: they are over its tables, no more than a batch may have, and
--- with what is carried to them they have numbers. The transcript is of what the engine has run before.
+-- with what is carried to them they have numbers. The digest that the transcript keeps, if it keeps one, is that of the
+-- engine's rows.
 pub record IsDue (engine : EngineParts) (transcript : Transcript) (calls : List Call) : Type 0 where
   pub over : AllByRecursion (λ call. call.proc.tables ≡ tables_of engine) calls
   pub few : length calls ≤ 4096

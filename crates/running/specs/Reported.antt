@@ -4,18 +4,18 @@ use Rattle.std.specs.Prelude.{◌≡◌, ℕ, ◌≤◌, List, ◌++◌, length,
 use Rattle.std.specs.Io.KnownBytes.{Appends}
 use Rattle.sha2.specs.Hashers.{Holds256}
 use Rattle.values.specs.Database.{Database}
-use Rattle.requests.specs.ProcLists.{ProcsParts}
 use Rattle.requests.specs.Requests.{Call}
 use Rattle.meaning.specs.Serial.{serial_replies}
 use Rattle.batch_log.specs.Log.{most_calls}
 use Rattle.report_text.specs.Report.{end_text, entries_in, next_batch, reply_lines}
-use Rattle.retries.specs.Standings.{call_count, closing, transactions_in, Standing}
+use Rattle.retries.specs.Standings.{call_count, closing, closing_within, transactions_in, Standing}
 use Rattle.engine.specs.Engines.{EngineParts, is_busy}
 use Rattle.running.specs.declared.run_fault.RunFault.{RunFault}
 use Rattle.running.specs.declared.transcript.Transcript.{Transcript}
 use Rattle.running.specs.Batches.{KeepsDigest}
-use Rattle.running.specs.Hashers.{batch_of, said_of}
+use Rattle.running.specs.Hashers.{batch_of, form_of, said_of}
 use Rattle.running.specs.Standings.{standing_of}
+use Rattle.running.specs.Starts.{Start}
 use Rattle.running.specs.Stopped.{at_end, in_batch, in_closing, reading, standing_after, text_at, texts_of, AppendsAndFront, HaveClosed, IsEndedBy, Stage}
 
 -- all reply lines of batches from starting rows
@@ -24,15 +24,16 @@ lines_of retries db batches =
     reply_lines 0 (transactions_in retries db batches)
     (serial_replies (entries_in (transactions_in retries db batches)) db)
 
--- These batches have run on the engine from starting rows, and each of them was reported.
-pub record HasReported (procs : ProcsParts) (retries : ℕ) (db : Database) (ran : List (List Call))
-    (engine : EngineParts) (transcript : Transcript) (sink filled : Option (List ℕ)) : Type 0 where
-  pub procs_are : engine.procs ≡ procs
-  pub retries_are : engine.retries ≡ retries
-  pub standing_is : standing_of engine ≡ standing_after retries db ran
+-- These batches have run on the engine from a start, and each of them was reported.
+pub record HasReported (start : Start) (ran : List (List Call)) (engine : EngineParts) (transcript : Transcript)
+    (sink filled : Option (List ℕ)) : Type 0 where
+  pub procs_are : engine.procs ≡ start.procs
+  pub retries_are : engine.retries ≡ start.retries
+  pub standing_is : standing_of engine ≡ standing_after start.retries start.rows ran
+  pub form_is : form_of transcript ≡ start.digest
   pub batch_is : batch_of transcript ≡ next_batch (length ran)
-  pub said_is : Holds256 (said_of transcript) (lines_of retries db ran)
-  pub text_is : Appends sink filled (texts_of procs retries db ran)
+  pub said_is : Holds256 (said_of transcript) (lines_of start.retries start.rows ran)
+  pub text_is : Appends sink filled (texts_of start ran)
 
 -- what a sink has taken, where it has given these bytes on before
 abbrev pub with_drained : List ℕ → Option (List ℕ) → Option (List ℕ)
@@ -54,15 +55,15 @@ pub record IsBetweenBatches (engine : EngineParts) (transcript : Transcript) : T
 
 -- batches, and after them those that close a log
 abbrev pub with_closing : ℕ → Database → List (List Call) → List (List Call)
-with_closing retries db ran = ran ++ closing retries retries (standing_after retries db ran)
+with_closing retries db ran = ran ++ closing retries (standing_after retries db ran)
 
 -- Of the batches that close a log after these, the first ones are reported too, and at most n are left.
-pub record HasClosed (procs : ProcsParts) (retries : ℕ) (db : Database) (ran : List (List Call)) (most : ℕ)
-    (engine : EngineParts) (transcript : Transcript) (sink filled : Option (List ℕ)) : Type 0 where
+pub record HasClosed (start : Start) (ran : List (List Call)) (most : ℕ) (engine : EngineParts)
+    (transcript : Transcript) (sink filled : Option (List ℕ)) : Type 0 where
   pub closers : List (List Call)
-  pub reported : HasReported procs retries db (ran ++ closers) engine transcript sink filled
-  pub first : closing retries retries (standing_after retries db ran)
-      ≡ closers ++ closing retries most (standing_after retries db (ran ++ closers))
+  pub reported : HasReported start (ran ++ closers) engine transcript sink filled
+  pub first : closing start.retries (standing_after start.retries start.rows ran)
+      ≡ closers ++ closing_within start.retries most (standing_after start.retries start.rows (ran ++ closers))
 
 -- all of the log is read
 abbrev pub HasReadAll : Stage → Type 0
@@ -72,35 +73,36 @@ HasReadAll in_closing = ⊤
 HasReadAll at_end = ⊤
 
 -- A fault stopped a run at this stage of closing its log after these batches.
-pub record IsCutAt (stage : Stage) (procs : ProcsParts) (retries : ℕ) (db : Database) (ran : List (List Call))
-    (sink filled : Option (List ℕ)) (fault : RunFault) : Type 0 where
+pub record IsCutAt (stage : Stage) (start : Start) (ran : List (List Call)) (sink filled : Option (List ℕ))
+    (fault : RunFault) : Type 0 where
   pub closers : List (List Call)
   pub ends : IsEndedBy stage false fault
-  pub closed : HaveClosed stage retries (standing_after retries db ran) closers
-  pub written : AppendsAndFront sink filled (texts_of procs retries db (ran ++ closers))
-      (text_at stage procs retries db (ran ++ closers))
+  pub closed : HaveClosed stage start.retries (standing_after start.retries start.rows ran) closers
+  pub written : AppendsAndFront sink filled (texts_of start (ran ++ closers)) (text_at stage start (ran ++ closers))
 
 -- A fault stopped a run that had read its log and was closing it after these batches.
-pub record IsCutShort (procs : ProcsParts) (retries : ℕ) (db : Database) (ran : List (List Call))
-    (sink filled : Option (List ℕ)) (fault : RunFault) : Type 0 where
+pub record IsCutShort (start : Start) (ran : List (List Call)) (sink filled : Option (List ℕ)) (fault : RunFault)
+    : Type 0 where
   pub stage : Stage
   pub all_read : HasReadAll stage
-  pub cut : IsCutAt stage procs retries db ran sink filled fault
+  pub cut : IsCutAt stage start ran sink filled fault
 
 -- What comes of running the batches without calls that close a log after these: each was reported, or a fault stopped
 -- one of them.
-pub record ReportsClosing (procs : ProcsParts) (retries : ℕ) (db : Database) (ran : List (List Call))
-    (engine : EngineParts) (transcript : Transcript) (sink filled : Option (List ℕ))
-    (result : Result (Unit {0}) RunFault)
+pub record ReportsClosing (start : Start) (ran : List (List Call)) (engine : EngineParts) (transcript : Transcript)
+    (sink filled : Option (List ℕ)) (result : Result (Unit {0}) RunFault)
     : Type 0 where
-  pub reported : OnOk result (HasReported procs retries db (with_closing retries db ran) engine transcript sink filled)
-  pub stop : IfErr result (IsCutAt in_closing procs retries db ran sink filled)
+  pub reported : OnOk result
+      (HasReported start (with_closing start.retries start.rows ran) engine transcript sink filled)
+  pub stop : IfErr result (IsCutAt in_closing start ran sink filled)
 
 -- What comes of closing a log after these batches: the batches without calls that close it were reported and the end
 -- line was written, or a fault stopped it.
-pub record IsClosing (procs : ProcsParts) (retries : ℕ) (db : Database) (ran : List (List Call))
-    (sink filled : Option (List ℕ)) (result : Result ℕ RunFault) : Type 0 where
-  pub count : IfOk result (λ n. n ≡ (standing_after retries db (with_closing retries db ran)).next)
-  pub text : OnOk result (Appends sink filled (texts_of procs retries db (with_closing retries db ran)
-      ++ end_text false procs.tables db (transactions_in retries db (with_closing retries db ran))))
-  pub stop : IfErr result (IsCutShort procs retries db ran sink filled)
+pub record IsClosing (start : Start) (ran : List (List Call)) (sink filled : Option (List ℕ))
+    (result : Result ℕ RunFault) : Type 0 where
+  pub count : IfOk result (λ n.
+      n ≡ (standing_after start.retries start.rows (with_closing start.retries start.rows ran)).next)
+  pub text : OnOk result (Appends sink filled (texts_of start (with_closing start.retries start.rows ran)
+      ++ end_text false start.digest start.procs.tables start.rows
+      (transactions_in start.retries start.rows (with_closing start.retries start.rows ran))))
+  pub stop : IfErr result (IsCutShort start ran sink filled)

@@ -10,6 +10,7 @@ use Rattle.batch_log.specs.Log.{batches_of, first_fault, log_said}
 use Rattle.report_text.specs.Report.{Transaction}
 use Rattle.report_text.specs.Report as texts
 use Rattle.retries.specs.Standings.{closed, in_turn, start_of}
+use Rattle.running.specs.Starts.{Start}
 
 -- what a whole log says to these procedures, where stale requests are tried again so often
 abbrev pub whole_log : ProcsParts → ℕ → List ℕ → Lines
@@ -29,8 +30,9 @@ calls_in_turn procs retries db log =
 abbrev pub batches_in : ProcsParts → ℕ → Database → List ℕ → List (List Transaction)
 batches_in procs retries db log = in_turn retries (start_of db) (calls_in_turn procs retries db log)
 
--- what is written for a log on procedures and starting rows: the texts of its batches, and the end line if it has no
+-- what is written for a log from a start: the texts of its batches, and the end line if it has no
 -- fault
-abbrev pub report_of : ProcsParts → ℕ → Database → List ℕ → List ℕ
-report_of procs retries db log =
-    texts.report procs.tables db (batches_in procs retries db log) (is_some (fault_in procs retries log))
+abbrev pub report_of : Start → List ℕ → List ℕ
+report_of start log =
+    texts.report start.digest start.procs.tables start.rows (batches_in start.procs start.retries start.rows log)
+    (is_some (fault_in start.procs start.retries log))

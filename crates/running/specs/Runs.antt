@@ -27,21 +27,21 @@ pub record IsRunOfLog (start : Start) (source spent sink filled : Device) (resul
   pub sound : OnOk result (IfSome source.bytes (λ log. fault_in start.procs start.retries log ≡ None))
   pub read : OnOk result (IfSome source.bytes (λ log. spent.bytes ≡ Some []))
   pub ok : OnOk result (IfSome source.bytes (λ log.
-      Appends sink.bytes filled.bytes (report_of start.procs start.retries start.rows log)))
+      Appends sink.bytes filled.bytes (report_of start log)))
   -- A fault of a line is the log's first, and the report of the batches before it was written.
   pub fault : IfErr result (λ e. IfOfLine e (λ fault. IfSome source.bytes (λ log.
       fault_in start.procs start.retries log ≡ Some fault)))
   pub until : IfErr result (λ e. IfOfLine e (λ fault. IfSome source.bytes (λ log.
-      Appends sink.bytes filled.bytes (report_of start.procs start.retries start.rows log))))
+      Appends sink.bytes filled.bytes (report_of start log))))
   -- However it ended, what was written is a beginning of the report.
   pub front : IfSome source.bytes (λ log.
-      AppendsFront sink.bytes filled.bytes (report_of start.procs start.retries start.rows log))
+      AppendsFront sink.bytes filled.bytes (report_of start log))
   -- The fault of a device comes exactly where one has failed meanwhile. Each fault names its line.
   pub devices : (spent.failed || filled.failed) ≡ ((source.failed || sink.failed) || ends_in_io result)
   pub line : source.failed ≡ false → IfErr result (λ e. IfOfMachine e (IsLineOf spent.failed source.bytes spent.bytes))
   -- A device, memory or a thread stopped it after the batches that it had reported, and within the next one.
   pub stop : source.failed ≡ false → IfErr result (λ e. IfOfMachine e (λ line. IfSome source.bytes (λ log.
-      IsStop start.procs start.retries start.rows spent.failed e log sink.bytes filled.bytes line)))
+      IsStop start spent.failed e log sink.bytes filled.bytes line)))
 
 -- The same of a source and a sink, by what each of them says of its bytes and of its failures.
 abbrev pub RunsLog : {S K : Type 0} → (S → Option (List ℕ)) → (S → Bool) → (K → Option (List ℕ)) → (K → Bool) →

@@ -3,24 +3,28 @@
 use Rattle.std.specs.Prelude.{ℕ}
 use Rattle.std.specs.FinMap.{empty}
 use Rattle.values.specs.Database.{Database}
-use Rattle.requests.specs.declared.setup.Setup.{Setup}
 use Rattle.requests.specs.ProcLists.{ProcsParts}
 use Rattle.row_store.specs.Stock.{with_rows}
+use Rattle.row_text.specs.declared.form.DigestForm.{DigestForm}
+use Rattle.setup.specs.declared.document.SetupDocument.{SetupDocument}
 use Rattle.engine.specs.Engines.{EngineParts}
 
--- the procedures, how often a stale request is tried again, and the starting rows
+-- the procedures, how often a stale request is tried again, the starting rows, and of which text of the rows the
+-- digests in a report are
 pub record Start : Type 0 where
   pub procs : ProcsParts
   pub retries : ℕ
   pub rows : Database
+  pub digest : DigestForm
 
-abbrev pub start_at : ProcsParts → ℕ → Database → Start
-start_at procs retries rows = record { procs = procs; retries = retries; rows = rows }
+abbrev pub start_at : ProcsParts → ℕ → Database → DigestForm → Start
+start_at procs retries rows digest = record { procs = procs; retries = retries; rows = rows; digest = digest }
 
--- what a run on a setup starts from
-abbrev pub start_in : Setup → Start
-start_in setup = start_at setup.procs setup.retries (with_rows empty setup.rows.items)
+-- what a run on a setup document starts from
+abbrev pub start_in : SetupDocument → Start
+start_in document =
+    start_at document.setup.procs document.setup.retries (with_rows empty document.setup.rows.items) document.digest
 
--- what an engine goes on from
-abbrev pub start_of : EngineParts → Start
-start_of engine = start_at engine.procs engine.retries engine.rows
+-- what an engine goes on from, where digests are of this text of the rows
+abbrev pub start_of : EngineParts → DigestForm → Start
+start_of engine digest = start_at engine.procs engine.retries engine.rows digest

@@ -14,6 +14,7 @@ use Rattle.report_text.specs.Report.{all_transactions, batch_text, batch_texts, 
 use Rattle.retries.specs.Standings.{after_batches, closing, call_count, in_turn, start_of, transactions_at, Standing}
 use Rattle.running.specs.declared.run_fault.RunFault.{RunFault}
 use Rattle.running.specs.Reports.{fault_in, whole_log}
+use Rattle.running.specs.Starts.{Start}
 use Rattle.running.specs.Stops.{is_of_device, IfOfThread, last_line, line_of_read}
 
 -- ---- after some batches
@@ -22,16 +23,18 @@ use Rattle.running.specs.Stops.{is_of_device, IfOfThread, last_line, line_of_rea
 abbrev pub standing_after : ℕ → Database → List (List Call) → Standing
 standing_after retries db batches = after_batches retries (start_of db) batches
 
--- the texts of batches from starting rows
-abbrev pub texts_of : ProcsParts → ℕ → Database → List (List Call) → List ℕ
-texts_of procs retries db batches = batch_texts procs.tables 1 0 db (in_turn retries (start_of db) batches)
+-- the texts of batches from a start
+abbrev pub texts_of : Start → List (List Call) → List ℕ
+texts_of start batches =
+    batch_texts start.digest start.procs.tables 1 0 start.rows (in_turn start.retries (start_of start.rows) batches)
 
 -- the text of the next batch after some, of these calls
-abbrev pub next_text : ProcsParts → ℕ → Database → List (List Call) → List Call → List ℕ
-next_text procs retries db batches calls =
-    batch_text procs.tables (next_batch (length batches)) (standing_after retries db batches).next
-    (standing_after retries db batches).rows
-    (transactions_at (standing_after retries db batches) calls)
+abbrev pub next_text : Start → List (List Call) → List Call → List ℕ
+next_text start batches calls =
+    batch_text start.digest start.procs.tables (next_batch (length batches))
+    (standing_after start.retries start.rows batches).next
+    (standing_after start.retries start.rows batches).rows
+    (transactions_at (standing_after start.retries start.rows batches) calls)
 
 -- what the rest of a log says after the bytes and the calls of some batches
 abbrev pub said_after : ProcsParts → ℕ → List ℕ → List (List Call) → List ℕ → Lines
@@ -76,16 +79,17 @@ abbrev pub HaveClosed : Stage → ℕ → Standing → List (List Call) → Type
 HaveClosed reading retries s closers = closers ≡ []
 HaveClosed (in_batch calls) retries s closers = closers ≡ []
 HaveClosed in_closing retries s closers =
-    (later : List (List Call)) × (closing retries retries s ≡ closers ++ [] ∷ later)
-HaveClosed at_end retries s closers = closing retries retries s ≡ closers
+    (later : List (List Call)) × (closing retries s ≡ closers ++ [] ∷ later)
+HaveClosed at_end retries s closers = closing retries s ≡ closers
 
 -- what a stage writes after the reports of some batches: the text of its batch, or the end line
-abbrev pub text_at : Stage → ProcsParts → ℕ → Database → List (List Call) → List ℕ
-text_at reading procs retries db reported = []
-text_at (in_batch calls) procs retries db reported = next_text procs retries db reported calls
-text_at in_closing procs retries db reported = next_text procs retries db reported []
-text_at at_end procs retries db reported =
-    end_text false procs.tables db (all_transactions (in_turn retries (start_of db) reported))
+abbrev pub text_at : Stage → Start → List (List Call) → List ℕ
+text_at reading start reported = []
+text_at (in_batch calls) start reported = next_text start reported calls
+text_at in_closing start reported = next_text start reported []
+text_at at_end start reported =
+    end_text false start.digest start.procs.tables start.rows
+    (all_transactions (in_turn start.retries (start_of start.rows) reported))
 
 -- the text is written, and then a beginning of the next one
 abbrev pub AppendsAndFront : Option (List ℕ) → Option (List ℕ) → List ℕ → List ℕ → Type 0
@@ -102,7 +106,7 @@ line_after false taken = last_line taken
 -- A run stopped at this stage, and names this line. The report of some batches was written whole. After their bytes
 -- nothing was taken but of the next batch, and after their text nothing was written but a beginning of what the stage
 -- writes.
-pub record IsStoppedAt (stage : Stage) (procs : ProcsParts) (retries : ℕ) (db : Database) (failed : Bool) (log : List ℕ)
+pub record IsStoppedAt (stage : Stage) (start : Start) (failed : Bool) (log : List ℕ)
     (sink filled : Option (List ℕ)) (line : ℕ) : Type 0 where
   -- the log's batches that are reported, and those without calls after them; the bytes of the log's, the bytes taken
   -- after them, and the rest of the log
@@ -112,19 +116,19 @@ pub record IsStoppedAt (stage : Stage) (procs : ProcsParts) (retries : ℕ) (db 
   pub taken : List ℕ
   pub rest : List ℕ
   pub whole : log ≡ bytes ++ (taken ++ rest)
-  pub batches : batches_of (whole_log procs retries log)
-      ≡ reported ++ batches_of (said_after procs retries bytes reported (taken ++ rest))
-  pub fault : fault_in procs retries log ≡ first_fault (said_after procs retries bytes reported (taken ++ rest))
+  pub batches : batches_of (whole_log start.procs start.retries log)
+      ≡ reported ++ batches_of (said_after start.procs start.retries bytes reported (taken ++ rest))
+  pub fault : fault_in start.procs start.retries log
+      ≡ first_fault (said_after start.procs start.retries bytes reported (taken ++ rest))
   -- After them whole lines of calls were taken, and then one more line, or a beginning of it.
-  pub calls : TakesCalls retries procs.procs (call_count reported) failed (taken ++ rest) rest
-  pub at : IsTakenAt stage procs retries reported bytes taken rest
-  pub closed : HaveClosed stage retries (standing_after retries db reported) closers
-  pub written : AppendsAndFront sink filled (texts_of procs retries db (reported ++ closers))
-      (text_at stage procs retries db (reported ++ closers))
+  pub calls : TakesCalls start.retries start.procs.procs (call_count reported) failed (taken ++ rest) rest
+  pub at : IsTakenAt stage start.procs start.retries reported bytes taken rest
+  pub closed : HaveClosed stage start.retries (standing_after start.retries start.rows reported) closers
+  pub written : AppendsAndFront sink filled (texts_of start (reported ++ closers))
+      (text_at stage start (reported ++ closers))
   pub line_is : line ≡ line_after failed (bytes ++ taken)
 
 -- a run stopped with this fault at this line, at a stage that such a fault can end
-abbrev pub IsStop : ProcsParts → ℕ → Database → Bool → RunFault → List ℕ → Option (List ℕ) → Option (List ℕ) → ℕ
-    → Type 0
-IsStop procs retries db failed fault log sink filled line =
-    (stage : Stage) × IsEndedBy stage failed fault × IsStoppedAt stage procs retries db failed log sink filled line
+abbrev pub IsStop : Start → Bool → RunFault → List ℕ → Option (List ℕ) → Option (List ℕ) → ℕ → Type 0
+IsStop start failed fault log sink filled line =
+    (stage : Stage) × IsEndedBy stage failed fault × IsStoppedAt stage start failed log sink filled line

@@ -10,7 +10,10 @@ use Rattle.row_store.specs.Stock.{Stock}
 use Rattle.batch_log.specs.declared.fault.LogFaultKind.{LogFaultKind}
 use Rattle.batch_log.specs.declared.fault.LogFaultKind.TheVariants.{Io, Memory}
 use Rattle.batch_log.specs.Faults.{is_io}
-use Rattle.report_text.specs.Texts.{reply_line, row_text, digest, batch_line}
+use Rattle.row_text.specs.declared.form.DigestForm.{DigestForm}
+use Rattle.row_text.specs.Partitions.{digested_text}
+use Rattle.row_text.specs.Texts.{digest}
+use Rattle.report_text.specs.Texts.{reply_line, batch_line}
 use Rattle.engine.specs.declared.replies.Reply.{Reply}
 use Rattle.engine.specs.Replies.{reply_of}
 
@@ -19,19 +22,22 @@ abbrev pub said_lines : List Reply → List ℕ
 said_lines [] = []
 said_lines (reply ∷ replies) = reply_line reply.no reply.of (reply_of reply) ++ said_lines replies
 
--- reply lines, and the batch line with the digests of the rows and of these lines
-unfoldable pub with_batch_line : ℕ → List TableShape → Database → List ℕ → List ℕ
-with_batch_line batch tables db lines = lines ++ batch_line batch (digest (row_text tables db)) (digest lines)
+-- reply lines, and the batch line with the digests of the rows, in this form, and of these lines
+unfoldable pub with_batch_line : DigestForm → ℕ → List TableShape → Database → List ℕ → List ℕ
+with_batch_line form batch tables db lines =
+    lines ++ batch_line batch (digest (digested_text form tables db)) (digest lines)
 
 -- whether one of these replies is a commit
 abbrev pub has_commit : List Reply → Bool
 has_commit replies = list_any (λ reply. is_commit reply.outcome) replies
 
--- The rows are those that a batch with these replies has left, and no row is lent. Where no reply is a commit, the
--- digest that was kept before the batch, if one was, is still that of the rows.
-pub record AreRowsAfter (replies : List Reply) (kept : Option (List ℕ)) (store : Stock) : Type 0 where
+-- No row is lent, and where no reply of a batch is a commit, the digest that was kept before the batch, if one was, is
+-- that of the rows after it, in this form.
+pub record AreRowsAfter (form : DigestForm) (replies : List Reply) (kept : Option (List ℕ)) (store : Stock)
+    : Type 0 where
   pub unlent : store.lent ≡ empty
-  pub digest_kept : has_commit replies ≡ false → IfSome kept (λ text. text ≡ digest (row_text store.tables store.rows))
+  pub digest_kept : has_commit replies ≡ false →
+      IfSome kept (λ text. text ≡ digest (digested_text form store.tables store.rows))
 
 -- whether a write failed
 abbrev pub write_failed : {T : Type 0} → Result T LogFaultKind → Bool

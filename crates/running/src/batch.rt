@@ -6,8 +6,9 @@ ghost use Rattle.sequencer.specs.Batches.{items_of, AreOver};
 ghost use Rattle.engine.specs.Batches.{next_attempts};
 ghost use Rattle.engine.specs.Engines.{tables_of, is_busy};
 ghost use Rattle.engine.specs.Executions.{IsRefusal, IsExecutionOf, KeepsSetting};
-ghost use Rattle.running.specs.Batches.{due_text, IsDue, IsReported};
+ghost use Rattle.running.specs.Batches.{due_text, IsDue, IsReported, KeepsDigest};
 ghost use Rattle.running.specs.Executors.{Executes, HasAnswered};
+ghost use Rattle.running.specs.Hashers.{form_of};
 ghost use Rattle.running.specs.Stops.{ends_in_io, is_of_device, IfOfThread, IsHeld, IsMachineFault, IsRefusedBy};
 
 use crate::run_fault::RunFault;
@@ -52,6 +53,9 @@ fn execute<E: BatchEngine, X: Fn(&mut E, Batch) -> Result<BatchDone, ExecFault>>
 
 /// Executes the requests of a batch, after those that are carried to it, and writes its report. Each fault is a failed
 /// write (36), a failed allocation (37) or a refused thread (38), at this line, the last one read.
+///
+/// The digest of rows that the transcript keeps, if it keeps one, must be that of the engine's rows, and however the
+/// batch ends, it is again.
 pub fn run_batch<E: BatchEngine, X: Fn(&mut E, Batch) -> Result<BatchDone, ExecFault>, K: Sink>(
     alloc: Global,
     executor: &X,
@@ -71,6 +75,8 @@ pub fn run_batch<E: BatchEngine, X: Fn(&mut E, Batch) -> Result<BatchDone, ExecF
     ensures stops { IfErr result (IsMachineFault line) }
     ensures threads { IfErr result (λ e. IfOfThread e (HasAnswered X.Fn executor.now ExecFault.Spawn)) }
     ensures fails { K.broken sink.new ≡ (K.broken sink.old || ends_in_io result) }
+    ensures digest { KeepsDigest (E.parts engine.new) transcript.new }
+    ensures form { form_of transcript.new ≡ form_of transcript.old }
 {
     let batch = match Batch::of(alloc, requests) {
         Ok(batch) => batch,

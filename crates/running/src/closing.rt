@@ -3,16 +3,18 @@
 ghost use Rattle.std.specs.Prelude.{◌≡◌, ◌||◌, List, ℕ, Option, IfOk, IfErr, OnOk, false};
 ghost use Rattle.std.specs.Io.KnownBytes.{Appends};
 ghost use Rattle.sha2.specs.Hashers.{Holds256};
-ghost use Rattle.values.specs.Database.{Database};
 ghost use Rattle.requests.specs.Requests.{Call};
 ghost use Rattle.devices.specs.Devices.{AppendsFront};
-ghost use Rattle.report_text.specs.Texts.{digest, end_line, row_text};
+ghost use Rattle.row_text.specs.Partitions.{digested_text};
+ghost use Rattle.row_text.specs.Texts.{digest};
+ghost use Rattle.report_text.specs.Texts.{end_line};
 ghost use Rattle.engine.specs.Engines.{tables_of, is_busy};
 ghost use Rattle.engine.specs.Executions.{KeepsSetting};
 ghost use Rattle.running.specs.Batches.{KeepsDigest};
 ghost use Rattle.running.specs.Executors.{Executes, HasAnswered};
-ghost use Rattle.running.specs.Hashers.{said_of};
+ghost use Rattle.running.specs.Hashers.{form_of, said_of};
 ghost use Rattle.running.specs.Reported.{with_drained, HasReported, IsBetweenBatches, IsClosing, ReportsClosing};
+ghost use Rattle.running.specs.Starts.{Start};
 ghost use Rattle.running.specs.Stops.{ends_in_io, IfOfThread, IsMachineFault, IsNotOfThread};
 
 use crate::batch::run_batch;
@@ -41,11 +43,10 @@ pub fn run_closing_batches<
     requires executes { Executes E.parts X.Fn executor.now }
     requires between { IsBetweenBatches (E.parts engine.old) transcript.old }
     ensures same { KeepsSetting (E.parts engine.old) (E.parts engine.new) }
-    ensures closed { (db : Database) (ran : List (List Call)) (start : Option (List ℕ)) (drained : List ℕ) →
-        HasReported (E.parts engine.old).procs (E.parts engine.old).retries db ran
-        (E.parts engine.old) transcript.old start (with_drained drained (K.taken sink.old)) →
-        ReportsClosing (E.parts engine.old).procs (E.parts engine.old).retries db ran
-        (E.parts engine.new) transcript.new start (with_drained drained (K.taken sink.new)) result }
+    ensures closed { (start : Start) (ran : List (List Call)) (before : Option (List ℕ)) (drained : List ℕ) →
+        HasReported start ran (E.parts engine.old) transcript.old before (with_drained drained (K.taken sink.old)) →
+        ReportsClosing start ran (E.parts engine.new) transcript.new
+        before (with_drained drained (K.taken sink.new)) result }
     ensures between { OnOk result (IsBetweenBatches (E.parts engine.new) transcript.new) }
     ensures grows { (bytes : List ℕ) × Appends (K.taken sink.old) (K.taken sink.new) bytes }
     ensures stops { IfErr result (λ e.
@@ -80,10 +81,12 @@ pub fn finish<E: BatchEngine, K: Sink>(
     ensures text { (m : List ℕ) → Holds256 (said_of transcript) m →
         OnOk result (Appends (K.taken sink.old) (K.taken sink.new)
         (end_line (E.parts engine.now).next
-        (digest (row_text (tables_of (E.parts engine.now)) (E.parts engine.now).rows)) (digest m))) }
+        (digest (digested_text (form_of transcript) (tables_of (E.parts engine.now)) (E.parts engine.now).rows))
+        (digest m))) }
     ensures front { (m : List ℕ) → Holds256 (said_of transcript) m → AppendsFront (K.taken sink.old) (K.taken sink.new)
         (end_line (E.parts engine.now).next
-        (digest (row_text (tables_of (E.parts engine.now)) (E.parts engine.now).rows)) (digest m)) }
+        (digest (digested_text (form_of transcript) (tables_of (E.parts engine.now)) (E.parts engine.now).rows))
+        (digest m)) }
     ensures stops { IfErr result (IsMachineFault line) }
     ensures threadless { IsNotOfThread result }
     ensures fails { K.broken sink.new ≡ (K.broken sink.old || ends_in_io result) }
@@ -107,10 +110,9 @@ pub(crate) fn close<E: BatchEngine, X: Fn(&mut E, Batch) -> Result<BatchDone, Ex
 ) -> Result<u64, RunFault>
     requires executes { Executes E.parts X.Fn executor.now }
     requires between { IsBetweenBatches (E.parts engine.old) transcript }
-    ensures closed { (db : Database) (ran : List (List Call)) (start : Option (List ℕ)) →
-        HasReported (E.parts engine.old).procs (E.parts engine.old).retries db ran
-        (E.parts engine.old) transcript start (K.taken sink.old) →
-        IsClosing (E.parts engine.old).procs (E.parts engine.old).retries db ran start (K.taken sink.new) result }
+    ensures closed { (start : Start) (ran : List (List Call)) (before : Option (List ℕ)) →
+        HasReported start ran (E.parts engine.old) transcript before (K.taken sink.old) →
+        IsClosing start ran before (K.taken sink.new) result }
     ensures stops { IfErr result (IsMachineFault line) }
     ensures threads { IfErr result (λ e. IfOfThread e (HasAnswered X.Fn executor.now ExecFault.Spawn)) }
     ensures fails { K.broken sink.new ≡ (K.broken sink.old || ends_in_io result) }

@@ -14,12 +14,14 @@ use crate::run_fault::RunFault;
 use crate::transcript::Transcript;
 use batch_log::{LogFaultKind, LogReader, Sink, Source};
 use engine::{BatchDone, Engine, ExecFault, Settings};
-use requests::Setup;
+use row_text::DigestForm;
 use sequencer::Batch;
+use setup::SetupDocument;
 use std::alloc::Global;
 use std::sync::Wait;
 
-/// Runs the batches of a log, of which nothing was read, and writes its report into a sink.
+/// Runs the batches of a log, of which nothing was read, and writes its report into a sink, with digests of rows in
+/// that form.
 fn run_batches<
     R: Wait,
     X: Fn(&mut Engine, Batch) -> Result<BatchDone, ExecFault>,
@@ -30,6 +32,7 @@ fn run_batches<
     alloc: Global,
     executor: &X,
     engine: &mut Engine,
+    form: DigestForm,
     reader: &mut LogReader<'_, S>,
     sink: &mut K,
 ) -> Result<u64, RunFault>
@@ -42,14 +45,14 @@ fn run_batches<
     requires unread { (position_of reader.old ≡ record { newlines = 0; begun = 0 }) × (calls_read reader.old ≡ 0) ×
         (fault_of reader.old ≡ None) }
     ensures same { source_name reader.new ≡ source_name reader.old }
-    ensures run { IsRunOfLog (start_of engine.old.core)
+    ensures run { IsRunOfLog (start_of engine.old.core form)
         (device_with (unread S.left reader.old) (S.failed (source_of reader.old)))
         (device_with (S.left (source_of reader.new)) (S.failed (source_of reader.new)))
         (device_with (K.taken sink.old) (K.broken sink.old))
         (device_with (K.taken sink.new) (K.broken sink.new)) result }
     ensures threads { IfErr result (λ e. IfOfThread e (HasAnswered X.Fn executor.now ExecFault.Spawn)) }
 {
-    let mut transcript = Transcript::new();
+    let mut transcript = Transcript::new(form);
     'batches: for _ in rt.forever() {
         let requests = match reader.next_batch(alloc, engine.procs()) {
             Ok(Some(requests)) => requests,
@@ -76,7 +79,8 @@ fn run_batches<
     unreachable!()
 }
 
-/// Runs the log that a source gives on an engine that has run none, as `run_log` does on a new one.
+/// Runs the log that a source gives on an engine that has run none, as `run_log` does on a new one, with digests of
+/// rows in that form.
 pub fn run_log_on<
     R: Wait,
     X: Fn(&mut Engine, Batch) -> Result<BatchDone, ExecFault>,
@@ -87,13 +91,14 @@ pub fn run_log_on<
     alloc: Global,
     executor: &X,
     engine: &mut Engine,
+    form: DigestForm,
     source: &mut S,
     sink: &mut K,
 ) -> Result<u64, RunFault>
     requires executes { Executes core_of X.Fn executor.now }
     requires idle { is_busy engine.old.core ≡ false }
     requires unused { engine.old.core.next ≡ 0 }
-    ensures run { RunsLog S.left S.failed K.taken K.broken (start_of engine.old.core)
+    ensures run { RunsLog S.left S.failed K.taken K.broken (start_of engine.old.core form)
         source.old source.new sink.old sink.new result }
     // It ends with a refused thread only where the executor has answered so.
     ensures threads { IfErr result (λ e. IfOfThread e (HasAnswered X.Fn executor.now ExecFault.Spawn)) }
@@ -102,14 +107,14 @@ pub fn run_log_on<
     let carried = engine.carried();
     prove!(carried == 0);
     let mut reader = LogReader::new(source, engine.retries());
-    let ended = run_batches(rt, alloc, executor, engine, &mut reader, sink);
+    let ended = run_batches(rt, alloc, executor, engine, form, &mut reader, sink);
     let _source = reader.into_source();
     ended
 }
 
-/// Runs the log that a source gives on a setup, and writes its report into a sink: for each batch a reply line for each
-/// request that it tries and a batch line, and then the end line. Each batch is executed by `executor`, which decides
-/// on how many threads. The answer is the number of transactions.
+/// Runs the log that a source gives on a setup document, and writes its report into a sink: for each batch a reply line
+/// for each request that it tries and a batch line, and then the end line. Each batch is executed by `executor`, which
+/// decides on how many threads. The answer is the number of transactions.
 ///
 /// A batch is read whole before it runs, and its report is written after it ended. A stale request is tried again in
 /// the next batch, as often as the setup says. After the last batch of a log without a fault, batches without calls
@@ -125,19 +130,20 @@ pub fn run_log<
     rt: &R,
     alloc: Global,
     executor: &X,
-    setup: Setup,
+    document: SetupDocument,
     settings: Settings,
     source: &mut S,
     sink: &mut K,
 ) -> Result<u64, RunFault>
     requires executes { Executes core_of X.Fn executor.now }
-    ensures run { RunsLog S.left S.failed K.taken K.broken (start_in setup)
+    ensures run { RunsLog S.left S.failed K.taken K.broken (start_in document)
         source.old source.new sink.old sink.new result }
     // It ends with a refused thread only where the executor has answered so.
     ensures threads { IfErr result (λ e. IfOfThread e (HasAnswered X.Fn executor.now ExecFault.Spawn)) }
 {
+    let SetupDocument { setup, digest } = document;
     match Engine::new(alloc, setup, settings) {
-        Ok(mut engine) => run_log_on(rt, alloc, executor, &mut engine, source, sink),
+        Ok(mut engine) => run_log_on(rt, alloc, executor, &mut engine, digest, source, sink),
         Err(_) => Err(RunFault::at(LogFaultKind::Memory, 0)),
     }
 }

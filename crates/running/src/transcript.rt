@@ -1,12 +1,13 @@
 //! The report of a run, as it is written.
 
-ghost use Rattle.std.specs.Prelude.{◌≡◌, ◌++◌, ◌||◌, List, ℕ, [], Some, None, IfOk, IfErr, IfSome, OnOk, string_bytes};
+ghost use Rattle.std.specs.Prelude.{◌≡◌, ◌++◌, ◌||◌, List, ℕ, [], Some, None, IfOk, IfErr, IfSome, OnErr, OnOk, string_bytes};
 ghost use Rattle.std.specs.FinMap as map_of;
 ghost use Rattle.std.specs.Io.KnownBytes.{Appends};
 ghost use Rattle.sha2.specs.Hashers.{Holds256};
 ghost use Rattle.devices.specs.Devices.{AppendsFront};
-ghost use Rattle.report_text.specs.Texts.{digest, end_line, row_text};
-ghost use Rattle.report_text.specs.Report.{next_batch};
+ghost use Rattle.row_text.specs.Partitions.{digested_text};
+ghost use Rattle.row_text.specs.Texts.{digest};
+ghost use Rattle.report_text.specs.Texts.{end_line};
 ghost use Rattle.meaning.specs.Outcomes.{is_commit};
 ghost use Rattle.running.specs.Transcripts.{has_commit, said_lines, with_batch_line, write_failed};
 ghost use Rattle.running.specs.Transcripts.{AreRowsAfter, IsOfMachine};
@@ -14,10 +15,9 @@ ghost use Rattle.running.specs.Transcripts.{AreRowsAfter, IsOfMachine};
 use batch_log::{LogFaultKind, Sink, write_all};
 use engine::Reply;
 use meaning::Outcome;
-use report_text::{
-    digest_of, digest_text, push_batch_line, push_end_line, push_reply_line, rows_digest,
-};
+use report_text::{push_batch_line, push_end_line, push_reply_line};
 use row_store::{RowStore, all_is_free_with_nothing_lent};
+use row_text::{DigestForm, digest_of, digest_text, rows_digest};
 use sha2::{Digest, Sha256};
 use std::alloc::{AllocError, Global};
 
@@ -28,8 +28,10 @@ pub struct Transcript {
     batch: u64,
     /// All reply lines, by their hasher.
     said: Sha256,
-    /// The digest of the rows after the last batch, `None` where no batch was reported.
+    /// The digest of the rows after the last batch; `None` where no batch was reported, and after an error.
     rows: Option<String>,
+    /// Of which text of the rows its digests are.
+    form: DigestForm,
 }
 
 /// The reply lines of a batch.
@@ -43,24 +45,32 @@ fn reply_lines(alloc: Global, replies: &[Reply]) -> Result<String, AllocError>
     Ok(lines)
 }
 
-/// The digest of all rows.
-fn digest_of_rows(alloc: Global, rows: &RowStore) -> Result<String, AllocError>
+/// The digest of all rows, in that form.
+fn digest_of_rows(alloc: Global, rows: &RowStore, form: DigestForm) -> Result<String, AllocError>
     requires { rows.now.lent ≡ map_of.empty }
-    ensures { IfOk result (λ text. string_bytes text ≡ digest (row_text rows.now.tables rows.now.rows)) }
+    ensures { IfOk result (λ text.
+        string_bytes text ≡ digest (digested_text form rows.now.tables rows.now.rows)) }
 {
     all_is_free_with_nothing_lent();
-    rows_digest(alloc, rows.catalogue(), rows)
+    rows_digest(alloc, rows.catalogue(), rows, form)
 }
 
-/// The digest that was kept, or else that of the rows.
-fn kept_or_made(alloc: Global, kept: Option<String>, rows: &RowStore) -> Result<String, AllocError>
+/// The digest that was kept, or else that of the rows, in that form.
+fn kept_or_made(
+    alloc: Global,
+    kept: Option<String>,
+    rows: &RowStore,
+    form: DigestForm,
+) -> Result<String, AllocError>
     requires unlent { rows.now.lent ≡ map_of.empty }
-    requires kept { IfSome kept (λ text. string_bytes text ≡ digest (row_text rows.now.tables rows.now.rows)) }
-    ensures { IfOk result (λ text. string_bytes text ≡ digest (row_text rows.now.tables rows.now.rows)) }
+    requires kept { IfSome kept (λ text.
+        string_bytes text ≡ digest (digested_text form rows.now.tables rows.now.rows)) }
+    ensures { IfOk result (λ text.
+        string_bytes text ≡ digest (digested_text form rows.now.tables rows.now.rows)) }
 {
     match kept {
         Some(text) => Ok(text),
-        None => digest_of_rows(alloc, rows),
+        None => digest_of_rows(alloc, rows, form),
     }
 }
 
@@ -77,22 +87,26 @@ fn has_commit(replies: &[Reply]) -> bool
     replies.iter().any(is_commit)
 }
 
-/// The digest of the rows, and reply lines with the batch line after them. A digest that was kept is not made anew.
+/// The digest of the rows, in that form, and reply lines with the batch line after them. A digest that was kept is not
+/// made anew.
 #[tactic(auto, unfolding(crate::specs::Transcripts::with_batch_line))]
 fn batch_text(
     alloc: Global,
     batch: u64,
     kept: Option<String>,
     rows: &RowStore,
+    form: DigestForm,
     lines: &str,
 ) -> Result<(String, String), AllocError>
     requires unlent { rows.now.lent ≡ map_of.empty }
-    requires kept { IfSome kept (λ text. string_bytes text ≡ digest (row_text rows.now.tables rows.now.rows)) }
-    ensures digest { IfOk result (λ made. string_bytes made.0 ≡ digest (row_text rows.now.tables rows.now.rows)) }
+    requires kept { IfSome kept (λ text.
+        string_bytes text ≡ digest (digested_text form rows.now.tables rows.now.rows)) }
+    ensures digest { IfOk result (λ made.
+        string_bytes made.0 ≡ digest (digested_text form rows.now.tables rows.now.rows)) }
     ensures text { IfOk result (λ made.
-        string_bytes made.1 ≡ with_batch_line batch rows.now.tables rows.now.rows lines.now) }
+        string_bytes made.1 ≡ with_batch_line form batch rows.now.tables rows.now.rows lines.now) }
 {
-    let rows = kept_or_made(alloc, kept, rows)?;
+    let rows = kept_or_made(alloc, kept, rows, form)?;
     let replies = digest_text(alloc, lines.as_bytes())?;
     let mut text = String::from_str(alloc, lines)?;
     push_batch_line(&mut text, batch, &rows, &replies)?;
@@ -124,24 +138,34 @@ fn write_text<K: Sink>(sink: &mut K, text: &str) -> Result<(), LogFaultKind>
 }
 
 impl Transcript {
-    ghost use Rattle.running.specs.Hashers.{batch_of, rows_digest_of, said_of};
+    ghost use Rattle.running.specs.Batches.{HasAdded};
+    ghost use Rattle.running.specs.Hashers.{batch_of, form_of, rows_digest_of, said_of};
 
-    /// Nothing was reported.
-    pub fn new() -> Transcript
+    /// Nothing was reported. Digests are to be of that text of the rows.
+    pub fn new(form: DigestForm) -> Transcript
         ensures batch { batch_of result ≡ 1 }
         ensures said { Holds256 (said_of result) [] }
         ensures rows { rows_digest_of result ≡ None }
+        ensures form { form_of result ≡ form }
     {
         Transcript {
             batch: 1,
             said: Sha256::new(),
             rows: None,
+            form,
         }
+    }
+
+    /// Of which text of the rows its digests are.
+    pub fn form(&self) -> DigestForm
+        ensures { result ≡ form_of self.now }
+    {
+        self.form
     }
 
     /// Writes the report of a batch, over the rows that it has left. Where no call of it has committed, they are those
     /// that the batch before has left, if there was one: their digest is then the one in its batch line, and is not
-    /// made anew.
+    /// made anew. After an error no digest is kept.
     pub fn write_batch<K: Sink>(
         &mut self,
         alloc: Global,
@@ -149,28 +173,27 @@ impl Transcript {
         rows: &RowStore,
         replies: &[Reply],
     ) -> Result<(), LogFaultKind>
-        requires { AreRowsAfter replies.now (rows_digest_of self.old) rows.now }
-        ensures batch { OnOk result (batch_of self.new ≡ next_batch (batch_of self.old)) }
-        ensures said { OnOk result ((m : List ℕ) → Holds256 (said_of self.old) m →
-            Holds256 (said_of self.new) (m ++ said_lines replies.now)) }
-        ensures text { OnOk result
-            (Appends (K.taken sink.old) (K.taken sink.new)
-            (with_batch_line (batch_of self.old) rows.now.tables rows.now.rows (said_lines replies.now))) }
+        requires { AreRowsAfter (form_of self.old) replies.now (rows_digest_of self.old) rows.now }
+        ensures added { OnOk result (HasAdded self.old self.new (said_lines replies.now)) }
+        ensures text { OnOk result (Appends (K.taken sink.old) (K.taken sink.new)
+            (with_batch_line (form_of self.old) (batch_of self.old) rows.now.tables rows.now.rows
+            (said_lines replies.now))) }
         ensures front { AppendsFront (K.taken sink.old) (K.taken sink.new)
-            (with_batch_line (batch_of self.old) rows.now.tables rows.now.rows (said_lines replies.now)) }
+            (with_batch_line (form_of self.old) (batch_of self.old) rows.now.tables rows.now.rows
+            (said_lines replies.now)) }
         ensures kind { IfErr result IsOfMachine }
         ensures fails { K.broken sink.new ≡ (K.broken sink.old || write_failed result) }
-        ensures rows { OnOk result (rows_digest_of self.new ≡ Some (digest (row_text rows.now.tables rows.now.rows))) }
+        ensures rows { OnOk result (rows_digest_of self.new
+            ≡ Some (digest (digested_text (form_of self.old) rows.now.tables rows.now.rows))) }
+        ensures gone { OnErr result (rows_digest_of self.new ≡ None) }
+        ensures form { form_of self.new ≡ form_of self.old }
     {
+        let kept = self.rows.take();
+        let kept = if has_commit(replies) { None } else { kept };
         let Ok(lines) = reply_lines(alloc, replies) else {
             return Err(LogFaultKind::Memory);
         };
-        let kept = if has_commit(replies) {
-            None
-        } else {
-            self.rows.take()
-        };
-        let Ok((rows, text)) = batch_text(alloc, self.batch, kept, rows, &lines) else {
+        let Ok((rows, text)) = batch_text(alloc, self.batch, kept, rows, self.form, &lines) else {
             return Err(LogFaultKind::Memory);
         };
         match write_text(sink, &text) {
@@ -193,13 +216,14 @@ impl Transcript {
         count: u64,
     ) -> Result<(), LogFaultKind>
         requires unlent { rows.now.lent ≡ map_of.empty }
-        requires kept { IfSome (rows_digest_of self) (λ text. text ≡ digest (row_text rows.now.tables rows.now.rows)) }
+        requires kept { IfSome (rows_digest_of self) (λ text.
+            text ≡ digest (digested_text (form_of self) rows.now.tables rows.now.rows)) }
         ensures text { (m : List ℕ) → Holds256 (said_of self) m →
             OnOk result (Appends (K.taken sink.old) (K.taken sink.new)
-            (end_line count (digest (row_text rows.now.tables rows.now.rows)) (digest m))) }
+            (end_line count (digest (digested_text (form_of self) rows.now.tables rows.now.rows)) (digest m))) }
         ensures front { (m : List ℕ) → Holds256 (said_of self) m →
             AppendsFront (K.taken sink.old) (K.taken sink.new)
-            (end_line count (digest (row_text rows.now.tables rows.now.rows)) (digest m)) }
+            (end_line count (digest (digested_text (form_of self) rows.now.tables rows.now.rows)) (digest m)) }
         ensures kind { IfErr result IsOfMachine }
         ensures fails { K.broken sink.new ≡ (K.broken sink.old || write_failed result) }
     {
@@ -207,8 +231,9 @@ impl Transcript {
             batch: _,
             said,
             rows: kept,
+            form,
         } = self;
-        let Ok(rows) = kept_or_made(alloc, kept, rows) else {
+        let Ok(rows) = kept_or_made(alloc, kept, rows, form) else {
             return Err(LogFaultKind::Memory);
         };
         let Ok(text) = end_text(alloc, count, &rows, said) else {

@@ -1,29 +1,27 @@
 -- What was executed and reported, one batch more, and how a run ends.
-use Rattle.std.proofs.Common.{◌≡◌, ℕ, ◌+◌, ◌<◌, List, [], ◌∷◌, ◌++◌, append_assoc, length, take, drop, get_or, false, true, Option, Some, Result, Ok, Err, IfErr, OnOk, refl, sym, ◌∙◌, ap, subst}
+use Rattle.std.proofs.Common.{◌≡◌, ℕ, ◌+◌, ◌<◌, List, [], ◌∷◌, ◌++◌, append_assoc, length, take, drop, get_or, false, true, Some, Result, Ok, Err, IfErr, OnOk, refl, sym, ◌∙◌, ap}
 use Rattle.std.proofs.lemmas.List.{take-append-drop, take_more}
 use Rattle.std.specs.Io.KnownBytes.{Appends}
 use Rattle.sha2.specs.Hashers.{Holds256}
 use Rattle.devices.specs.Devices.{AppendsFront}
-use Rattle.values.specs.Database.{Database}
-use Rattle.requests.specs.ProcLists.{ProcsParts}
 use Rattle.requests.specs.Requests.{Call}
 use Rattle.batch_log.specs.declared.fault.LogFault.{LogFault}
 use Rattle.batch_log.specs.declared.fault.LogFaultKind.{LogFaultKind}
 use Rattle.batch_log.specs.declared.fault.LogFaultKind.TheVariants.{Memory}
 use Rattle.batch_log.specs.Faults.{is_io, IsOfLine}
 use Rattle.batch_log.specs.Places.{IsFaulty, IsWhole}
-use Rattle.report_text.specs.Texts.{digest, end_line, row_text}
+use Rattle.row_text.specs.Partitions.{digested_text}
+use Rattle.row_text.specs.Texts.{digest}
+use Rattle.report_text.specs.Texts.{end_line}
 use Rattle.report_text.specs.Report.{end_text}
 use Rattle.retries.specs.Standings.{start_of, transactions_in, Standing}
 use Rattle.retries.proofs.Reported.{texts_grown}
 use Rattle.engine.specs.Engines.{EngineParts, tables_of}
 use Rattle.engine.specs.Executions.{KeepsSetting}
-use Rattle.running.specs.declared.run_fault.RunFault.{RunFault}
 use Rattle.running.specs.declared.transcript.Transcript.{Transcript}
 use Rattle.running.specs.Batches.{due_text, IsReported}
-use Rattle.running.specs.Hashers.{batch_of, said_of}
-use Rattle.running.specs.Reported as told
-use Rattle.running.specs.Reported.{lines_of, with_closing, with_drained, ReportsClosing}
+use Rattle.running.specs.Hashers.{batch_of, form_of, said_of}
+use Rattle.running.specs.Reported.{lines_of, with_closing}
 use Rattle.running.specs.Reports.{report_of}
 use Rattle.running.specs.Starts.{Start}
 use Rattle.running.specs.Stopped.{next_text, texts_of}
@@ -39,10 +37,10 @@ use Rattle.session.proofs.Turns.{counted-whole, report-faulty, report-whole}
 
 -- nothing was executed
 pub HasReported-start : (start : Start) (engine : EngineParts) (transcript : Transcript) (report : Report) → engine.procs ≡ start.procs → engine.retries ≡ start.retries → engine.rows ≡ start.rows → engine.next ≡ 0 →
-    engine.carried ≡ [] → batch_of transcript ≡ 1 → Holds256 (said_of transcript) [] → waiting_in report ≡ [] → HasReported start [] [] engine transcript report
-HasReported-start start engine transcript report p k r n c b s w =
-    let none = running.HasReported-none engine transcript (Some []) n c b s in
-    record { procs_are = p; retries_are = k; standing_is = none.standing_is ∙ ap start_of r; batch_is = none.batch_is; said_is = s; text_is = w }
+    engine.carried ≡ [] → batch_of transcript ≡ 1 → Holds256 (said_of transcript) [] → form_of transcript ≡ start.digest → waiting_in report ≡ [] → HasReported start [] [] engine transcript report
+HasReported-start start engine transcript report p k r n c b s f w =
+    let none = running.HasReported-none engine start.digest transcript (Some []) n c b s f in
+    record { procs_are = p; retries_are = k; standing_is = none.standing_is ∙ ap start_of r; form_is = f; batch_is = none.batch_is; said_is = s; text_is = w }
 
 -- what was drained before doesn't matter to what was written
 drained_before : (drained old new text : List ℕ) → Appends (Some old) (Some new) text → Appends (Some (drained ++ old)) (Some (drained ++ new)) text
@@ -61,18 +59,18 @@ reported_before drained old new engine after t u calls h = record {
 
 -- the text of a batch after those of the batches before it
 batch_after : (start : Start) (ended : List (List Call)) (calls : List Call) (drained : List ℕ) (old : EngineParts) (t : Transcript) (r : Report) → HasReported start ended drained old t r →
-    (drained ++ waiting_in r) ++ due_text old t calls ≡ texts_of start.procs start.retries start.rows (ended ++ calls ∷ [])
+    (drained ++ waiting_in r) ++ due_text old t calls ≡ texts_of start (ended ++ calls ∷ [])
 batch_after start ended calls drained old t r h =
-    let next = running.next_text_is start.procs start.retries start.rows ended calls old t (Some []) (Some (drained ++ waiting_in r)) h in
-    ap (λ (x : List ℕ). (drained ++ waiting_in r) ++ x) next ∙ ap (λ (x : List ℕ). x ++ next_text start.procs start.retries start.rows ended calls) h.text_is ∙ sym (texts_grown start.procs.tables start.retries start.rows ended calls)
+    let next = running.next_text_is start ended calls old t (Some []) (Some (drained ++ waiting_in r)) h in
+    ap (λ (x : List ℕ). (drained ++ waiting_in r) ++ x) next ∙ ap (λ (x : List ℕ). x ++ next_text start ended calls) h.text_is ∙ sym (texts_grown start.digest start.procs.tables start.retries start.rows ended calls)
 
 -- a batch was executed and reported
 pub reported_next : (start : Start) (ended : List (List Call)) (calls : List Call) (drained : List ℕ) (old new : EngineParts) (t u : Transcript) (r s : Report) →
-    HasReported start ended drained old t r → KeepsSetting old new → IsReported old new t u (Some (waiting_in r)) (Some (waiting_in s)) calls →
+    HasReported start ended drained old t r → KeepsSetting old new → form_of u ≡ form_of t → IsReported old new t u (Some (waiting_in r)) (Some (waiting_in s)) calls →
     HasReported start (ended ++ calls ∷ []) drained new u s
-reported_next start ended calls drained old new t u r s h same reported =
-    running.HasReported-next start.procs start.retries start.rows ended calls old new t u (Some []) (Some (drained ++ waiting_in r)) (Some (drained ++ waiting_in s))
-    h same.procs same.retries (reported_before drained (waiting_in r) (waiting_in s) old new t u calls reported)
+reported_next start ended calls drained old new t u r s h same f reported =
+    running.HasReported-next start ended calls old new t u (Some []) (Some (drained ++ waiting_in r)) (Some (drained ++ waiting_in s))
+    h same.procs same.retries f (reported_before drained (waiting_in r) (waiting_in s) old new t u calls reported)
 
 -- bytes that begin a text begin the whole
 pub front_begins : (old new text whole : List ℕ) → AppendsFront (Some old) (Some new) text → old ++ text ≡ whole → IsBeginning new whole
@@ -89,7 +87,7 @@ front_keeps old new text f = (f.0, f.3)
 
 -- a beginning of the batch's report was written
 pub front-next : (start : Start) (ended : List (List Call)) (calls : List Call) (drained : List ℕ) (old : EngineParts) (t : Transcript) (r s : Report) → HasReported start ended drained old t r →
-    AppendsFront (Some (waiting_in r)) (Some (waiting_in s)) (due_text old t calls) → IsBeginning (drained ++ waiting_in s) (texts_of start.procs start.retries start.rows (ended ++ calls ∷ []))
+    AppendsFront (Some (waiting_in r)) (Some (waiting_in s)) (due_text old t calls) → IsBeginning (drained ++ waiting_in s) (texts_of start (ended ++ calls ∷ []))
 front-next start ended calls drained old t r s h f =
     front_begins (drained ++ waiting_in r) (drained ++ waiting_in s) (due_text old t calls) _ (drained_front drained (waiting_in r) (waiting_in s) (due_text old t calls) f) (batch_after start ended calls drained old t r h)
 
@@ -130,41 +128,31 @@ memory_is_none : (kind : LogFaultKind) → kind ≡ Memory → is_io kind ≡ fa
 memory_is_none kind e = rw e refl
 
 -- an allocation failed, and what was reported is a beginning of the report
-pub stopped_with : (start : Start) (log reported : List ℕ) (fault : LogFault) → fault.kind ≡ Memory → IsBeginning reported (report_of start.procs start.retries start.rows log) → IsRunInto start log reported fault
+pub stopped_with : (start : Start) (log reported : List ℕ) (fault : LogFault) → fault.kind ≡ Memory → IsBeginning reported (report_of start log) → IsRunInto start log reported fault
 stopped_with start log reported fault m f = record { first = no_line fault.kind m _; front = f; no_device = memory_is_none fault.kind m }
 
 -- an allocation failed in a batch
 pub stopped_in_batch : (start : Start) (log reported : List ℕ) (ended : List (List Call)) (fault : LogFault) → fault.kind ≡ Memory →
-    IsBeginning reported (texts_of start.procs start.retries start.rows ended) → IsBeginning (texts_of start.procs start.retries start.rows ended) (report_of start.procs start.retries start.rows log) → IsRunInto start log reported fault
+    IsBeginning reported (texts_of start ended) → IsBeginning (texts_of start ended) (report_of start log) → IsRunInto start log reported fault
 stopped_in_batch start log reported ended fault m f g =
-    stopped_with start log reported fault m (begins_onward reported (texts_of start.procs start.retries start.rows ended) (report_of start.procs start.retries start.rows log) f g)
+    stopped_with start log reported fault m (begins_onward reported (texts_of start ended) (report_of start log) f g)
 
 -- a fault was found, or an allocation failed, in reading
 pub stopped_reading : (start : Start) (log reported : List ℕ) (ended : List (List Call)) (fault : LogFault) → (IsOfLine fault.kind → IsFaulty start.procs start.retries fault ended log) → is_io fault.kind ≡ false →
-    reported ≡ texts_of start.procs start.retries start.rows ended → IsBeginning (texts_of start.procs start.retries start.rows ended) (report_of start.procs start.retries start.rows log) → IsRunInto start log reported fault
+    reported ≡ texts_of start ended → IsBeginning (texts_of start ended) (report_of start log) → IsRunInto start log reported fault
 stopped_reading start log reported ended fault f n r g = record {
-  first = λ of. ((f of).first, r ∙ report-faulty start.procs start.retries start.rows log ended fault (f of));
+  first = λ of. ((f of).first, r ∙ report-faulty start log ended fault (f of));
   front = rw r g;
   no_device = n;
 }
 
 -- ---- the batches that close a log
 
-pub closed_from : (answer : Result (Unit {0}) RunFault) (start : Start) (ended : List (List Call)) (drained : List ℕ) (old new : EngineParts) (t u : Transcript) (r s : Report) → HasReported start ended drained old t r →
-    ((db : Database) (ran : List (List Call)) (sink : Option (List ℕ)) (before : List ℕ) → told.HasReported old.procs old.retries db ran old t sink (with_drained before (Some (waiting_in r))) →
-    ReportsClosing old.procs old.retries db ran new u sink (with_drained before (Some (waiting_in s))) answer) →
-    ReportsClosing start.procs start.retries start.rows ended new u (Some []) (Some (drained ++ waiting_in s)) answer
-closed_from answer start ended drained old new t u r s h closed =
-    let Reported : ProcsParts → ℕ → Type 0 = λ p k. told.HasReported p k start.rows ended old t (Some []) (Some (drained ++ waiting_in r)) in
-    let Closed : ProcsParts → ℕ → Type 0 = λ p k. ReportsClosing p k start.rows ended new u (Some []) (Some (drained ++ waiting_in s)) answer in
-    let own : Reported old.procs old.retries = subst (λ p. Reported p old.retries) (sym h.procs_are) (subst (λ k. Reported start.procs k) (sym h.retries_are) h) in
-    subst (λ k. Closed start.procs k) h.retries_are (subst (λ p. Closed p old.retries) h.procs_are (closed start.rows ended (Some []) drained own))
-
 -- ---- the end line
 
 -- the end line over an engine's rows
-abbrev pub end_over : EngineParts → List ℕ → List ℕ
-end_over engine lines = end_line engine.next (digest (row_text (tables_of engine) engine.rows)) (digest lines)
+abbrev pub end_over : EngineParts → Transcript → List ℕ → List ℕ
+end_over engine t lines = end_line engine.next (digest (digested_text (form_of t) (tables_of engine) engine.rows)) (digest lines)
 
 -- all batches of a whole log, and those that close it, were executed and reported
 module _ (start : Start) (log drained : List ℕ) (ended : List (List Call)) (engine : EngineParts) (t : Transcript) (r s : Report)
@@ -173,19 +161,19 @@ module _ (start : Start) (log drained : List ℕ) (ended : List (List Call)) (en
   closed = with_closing start.retries start.rows ended
 
   abbrev due : List ℕ
-  due = end_over engine (lines_of start.retries start.rows closed)
+  due = end_over engine t (lines_of start.retries start.rows closed)
 
-  report_is_due : report_of start.procs start.retries start.rows log ≡ (drained ++ waiting_in r) ++ due
+  report_is_due : report_of start log ≡ (drained ++ waiting_in r) ++ due
   report_is_due =
-      report-whole start.procs start.retries start.rows log ended w ∙ ap (λ (x : List ℕ). x ++ end_text false start.procs.tables start.rows (transactions_in start.retries start.rows closed)) (sym h.text_is)
-      ∙ ap (λ (x : List ℕ). (drained ++ waiting_in r) ++ x) (sym (end_line_is start.procs start.retries start.rows closed engine t (Some []) (Some (drained ++ waiting_in r)) h))
+      report-whole start log ended w ∙ ap (λ (x : List ℕ). x ++ end_text false start.digest start.procs.tables start.rows (transactions_in start.retries start.rows closed)) (sym h.text_is)
+      ∙ ap (λ (x : List ℕ). (drained ++ waiting_in r) ++ x) (sym (end_line_is start closed engine t (Some []) (Some (drained ++ waiting_in r)) h))
 
   -- it was written
   pub whole_where_written : (n : ℕ) → n ≡ engine.next → Appends (Some (waiting_in r)) (Some (waiting_in s)) due → IsWholeRun start log (drained ++ waiting_in s) n
   whole_where_written n c text = record {
     sound = w.fault;
     report = drained_before drained (waiting_in r) (waiting_in s) due text ∙ sym report_is_due;
-    counted = c ∙ ap (λ (x : Standing). x.next) h.standing_is ∙ sym (counted-whole start.procs start.retries start.rows log ended w);
+    counted = c ∙ ap (λ (x : Standing). x.next) h.standing_is ∙ sym (counted-whole start log ended w);
   }
 
   -- or a beginning of it

@@ -11,7 +11,7 @@ use Rattle.session.specs.Writes.{IsBeginning}
 -- The log has no fault, what was reported is its report, and this is the number of its transactions.
 pub record IsWholeRun (start : Start) (log reported : List ℕ) (count : ℕ) : Type 0 where
   pub sound : fault_in start.procs start.retries log ≡ None
-  pub report : reported ≡ report_of start.procs start.retries start.rows log
+  pub report : reported ≡ report_of start log
   pub counted : count ≡ length (all_transactions (batches_in start.procs start.retries start.rows log))
 
 -- This fault ended the run of a log. One of a line is the log's first, and all was reported of the batches before it.
@@ -19,6 +19,6 @@ pub record IsWholeRun (start : Start) (log reported : List ℕ) (count : ℕ) : 
 pub record IsRunInto (start : Start) (log reported : List ℕ) (fault : LogFault) : Type 0 where
   pub first : IsOfLine fault.kind →
       (fault_in start.procs start.retries log ≡ Some fault)
-      × (reported ≡ report_of start.procs start.retries start.rows log)
-  pub front : IsBeginning reported (report_of start.procs start.retries start.rows log)
+      × (reported ≡ report_of start log)
+  pub front : IsBeginning reported (report_of start log)
   pub no_device : is_io fault.kind ≡ false

@@ -1,6 +1,6 @@
 -- Claimed: what contracts promise to a reader rests on these words.
 -- What a clause sees of a session.
-use Rattle.std.specs.Prelude.{◌≡◌, ℕ, List, ◌++◌, Option, Some, None, Result, Ok, Err, IfOk}
+use Rattle.std.specs.Prelude.{◌≡◌, ℕ, List, ◌++◌, Option, Some, None, Result, Ok, Err}
 use Rattle.batch_log.specs.declared.fault.LogFault.{LogFault}
 use Rattle.running.specs.Starts.{Start}
 use Rattle.session.specs.declared.session.Session.{Session}

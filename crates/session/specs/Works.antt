@@ -42,7 +42,7 @@ pub record IsReady (work : Work) : Type 0 where
 -- what waits are together the texts of them all.
 abbrev pub HasReported : Start → List (List Call) → List ℕ → EngineParts → Transcript → Report → Type 0
 HasReported start ended drained engine transcript report =
-    running.HasReported start.procs start.retries start.rows ended engine transcript (Some [])
+    running.HasReported start ended engine transcript (Some [])
     (Some (drained ++ waiting_in report))
 
 -- Of a log from a start these bytes were taken, and each batch that ends in them was executed and reported. So much of

@@ -1,16 +1,14 @@
 //! A run of a log, piece by piece.
 
 ghost use Rattle.std.specs.Prelude.{◌≡◌, ◌++◌, ◌≤◌, [], ℕ, List, length, take, None, Err, IfOk, IfErr, IfSome, IsSome, OnOk, drop, min};
-ghost use Rattle.std.specs.FinMap as map_of;
 ghost use Rattle.std.proofs.Props.{props};
-ghost use Rattle.row_store.specs.Stock.{with_rows};
-ghost use Rattle.running.specs.Starts.{Start};
+ghost use Rattle.running.specs.Starts.{start_in, Start};
 ghost use Rattle.session.specs.Works.{IsReady};
 
 use crate::work::Work;
 use batch_log::LogFault;
 use engine::Settings;
-use requests::Setup;
+use setup::SetupDocument;
 use std::alloc::Global;
 use thiserror::Error;
 use values::NoMemory;
@@ -43,16 +41,16 @@ pub struct Session {
 impl Session {
     ghost use Rattle.session.specs.Sessions.{stop_at_end, stop_in, stop_of, waiting_of, EndsInFault, EndsWhole, FaultsOn, HasTaken, KeepsWaiting, KeepsWaitingAtEnd, TakesOn};
 
-    /// A run on a setup, of whose log nothing was fed.
-    pub fn new(alloc: Global, setup: Setup, settings: Settings) -> Result<Session, NoMemory>
+    /// A run on a setup document, of whose log nothing was fed.
+    pub fn new(
+        alloc: Global,
+        document: SetupDocument,
+        settings: Settings,
+    ) -> Result<Session, NoMemory>
         ensures open { IfOk result (λ session. stop_of session ≡ None) }
-        ensures begun { IfOk result (HasTaken (record {
-          procs = setup.procs;
-          retries = setup.retries;
-          rows = with_rows map_of.empty setup.rows.items;
-        }) [] []) }
+        ensures begun { IfOk result (HasTaken (start_in document) [] []) }
     {
-        let work = Work::new(alloc, setup, settings)?;
+        let work = Work::new(alloc, document, settings)?;
         Ok(Session { work, stop: None })
     }
 

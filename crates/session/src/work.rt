@@ -1,16 +1,15 @@
 //! The work at a log: bytes become batches, and batches report.
 
 ghost use Rattle.std.specs.Prelude.{◌≡◌, ◌++◌, [], ◌∷◌, List, ℕ, IfOk, IfErr, OnOk, Some};
-ghost use Rattle.std.specs.FinMap as map_of;
 ghost use Rattle.devices.specs.Devices.{AppendsFront};
-ghost use Rattle.row_store.specs.Stock.{with_rows};
 ghost use Rattle.sequencer.specs.Batches.{items_of, AreOver};
 ghost use Rattle.engine.specs.Engines.{tables_of};
 ghost use Rattle.engine.specs.Executions.{KeepsSetting};
 ghost use Rattle.running.specs.Batches.{due_text, IsDue, IsReported};
 ghost use Rattle.running.specs.Executors.{IsExecution};
 ghost use Rattle.running.specs.Reported.{IsBetweenBatches};
-ghost use Rattle.running.specs.Starts.{Start};
+ghost use Rattle.running.specs.Hashers.{form_of};
+ghost use Rattle.running.specs.Starts.{start_in, Start};
 ghost use Rattle.session.specs.Ends.{IsWholeRun};
 ghost use Rattle.session.specs.Reports.{waiting_in};
 ghost use Rattle.session.specs.Works.{Continues, FaultsAfter, FaultsAtEnd, HasRun, IsReady, ReadsWhole, RunsWhole};
@@ -19,8 +18,9 @@ ghost use Rattle.session.specs.Writes.{IsBeginning};
 use crate::report::Report;
 use batch_log::{LogFault, LogFaultKind, LogFeed};
 use engine::{Batch, BatchDone, ExecFault, QuietEngine, Settings};
-use requests::{Request, Setup};
+use requests::Request;
 use running::{Transcript, finish, run_batch, run_closing_batches};
+use setup::SetupDocument;
 use std::alloc::Global;
 use std::mem;
 use values::NoMemory;
@@ -46,20 +46,21 @@ fn no_memory(line: u64) -> LogFault
 
 impl Work {
     /// Nothing of a log was read.
-    pub(crate) fn new(alloc: Global, setup: Setup, settings: Settings) -> Result<Work, NoMemory>
+    pub(crate) fn new(
+        alloc: Global,
+        document: SetupDocument,
+        settings: Settings,
+    ) -> Result<Work, NoMemory>
         ensures ready { IfOk result IsReady }
-        ensures begun { IfOk result (HasRun (record {
-          procs = setup.procs;
-          retries = setup.retries;
-          rows = with_rows map_of.empty setup.rows.items;
-        }) [] []) }
+        ensures begun { IfOk result (HasRun (start_in document) [] []) }
     {
+        let SetupDocument { setup, digest } = document;
         let engine = QuietEngine::new(alloc, setup, settings)?;
         let feed = LogFeed::new(alloc, engine.retries());
         Ok(Work {
             engine,
             feed,
-            transcript: Transcript::new(),
+            transcript: Transcript::new(digest),
             report: Report::new(alloc),
         })
     }
@@ -75,6 +76,7 @@ impl Work {
         ensures front { AppendsFront (Some (waiting_in self.old.report)) (Some (waiting_in self.new.report))
             (due_text self.old.engine self.old.transcript calls.items) }
         ensures memory { IfErr result (λ e. e.kind ≡ LogFaultKind.Memory) }
+        ensures form { form_of self.new.transcript ≡ form_of self.old.transcript }
     {
         let line = self.feed.lines();
         let executor = |engine: &mut QuietEngine, batch: Batch| -> Result<BatchDone, ExecFault>
@@ -191,7 +193,8 @@ impl Work {
             Ok(()) => {}
             Err(fault) => return Err(fault),
         }
-        let transcript = mem::replace(&mut self.transcript, Transcript::new());
+        let form = self.transcript.form();
+        let transcript = mem::replace(&mut self.transcript, Transcript::new(form));
         let line = self.feed.lines();
         match finish(alloc, &self.engine, transcript, &mut self.report, line) {
             Ok(count) => Ok(count),

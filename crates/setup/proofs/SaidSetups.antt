@@ -29,12 +29,14 @@ use Rattle.proclang_expressions.specs.declared.fault.ProcFault.{ProcFault}
 use Rattle.proclang_expressions.specs.declared.fault.ProcFault.TheVariants as proc_faults
 use Rattle.setup.specs.declared.fault.SetupFault.{SetupFault}
 use Rattle.setup.specs.declared.fault.SetupFault.TheVariants.{Procedure}
-use Rattle.requests.specs.declared.setup.Setup.{Setup}
+use Rattle.row_text.specs.declared.form.DigestForm.{DigestForm}
+use Rattle.row_text.specs.declared.form.DigestForm.TheVariants.{Rows, Partitions}
+use Rattle.setup.specs.declared.document.SetupDocument.{SetupDocument}
 use Rattle.setup.specs.Faults.{is_memory}
 use Rattle.setup.specs.FirstFault.{InForm, InDocument, BreaksFirst, rows_faults}
 use Rattle.setup.specs.Rows.{RowAt}
-use Rattle.setup.specs.Says.{SaysRows, SpellsFirst, SpellsSecond, SpellsSetup, SaysDocument, IsJson, SaysSetup}
-use Rattle.setup.specs.Setups.{SetupDocument, SetupShape, first_parts, second_parts, is_two, retries_of, setup_form, setup_view}
+use Rattle.setup.specs.Says.{name_of, SaysRows, SpellsFirst, SpellsSecond, SpellsThird, SpellsSetup, SaysDocument, IsJson, SaysSetup}
+use Rattle.setup.specs.Setups.{SetupParts, SetupShape, first_parts, second_parts, third_parts, form_named, is_two, is_three, retries_of, seven, setup_form, setup_view}
 
 -- ---- the outer form
 
@@ -57,6 +59,17 @@ six_said (a ∷ b ∷ c ∷ d ∷ []) p h = absurd cc
 six_said (a ∷ b ∷ c ∷ d ∷ e ∷ []) p h = absurd cc
 six_said (a ∷ b ∷ c ∷ d ∷ e ∷ f ∷ x ∷ ds) p h = absurd cc
 
+seven_said : (ds : List Data) (p : Data × Data × Data × Data × Data × Data × Data) → seven ds ≡ Some p → ds ≡ p.0 ∷ p.1 ∷ p.2 ∷ p.3 ∷ p.4 ∷ p.5 ∷ p.6 ∷ []
+seven_said (a ∷ b ∷ c ∷ d ∷ e ∷ f ∷ g ∷ []) p h = cc
+seven_said [] p h = absurd cc
+seven_said (a ∷ []) p h = absurd cc
+seven_said (a ∷ b ∷ []) p h = absurd cc
+seven_said (a ∷ b ∷ c ∷ []) p h = absurd cc
+seven_said (a ∷ b ∷ c ∷ d ∷ []) p h = absurd cc
+seven_said (a ∷ b ∷ c ∷ d ∷ e ∷ []) p h = absurd cc
+seven_said (a ∷ b ∷ c ∷ d ∷ e ∷ f ∷ []) p h = absurd cc
+seven_said (a ∷ b ∷ c ∷ d ∷ e ∷ f ∷ g ∷ x ∷ ds) p h = absurd cc
+
 one_is : (z : ℤ) → is_one z ≡ true → z ≡ pos 1
 one_is (pos n) e = ap pos (eqb-true n 1 e)
 one_is (negsuc n) e = absurd cc
@@ -64,6 +77,10 @@ one_is (negsuc n) e = absurd cc
 two_is : (z : ℤ) → is_two z ≡ true → z ≡ pos 2
 two_is (pos n) e = ap pos (eqb-true n 2 e)
 two_is (negsuc n) e = absurd cc
+
+three_is : (z : ℤ) → is_three z ≡ true → z ≡ pos 3
+three_is (pos n) e = ap pos (eqb-true n 3 e)
+three_is (negsuc n) e = absurd cc
 
 retries_are : (z : ℤ) (retries : ℕ) → retries_of z ≡ Some retries → (z ≡ pos retries) × (retries ≤ 2)
 retries_are (negsuc n) retries e = absurd cc
@@ -73,7 +90,20 @@ retries_are (pos n) retries e = by (nat_le n 2) refl
     by true p = let h = rw p at e in let same : n ≡ retries = cc in (ap pos same, subst (λ m. m ≤ 2) same (leb-true n 2 p))
     by false p = absurd (let h = rw p at e in cc)
 
-choice_said : (word : List ℕ) (b : Bool) (x y : SetupDocument) → (if bytes_eq word (codes "setup") && b then Some x else None) ≡ Some y → (word ≡ codes "setup") × (b ≡ true) × (x ≡ y)
+-- the name of a text of which digests are
+named_is : (name : List ℕ) (form : DigestForm) → form_named name ≡ Some form → name ≡ name_of form
+named_is name form e = by (bytes_eq name (codes "rows")) (bytes_eq name (codes "partitions")) refl refl
+  where
+    by : (a b : Bool) → bytes_eq name (codes "rows") ≡ a → bytes_eq name (codes "partitions") ≡ b → name ≡ name_of form
+    by true b p q = let h = rw p at e in let same : Rows ≡ form = cc in subst (λ (f : DigestForm). name ≡ name_of f) same ((bytes_eq-Decides name (codes "rows")).0 p)
+    by false true p q = let h = rw (p, q) at e in let same : Partitions ≡ form = cc in subst (λ (f : DigestForm). name ≡ name_of f) same ((bytes_eq-Decides name (codes "partitions")).0 q)
+    by false false p q = absurd (let h = rw (p, q) at e in cc)
+
+named_again : (form : DigestForm) → form_named (name_of form) ≡ Some form
+named_again Rows = refl
+named_again Partitions = refl
+
+choice_said : (word : List ℕ) (b : Bool) (x y : SetupParts) → (if bytes_eq word (codes "setup") && b then Some x else None) ≡ Some y → (word ≡ codes "setup") × (b ≡ true) × (x ≡ y)
 choice_said word b x y e = by (bytes_eq word (codes "setup")) b refl refl
   where
     by : (a c : Bool) → bytes_eq word (codes "setup") ≡ a → b ≡ c → (word ≡ codes "setup") × (b ≡ true) × (x ≡ y)
@@ -84,25 +114,27 @@ choice_said word b x y e = by (bytes_eq word (codes "setup")) b refl refl
 head_is : (a b : Data) (w : List ℕ) (rest : List Data) → a ≡ string w → w ≡ codes "setup" → array (items_of (a ∷ b ∷ rest)) ≡ array (items_of (string (codes "setup") ∷ b ∷ rest))
 head_is a b w rest p q = rw (p, q) refl
 
-abbrev form_of : Data → Data → Data → ℕ → SetupDocument
-form_of catalogue procs rows retries = record { catalogue = catalogue; procs = procs; rows = rows; retries = retries }
+abbrev form_of : Data → Data → Data → ℕ → DigestForm → SetupParts
+form_of catalogue procs rows retries digest =
+    record { catalogue = catalogue; procs = procs; rows = rows; retries = retries; digest = digest }
 
-first_said : (d : Data) (form : SetupDocument) → option_and_then first_parts (option_and_then five (elements d)) ≡ Some form → SpellsFirst d form
+first_said : (d : Data) (form : SetupParts) → option_and_then first_parts (option_and_then five (elements d)) ≡ Some form → SpellsFirst d form
 first_said d form e =
     let p = and_then_ok first_parts (option_and_then five (elements d)) form e in
     let ds = and_then_ok five (elements d) p.0 p.1 in
     let word = and_then_ok _ (as_str p.0.0) form p.2 in
     let version = and_then_ok _ (integer p.0.1) form word.2 in
-    let said = choice_said word.0 (is_one version.0) (form_of p.0.2 p.0.3 p.0.4 0) form version.2 in
-    let spelled : SpellsFirst d (form_of p.0.2 p.0.3 p.0.4 0) = record {
+    let said = choice_said word.0 (is_one version.0) (form_of p.0.2 p.0.3 p.0.4 0 Rows) form version.2 in
+    let spelled : SpellsFirst d (form_of p.0.2 p.0.3 p.0.4 0 Rows) = record {
       version = p.0.1;
       is_form = elements_said d ds.0 ds.1 ∙ ap (λ (es : List Data). array (items_of es)) (five_said ds.0 p.0 ds.2) ∙ head_is p.0.0 p.0.1 word.0 (p.0.2 ∷ p.0.3 ∷ p.0.4 ∷ []) (string_said p.0.0 word.0 word.1) said.0;
       is_version = version.1 ∙ ap (λ (z : ℤ). Some z) (one_is version.0 said.1);
       none = refl;
+      of_rows = refl;
     } in
     subst (SpellsFirst d) said.2 spelled
 
-second_said : (d : Data) (form : SetupDocument) → option_and_then second_parts (option_and_then six (elements d)) ≡ Some form → SpellsSecond d form
+second_said : (d : Data) (form : SetupParts) → option_and_then second_parts (option_and_then six (elements d)) ≡ Some form → SpellsSecond d form
 second_said d form e =
     let p = and_then_ok second_parts (option_and_then six (elements d)) form e in
     let ds = and_then_ok six (elements d) p.0 p.1 in
@@ -111,56 +143,91 @@ second_said d form e =
     let number = and_then_ok _ (integer p.0.5) form version.2 in
     let retries = and_then_ok _ (retries_of number.0) form number.2 in
     let are = retries_are number.0 retries.0 retries.1 in
-    let said = choice_said word.0 (is_two version.0) (form_of p.0.2 p.0.3 p.0.4 retries.0) form retries.2 in
-    let spelled : SpellsSecond d (form_of p.0.2 p.0.3 p.0.4 retries.0) = record {
+    let said = choice_said word.0 (is_two version.0) (form_of p.0.2 p.0.3 p.0.4 retries.0 Rows) form retries.2 in
+    let spelled : SpellsSecond d (form_of p.0.2 p.0.3 p.0.4 retries.0 Rows) = record {
       version = p.0.1;
       number = p.0.5;
       is_form = elements_said d ds.0 ds.1 ∙ ap (λ (es : List Data). array (items_of es)) (six_said ds.0 p.0 ds.2) ∙ head_is p.0.0 p.0.1 word.0 (p.0.2 ∷ p.0.3 ∷ p.0.4 ∷ p.0.5 ∷ []) (string_said p.0.0 word.0 word.1) said.0;
       is_version = version.1 ∙ ap (λ (z : ℤ). Some z) (two_is version.0 said.1);
       is_number = number.1 ∙ ap (λ (z : ℤ). Some z) are.0;
       few = are.1;
+      of_rows = refl;
     } in
     subst (SpellsSecond d) said.2 spelled
+
+third_said : (d : Data) (form : SetupParts) → option_and_then third_parts (option_and_then seven (elements d)) ≡ Some form → SpellsThird d form
+third_said d form e =
+    let p = and_then_ok third_parts (option_and_then seven (elements d)) form e in
+    let ds = and_then_ok seven (elements d) p.0 p.1 in
+    let word = and_then_ok _ (as_str p.0.0) form p.2 in
+    let version = and_then_ok _ (integer p.0.1) form word.2 in
+    let number = and_then_ok _ (integer p.0.5) form version.2 in
+    let retries = and_then_ok _ (retries_of number.0) form number.2 in
+    let name = and_then_ok _ (as_str p.0.6) form retries.2 in
+    let digest = and_then_ok _ (form_named name.0) form name.2 in
+    let are = retries_are number.0 retries.0 retries.1 in
+    let said = choice_said word.0 (is_three version.0) (form_of p.0.2 p.0.3 p.0.4 retries.0 digest.0) form digest.2 in
+    let last : p.0.6 ≡ string (name_of digest.0) = string_said p.0.6 name.0 name.1 ∙ ap string (named_is name.0 digest.0 digest.1) in
+    let spelled : SpellsThird d (form_of p.0.2 p.0.3 p.0.4 retries.0 digest.0) = record {
+      version = p.0.1;
+      number = p.0.5;
+      is_form = elements_said d ds.0 ds.1 ∙ ap (λ (es : List Data). array (items_of es)) (seven_said ds.0 p.0 ds.2) ∙ head_is p.0.0 p.0.1 word.0 (p.0.2 ∷ p.0.3 ∷ p.0.4 ∷ p.0.5 ∷ p.0.6 ∷ []) (string_said p.0.0 word.0 word.1) said.0
+          ∙ ap (λ (l : Data). array (items_of (string (codes "setup") ∷ p.0.1 ∷ p.0.2 ∷ p.0.3 ∷ p.0.4 ∷ p.0.5 ∷ l ∷ []))) last;
+      is_version = version.1 ∙ ap (λ (z : ℤ). Some z) (three_is version.0 said.1);
+      is_number = number.1 ∙ ap (λ (z : ℤ). Some z) are.0;
+      few = are.1;
+    } in
+    subst (SpellsThird d) said.2 spelled
 
 either : {A : Type 0} (o p : Option A) (x : A) → option_or o p ≡ Some x → (o ≡ Some x) ⊎ (p ≡ Some x)
 either None p x e = inr e
 either (Some y) p x e = inl e
 
-pub form_said : (d : Data) (form : SetupDocument) → setup_form d ≡ Some form → SpellsSetup d form
+pub form_said : (d : Data) (form : SetupParts) → setup_form d ≡ Some form → SpellsSetup d form
 unfolding setup_form
-form_said d form e = by (either (option_and_then first_parts (option_and_then five (elements d))) (option_and_then second_parts (option_and_then six (elements d))) form e)
+form_said d form e = by (either (option_and_then first_parts (option_and_then five (elements d))) later form e)
   where
-    by : (option_and_then first_parts (option_and_then five (elements d)) ≡ Some form) ⊎ (option_and_then second_parts (option_and_then six (elements d)) ≡ Some form) → SpellsSetup d form
+    later : Option SetupParts
+    later = option_or (option_and_then second_parts (option_and_then six (elements d))) (option_and_then third_parts (option_and_then seven (elements d)))
+
+    of_later : (option_and_then second_parts (option_and_then six (elements d)) ≡ Some form) ⊎ (option_and_then third_parts (option_and_then seven (elements d)) ≡ Some form) → SpellsSetup d form
+    of_later (inl h) = inr (inl (second_said d form h))
+    of_later (inr h) = inr (inr (third_said d form h))
+
+    by : (option_and_then first_parts (option_and_then five (elements d)) ≡ Some form) ⊎ (later ≡ Some form) → SpellsSetup d form
     by (inl h) = inl (first_said d form h)
-    by (inr h) = inr (second_said d form h)
+    by (inr h) = of_later (either (option_and_then second_parts (option_and_then six (elements d))) (option_and_then third_parts (option_and_then seven (elements d))) form h)
 
 retries_again : (retries : ℕ) → retries ≤ 2 → retries_of (pos retries) ≡ Some retries
 retries_again retries few = rw (le-leb retries 2 few) refl
 
-pub form_again : (d : Data) (form : SetupDocument) → SpellsSetup d form → setup_form d ≡ Some form
+abbrev form_in : Data → Option SetupParts
+form_in d =
+    option_or (option_and_then first_parts (option_and_then five (elements d)))
+    (option_or (option_and_then second_parts (option_and_then six (elements d)))
+    (option_and_then third_parts (option_and_then seven (elements d))))
+
+pub form_again : (d : Data) (form : SetupParts) → SpellsSetup d form → setup_form d ≡ Some form
 unfolding setup_form
-form_again d form (inl h) =
-    ap (λ (x : Data). option_or (option_and_then first_parts (option_and_then five (elements x))) (option_and_then second_parts (option_and_then six (elements x)))) h.is_form
-    ∙ rw (h.is_version, h.none) refl
-form_again d form (inr h) =
-    ap (λ (x : Data). option_or (option_and_then first_parts (option_and_then five (elements x))) (option_and_then second_parts (option_and_then six (elements x)))) h.is_form
-    ∙ rw (h.is_version, h.is_number, retries_again form.retries h.few) refl
+form_again d form (inl h) = ap form_in h.is_form ∙ rw (h.is_version, h.none, h.of_rows) refl
+form_again d form (inr (inl h)) = ap form_in h.is_form ∙ rw (h.is_version, h.is_number, retries_again form.retries h.few, h.of_rows) refl
+form_again d form (inr (inr h)) = ap form_in h.is_form ∙ rw (h.is_version, h.is_number, retries_again form.retries h.few, named_again form.digest) refl
 
 -- a document has one form
-pub form_is : (d : Data) (form : SetupDocument) (s : SetupShape) → setup_form d ≡ Some form → (h : SaysDocument d s) → h.form ≡ form
+pub form_is : (d : Data) (form : SetupParts) (s : SetupShape) → setup_form d ≡ Some form → (h : SaysDocument d s) → h.form ≡ form
 form_is d form s e h = some_is h.form form (sym (form_again d h.form h.is_form) ∙ e)
   where
-    some_is : (x y : SetupDocument) → Some x ≡ Some y → x ≡ y
+    some_is : (x y : SetupParts) → Some x ≡ Some y → x ≡ y
     some_is x y e = cc
 
 -- ---- answers
 
 -- an answer for want of memory alone says nothing of the document
-pub refused : (r : Result Setup SetupFault) (e : SetupFault) (s : SetupShape) → IsErrAnd r (λ x. x ≡ e) → (is_memory e ≡ false → ⊥) → Reads is_memory setup_view r (Ok s)
+pub refused : (r : Result SetupDocument SetupFault) (e : SetupFault) (s : SetupShape) → IsErrAnd r (λ x. x ≡ e) → (is_memory e ≡ false → ⊥) → Reads is_memory setup_view r (Ok s)
 refused (Ok x) e s h none = absurd h
 refused (Err x) e s h none = λ known. absurd (none (subst (λ (y : SetupFault). is_memory y ≡ false) h known))
 
-pub breaks : (r : Result Setup SetupFault) (e : SetupFault) (d : Data) → IsErrAnd r (λ x. x ≡ e) → (is_memory e ≡ false → InDocument d e) → IfErr r (λ x. is_memory x ≡ false → InDocument d x)
+pub breaks : (r : Result SetupDocument SetupFault) (e : SetupFault) (d : Data) → IsErrAnd r (λ x. x ≡ e) → (is_memory e ≡ false → InDocument d e) → IfErr r (λ x. is_memory x ≡ false → InDocument d x)
 breaks (Ok x) e d h there = absurd h
 breaks (Err x) e d h there = λ known. subst (InDocument d) (sym h) (there (subst (λ (y : SetupFault). is_memory y ≡ false) h known))
 
@@ -178,15 +245,15 @@ same_rows x y e = cc
 
 -- ---- a setup that the document says, and a part that was read or refused
 
-module _ (d : Data) (form : SetupDocument) (s : SetupShape) where
+module _ (d : Data) (form : SetupParts) (s : SetupShape) where
   catalogue_of : setup_form d ≡ Some form → SaysDocument d s → SaysCatalogue form.catalogue s.tables
-  catalogue_of e h = subst (λ (f : SetupDocument). SaysCatalogue f.catalogue s.tables) (form_is d form s e h) h.catalogue
+  catalogue_of e h = subst (λ (f : SetupParts). SaysCatalogue f.catalogue s.tables) (form_is d form s e h) h.catalogue
 
   procs_of : setup_form d ≡ Some form → SaysDocument d s → SaysProcs s.tables form.procs s.procs
-  procs_of e h = subst (λ (f : SetupDocument). SaysProcs s.tables f.procs s.procs) (form_is d form s e h) h.procs
+  procs_of e h = subst (λ (f : SetupParts). SaysProcs s.tables f.procs s.procs) (form_is d form s e h) h.procs
 
   rows_of : setup_form d ≡ Some form → SaysDocument d s → SaysRows s.tables form.rows s.rows
-  rows_of e h = subst (λ (f : SetupDocument). SaysRows s.tables f.rows s.rows) (form_is d form s e h) h.rows
+  rows_of e h = subst (λ (f : SetupParts). SaysRows s.tables f.rows s.rows) (form_is d form s e h) h.rows
 
   pub no_catalogue : (f : CatalogueFault) → setup_form d ≡ Some form → SaysDocument d s
       → ((ts : List TableShape) → IsCatalogue ts → SaysCatalogue form.catalogue ts → catalogues.is_memory f ≡ false → ◌≡◌ {A = Result (List TableShape) CatalogueFault} (Ok ts) (Err f)) → catalogues.is_memory f ≡ false → ⊥
@@ -215,21 +282,22 @@ module _ (d : Data) (form : SetupDocument) (s : SetupShape) where
       → ((ts : List TableShape) → IsCatalogue ts → SaysCatalogue form.catalogue ts → ◌≡◌ {A = Result (List TableShape) CatalogueFault} (Ok ts) (Ok tables))
       → ((ps : List ProcSyntax) → SaysProcs tables form.procs ps → ◌≡◌ {A = Result (List ProcSyntax) ProcFault} (Ok ps) (Ok procs))
       → ((rs : List RowAt) → SaysRows tables form.rows rs → ◌≡◌ {A = Result (List RowAt) SetupFault} (Ok rs) (Ok rows))
-      → ◌≡◌ {A = Result SetupShape SetupFault} (Ok s) (Ok (record { tables = tables; procs = procs; rows = rows; retries = form.retries }))
+      → ◌≡◌ {A = Result SetupShape SetupFault} (Ok s) (Ok (record { tables = tables; procs = procs; rows = rows; retries = form.retries; digest = form.digest }))
   only_parts tables procs rows e h only_tables only_procs only_rows =
       let same = tables_are tables e h only_tables in
       let procs_are = same_procs s.procs procs (only_procs s.procs (subst (λ (ts : List TableShape). SaysProcs ts form.procs s.procs) same (procs_of e h))) in
       let rows_are = same_rows s.rows rows (only_rows s.rows (subst (λ (ts : List TableShape). SaysRows ts form.rows s.rows) same (rows_of e h))) in
-      let retries_are = h.retries ∙ ap (λ (f : SetupDocument). f.retries) (form_is d form s e h) in
-      made s.tables tables s.procs procs s.rows rows s.retries form.retries same procs_are rows_are retries_are
+      let retries_are = h.retries ∙ ap (λ (f : SetupParts). f.retries) (form_is d form s e h) in
+      let digest_is = h.digest ∙ ap (λ (f : SetupParts). f.digest) (form_is d form s e h) in
+      made s.tables tables s.procs procs s.rows rows s.retries form.retries s.digest form.digest same procs_are rows_are retries_are digest_is
     where
-      made : (a b : List TableShape) (p q : List ProcSyntax) (x y : List RowAt) (m n : ℕ) → a ≡ b → p ≡ q → x ≡ y → m ≡ n
-          → ◌≡◌ {A = Result SetupShape SetupFault} (Ok (record { tables = a; procs = p; rows = x; retries = m })) (Ok (record { tables = b; procs = q; rows = y; retries = n }))
-      made a b p q x y m n g h i j = rw (g, h, i, j) refl
+      made : (a b : List TableShape) (p q : List ProcSyntax) (x y : List RowAt) (m n : ℕ) (v w : DigestForm) → a ≡ b → p ≡ q → x ≡ y → m ≡ n → v ≡ w
+          → ◌≡◌ {A = Result SetupShape SetupFault} (Ok (record { tables = a; procs = p; rows = x; retries = m; digest = v })) (Ok (record { tables = b; procs = q; rows = y; retries = n; digest = w }))
+      made a b p q x y m n v w g h i j k = rw (g, h, i, j, k) refl
 
 -- ---- the first fault
 
-module _ (d : Data) (form : SetupDocument) (tables : List TableShape) where
+module _ (d : Data) (form : SetupParts) (tables : List TableShape) where
   pub in_procs : (f : ProcFault) → setup_form d ≡ Some form → SaysCatalogue form.catalogue tables → IsCatalogue tables → (f ≡ proc_faults.Memory) ⊎ (first (procedure_rules.procedures_faults tables form.procs) ≡ Some f)
       → procedures.is_memory f ≡ false → InDocument d (Procedure f)
   in_procs f e says is (inl m) known = absurd (let g = sym (ap procedures.is_memory m) ∙ known in cc)
@@ -240,21 +308,21 @@ module _ (d : Data) (form : SetupDocument) (tables : List TableShape) where
   in_rows procs f e says is are h known = inr (form, e, inr (inr (record { tables = tables; catalogue = says; is_catalogue = is; procs = procs; are_procs = are; is_first = h known })))
 
   pub found_parts : (procs : List ProcSyntax) (rows : List RowAt) → setup_form d ≡ Some form → SaysCatalogue form.catalogue tables → IsCatalogue tables → SaysProcs tables form.procs procs → SaysRows tables form.rows rows
-      → SaysDocument d (record { tables = tables; procs = procs; rows = rows; retries = form.retries })
-  found_parts procs rows e says is are there = record { form = form; is_form = form_said d form e; catalogue = says; is_catalogue = is; procs = are; rows = there; retries = refl }
+      → SaysDocument d (record { tables = tables; procs = procs; rows = rows; retries = form.retries; digest = form.digest })
+  found_parts procs rows e says is are there = record { form = form; is_form = form_said d form e; catalogue = says; is_catalogue = is; procs = are; rows = there; retries = refl; digest = refl }
 
 nothing_first : {F B : Type 0} (fs : List F) (f : F) → fs ≡ [] → first fs ≡ Some f → B
 nothing_first fs f none h = absurd (let g = sym (ap first none) ∙ h in cc)
 
 -- a document whose parts break no rule breaks none
-pub no_break : (d : Data) (form : SetupDocument) (tables : List TableShape) → setup_form d ≡ Some form
+pub no_break : (d : Data) (form : SetupParts) (tables : List TableShape) → setup_form d ≡ Some form
     → ((ts : List TableShape) → IsCatalogue ts → SaysCatalogue form.catalogue ts → ◌≡◌ {A = Result (List TableShape) CatalogueFault} (Ok ts) (Ok tables))
     → catalogue_rules.catalogue_faults form.catalogue ≡ [] → procedure_rules.procedures_faults tables form.procs ≡ [] → rows_faults tables form.rows ≡ []
     → (fault : SetupFault) → InDocument d fault → ⊥
 no_break d form tables e only c p r fault (inl shape) = none_is (sym shape.1 ∙ e)
-no_break d form tables e only c p r fault (inr (other, is, h)) = by (subst (λ (x : SetupDocument). InForm x fault) (same other form (sym is ∙ e)) h)
+no_break d form tables e only c p r fault (inr (other, is, h)) = by (subst (λ (x : SetupParts). InForm x fault) (same other form (sym is ∙ e)) h)
   where
-    same : (x y : SetupDocument) → Some x ≡ Some y → x ≡ y
+    same : (x y : SetupParts) → Some x ≡ Some y → x ≡ y
     same x y q = cc
 
     are : (ts : List TableShape) → IsCatalogue ts → SaysCatalogue form.catalogue ts → ts ≡ tables
@@ -283,15 +351,15 @@ says_nothing text s never says = absurd (never (IsUtf8-from_is_utf8 text says.1.
 json_of : (text bytes : List ℕ) (d : Data) → bytes ≡ text → IsUtf8 text → read bytes ≡ Some d → IsJson text d
 json_of text bytes d same utf8 e = record { utf8 = is_utf8-from_IsUtf8 text utf8; json = ap read (sym same) ∙ e }
 
-pub text_found : (text bytes : List ℕ) (d : Data) (r : Result Setup SetupFault) → bytes ≡ text → IsUtf8 text → read bytes ≡ Some d → IfOk r (λ s. SaysDocument d (setup_view s)) → IfOk r (λ s. SaysSetup text (setup_view s))
+pub text_found : (text bytes : List ℕ) (d : Data) (r : Result SetupDocument SetupFault) → bytes ≡ text → IsUtf8 text → read bytes ≡ Some d → IfOk r (λ s. SaysDocument d (setup_view s)) → IfOk r (λ s. SaysSetup text (setup_view s))
 text_found text bytes d (Ok s) same utf8 e h = (d, json_of text bytes d same utf8 e, h)
 text_found text bytes d (Err f) same utf8 e h = tt
 
-pub text_first : (text bytes : List ℕ) (d : Data) (r : Result Setup SetupFault) → bytes ≡ text → IsUtf8 text → read bytes ≡ Some d → IfErr r (λ f. is_memory f ≡ false → InDocument d f) → IfErr r (λ f. is_memory f ≡ false → BreaksFirst text f)
+pub text_first : (text bytes : List ℕ) (d : Data) (r : Result SetupDocument SetupFault) → bytes ≡ text → IsUtf8 text → read bytes ≡ Some d → IfErr r (λ f. is_memory f ≡ false → InDocument d f) → IfErr r (λ f. is_memory f ≡ false → BreaksFirst text f)
 text_first text bytes d (Ok s) same utf8 e h = tt
 text_first text bytes d (Err f) same utf8 e h = λ known. inr (d, json_of text bytes d same utf8 e, h known)
 
-pub text_unbroken : (text bytes : List ℕ) (d : Data) (r : Result Setup SetupFault) → bytes ≡ text → IsUtf8 text → read bytes ≡ Some d
+pub text_unbroken : (text bytes : List ℕ) (d : Data) (r : Result SetupDocument SetupFault) → bytes ≡ text → IsUtf8 text → read bytes ≡ Some d
     → OnOk r ((fault : SetupFault) → InDocument d fault → ⊥) → OnOk r ((fault : SetupFault) → BreaksFirst text fault → ⊥)
 text_unbroken text bytes d (Ok s) same utf8 e h = λ fault there. by fault there
   where

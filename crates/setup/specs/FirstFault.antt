@@ -21,7 +21,7 @@ use Rattle.setup.specs.declared.fault.SetupFault.{SetupFault}
 use Rattle.setup.specs.declared.fault.SetupFault.TheVariants.{NotJson, Shape, RowTable, RowKey, RowValue, RowTwice, Catalogue, Procedure}
 use Rattle.setup.specs.Rows.{row_values}
 use Rattle.setup.specs.Says.{IsJson, IsNotJson}
-use Rattle.setup.specs.Setups.{SetupDocument, setup_form}
+use Rattle.setup.specs.Setups.{SetupParts, setup_form}
 
 -- ---- rows: the faults of their document, in the order in which its rules are looked at. The first is the one that is
 -- answered; a row whose table is unknown takes no values, so that its values are a fault after it
@@ -71,13 +71,13 @@ rows_faults tables d = in_rows_form tables (versioned_list (codes "rows") d)
 -- ---- setups
 
 -- the catalogue breaks a rule
-pub record InCatalogue (form : SetupDocument) (fault : SetupFault) : Type 0 where
+pub record InCatalogue (form : SetupParts) (fault : SetupFault) : Type 0 where
   pub rule : CatalogueFault
   pub is : fault ≡ Catalogue rule
   pub is_first : first (catalogues.catalogue_faults form.catalogue) ≡ Some rule
 
 -- the catalogue says tables, and the procedures break a rule over them
-pub record InProcs (form : SetupDocument) (fault : SetupFault) : Type 0 where
+pub record InProcs (form : SetupParts) (fault : SetupFault) : Type 0 where
   pub tables : List TableShape
   pub catalogue : SaysCatalogue form.catalogue tables
   pub is_catalogue : IsCatalogue tables
@@ -86,7 +86,7 @@ pub record InProcs (form : SetupDocument) (fault : SetupFault) : Type 0 where
   pub is_first : first (procedures.procedures_faults tables form.procs) ≡ Some rule
 
 -- the catalogue says tables, there are procedures over them, and the rows break a rule
-pub record InRows (form : SetupDocument) (fault : SetupFault) : Type 0 where
+pub record InRows (form : SetupParts) (fault : SetupFault) : Type 0 where
   pub tables : List TableShape
   pub catalogue : SaysCatalogue form.catalogue tables
   pub is_catalogue : IsCatalogue tables
@@ -94,13 +94,13 @@ pub record InRows (form : SetupDocument) (fault : SetupFault) : Type 0 where
   pub are_procs : SaysProcs tables form.procs procs
   pub is_first : first (rows_faults tables form.rows) ≡ Some fault
 
-abbrev pub InForm : SetupDocument → SetupFault → Type 0
+abbrev pub InForm : SetupParts → SetupFault → Type 0
 InForm form fault = InCatalogue form fault ⊎ (InProcs form fault ⊎ InRows form fault)
 
 -- the outer form comes before the parts
 abbrev pub InDocument : Data → SetupFault → Type 0
 InDocument d fault = ((fault ≡ Shape) × (setup_form d ≡ None))
-    ⊎ ((form : SetupDocument) × (setup_form d ≡ Some form) × InForm form fault)
+    ⊎ ((form : SetupParts) × (setup_form d ≡ Some form) × InForm form fault)
 
 -- the first rule that a text breaks
 abbrev pub BreaksFirst : List ℕ → SetupFault → Type 0

@@ -13,7 +13,9 @@ use Rattle.catalogue.specs.Rules.{Says, SaysCatalogue, IsCatalogue}
 use Rattle.catalogue.specs.Shapes.{TableShape}
 use Rattle.proclang.specs.Says.{SaysProcs}
 use Rattle.setup.specs.Rows.{RowAt, row_values}
-use Rattle.setup.specs.Setups.{SetupDocument, SetupShape}
+use Rattle.row_text.specs.declared.form.DigestForm.{DigestForm}
+use Rattle.row_text.specs.declared.form.DigestForm.TheVariants.{Rows, Partitions}
+use Rattle.setup.specs.Setups.{SetupParts, SetupShape}
 
 -- ---- rows
 
@@ -42,15 +44,17 @@ pub record SaysRows (tables : List TableShape) (d : Data) (rows : List RowAt) : 
 
 -- ---- setups
 
--- ["setup", 1, CATALOGUE, PROCEDURES, ROWS]: nothing is tried again
-pub record SpellsFirst (d : Data) (form : SetupDocument) : Type 0 where
+-- ["setup", 1, CATALOGUE, PROCEDURES, ROWS]: nothing is tried again, and digests are of row texts
+pub record SpellsFirst (d : Data) (form : SetupParts) : Type 0 where
   pub version : Data
   pub is_form : d ≡ array (items_of (string (codes "setup") ∷ version ∷ form.catalogue ∷ form.procs ∷ form.rows ∷ []))
   pub is_version : integer version ≡ Some (pos 1)
   pub none : form.retries ≡ 0
+  pub of_rows : form.digest ≡ Rows
 
--- ["setup", 2, CATALOGUE, PROCEDURES, ROWS, RETRIES]: a stale request is tried again 0 to 2 times
-pub record SpellsSecond (d : Data) (form : SetupDocument) : Type 0 where
+-- ["setup", 2, CATALOGUE, PROCEDURES, ROWS, RETRIES]: a stale request is tried again 0 to 2 times, and digests are of
+-- row texts
+pub record SpellsSecond (d : Data) (form : SetupParts) : Type 0 where
   pub version : Data
   pub number : Data
   pub is_form : d
@@ -58,18 +62,37 @@ pub record SpellsSecond (d : Data) (form : SetupDocument) : Type 0 where
   pub is_version : integer version ≡ Some (pos 2)
   pub is_number : integer number ≡ Some (pos form.retries)
   pub few : form.retries ≤ 2
+  pub of_rows : form.digest ≡ Rows
 
-abbrev pub SpellsSetup : Data → SetupDocument → Type 0
-SpellsSetup d form = SpellsFirst d form ⊎ SpellsSecond d form
+-- the names of the texts of which digests are
+abbrev pub name_of : DigestForm → List ℕ
+name_of Rows = codes "rows"
+name_of Partitions = codes "partitions"
+
+-- ["setup", 3, CATALOGUE, PROCEDURES, ROWS, RETRIES, DIGEST]: a stale request is tried again 0 to 2 times, and digests
+-- are of row texts or of partition texts
+pub record SpellsThird (d : Data) (form : SetupParts) : Type 0 where
+  pub version : Data
+  pub number : Data
+  pub is_form : d
+      ≡ array (items_of (string (codes "setup") ∷ version ∷ form.catalogue ∷ form.procs ∷ form.rows ∷ number
+      ∷ string (name_of form.digest) ∷ []))
+  pub is_version : integer version ≡ Some (pos 3)
+  pub is_number : integer number ≡ Some (pos form.retries)
+  pub few : form.retries ≤ 2
+
+abbrev pub SpellsSetup : Data → SetupParts → Type 0
+SpellsSetup d form = SpellsFirst d form ⊎ (SpellsSecond d form ⊎ SpellsThird d form)
 
 pub record SaysDocument (d : Data) (s : SetupShape) : Type 0 where
-  pub form : SetupDocument
+  pub form : SetupParts
   pub is_form : SpellsSetup d form
   pub catalogue : SaysCatalogue form.catalogue s.tables
   pub is_catalogue : IsCatalogue s.tables
   pub procs : SaysProcs s.tables form.procs s.procs
   pub rows : SaysRows s.tables form.rows s.rows
   pub retries : s.retries ≡ form.retries
+  pub digest : s.digest ≡ form.digest
 
 -- a text is UTF-8 and JSON, and says that document
 pub record IsJson (text : List ℕ) (d : Data) : Type 0 where

@@ -3,24 +3,34 @@
 ghost use Rattle.std.specs.Prelude.{◌≡◌, ◌≤◌, option_map, option_and_then, IfSome};
 ghost use Rattle.serde_json.specs.View.{view};
 ghost use Rattle.documents.specs.Json.{elements, five, six};
-ghost use Rattle.setup.specs.Setups.{setup_form, first_parts, second_parts, retries_of};
+ghost use Rattle.setup.specs.Setups.{setup_form, first_parts, second_parts, third_parts, form_named, retries_of, seven};
 
-use documents::{five, six};
+use documents::{elements, five, six};
+use row_text::DigestForm;
 use serde_json::Value;
 
-/// The documents of the catalogue, of the procedures and of the rows, and how often a stale request is tried again.
-type Parts<'a> = (&'a Value, &'a Value, &'a Value, u8);
+/// The documents of the catalogue, of the procedures and of the rows, how often a stale request is tried again, and of
+/// which text of the rows digests are.
+type Parts<'a> = (&'a Value, &'a Value, &'a Value, u8, DigestForm);
 
-/// The parts of a document `["setup", 1, CATALOGUE, PROCEDURES, ROWS]`: nothing is tried again.
+/// The parts of a document `["setup", 1, CATALOGUE, PROCEDURES, ROWS]`: nothing is tried again, and digests are of row
+/// texts.
 fn first_parts<'a>(document: &'a Value) -> Option<Parts<'a>>
     ensures form { option_map
-        (λ p. record { catalogue = view p.0.now; procs = view p.1.now; rows = view p.2.now; retries = p.3 }) result
+        (λ p. record {
+          catalogue = view p.0.now;
+          procs = view p.1.now;
+          rows = view p.2.now;
+          retries = p.3;
+          digest = p.4;
+        })
+        result
         ≡ option_and_then first_parts (option_and_then five (elements (view document.now))) }
     ensures few { IfSome result (λ p. p.3 ≤ 2) }
 {
     let (word, version, catalogue, procs, rows) = five(document)?;
     if word.as_str()? == "setup" && version.as_i64()? == 1 {
-        Some((catalogue, procs, rows, 0))
+        Some((catalogue, procs, rows, 0, DigestForm::Rows))
     } else {
         None
     }
@@ -38,10 +48,17 @@ fn retries_of(number: i64) -> Option<u8>
     }
 }
 
-/// The parts of a document `["setup", 2, CATALOGUE, PROCEDURES, ROWS, RETRIES]`.
+/// The parts of a document `["setup", 2, CATALOGUE, PROCEDURES, ROWS, RETRIES]`: digests are of row texts.
 fn second_parts<'a>(document: &'a Value) -> Option<Parts<'a>>
     ensures form { option_map
-        (λ p. record { catalogue = view p.0.now; procs = view p.1.now; rows = view p.2.now; retries = p.3 }) result
+        (λ p. record {
+          catalogue = view p.0.now;
+          procs = view p.1.now;
+          rows = view p.2.now;
+          retries = p.3;
+          digest = p.4;
+        })
+        result
         ≡ option_and_then second_parts (option_and_then six (elements (view document.now))) }
     ensures few { IfSome result (λ p. p.3 ≤ 2) }
 {
@@ -50,22 +67,86 @@ fn second_parts<'a>(document: &'a Value) -> Option<Parts<'a>>
     let version = version.as_i64()?;
     let retries = retries_of(number.as_i64()?)?;
     if word == "setup" && version == 2 {
-        Some((catalogue, procs, rows, retries))
+        Some((catalogue, procs, rows, retries, DigestForm::Rows))
     } else {
         None
     }
 }
 
-/// The parts of a setup's document, of version 1 or 2.
+/// The elements of an array of seven.
+fn seven(document: &Value) -> Option<(&Value, &Value, &Value, &Value, &Value, &Value, &Value)>
+    ensures { option_map (λ p.
+        (view p.0.now, view p.1.now, view p.2.now, view p.3.now, view p.4.now, view p.5.now, view p.6.now))
+        result
+        ≡ option_and_then seven (elements (view document.now)) }
+{
+    match elements(document)? {
+        [first, second, third, fourth, fifth, sixth, seventh] => Some((
+            first, second, third, fourth, fifth, sixth, seventh,
+        )),
+        _ => None,
+    }
+}
+
+/// The text of the rows that has that name, `None` where none has it.
+fn form_named(name: &str) -> Option<DigestForm>
+    ensures { result ≡ form_named name.now }
+{
+    if name == "rows" {
+        Some(DigestForm::Rows)
+    } else if name == "partitions" {
+        Some(DigestForm::Partitions)
+    } else {
+        None
+    }
+}
+
+/// The parts of a document `["setup", 3, CATALOGUE, PROCEDURES, ROWS, RETRIES, DIGEST]`.
+fn third_parts<'a>(document: &'a Value) -> Option<Parts<'a>>
+    ensures form { option_map
+        (λ p. record {
+          catalogue = view p.0.now;
+          procs = view p.1.now;
+          rows = view p.2.now;
+          retries = p.3;
+          digest = p.4;
+        })
+        result
+        ≡ option_and_then third_parts (option_and_then seven (elements (view document.now))) }
+    ensures few { IfSome result (λ p. p.3 ≤ 2) }
+{
+    let (word, version, catalogue, procs, rows, number, name) = seven(document)?;
+    let word = word.as_str()?;
+    let version = version.as_i64()?;
+    let retries = retries_of(number.as_i64()?)?;
+    let digest = form_named(name.as_str()?)?;
+    if word == "setup" && version == 3 {
+        Some((catalogue, procs, rows, retries, digest))
+    } else {
+        None
+    }
+}
+
+/// The parts of a setup's document, of version 1, 2 or 3.
 #[tactic(auto, unfolding(crate::specs::Setups::setup_form))]
 pub(crate) fn setup_form<'a>(document: &'a Value) -> Option<Parts<'a>>
     ensures form { option_map
-        (λ p. record { catalogue = view p.0.now; procs = view p.1.now; rows = view p.2.now; retries = p.3 }) result
+        (λ p. record {
+          catalogue = view p.0.now;
+          procs = view p.1.now;
+          rows = view p.2.now;
+          retries = p.3;
+          digest = p.4;
+        })
+        result
         ≡ setup_form (view document.now) }
     ensures few { IfSome result (λ p. p.3 ≤ 2) }
 {
-    match first_parts(document) {
-        Some(parts) => Some(parts),
-        None => second_parts(document),
+    if let Some(parts) = first_parts(document) {
+        return Some(parts);
     }
+    if let Some(parts) = second_parts(document) {
+        return Some(parts);
+    }
+    third_parts(document)
 }

@@ -9,6 +9,7 @@ ghost use Rattle.setup.specs.FirstFault.{BreaksFirst, InDocument};
 ghost use Rattle.setup.specs.Says.{SaysDocument, SaysSetup};
 ghost use Rattle.setup.specs.Setups.{SetupShape, setup_at, setup_said, setup_view};
 
+use crate::document::SetupDocument;
 use crate::fault::SetupFault;
 use crate::form::setup_form;
 use crate::rows::read_rows;
@@ -20,30 +21,31 @@ use std::alloc::Global;
 use std::str;
 
 #[tactic(auto, unfolding(crate::specs::Setups::setup_at))]
-fn read_document(alloc: Global, document: &Value) -> Result<Setup, SetupFault>
+fn read_document(alloc: Global, document: &Value) -> Result<SetupDocument, SetupFault>
     ensures found { IfOk result (λ s. SaysDocument (view document.now) (setup_view s)) }
-    ensures over { IfOk result (λ s. AreOver s.catalogue s.procs.procs) }
+    ensures over { IfOk result (λ s. AreOver s.setup.catalogue s.setup.procs.procs) }
     ensures only { (s : SetupShape) → SaysDocument (view document.now) s → Reads is_memory setup_view result (Ok s) }
     ensures first { IfErr result (λ e. is_memory e ≡ false → InDocument (view document.now) e) }
     ensures unbroken { OnOk result ((e : SetupFault) → InDocument (view document.now) e → ⊥) }
     ensures exact { Reads is_memory setup_view result (setup_at (view document.now)) }
 {
-    let (catalogue, procs, rows, retries) = setup_form(document).ok_or(SetupFault::Shape)?;
+    let (catalogue, procs, rows, retries, digest) = setup_form(document).ok_or(SetupFault::Shape)?;
     let catalogue = Catalogue::read(alloc, catalogue)?;
     let procs = read_procs(alloc, procs, &catalogue)?;
     let rows = read_rows(alloc, &catalogue, rows)?;
-    Ok(Setup {
+    let setup = Setup {
         catalogue,
         procs,
         rows,
         retries,
-    })
+    };
+    Ok(SetupDocument { setup, digest })
 }
 
 #[tactic(auto, using(crate::proofs::Texts::said_of_text, crate::proofs::Texts::said_of_bytes))]
-fn read_text(alloc: Global, text: &[u8]) -> Result<Setup, SetupFault>
+fn read_text(alloc: Global, text: &[u8]) -> Result<SetupDocument, SetupFault>
     ensures found { IfOk result (λ s. SaysSetup text.now (setup_view s)) }
-    ensures over { IfOk result (λ s. AreOver s.catalogue s.procs.procs) }
+    ensures over { IfOk result (λ s. AreOver s.setup.catalogue s.setup.procs.procs) }
     ensures only { (s : SetupShape) → SaysSetup text.now s → Reads is_memory setup_view result (Ok s) }
     ensures first { IfErr result (λ e. is_memory e ≡ false → BreaksFirst text.now e) }
     ensures unbroken { OnOk result ((e : SetupFault) → BreaksFirst text.now e → ⊥) }
@@ -59,13 +61,13 @@ fn read_text(alloc: Global, text: &[u8]) -> Result<Setup, SetupFault>
     }
 }
 
-/// The setup that a JSON text says, or the first rule that it breaks: of the text, of the document's outer form, of the
-/// catalogue, of the procedures, and of the rows, in this order.
-pub fn read_setup(alloc: Global, text: &[u8]) -> Result<Setup, SetupFault>
+/// What a JSON text says as a setup document, or the first rule that it breaks: of the text, of the document's outer
+/// form, of the catalogue, of the procedures, and of the rows, in this order.
+pub fn read_setup(alloc: Global, text: &[u8]) -> Result<SetupDocument, SetupFault>
     // What is read is what the text says.
     ensures found { IfOk result (λ s. SaysSetup text.now (setup_view s)) }
     // Each procedure is over the catalogue.
-    ensures over { IfOk result (λ s. AreOver s.catalogue s.procs.procs) }
+    ensures over { IfOk result (λ s. AreOver s.setup.catalogue s.setup.procs.procs) }
     // A setup that the text says is what is read, unless memory runs out.
     ensures only { (s : SetupShape) → SaysSetup text.now s → Reads is_memory setup_view result (Ok s) }
     // The fault is that of the first rule that the text breaks.

@@ -8,8 +8,8 @@ use std::alloc::Global;
 pub enum Bodies {
     /// Few statements without a loop: where the gate is open, an engine runs such a call on the thread that called it.
     Brief,
-    /// The same after a loop of one turn in which nothing is done: an engine hands each call over as a job. The replies
-    /// are the same.
+    /// The same after a loop of one turn in which nothing is done, and whose last number is a sum: how many turns it
+    /// has is not known before, so an engine hands each call over as a job. The replies are the same.
     Looping,
     /// `peek` has such a loop, and no other.
     LoopingPeek,
@@ -26,8 +26,8 @@ impl Bodies {
     }
 }
 
-/// A loop of one turn in which nothing is done.
-const LOOP: &str = r#"["for","once",1,1,[]],"#;
+/// A loop of one turn in which nothing is done. Its last number is a sum.
+const LOOP: &str = r#"["for","once",1,["+",0,1],[]],"#;
 
 /// The setup, with a `%` where the body of `peek` begins, and an `@` where each other one does.
 const BANK: &str = r#"["setup",1,
@@ -60,5 +60,5 @@ pub fn bank(alloc: Global, bodies: Bodies) -> Result<Setup, SetupFault> {
     let (peek, others) = bodies.beginnings();
     let text = BANK.replace(alloc, "%", peek)?;
     let text = text.replace(alloc, "@", others)?;
-    read_setup(alloc, text.as_bytes())
+    Ok(read_setup(alloc, text.as_bytes())?.setup)
 }

@@ -22,7 +22,7 @@ const OTHER_COLUMN: &str = r#"["setup",1,
 
 /// The catalogue of a setup.
 fn catalogue_in(alloc: Global, setup: &str) -> Result<Catalogue, Fail> {
-    Ok(read_setup(alloc, setup.as_bytes())?.catalogue)
+    Ok(read_setup(alloc, setup.as_bytes())?.setup.catalogue)
 }
 
 /// What comes of a request of an engine.

@@ -1,9 +1,9 @@
 //! Clients in threads of their own.
 
-ghost use Rattle.std.specs.Prelude.{◌≡◌, length};
-ghost use Rattle.intake.specs.Passes.{IsClientOf, AreNewClients};
+ghost use Rattle.std.specs.Prelude.{◌≡◌, IfOk, length};
+ghost use Rattle.intake.specs.Passes.{IsClientOf, IsDrawerOf, AreNewClients};
 
-use intake::{ClientPass, Intake, Item};
+use intake::{ClientPass, DrawPass, Intake, Item};
 use std::sync::Wait;
 use std::test::Fail;
 use std::thread;
@@ -89,5 +89,38 @@ fn what_two_joined_clients_left_is_drained(rt: HostRuntime) -> Result<(), Fail> 
     intake.drain(&rt, &mut drawer, &mut [one, two], &mut left)?;
     let counts = [count_of(left.as_slice(), 1), count_of(left.as_slice(), 2)];
     assert_eq!(rt; counts, [Some(REQUESTS), Some(REQUESTS)]);
+    Ok(())
+}
+
+/// An intake whose two clients have submitted beside each other and retired, and the owner's pass.
+fn retired<R: Threads + Wait + Sync + AllocGlobal>(
+    rt: &R,
+) -> Result<(Intake<u64>, DrawPass<u64>), Fail>
+    ensures { IfOk result (λ r. IsDrawerOf r.0 r.1) }
+{
+    let (intake, passes, mut drawer) = Intake::<u64>::new(rt.alloc(), 2, 4_096)?;
+    let (one, two) = both(&intake, passes);
+    let (one, two) = submit_beside(rt, &intake, one, two);
+    intake.retire(&mut drawer, one);
+    intake.retire(&mut drawer, two);
+    Ok((intake, drawer))
+}
+
+#[test]
+fn what_retired_clients_left_is_drained(rt: HostRuntime) -> Result<(), Fail> {
+    let (intake, mut drawer) = retired(&rt)?;
+    let mut left: Vec<Vec<Item<u64>>> = Vec::new(rt.alloc());
+    intake.drain(&rt, &mut drawer, &mut [], &mut left)?;
+    let counts = [count_of(left.as_slice(), 1), count_of(left.as_slice(), 2)];
+    assert_eq!(rt; counts, [Some(REQUESTS), Some(REQUESTS)]);
+    Ok(())
+}
+
+#[test]
+fn what_is_discarded_is_drawn_no_more(rt: HostRuntime) -> Result<(), Fail> {
+    let (intake, mut drawer) = retired(&rt)?;
+    intake.discard(&rt, &mut drawer);
+    let left: Vec<Item<u64>> = intake.draw(&rt, &mut drawer, 4_096)?;
+    assert!(rt; left.is_empty());
     Ok(())
 }

@@ -1,8 +1,8 @@
 //! Rows put and taken away, and the digest of those that are left.
 
 use catalogue::Catalogue;
-use report_text::{digest_text, rows_digest};
 use row_store::{RowStore, all_is_free_with_nothing_lent};
+use row_text::{DigestForm, digest_text, rows_digest};
 use serde_json::Value as Json;
 use std::alloc::Global;
 use std::collections::BTreeMap;
@@ -50,7 +50,7 @@ fn digest(alloc: Global, given: &[Given], made: &[Write]) -> Result<String, Fail
     let mut store = RowStore::new(alloc, &catalogue, rows)?;
     store.apply(writes_of(alloc, made)?)?;
     all_is_free_with_nothing_lent();
-    Ok(rows_digest(alloc, store.catalogue(), &store)?)
+    Ok(rows_digest(alloc, store.catalogue(), &store, DigestForm::Rows)?)
 }
 
 /// Of two rows with one name the later stays. Keys that alternate between partitions come in ascending order.

@@ -11,8 +11,8 @@ use crate::reading::unread;
 use crate::reporting::try_report;
 use calvin::{Batch, BatchDone, Engine, ExecFault, Settings, Setup, read_setup};
 use proclang::Procs;
-use report_text::{digest_text, rows_digest};
 use row_store::all_is_free_with_nothing_lent;
+use row_text::{DigestForm, digest_text, rows_digest};
 use std::alloc::Global;
 use std::sync::Wait;
 use std::thread::Threads;
@@ -155,7 +155,7 @@ fn is_end(alloc: Global, report: &str, engine: &Engine, done: &[BatchDone]) -> O
     }
     let store = engine.rows();
     all_is_free_with_nothing_lent();
-    let rows = rows_digest(alloc, store.catalogue(), store).ok()?;
+    let rows = rows_digest(alloc, store.catalogue(), store, DigestForm::Rows).ok()?;
     let replies = digest_text(alloc, lines.as_bytes()).ok()?;
     let count = engine.transactions();
     let end = format!(in alloc; "\nend {count} rows {rows} replies {replies}\n").ok()?;
@@ -215,8 +215,8 @@ fn execute_each<R: Threads + Wait + Sync + AllocGlobal>(
 fn engine<R: rt::Files + AllocGlobal>(rt: &R, on: OnBatches) -> Option<Engine> {
     let settings = settings(on.workers, on.threshold)?;
     let setup = text(rt, on.stored, "setup.json")?;
-    let setup = read_setup(rt.alloc(), setup.as_bytes()).ok()?;
-    Engine::new(rt.alloc(), setup, settings).ok()
+    let document = read_setup(rt.alloc(), setup.as_bytes()).ok()?;
+    Engine::new(rt.alloc(), document.setup, settings).ok()
 }
 
 /// This answer if the end line of a report says what the calls have replied, and the rows that they left.
@@ -318,7 +318,7 @@ pub(crate) fn try_setup<R: Threads + Wait + Sync + rt::Files + AllocGlobal>(
     let read = read_setup(rt.alloc(), setup.as_bytes());
     refusal.pass();
     match read {
-        Ok(setup) => execute_on(rt, stored, setup),
+        Ok(document) => execute_on(rt, stored, document.setup),
         Err(fault) => Some(unread(&fault)),
     }
 }
@@ -331,12 +331,12 @@ pub(crate) fn try_report_of_batches<R: Threads + Wait + Sync + rt::Files + Alloc
 ) -> Option<Answer> {
     let setup = text(rt, on.stored, "setup.json")?;
     let (log, report) = (text(rt, on.stored, "log")?, text(rt, on.stored, "report")?);
-    let setup = read_setup(rt.alloc(), setup.as_bytes()).ok()?;
+    let document = read_setup(rt.alloc(), setup.as_bytes()).ok()?;
     let settings = settings(on.workers, on.threshold)?;
     try_report(
         rt,
         refusal,
-        setup,
+        document,
         settings,
         [log.as_str(), report.as_str()],
         on.stored.attempts(),

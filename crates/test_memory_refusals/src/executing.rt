@@ -12,10 +12,20 @@ use std::thread::Threads;
 use test_bank::CountingGate;
 use test_refusal_steps::{Answer, CALLS, Refusal, bank, batch, is_of_log};
 
+/// An engine on a setup, with so many workers and lanes.
+pub(crate) fn engine_over(
+    alloc: Global,
+    setup: Setup,
+    workers: usize,
+    lanes: usize,
+) -> Option<Engine> {
+    let settings = Settings::new(workers, lanes, 64, 65_536).ok()?;
+    Engine::new(alloc, setup, settings).ok()
+}
+
 /// An engine on a setup, with so many workers.
 fn engine_on(alloc: Global, setup: Setup, workers: usize) -> Option<Engine> {
-    let settings = Settings::new(workers, 8, 64, 65_536).ok()?;
-    Engine::new(alloc, setup, settings).ok()
+    engine_over(alloc, setup, workers, 8)
 }
 
 /// Appends the reply lines of a batch. A reply that isn't of the log's one client gives a line more.
@@ -91,7 +101,7 @@ fn if_run(alloc: Global, engine: &Engine, done: &BatchDone, answer: Answer) -> O
 }
 
 /// What comes of an execution that ended so, and is gone on with where memory or a thread was refused.
-fn gone_on_with<R: Threads + Wait + Sync + AllocGlobal>(
+pub(crate) fn gone_on_with<R: Threads + Wait + Sync + AllocGlobal>(
     rt: &R,
     engine: &mut Engine,
     ended: Result<BatchDone, ExecFault>,

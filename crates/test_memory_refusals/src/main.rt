@@ -7,6 +7,7 @@
 //! none was.
 #![tactic(auto)]
 
+mod at_the_gate;
 mod batches;
 mod executing;
 mod jobs;
@@ -113,6 +114,7 @@ fn tried<R: Threads + Wait + Sync + rt::Files + AllocGlobal>(
         "execute_1" => executing::try_workers(rt, refusal, 1, Resume),
         "execute_2" => executing::try_workers(rt, refusal, 2, Resume),
         "execute_2_then_alone" => executing::try_workers(rt, refusal, 2, ResumeAlone),
+        "gate_before_run" => at_the_gate::try_gate(rt, refusal),
         "resume" => executing::try_resume(rt, refusal, Resume),
         "resume_alone" => executing::try_resume(rt, refusal, ResumeAlone),
         "run_text" => reporting::try_text(rt, refusal),

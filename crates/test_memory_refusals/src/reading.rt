@@ -16,7 +16,7 @@ pub(crate) fn try_setup<R: Wait + AllocGlobal>(rt: &R, refusal: &mut Refusal) ->
     let read = read_setup(alloc, BANK.as_bytes());
     refusal.pass();
     match read {
-        Ok(setup) => Some(Answer::Right.if_right(runs_on(rt, setup)?)),
+        Ok(document) => Some(Answer::Right.if_right(runs_on(rt, document.setup)?)),
         Err(fault) => Some(unread(&fault)),
     }
 }

@@ -1,17 +1,20 @@
 //! The program's calls: reports of logs.
 
 use crate::jobs::if_jobs;
-use calvin::{LogFault, LogFaultKind, ReadSource, RunFault, Settings, Setup, WriteSink, run_text};
+use calvin::{
+    DigestForm, LogFault, LogFaultKind, ReadSource, RunFault, Settings, SetupDocument, WriteSink,
+    run_text,
+};
 use std::sync::Wait;
 use std::thread::Threads;
 use test_bank::CountingGate;
 use test_refusal_steps::{Answer, CALLS, REPORT, Refusal, bank, log_text};
 
-/// A log of so many calls is run on a setup, through a gate, and its report is written.
+/// A log of so many calls is run on a setup document, through a gate, and its report is written.
 pub(crate) fn try_report<R: Threads + Wait + Sync + AllocGlobal>(
     rt: &R,
     refusal: &mut Refusal,
-    setup: Setup,
+    document: SetupDocument,
     settings: Settings,
     [log, report]: [&str; 2],
     calls: u64,
@@ -22,7 +25,7 @@ pub(crate) fn try_report<R: Threads + Wait + Sync + AllocGlobal>(
     // (room for all of the report, so that a write takes no memory)
     let mut out = WriteSink::new(Vec::with_capacity(alloc, 65_536).ok()?);
     refusal.approach();
-    let ended = run_text(rt, alloc, setup, settings, gate, &mut source, &mut out);
+    let ended = run_text(rt, alloc, document, settings, gate, &mut source, &mut out);
     refusal.pass();
     let written = out.into_inner();
     let answer = match ended {
@@ -50,14 +53,17 @@ pub(crate) fn try_text<R: Threads + Wait + Sync + AllocGlobal>(
     refusal: &mut Refusal,
 ) -> Option<Answer> {
     let alloc = rt.alloc();
-    let setup = bank(alloc)?;
+    let document = SetupDocument {
+        setup: bank(alloc)?,
+        digest: DigestForm::Rows,
+    };
     let settings = Settings::new(2, 8, 64, 65_536).ok()?;
     let log = log_text(alloc, "[\"cut\"]\n").ok()?;
     let gate = CountingGate::new(false);
     try_report(
         rt,
         refusal,
-        setup,
+        document,
         settings,
         [log.as_str(), REPORT],
         CALLS,

@@ -53,9 +53,19 @@ impl Refusal {
         }
     }
 
+    /// Comes near it, in whatever thread, and says how many allocations were made.
+    pub fn near(&self) -> u64 {
+        allocate(self.alloc, self.wanted.min(MOST))
+    }
+
     /// Comes near it: the step begins.
     pub fn approach(&mut self) {
-        self.before = allocate(self.alloc, self.wanted.min(MOST));
+        self.before = self.near();
+    }
+
+    /// Notes that so many allocations came near it within the step.
+    pub fn note_approach(&mut self, made: u64) {
+        self.before = made;
     }
 
     /// Leaves it behind, if the step did not meet it: the step has ended.

@@ -4,8 +4,8 @@ ghost use Rattle.std.specs.Prelude.{◌≡◌};
 ghost use Rattle.std.specs.FinMap as map_of;
 
 use crate::texts::{REPLIES, ROWS};
-use report_text::{digest_text, rows_digest};
 use row_store::{RowStore, all_is_free_with_nothing_lent};
+use row_text::{DigestForm, digest_text, rows_digest};
 use std::alloc::Global;
 
 /// Whether a text has this digest.
@@ -19,6 +19,6 @@ pub fn is_of_log(alloc: Global, lines: &str, rows: &RowStore) -> Option<bool>
     requires { rows.now.lent ≡ map_of.empty }
 {
     all_is_free_with_nothing_lent();
-    let found = rows_digest(alloc, rows.catalogue(), rows).ok()?;
+    let found = rows_digest(alloc, rows.catalogue(), rows, DigestForm::Rows).ok()?;
     Some(found.as_str() == ROWS && has_digest(alloc, lines, REPLIES)?)
 }

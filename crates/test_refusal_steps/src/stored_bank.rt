@@ -46,7 +46,7 @@ pub fn log_text(alloc: Global, between: &str) -> Result<String, AllocError> {
 
 /// The bank's setup.
 pub fn bank(alloc: Global) -> Option<Setup> {
-    read_setup(alloc, BANK.as_bytes()).ok()
+    Some(read_setup(alloc, BANK.as_bytes()).ok()?.setup)
 }
 
 /// The requests of the first batch of a log; `None` where it has none, or memory is refused.

@@ -3,8 +3,9 @@
 use crate::answer::Answer;
 use crate::refusal::Refusal;
 use crate::scheduling::{scheduler_of, settle_next};
-use report_text::{push_reply_line, rows_digest};
+use report_text::push_reply_line;
 use row_store::all_is_free_with_nothing_lent;
+use row_text::{DigestForm, rows_digest};
 use scheduler::Scheduler;
 use setup::{Setup, read_setup};
 use std::alloc::Global;
@@ -51,7 +52,7 @@ fn setup(alloc: Global) -> Option<Setup> {
         procs,
         rows: _,
         retries: _,
-    } = read_setup(alloc, SETUP.as_bytes()).ok()?;
+    } = read_setup(alloc, SETUP.as_bytes()).ok()?.setup;
     let rows = rows_of(alloc, catalogue.table("acct")?)?;
     Some(Setup {
         catalogue,
@@ -76,7 +77,7 @@ fn is_settled(alloc: Global, scheduler: Scheduler) -> Option<bool> {
     let line = reply_line(alloc, &scheduler)?;
     all_is_free_with_nothing_lent();
     let rows = scheduler.into_finished().rows;
-    let digest = rows_digest(alloc, rows.catalogue(), &rows).ok()?;
+    let digest = rows_digest(alloc, rows.catalogue(), &rows, DigestForm::Rows).ok()?;
     Some(line.as_str() == REPLY && digest.as_str() == ROWS)
 }
 

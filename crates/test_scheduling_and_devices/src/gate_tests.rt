@@ -1,7 +1,7 @@
 //! The gate of a log's run: how many jobs pass it, and whether two are at it at the same time.
 
 use crate::test_world::{Narrow, Slow, TWO_BATCHES};
-use calvin::{Settings, run_text};
+use calvin::{DigestForm, Settings, SetupDocument, run_text};
 use std::sync::Wait;
 use std::test::Fail;
 use std::thread::Threads;
@@ -18,11 +18,14 @@ fn run_through<R: Threads + Wait + Sync + AllocGlobal>(
     gate: &Meeting,
 ) -> Result<Vec<u8>, Fail> {
     let alloc = rt.alloc();
-    let setup = bank(alloc, bodies)?;
+    let document = SetupDocument {
+        setup: bank(alloc, bodies)?,
+        digest: DigestForm::Rows,
+    };
     let settings = Settings::new(workers, 2, 8, 65_536)?;
     let mut source = Slow::new(log.as_bytes(), 0);
     let mut out = Narrow::new(alloc, 1000, false);
-    run_text(rt, alloc, setup, settings, gate, &mut source, &mut out)?;
+    run_text(rt, alloc, document, settings, gate, &mut source, &mut out)?;
     Ok(out.taken)
 }
 

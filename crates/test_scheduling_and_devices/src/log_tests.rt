@@ -33,7 +33,7 @@ const PEEK_TWICE: &str = "[\"call\",\"peek\",[1]]\n[\"call\",\"peek\",[1]]\n";
 #[test]
 fn reads_fail_in_the_line_that_they_are_of(rt: HostRuntime) -> Result<(), Fail> {
     let alloc = rt.alloc();
-    let setup = read_setup(alloc, BANK.as_bytes())?;
+    let setup = read_setup(alloc, BANK.as_bytes())?.setup;
     for (log, failing, outcomes) in [
         (CUT_AND_PAY, 0, ["0 calls, 1", "1 calls, 2", "end, 2"]),
         (

@@ -237,11 +237,11 @@ fn left_by_run_text<R: Threads + Wait + Sync + AllocGlobal>(
     mut out: Narrow,
 ) -> Result<Left, Fail> {
     let alloc = rt.alloc();
-    let setup = read_setup(alloc, files.setup.as_bytes())?;
+    let document = read_setup(alloc, files.setup.as_bytes())?;
     let settings = Settings::new(1, 8, 64, 65_536)?;
     let mut err = Vec::new(alloc);
     let mut status = 0;
-    if let Err(fault) = run_text(rt, alloc, setup, settings, &OpenGate, source, &mut out) {
+    if let Err(fault) = run_text(rt, alloc, document, settings, &OpenGate, source, &mut out) {
         err.extend_from_slice(format!(in alloc; "{fault}\n")?.as_bytes())?;
         status = 4;
     }

@@ -13,11 +13,11 @@ use std::thread::Threads;
 use test_bank::push_outcome;
 
 /// A chain of rows, each of which leads to the next; `go` has a row lead where the next one does, after a loop of one
-/// turn, so that it is handed over to a worker. Stale requests are tried again twice.
+/// turn up to a sum, so that it is handed over to a worker. Stale requests are tried again twice.
 const CHAIN: &str = r#"["setup",2,
 ["catalogue",1,[["ref",1,[["to","int"]]]]],
 ["procs",1,[["go",[["k","int"]],["recon"],
- [["for","once",1,1,[]],["get","t","ref","k","to"],["get","x","ref","t","to"],
+ [["for","once",1,["+",0,1],[]],["get","t","ref","k","to"],["get","x","ref","t","to"],
    ["put","ref","k","to","x"],["reply","x"]]]]],
 ["rows",1,[["ref",1,[2]],["ref",2,[3]],["ref",3,[4]],["ref",4,[4]]]],2]"#;
 
@@ -38,7 +38,7 @@ fn settled(alloc: Global, told: &[Told]) -> Result<String, Fail> {
 fn told_to_three<R: Threads + Wait + Sync>(rt: &R, alloc: Global) -> Result<Vec<Told>, Fail> {
     let logs = three(alloc)?;
     let settings = Settings::new(2, 8, 64, 65_536)?;
-    let engine = Engine::new(alloc, read_setup(alloc, CHAIN.as_bytes())?, settings)?;
+    let engine = Engine::new(alloc, read_setup(alloc, CHAIN.as_bytes())?.setup, settings)?;
     let (_engine, told) = serve_all(rt, alloc, engine, logs, 16)?;
     Ok(told)
 }

@@ -26,14 +26,16 @@ returns-in-Admit g c =
       keeps = c.step.ensures.keeps;
       made = made;
       err = tt;
-      told = elim c.in-Admit.is [
-        | inl e ↦ admit_told s new a work c.requires.told (made ∙ ap (step s.work.first (phases_of s)) e)
-        | inr other ↦ elim other [
-          | inl e ↦ lend_told s new a work c.requires.told e.0 (subst (λ (x : Event). can_make s x ≡ true) e.1 c.requires.enabled)
-              (made ∙ ap (step s.work.first (phases_of s)) e.1)
-          | inr e ↦ run_told s new a work c.requires.told e.0 (subst (λ (x : Event). can_make s x ≡ true) e.1 c.requires.enabled)
-              (made ∙ ap (step s.work.first (phases_of s)) e.1)
-        ]
-      ];
-      onward = hears_nothing a;
+      told = (
+        elim c.in-Admit.is [
+          | inl e ↦ admit_told s new a work c.requires.told (made ∙ ap (step s.work.first (phases_of s)) e)
+          | inr other ↦ elim other [
+            | inl e ↦ lend_told s new a work c.requires.told e.0 (subst (λ (x : Event). can_make s x ≡ true) e.1 c.requires.enabled)
+                (made ∙ ap (step s.work.first (phases_of s)) e.1)
+            | inr e ↦ run_told s new a work c.requires.told e.0 (subst (λ (x : Event). can_make s x ≡ true) e.1 c.requires.enabled)
+                (made ∙ ap (step s.work.first (phases_of s)) e.1)
+          ]
+        ],
+        hears_nothing a,
+      );
     }

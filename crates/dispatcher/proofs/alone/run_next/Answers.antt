@@ -1,4 +1,4 @@
-use Rattle.dispatcher.proofs.Straight.{straight_told, straight_settles, straight_lanes}
+use Rattle.dispatcher.proofs.Straight.{same_work, straight_told, straight_settles, straight_lanes}
 use Rattle.dispatcher.proofs.alone.run_next.Goals as goal
 
 pub tell-requires-clause-others : goal.tell-requires-clause-others
@@ -6,10 +6,15 @@ tell-requires-clause-others g c =
     let ran = rw c.in-Some.is at c.in_ok-no.ensures.ran in
     straight_told c.args.scheduler.now c.run_next.new.self ran.1 ran.2 c.in-Some.no (g.L.Listener.account c.args.listener.now) ran.0 c.requires.told
 
-pub returns-clause-settled : goal.returns-clause-settled
-returns-clause-settled g c = λ place is.
+pub returns-clause-runs : goal.returns-clause-runs
+returns-clause-runs g c =
     let ran = rw c.in-Some.is at c.in_ok-no.ensures.ran in
-    straight_settles c.args.scheduler.now c.run_next.new.self ran.1 ran.2 place is
+    record {
+      work = same_work c.args.scheduler.now c.run_next.new.self ran.1 ran.2;
+      settled = λ place is. straight_settles c.args.scheduler.now c.run_next.new.self ran.1 ran.2 place is;
+      told = c.tell.ensures.told;
+      onward = c.tell.ensures.onward;
+    }
 
 pub returns-clause-lanes : goal.returns-clause-lanes
 returns-clause-lanes g c = λ seat h.

@@ -12,8 +12,13 @@ tell-requires-clause-others g c =
 pub unreachable-requires : goal.unreachable-requires
 unreachable-requires g c = c.step.ensures.memory c.args.no refl c.in-NoMemory.is
 
-pub returns-in-Made-clause-settled : goal.returns-in-Made-clause-settled
-returns-in-Made-clause-settled g c = settle_settles c.args.scheduler.now c.step.new.self c.args.no c.in-Made.ensures.answer.0 c.in-Made.ensures.answer.1
+pub returns-in-Made-clause-runs : goal.returns-in-Made-clause-runs
+returns-in-Made-clause-runs g c = record {
+  work = c.step.ensures.work;
+  settled = settle_settles c.args.scheduler.now c.step.new.self c.args.no c.in-Made.ensures.answer.0 c.in-Made.ensures.answer.1;
+  told = c.tell.ensures.told;
+  onward = c.tell.ensures.onward;
+}
 
 pub returns-in-Made-clause-this : goal.returns-in-Made-clause-this
 returns-in-Made-clause-this g c =

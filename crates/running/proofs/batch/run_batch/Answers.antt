@@ -15,7 +15,7 @@ use Rattle.engine.specs.Engines.{tables_of, EngineParts}
 use Rattle.engine.specs.Executions.{IsExecutionOf, KeepsSetting}
 use Rattle.running.specs.declared.transcript.Transcript.{Transcript}
 use Rattle.running.specs.Batches.{due_text}
-use Rattle.running.specs.Hashers.{batch_of}
+use Rattle.running.specs.Hashers.{batch_of, form_of}
 use Rattle.running.specs.Standings.{standing_of}
 use Rattle.running.specs.Transcripts.{said_lines, with_batch_line}
 use Rattle.running.specs.Executors.{HasAnswered}
@@ -44,22 +44,22 @@ returns-in-Ok-write_batch-clause-reported g c =
     let rows : c.rows.result.now.rows ≡ new.rows = c.rows.ensures.rows ∙ ap (λ (e : EngineParts). e.rows) c.core.ensures in
     let lines : said_lines c.deref.result.now ≡ reply_lines old.next (transactions_at (standing_of old) requests) (replies_at (standing_of old) requests) =
     ap said_lines c.deref.ensures.value ∙ lines_are _ _ c.in-Ok.batch c.in-Ok-execute.done requests run items in
-    let text : with_batch_line (batch_of c.args.transcript.now) c.rows.result.now.tables c.rows.result.now.rows (said_lines c.deref.result.now) ≡ due_text old c.args.transcript.now requests =
-    batch_text_is _ _ c.in-Ok.batch c.in-Ok-execute.done requests _ _ _ _ run c.in-Ok-execute.ensures.same items tables rows c.deref.ensures.value in
+    let text : with_batch_line (form_of c.args.transcript.now) (batch_of c.args.transcript.now) c.rows.result.now.tables c.rows.result.now.rows (said_lines c.deref.result.now) ≡ due_text old c.args.transcript.now requests =
+    batch_text_is _ _ c.in-Ok.batch c.in-Ok-execute.done requests _ _ _ _ _ run c.in-Ok-execute.ensures.same items tables rows c.deref.ensures.value in
     record {
       idle = c.in-Ok-execute.ensures.idle;
       standing = standing_is _ _ c.in-Ok.batch c.in-Ok-execute.done requests run items;
-      batch = c.in-Ok-write_batch.ensures.batch;
-      said = λ m h. rw (← lines) (c.in-Ok-write_batch.ensures.said m h);
+      batch = c.in-Ok-write_batch.ensures.added.batch;
+      said = λ m h. rw (← lines) (c.in-Ok-write_batch.ensures.added.said m h);
       text = rw (← text) c.in-Ok-write_batch.ensures.text;
-      digest_kept = digest_of_rows new c.write_batch.new.self _ _ c.in-Ok-write_batch.ensures.rows tables rows;
+      digest_kept = digest_of_rows new c.write_batch.new.self _ _ _ c.in-Ok-write_batch.ensures.rows c.in-Ok-write_batch.ensures.form tables rows;
     }
 
 front_is : (old new : EngineParts) (t : Transcript) (batch : Batch) (run : BatchDone) (requests : List Call) (given : List TableShape) (rows : Database) (replies : List Reply) (sink filled : Option (List ℕ)) →
     IsExecutionOf old new (next_attempts old batch) run → KeepsSetting old new → items_of batch ≡ items_from 0 requests → given ≡ tables_of new → rows ≡ new.rows → replies ≡ run.replies.items →
-    AppendsFront sink filled (with_batch_line (batch_of t) given rows (said_lines replies)) → AppendsFront sink filled (due_text old t requests)
+    AppendsFront sink filled (with_batch_line (form_of t) (batch_of t) given rows (said_lines replies)) → AppendsFront sink filled (due_text old t requests)
 front_is old new t batch run requests given rows replies sink filled r same e tables is f front =
-    subst (AppendsFront sink filled) (batch_text_is old new batch run requests (batch_of t) given rows replies r same e tables is f) front
+    subst (AppendsFront sink filled) (batch_text_is old new batch run requests (form_of t) (batch_of t) given rows replies r same e tables is f) front
 
 pub returns-in-Ok-write_batch-clause-front : goal.returns-in-Ok-write_batch-clause-front
 returns-in-Ok-write_batch-clause-front g c =

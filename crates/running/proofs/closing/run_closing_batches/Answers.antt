@@ -16,7 +16,7 @@ loop-turn-init g c = record {
   between = c.requires.between;
   sink_works = refl;
   grows = ([], Appends-nil _);
-  closed = λ db ran start drained h. HasClosed-none _ _ _ _ _ _ _ _ _ (omega arith) h;
+  closed = λ start ran before drained h. HasClosed-none _ _ _ _ _ _ _ (let same = h.retries_are in omega (arith, same)) h;
 }
 
 few_retries : (core old now : EngineParts) → core ≡ old → now.retries ≡ old.retries → core.retries ≤ 2 → now.retries ≤ 2
@@ -62,22 +62,22 @@ loop-turn-preserved g c =
       };
       sink_works = c.in-Ok.ensures.fails ∙ sym (or_nothing _) ∙ was.sink_works;
       grows = (was.grows.0 ++ _, Appends-trans _ _ _ _ _ was.grows.1 reported.text);
-      closed = λ db ran start drained h.
-          HasClosed-next _ _ _ _ _ db ran now c.loop-turn.transcript start _ (was.closed db ran start drained h) (carries _ now _ c.core-in-loop-turn.ensures c.carried.ensures.same) c.if-carried-eq0.false
-          (one_less _ _ _ _ c.core.ensures c.retries-turn-end.ensures.same c.loop-turn-test.true) new c.run_batch.new.transcript _ same.procs same.retries
+      closed = λ start ran before drained h.
+          HasClosed-next start _ _ _ ran now c.loop-turn.transcript before _ (was.closed start ran before drained h) (carries _ now _ c.core-in-loop-turn.ensures c.carried.ensures.same) c.if-carried-eq0.false
+          (one_less _ _ _ _ c.core.ensures c.retries-turn-end.ensures.same c.loop-turn-test.true) new c.run_batch.new.transcript _ same.procs same.retries c.in-Ok.ensures.form
           (IsReported-drained drained _ _ _ _ _ _ _ reported);
     }
 
 pub returns-then-carried-eq0-clause-closed : goal.returns-then-carried-eq0-clause-closed
-returns-then-carried-eq0-clause-closed g c = λ db ran start drained h. record {
-  reported = HasClosed-uncarried _ _ _ _ _ _ _ _ _ _ (c.loop-turn.invariant.closed db ran start drained h) (carries _ (g.E.BatchEngine.parts c.loop-turn.engine) _ c.core-in-loop-turn.ensures c.carried.ensures.same) c.if-carried-eq0.true;
+returns-then-carried-eq0-clause-closed g c = λ start ran before drained h. record {
+  reported = HasClosed-uncarried _ _ _ _ _ _ _ _ (c.loop-turn.invariant.closed start ran before drained h) (carries _ (g.E.BatchEngine.parts c.loop-turn.engine) _ c.core-in-loop-turn.ensures c.carried.ensures.same) c.if-carried-eq0.true;
   stop = tt;
 }
 
 pub returns-in-Err-clause-closed : goal.returns-in-Err-clause-closed
-returns-in-Err-clause-closed g c = λ db ran start drained h. record {
+returns-in-Err-clause-closed g c = λ start ran before drained h. record {
   reported = tt;
-  stop = HasClosed-cut _ _ _ _ _ db ran (g.E.BatchEngine.parts c.loop-turn.engine) c.loop-turn.transcript start _ (c.loop-turn.invariant.closed db ran start drained h) (carries _ (g.E.BatchEngine.parts c.loop-turn.engine) _ c.core-in-loop-turn.ensures c.carried.ensures.same) c.if-carried-eq0.false
+  stop = HasClosed-cut start _ _ _ ran (g.E.BatchEngine.parts c.loop-turn.engine) c.loop-turn.transcript before _ (c.loop-turn.invariant.closed start ran before drained h) (carries _ (g.E.BatchEngine.parts c.loop-turn.engine) _ c.core-in-loop-turn.ensures c.carried.ensures.same) c.if-carried-eq0.false
       (one_less _ _ _ _ c.core.ensures c.retries-turn-end.ensures.same c.loop-turn-test.true) _ c.in-Err.fault
       (AppendsFront-drained drained _ _ _ (rw c.new-none.ensures.items at c.run_batch.ensures.front));
 }
@@ -92,7 +92,7 @@ spent : (core old : EngineParts) (end turn : ℕ) → core ≡ old → end ≡ c
 spent core old end turn e f above = let own = ap (λ (engine : EngineParts). engine.retries) e in omega (arith, own, f, above)
 
 pub returns-clause-closed : goal.returns-clause-closed
-returns-clause-closed g c = λ db ran start drained h. record {
-  reported = HasClosed-spent _ _ _ _ _ _ _ _ _ (c.loop-turn.invariant.closed db ran start drained h) (spent _ _ _ _ c.core.ensures c.retries-turn-end.ensures.same c.loop-turn-test.false);
+returns-clause-closed g c = λ start ran before drained h. record {
+  reported = HasClosed-spent _ _ _ _ _ _ _ (c.loop-turn.invariant.closed start ran before drained h) (spent _ _ _ _ c.core.ensures c.retries-turn-end.ensures.same c.loop-turn-test.false);
   stop = tt;
 }

@@ -1,9 +1,9 @@
 use Rattle.std.proofs.Common.{◌≡◌, ◌-◌, List, Option, ℕ}
 use Rattle.std.specs.Io.KnownBytes.{Appends}
-use Rattle.values.specs.Database.{Database}
 use Rattle.requests.specs.Requests.{Call}
 use Rattle.engine.specs.Executions.{KeepsSetting}
 use Rattle.running.specs.Reported.{with_drained, HasClosed, HasReported, IsBetweenBatches}
+use Rattle.running.specs.Starts.{Start}
 use Rattle.running.proofs.closing.run_closing_batches.Given as goal
 
 -- Whatever batches were reported before, those that close the log after them are reported so far, and at most as many are left as
@@ -14,7 +14,7 @@ invariant-loop-turn g l = record {
   between : IsBetweenBatches (g.E.BatchEngine.parts l.engine) l.transcript;
   sink_works : g.K.Sink.broken l.sink ≡ g.K.Sink.broken l.fn.sink;
   grows : (bytes : List ℕ) × Appends (g.K.Sink.taken l.fn.sink) (g.K.Sink.taken l.sink) bytes;
-  closed : (db : Database) (ran : List (List Call)) (start : Option (List ℕ)) (drained : List ℕ) →
-      HasReported (g.E.BatchEngine.parts l.fn.engine).procs (g.E.BatchEngine.parts l.fn.engine).retries db ran (g.E.BatchEngine.parts l.fn.engine) l.fn.transcript start (with_drained drained (g.K.Sink.taken l.fn.sink)) →
-      HasClosed (g.E.BatchEngine.parts l.fn.engine).procs (g.E.BatchEngine.parts l.fn.engine).retries db ran ((g.E.BatchEngine.parts l.fn.engine).retries - l._turn) (g.E.BatchEngine.parts l.engine) l.transcript start (with_drained drained (g.K.Sink.taken l.sink));
+  closed : (start : Start) (ran : List (List Call)) (before : Option (List ℕ)) (drained : List ℕ) →
+      HasReported start ran (g.E.BatchEngine.parts l.fn.engine) l.fn.transcript before (with_drained drained (g.K.Sink.taken l.fn.sink)) →
+      HasClosed start ran ((g.E.BatchEngine.parts l.fn.engine).retries - l._turn) (g.E.BatchEngine.parts l.engine) l.transcript before (with_drained drained (g.K.Sink.taken l.sink));
 }

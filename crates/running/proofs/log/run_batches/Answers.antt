@@ -7,11 +7,10 @@ use Rattle.batch_log.specs.Reader.{calls_read, came, newlines_taken, position_of
 use Rattle.batch_log.proofs.Moves.{Moves-none, Moves-trans}
 use Rattle.running.specs.Standings.{standing_of}
 use Rattle.running.specs.Stopped.{in_batch}
-use Rattle.running.proofs.Closers.{closed_as}
 use Rattle.running.proofs.Reported.{log_after, room_in_log}
 use Rattle.running.proofs.SoFar.{SoFar-start, SoFar-next}
 use Rattle.running.proofs.Stopped.{SoFar-stopped_in_batch, SoFar-stopped_reading}
-use Rattle.running.proofs.Stopping.{start}
+use Rattle.running.proofs.Stopping.{nothing_taken}
 use Rattle.running.proofs.RunEnds.{or_nothing, run_closes, run_faults, run_stops}
 use Rattle.running.proofs.log.run_batches.Goals as goal
 
@@ -21,11 +20,11 @@ batches-init g c = record {
   same = refl;
   retries = c.requires.retries;
   no_fault = c.requires.unread.2;
-  moves = rw c.requires.unread.0 (Moves-none _ start);
+  moves = rw c.requires.unread.0 (Moves-none _ nothing_taken);
   source_works = refl;
   sink_works = refl;
   digest = search rules;
-  so_far = SoFar-start _ _ _ _ _ _ _ (ap (λ (p : Position). p.newlines) c.requires.unread.0) c.requires.unread.1 refl c.requires.unused c.requires.none_carried c.new-transcript.ensures.batch c.new-transcript.ensures.said;
+  so_far = SoFar-start _ _ _ _ _ _ _ _ (ap (λ (p : Position). p.newlines) c.requires.unread.0) c.requires.unread.1 refl c.requires.unused c.requires.none_carried c.new-transcript.ensures.batch c.new-transcript.ensures.said c.new-transcript.ensures.form;
 }
 
 pub close-requires-clause-between : goal.close-requires-clause-between
@@ -43,8 +42,8 @@ pub returns-in-Ok-None-clause-run : goal.returns-in-Ok-None-clause-run
 returns-in-Ok-None-clause-run g c =
     let s = c.batches.invariant.so_far in
     let pe : c.procs.result.now ≡ c.args.engine.now.core.procs = c.procs.ensures ∙ s.reported.procs_are in
-    run_closes c.close.result _ _ _ _ _ (newlines_taken c.next_batch.new.self) (calls_read c.next_batch.new.self) c.last_line-last.result _ _ _ _ _ _ _ _ (came c.next_batch.new.self)
-    (position_of c.batches.reader) (position_of c.next_batch.new.self) _ _ _ _ _ s (closed_as _ _ _ _ _ _ _ _ _ _ s.reported c.close.ensures.closed)
+    run_closes c.close.result _ _ _ (newlines_taken c.next_batch.new.self) (calls_read c.next_batch.new.self) c.last_line-last.result _ _ _ _ _ _ _ _ (came c.next_batch.new.self)
+    (position_of c.batches.reader) (position_of c.next_batch.new.self) _ _ _ _ _ s (c.close.ensures.closed _ s.ran _ s.reported)
     (rw (pe, c.batches.invariant.retries) at ((rw c.in-Ok-None.field-0-is at c.in-Ok-None.ensures.end) refl)) (rw (pe, c.batches.invariant.retries) at c.in-Ok-None.ensures.taken.0)
     refl refl (rw c.in-Ok-None.field-0-is at c.in-Ok-None.ensures.counted.0) c.batches.invariant.moves c.next_batch.ensures.taken.1 (Moves-trans _ _ _ _ _ _ c.batches.invariant.moves c.next_batch.ensures.taken.1)
     c.close.ensures.stops ((c.in-Ok-None.ensures.tells c.batches.invariant.no_fault).fails ∙ sym (or_nothing _) ∙ c.batches.invariant.source_works) c.batches.invariant.sink_works c.close.ensures.fails
@@ -54,10 +53,10 @@ pub returns-in-Err-clause-run : goal.returns-in-Err-clause-run
 returns-in-Err-clause-run g c =
     let s = c.batches.invariant.so_far in
     let pe : c.procs.result.now ≡ c.args.engine.now.core.procs = c.procs.ensures ∙ s.reported.procs_are in
-    run_faults c.in-Err.fault _ _ _ _ _ _ _ _ _ _ _ _ (came c.next_batch.new.self) (position_of c.next_batch.new.self) _ _ _ _ _ s
+    run_faults c.in-Err.fault _ _ _ _ _ _ _ _ _ _ (came c.next_batch.new.self) (position_of c.next_batch.new.self) _ _ _ _ _ s
     (rw (pe, c.batches.invariant.retries) at (c.in-Err.ensures.fault c.batches.invariant.no_fault)) ((c.in-Err.ensures.tells c.batches.invariant.no_fault).place) ((c.in-Err.ensures.tells c.batches.invariant.no_fault).spent)
     c.batches.invariant.source_works ((c.in-Err.ensures.tells c.batches.invariant.no_fault).fails) c.batches.invariant.sink_works (Moves-trans _ _ _ _ _ _ c.batches.invariant.moves c.next_batch.ensures.taken.1)
-    (SoFar-stopped_reading (is_io c.in-Err.fault.kind) _ _ _ _ _ _ _ _ _ _ _ _ _ _ _ _ s c.batches.invariant.moves c.next_batch.ensures.taken.1 refl refl
+    (SoFar-stopped_reading (is_io c.in-Err.fault.kind) _ _ _ _ _ _ _ _ _ _ _ _ _ _ s c.batches.invariant.moves c.next_batch.ensures.taken.1 refl refl
     (rw (pe, c.batches.invariant.retries) at c.in-Err.ensures.taken.0) ((c.in-Err.ensures.tells c.batches.invariant.no_fault).place))
 
 pub run_batch-requires-clause-due : goal.run_batch-requires-clause-due
@@ -85,19 +84,19 @@ batches-preserved g c =
       moves = Moves-trans _ _ _ _ _ _ c.batches.invariant.moves c.next_batch.ensures.taken.1;
       source_works = (c.in-Ok-Some.ensures.tells c.batches.invariant.no_fault).fails ∙ sym (or_nothing _) ∙ c.batches.invariant.source_works;
       sink_works = c.in-Ok.ensures.fails ∙ sym (or_nothing _) ∙ c.batches.invariant.sink_works;
-      digest = c.in-Ok.ensures.reported.digest_kept;
-      so_far = SoFar-next _ _ _ _ _ _ _ _ _ _ _ _ _ _ _ _ _ _ s (rw (pe, c.batches.invariant.retries) at (rw c.in-Ok-Some.field-0-is at c.in-Ok-Some.ensures.batch).0)
-          (rw c.in-Ok-Some.field-0-is at c.in-Ok-Some.ensures.counted.0) c.in-Ok.ensures.same.procs c.in-Ok.ensures.same.retries c.in-Ok.ensures.reported;
+      digest = c.in-Ok.ensures.digest;
+      so_far = SoFar-next _ _ _ _ _ _ _ _ _ _ _ _ _ _ _ _ s (rw (pe, c.batches.invariant.retries) at (rw c.in-Ok-Some.field-0-is at c.in-Ok-Some.ensures.batch).0)
+          (rw c.in-Ok-Some.field-0-is at c.in-Ok-Some.ensures.counted.0) c.in-Ok.ensures.same.procs c.in-Ok.ensures.same.retries c.in-Ok.ensures.form c.in-Ok.ensures.reported;
     }
 
 pub returns-in-Err-run_batch-clause-run : goal.returns-in-Err-run_batch-clause-run
 returns-in-Err-run_batch-clause-run g c =
     let s = c.batches.invariant.so_far in
     let pe : c.procs.result.now ≡ c.args.engine.now.core.procs = c.procs.ensures ∙ s.reported.procs_are in
-    run_stops (in_batch c.in-Ok-Some.requests.items) c.in-Err-run_batch.fault _ _ _ _ _ _ _ (came c.next_batch.new.self) (position_of c.next_batch.new.self) c.last_line-line.result _ _ _ _ _
+    run_stops (in_batch c.in-Ok-Some.requests.items) c.in-Err-run_batch.fault _ _ _ _ _ (came c.next_batch.new.self) (position_of c.next_batch.new.self) c.last_line-line.result _ _ _ _ _
     c.in-Err-run_batch.ensures.stops refl ((c.in-Ok-Some.ensures.tells c.batches.invariant.no_fault).fails ∙ sym (or_nothing _) ∙ c.batches.invariant.source_works) c.batches.invariant.sink_works
     c.in-Err-run_batch.ensures.fails c.last_line-line.ensures (Moves-trans _ _ _ _ _ _ c.batches.invariant.moves c.next_batch.ensures.taken.1)
-    (SoFar-stopped_in_batch _ _ _ _ _ (newlines_taken c.next_batch.new.self) (calls_read c.next_batch.new.self) c.last_line-line.result c.in-Ok-Some.requests.items _ _ _ _ _ _ _ _
+    (SoFar-stopped_in_batch _ _ _ (newlines_taken c.next_batch.new.self) (calls_read c.next_batch.new.self) c.last_line-line.result c.in-Ok-Some.requests.items _ _ _ _ _ _ _ _
     (position_of c.batches.reader) (position_of c.next_batch.new.self) s c.batches.invariant.moves c.next_batch.ensures.taken.1 refl refl
     (rw c.in-Ok-Some.field-0-is at c.in-Ok-Some.ensures.counted.0) (rw (pe, c.batches.invariant.retries) at c.in-Ok-Some.ensures.taken.0)
     (rw (pe, c.batches.invariant.retries) at (rw c.in-Ok-Some.field-0-is at c.in-Ok-Some.ensures.batch).0) c.run_batch.ensures.front c.last_line-line.ensures)

@@ -3,8 +3,9 @@ use Rattle.batch_log.specs.Reader.{calls_read, fault_of, newlines_taken, positio
 use Rattle.batch_log.specs.Moves.{Moves}
 use Rattle.engine.specs.Engines.{is_busy}
 use Rattle.running.specs.Batches.{KeepsDigest}
+use Rattle.running.specs.Starts.{start_of}
 use Rattle.running.proofs.SoFar.{SoFar}
-use Rattle.running.proofs.Stopping.{start}
+use Rattle.running.proofs.Stopping.{nothing_taken}
 use Rattle.running.proofs.log.run_batches.Given as goal
 
 -- between batches the engine holds none, and what came of the log so far was written
@@ -14,11 +15,11 @@ invariant-batches g l = record {
   same : source_name l.reader ≡ source_name l.fn.reader;
   retries : retries_of l.reader ≡ l.fn.engine.core.retries;
   no_fault : fault_of l.reader ≡ None;
-  moves : Moves (unread g.S.Source.left l.fn.reader) (unread g.S.Source.left l.reader) start (position_of l.reader);
+  moves : Moves (unread g.S.Source.left l.fn.reader) (unread g.S.Source.left l.reader) nothing_taken (position_of l.reader);
   source_works : g.S.Source.failed (source_of l.reader) ≡ g.S.Source.failed (source_of l.fn.reader);
   sink_works : g.K.Sink.broken l.sink ≡ g.K.Sink.broken l.fn.sink;
   digest : KeepsDigest l.engine.core l.transcript;
-  so_far : SoFar l.fn.engine.core.procs l.fn.engine.core.retries l.fn.engine.core.rows (newlines_taken l.reader) (calls_read l.reader)
+  so_far : SoFar (start_of l.fn.engine.core l.fn.form) (newlines_taken l.reader) (calls_read l.reader)
       l.engine.core l.transcript
       (unread g.S.Source.left l.fn.reader) (unread g.S.Source.left l.reader)
       (g.K.Sink.taken l.fn.sink) (g.K.Sink.taken l.sink);

@@ -5,5 +5,5 @@ use Rattle.running.proofs.log.run_log_on.Goals as goal
 
 pub returns-clause-run : goal.returns-clause-run
 returns-clause-run g c =
-    run_through _ _ _ g.S.Source.left g.S.Source.failed _ _ (source_of c.new-reader.result) (source_of c.run_batches-ended.new.reader) _ _ _ _
+    run_through _ g.S.Source.left g.S.Source.failed _ _ (source_of c.new-reader.result) (source_of c.run_batches-ended.new.reader) _ _ _ _
     c.run_batches-ended.ensures.run c.new-reader.ensures.unread c.new-reader.ensures.source (search rules)

@@ -1,6 +1,5 @@
-use Rattle.std.proofs.Common.{◌≡◌, ◌≤◌, [], ap, subst, ◌∙◌}
+use Rattle.std.proofs.Common.{◌≡◌, [], ap, ◌∙◌}
 use Rattle.engine.specs.Engines.{EngineParts}
-use Rattle.batch_log.specs.declared.feed.LogFeed.{LogFeed}
 use Rattle.batch_log.specs.Places.{Place}
 use Rattle.batch_log.proofs.Places.{IsAt-start}
 use Rattle.session.proofs.Runs.{HasReported-start}
@@ -17,10 +16,10 @@ returns-clause-ready c =
 pub returns-clause-begun : goal.returns-clause-begun
 returns-clause-begun c =
     let e = c.in_ok-engine.ensures in
-    let retries : c.retries.result ≡ c.args.setup.retries = c.retries.ensures.same ∙ ap (λ (q : EngineParts). q.retries) e in
+    let retries : c.retries.result ≡ c.args.document.setup.retries = c.retries.ensures.same ∙ ap (λ (q : EngineParts). q.retries) e in
     record {
       ended = [];
       limit = ap (λ (place : Place). place.retries) c.new-feed.ensures ∙ retries;
-      at = rw (c.new-feed.ensures, retries) (IsAt-start c.args.setup.procs c.args.setup.retries);
-      reported = HasReported-start _ _ _ c.new-3.result (ap (λ (q : EngineParts). q.procs) e) (ap (λ (q : EngineParts). q.retries) e) (ap (λ (q : EngineParts). q.rows) e) (ap (λ (q : EngineParts). q.next) e) (ap (λ (q : EngineParts). q.carried) e) c.new-2.ensures.batch c.new-2.ensures.said c.new-3.ensures;
+      at = rw (c.new-feed.ensures, retries) (IsAt-start c.args.document.setup.procs c.args.document.setup.retries);
+      reported = HasReported-start _ _ _ c.new-3.result (ap (λ (q : EngineParts). q.procs) e) (ap (λ (q : EngineParts). q.retries) e) (ap (λ (q : EngineParts). q.rows) e) (ap (λ (q : EngineParts). q.next) e) (ap (λ (q : EngineParts). q.carried) e) c.new-2.ensures.batch c.new-2.ensures.said c.new-2.ensures.form c.new-3.ensures;
     }

@@ -28,7 +28,7 @@ returns-in-Ok-Some-clause-taken c = on_ok c.run.result _ _ c.run.ensures.reporte
       ended = h.ended ++ c.in-Ok-Some.calls.items ∷ [];
       limit = ap (λ (feed : LogFeed). (place_of feed).retries) c.run.ensures.feed ∙ c.take.ensures.limits.2 ∙ h.limit;
       at = rw c.run.ensures.feed at;
-      reported = reported_next start h.ended c.in-Ok-Some.calls.items drained _ _ _ _ c.args.self.now.report c.run.new.self.report h.reported c.run.ensures.same reported;
+      reported = reported_next start h.ended c.in-Ok-Some.calls.items drained _ _ _ _ c.args.self.now.report c.run.new.self.report h.reported c.run.ensures.same c.run.ensures.form reported;
     })
 
 pub returns-in-Ok-Some-clause-fault : goal.returns-in-Ok-Some-clause-fault
@@ -37,7 +37,7 @@ returns-in-Ok-Some-clause-fault c = on_err c.run.result _ _ c.run.ensures.memory
     let e : c.procs.result.now ≡ start.procs = c.procs.ensures ∙ h.reported.procs_are in
     let at = rw c.in-Ok-Some.field-0-is at ((rw e at c.in-Ok-Some.ensures.batch) h.ended fed h.at) in
     stopped_in_batch start _ _ (h.ended ++ c.in-Ok-Some.calls.items ∷ []) fault kind (front-next start h.ended c.in-Ok-Some.calls.items drained _ _ c.args.self.now.report c.run.new.self.report h.reported c.run.ensures.front)
-    (at-begins start.procs start.retries start.rows _ _ (fed ++ c.args.byte ∷ []) more (c.take.ensures.limits.2 ∙ h.limit) at))
+    (at-begins start _ _ (fed ++ c.args.byte ∷ []) more (c.take.ensures.limits.2 ∙ h.limit) at))
 
 pub returns-in-Ok-Some-clause-kept : goal.returns-in-Ok-Some-clause-kept
 returns-in-Ok-Some-clause-kept c = front_keeps _ _ _ c.run.ensures.front
@@ -73,4 +73,4 @@ returns-in-Err-clause-fault c = λ start fed drained more h.
     let e : c.procs.result.now ≡ start.procs = c.procs.ensures ∙ h.reported.procs_are in
     let faulty = (rw e at c.in-Err.ensures.fault) h.ended fed more h.at in
     stopped_reading start _ _ h.ended c.in-Err.fault (rw h.limit at faulty) c.in-Err.ensures.no_device h.reported.text_is
-    (rw (append_assoc fed (c.args.byte ∷ []) more) (at-begins start.procs start.retries start.rows _ h.ended fed (c.args.byte ∷ more) h.limit h.at))
+    (rw (append_assoc fed (c.args.byte ∷ []) more) (at-begins start _ h.ended fed (c.args.byte ∷ more) h.limit h.at))

@@ -10,7 +10,7 @@ returns-in-Ok-finish-clause-whole c = λ start fed drained h.
     let run = c.in-Ok.ensures.whole start fed drained h in
     let m : List ℕ = lines_of start.retries start.rows (with_closing start.retries start.rows run.ended) in
     whole_where_written start fed drained run.ended _ _ c.take_rest.new.self.report c.finish.new.sink run.reported run.whole c.in-Ok-finish.count c.in-Ok-finish.ensures.count
-    (c.in-Ok-finish.ensures.text m (rw c.replace-transcript.ensures.value run.reported.said_is))
+    (rw c.replace-transcript.ensures.value at (c.in-Ok-finish.ensures.text m (rw c.replace-transcript.ensures.value run.reported.said_is)))
 
 pub returns-in-Ok-finish-clause-kept : goal.returns-in-Ok-finish-clause-kept
 returns-in-Ok-finish-clause-kept c = λ start fed drained h.
@@ -23,7 +23,7 @@ returns-in-Err-finish-clause-fault c = λ start fed drained h.
     let run = c.in-Ok.ensures.whole start fed drained h in
     let m : List ℕ = lines_of start.retries start.rows (with_closing start.retries start.rows run.ended) in
     stopped_at_end start fed drained run.ended _ _ c.take_rest.new.self.report c.finish.new.sink run.reported run.whole c.no_memory.result (ap (λ (f : LogFault). f.kind) c.no_memory.ensures)
-    (c.finish.ensures.front m (rw c.replace-transcript.ensures.value run.reported.said_is))
+    (rw c.replace-transcript.ensures.value at (c.finish.ensures.front m (rw c.replace-transcript.ensures.value run.reported.said_is)))
 
 pub returns-in-Err-finish-clause-kept : goal.returns-in-Err-finish-clause-kept
 returns-in-Err-finish-clause-kept c = λ start fed drained h.

@@ -22,7 +22,7 @@ returns-in-Ok-Some-clause-whole c = on_ok c.run.result _ _ c.run.ensures.reporte
     record {
       ended = h.ended ++ c.in-Ok-Some.calls.items ∷ [];
       whole = rw h.limit at whole;
-      reported = reported_next start h.ended c.in-Ok-Some.calls.items drained _ _ _ _ c.args.self.now.report c.run.new.self.report h.reported c.run.ensures.same reported;
+      reported = reported_next start h.ended c.in-Ok-Some.calls.items drained _ _ _ _ c.args.self.now.report c.run.new.self.report h.reported c.run.ensures.same c.run.ensures.form reported;
     })
 
 pub returns-in-Ok-Some-clause-fault : goal.returns-in-Ok-Some-clause-fault
@@ -32,7 +32,7 @@ returns-in-Ok-Some-clause-fault c = on_err c.run.result _ _ c.run.ensures.memory
     let read = rw c.in-Ok-Some.field-0-is at ((rw e at c.in-Ok-Some.ensures.batch) h.ended fed h.at) in
     let whole = rw h.limit at read in
     stopped_in_batch start fed _ (h.ended ++ c.in-Ok-Some.calls.items ∷ []) fault kind (front-next start h.ended c.in-Ok-Some.calls.items drained _ _ c.args.self.now.report c.run.new.self.report h.reported c.run.ensures.front)
-    (report-begins start.procs start.retries start.rows fed (h.ended ++ c.in-Ok-Some.calls.items ∷ []) [] whole.batches))
+    (report-begins start fed (h.ended ++ c.in-Ok-Some.calls.items ∷ []) [] whole.batches))
 
 pub returns-in-Ok-Some-clause-kept : goal.returns-in-Ok-Some-clause-kept
 returns-in-Ok-Some-clause-kept c = front_keeps _ _ _ c.run.ensures.front
@@ -51,4 +51,4 @@ returns-in-Err-clause-fault c = λ start fed drained h.
     let e : c.procs.result.now ≡ start.procs = c.procs.ensures ∙ h.reported.procs_are in
     let faulty = (rw e at c.in-Err.ensures.fault) h.ended fed h.at in
     stopped_reading start fed _ h.ended c.in-Err.fault (rw h.limit at faulty) c.in-Err.ensures.no_device h.reported.text_is
-    (rw (append-nil fed) at (at-begins start.procs start.retries start.rows _ h.ended fed [] h.limit h.at))
+    (rw (append-nil fed) at (at-begins start _ h.ended fed [] h.limit h.at))

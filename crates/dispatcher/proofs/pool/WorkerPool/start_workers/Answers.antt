@@ -1,7 +1,0 @@
-use denote.Param.Send.{sendable}
-use Rattle.std.proofs.Crossing.{crosses}
-use Rattle.dispatcher.proofs.Sent.{worker_send}
-use Rattle.dispatcher.proofs.pool.WorkerPool.start_workers.Goals as goal
-
-pub start-requires-send-D : goal.start-requires-send-D
-start-requires-send-D g c κs within = search (sendable, crosses, worker_send) depth 12

@@ -1,5 +1,0 @@
-use Rattle.report_text.proofs.Rows.{all_rows}
-use Rattle.report_text.proofs.laws.every_row_has_its_line.Goals as goal
-
-pub returns : goal.returns
-returns c = all_rows

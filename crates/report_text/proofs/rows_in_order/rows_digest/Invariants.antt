@@ -1,8 +1,0 @@
-use Rattle.report_text.specs.Texts.{row_lines}
-use Rattle.report_text.specs.Feeding.{IsFed}
-use Rattle.report_text.proofs.MergedRows.{first_tables}
-use Rattle.report_text.proofs.rows_in_order.rows_digest.Given as goal
-
--- the rows of the tables before this one were fed
-abbrev pub invariant-loop-place : goal.invariant-loop-place
-invariant-loop-place g l = IsFed l.feed (row_lines l.catalogue (first_tables l.place (g.V.RowView.rows l.view)))

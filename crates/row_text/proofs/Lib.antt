@@ -1,0 +1,10 @@
+pub mod Rows
+pub mod MergedRows
+pub mod Sorting
+pub mod Gathering
+pub mod Fed
+pub mod Written
+pub mod SplitAnew
+pub mod PartitionLines
+pub mod Breaks
+pub mod PartitionTexts

@@ -1,0 +1,5 @@
+pub mod Texts
+pub mod Calls
+pub mod Merge
+pub mod Feeding
+pub mod Partitions

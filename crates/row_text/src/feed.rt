@@ -1,0 +1,72 @@
+//! Text on its way to a hasher.
+
+ghost use Rattle.std.specs.Prelude.{◌≡◌, ◌++◌, [], List, ℕ, IfOk, OnOk, string_bytes};
+ghost use Rattle.row_text.specs.Texts.{digest, row_line};
+ghost use Rattle.row_text.specs.Feeding.{IsFed};
+
+use crate::digest::digest_of;
+use crate::scratch::Scratch;
+use catalogue::Catalogue;
+use sha2::{Digest, Sha256};
+use std::alloc::{AllocError, Global};
+use values::{Row, RowName};
+
+/// From so many bytes on, text is handed to the hasher.
+const PIECE: usize = 4096;
+
+/// A hasher, and the end of its text, which it was not given yet: so it is given large pieces.
+#[derive(Drop)]
+pub(crate) struct Feed {
+    hasher: Sha256,
+    text: Vec<u8>,
+}
+
+impl Feed {
+    /// No text.
+    pub(crate) fn new(alloc: Global) -> Feed
+        ensures { IsFed result [] }
+    {
+        Feed {
+            hasher: Sha256::new(),
+            text: Vec::new(alloc),
+        }
+    }
+
+    /// Gives the hasher what it was not given yet.
+    fn hand_over(&mut self)
+        ensures fed { (all : List ℕ) → IsFed self.old all → IsFed self.new all }
+        ensures none { self.new.text.items ≡ [] }
+    {
+        self.hasher.update(self.text.as_slice());
+        self.text.clear();
+    }
+
+    /// Appends a row line.
+    pub(crate) fn push_row(
+        &mut self,
+        alloc: Global,
+        catalogue: &Catalogue,
+        name: &RowName,
+        row: &Row,
+        scratch: &mut Scratch,
+    ) -> Result<(), AllocError>
+        ensures { (all : List ℕ) → IsFed self.old all →
+            OnOk result (IsFed self.new (all ++ row_line catalogue.now name.now row.now)) }
+    {
+        scratch.push_line(alloc, catalogue, name, row, &mut self.text)?;
+        if self.text.len() >= PIECE {
+            self.hand_over();
+        }
+        Ok(())
+    }
+
+    /// The digest of the text.
+    pub(crate) fn digest(self, alloc: Global) -> Result<String, AllocError>
+        ensures { (all : List ℕ) → IsFed self all → IfOk result (λ t. string_bytes t ≡ digest all) }
+    {
+        let mut feed = self;
+        feed.hand_over();
+        let Feed { hasher, .. } = feed;
+        digest_of(alloc, hasher)
+    }
+}
