@@ -288,8 +288,8 @@ impl QuietEngine {
     }
 
     /// Runs a batch as `execute` does, by these choices of events: each step makes the event that `choose` gives for
-    /// the next choice. Whatever the choices are, it returns, and the replies and the rows are the same: it has no leave
-    /// to wait.
+    /// the next choice. Whatever the choices are, it returns, and the replies and the rows are the same: it has no
+    /// leave to wait.
     pub fn execute_by(
         &mut self,
         alloc: Global,

@@ -57,7 +57,7 @@ pub record IsBack (tables : List TableShape) (old new : Shelves) (from : RowName
   pub away : (q : RowName) → is_away new (shelf_of tables q) ≡ (if among at (shelf_of tables q) then false else is_away old (shelf_of tables q))
 
 -- what the plan locks to write are its shelves and its names
-loan_locks : (tables : List TableShape) (plan : Requests) (from : RowName → PlaceOf) (at : List Resource) (ns : List RowName) → Gives tables plan from at ns
+pub loan_locks : (tables : List TableShape) (plan : Requests) (from : RowName → PlaceOf) (at : List Resource) (ns : List RowName) → Gives tables plan from at ns
     → (q : RowName) → locks_row tables plan q Write ≡ (among at (shelf_of tables q) || is_named ns q)
 loan_locks tables plan from at ns loan q =
     locks_either tables plan loan.over Write q

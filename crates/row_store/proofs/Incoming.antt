@@ -33,7 +33,7 @@ can_go_back tables plan shelves (Rows held) lent number loan out kept = (
 )
 can_go_back tables plan shelves (Shelves held) lent number loan out kept = tt
 
-gives_shelves : (tables : List TableShape) (plan : Requests) (held : HeldShelves) → IsLoanOf tables plan (Shelves held)
+pub gives_shelves : (tables : List TableShape) (plan : Requests) (held : HeldShelves) → IsLoanOf tables plan (Shelves held)
     → Gives tables plan (found tables held.shelves) held.written_shelves.items held.written_names.items
 gives_shelves tables plan held loan = record {
   over = loan.over;

@@ -15,3 +15,4 @@ pub mod Sharing
 pub mod Shelved
 pub mod Shown
 pub mod Free
+pub mod Forgotten

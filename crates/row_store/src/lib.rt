@@ -2,6 +2,7 @@
 #![tactic(auto)]
 
 mod by_name;
+mod forgetting;
 mod held;
 mod laws;
 mod lending;

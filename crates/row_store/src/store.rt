@@ -1,6 +1,6 @@
 //! The row store.
 
-ghost use Rattle.std.specs.Prelude.{◌≡◌, ℕ, Some, None, if◌then◌else◌, IfOk, OnOk, OnErr};
+ghost use Rattle.std.specs.Prelude.{◌≡◌, ℕ, Some, None, if◌then◌else◌, IfOk, OnOk, OnErr, string_bytes};
 ghost use Rattle.std.specs.FinMap as map;
 ghost use Rattle.values.specs.declared.name.RowName.{RowName as AnyName};
 ghost use Rattle.catalogue.specs.Schemas.{HaveSameSchema};
@@ -9,33 +9,41 @@ ghost use Rattle.coarsen.specs.Subtrees.{Requests};
 ghost use Rattle.coarsen.specs.Plans.{IsPlanOver};
 ghost use Rattle.coarsen.specs.Clashes.{locks_row, ModesClash};
 ghost use Rattle.workspace.specs.Overlay.{applied};
+ghost use Rattle.row_text.specs.Partitions.{digested_text};
+ghost use Rattle.row_text.specs.Texts.{digest};
 ghost use Rattle.row_store.specs.Laws.{AreLentAlone};
 ghost use Rattle.row_store.specs.Stock.{IsLoanFrom};
 ghost use Rattle.shelves.specs.Rows.{with_rows};
 
+use crate::forgetting::{forget_given, forget_written};
+use crate::laws::all_is_free_with_nothing_lent;
 use crate::lending::{hold, put_back, take_out};
 use crate::loan::Loan;
 use catalogue::Catalogue;
 use coarsen::{Plan, clashes_are_either_way, locked_rows_conflict};
 use footprint::Resource;
+use row_text::{DigestForm, KeptDigests, kept_rows_digest};
 use shelves::{Shelves, count_places, filled, rebuilt, write};
-use std::alloc::Global;
+use std::alloc::{AllocError, Global};
 use std::collections::BTreeMap;
 use std::marker::Model;
+use std::mem;
 use std::snapshot::Snapshot;
 use values::{Key, NoMemory, Row, RowName, TableNo};
 
 /// The rows of a database over the tables of a catalogue, and the plans for which rows are lent, by numbers. Rows that
-/// are lent count as they were lent.
+/// are lent count as they were lent. Each partition keeps its digest, once it was made, until rows of it are written.
 #[derive(Drop)]
 pub struct RowStore {
     pub(crate) alloc: Global,
     pub(crate) catalogue: Catalogue,
     pub(crate) shelves: Shelves,
+    kept: KeptDigests,
     lent: BTreeMap<u64, Snapshot<Plan>>,
 }
 
 impl Model for RowStore {
+    ghost use Rattle.row_text.specs.Kept.{AreKept};
     ghost use Rattle.row_store.specs.Stock.{Stock, stock_code};
     ghost use Rattle.shelves.specs.Rows.{rows_of};
     ghost use Rattle.row_store.specs.Views.{lent_of, IsRowStore};
@@ -46,7 +54,8 @@ impl Model for RowStore {
 
     ghost view = { λ s. record { tables = s.catalogue; rows = rows_of s.catalogue s.shelves; lent = lent_of s.lent } };
 
-    ghost invariant = { λ s. IsRowStore s.catalogue s.shelves s.lent };
+    ghost invariant = { λ s. IsRowStore s.catalogue s.shelves s.lent
+        × AreKept s.catalogue (rows_of s.catalogue s.shelves) s.kept };
 }
 
 impl RowStore {
@@ -67,6 +76,7 @@ impl RowStore {
             alloc,
             catalogue,
             shelves,
+            kept: KeptDigests::new(alloc),
             lent,
         })
     }
@@ -87,6 +97,7 @@ impl RowStore {
             alloc: self.alloc,
             catalogue,
             shelves,
+            kept: KeptDigests::new(self.alloc),
             lent,
         })
     }
@@ -139,6 +150,7 @@ impl RowStore {
             plan: _,
             held,
         } = loan;
+        forget_given(&self.catalogue, &mut self.kept, &held);
         put_back(&self.catalogue, &mut self.shelves, held);
         self.lent.remove(&no);
     }
@@ -151,8 +163,25 @@ impl RowStore {
         ensures lent { self.new.lent ≡ self.old.lent }
         ensures err { OnErr result (self.new ≡ self.old) }
     {
+        forget_written(&self.catalogue, &mut self.kept, &writes);
         write(self.alloc, &self.catalogue, &mut self.shelves, writes)?;
         Ok(())
+    }
+
+    /// The digest of the rows, with nothing lent: of their row text, or of their partition text. For the latter only the
+    /// rows of partitions that keep no digest are looked at.
+    pub fn rows_digest(&mut self, form: DigestForm) -> Result<String, AllocError>
+        requires unlent { self.old.lent ≡ map.empty }
+        ensures digest { IfOk result (λ t.
+            string_bytes t ≡ digest (digested_text form self.old.tables self.old.rows)) }
+        ensures same { self.new ≡ self.old }
+    {
+        // proof: with nothing lent each row is shown.
+        all_is_free_with_nothing_lent();
+        let mut kept = mem::replace(&mut self.kept, KeptDigests::new(self.alloc));
+        let digest = kept_rows_digest(self.alloc, &self.catalogue, &*self, form, &mut kept);
+        self.kept = kept;
+        digest
     }
 
     /// A law; nothing is done. A row that a plan locks to write is its loan's alone while it is lent: the store doesn't

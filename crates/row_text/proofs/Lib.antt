@@ -8,3 +8,4 @@ pub mod SplitAnew
 pub mod PartitionLines
 pub mod Breaks
 pub mod PartitionTexts
+pub mod KeptOnes

@@ -73,9 +73,13 @@ alike : (b : Bool) (o p : Option RowOf) → (b ≡ true → o ≡ p) → cond b 
 alike true o p h = h refl
 alike false o p h = refl
 
-pub line_of_its_rows : (tables : List TableShape) (table part : ℕ) (one two : Database) → AgreeInPartition tables table part one two →
-    line_of_partition tables table one part ≡ line_of_partition tables table two part
-line_of_its_rows tables table part one two agree =
+pub digest_of_its_rows : (tables : List TableShape) (table part : ℕ) (one two : Database) → AgreeInPartition tables table part one two →
+    partition_digest tables table part one ≡ partition_digest tables table part two
+digest_of_its_rows tables table part one two agree =
     let same : part_rows tables table part one ≡ part_rows tables table part two = same_map names_total exact_names _ _ (λ q.
     get_part tables table part one q ∙ alike (is_in_part tables table part q) (get one q) (get two q) (agree.same q) ∙ sym (get_part tables table part two q)) in
-    ap (λ (rows : Database). partition_line tables table part (digest_of_row_lines tables (entries rows))) same
+    ap (λ (rows : Database). digest_of_row_lines tables (entries rows)) same
+
+pub line_of_its_rows : (tables : List TableShape) (table part : ℕ) (one two : Database) → AgreeInPartition tables table part one two →
+    line_of_partition tables table one part ≡ line_of_partition tables table two part
+line_of_its_rows tables table part one two agree = ap (partition_line tables table part) (digest_of_its_rows tables table part one two agree)

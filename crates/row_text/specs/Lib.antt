@@ -3,3 +3,4 @@ pub mod Calls
 pub mod Merge
 pub mod Feeding
 pub mod Partitions
+pub mod Kept

@@ -13,6 +13,9 @@ use sha2::{Digest, Sha256};
 use std::alloc::{AllocError, Global};
 use values::{Row, RowName, TableNo};
 
+/// A SHA-256, as bytes.
+pub(crate) type Hash = [u8; 32];
+
 /// The SHA-256 digest of a text, in 64 lower-case hexadecimal digits. (FIPS 180-4.)
 #[tactic(auto, unfolding(crate::specs::Texts::digest))]
 pub fn digest_text(alloc: Global, text: &[u8]) -> Result<String, AllocError>

@@ -1,10 +1,11 @@
 //! Text on its way to a hasher.
 
 ghost use Rattle.std.specs.Prelude.{◌≡◌, ◌++◌, [], List, ℕ, IfOk, OnOk, string_bytes};
+ghost use Rattle.hex.specs.Hex.{encode_lower};
 ghost use Rattle.row_text.specs.Texts.{digest, row_line};
 ghost use Rattle.row_text.specs.Feeding.{IsFed};
 
-use crate::digest::digest_of;
+use crate::digest::Hash;
 use crate::scratch::Scratch;
 use catalogue::Catalogue;
 use sha2::{Digest, Sha256};
@@ -60,13 +61,21 @@ impl Feed {
         Ok(())
     }
 
-    /// The digest of the text.
-    pub(crate) fn digest(self, alloc: Global) -> Result<String, AllocError>
-        ensures { (all : List ℕ) → IsFed self all → IfOk result (λ t. string_bytes t ≡ digest all) }
+    /// The SHA-256 of the text.
+    #[tactic(auto, unfolding(crate::specs::Texts::digest))]
+    pub(crate) fn hash(self) -> Hash
+        ensures { (all : List ℕ) → IsFed self all → encode_lower result ≡ digest all }
     {
         let mut feed = self;
         feed.hand_over();
         let Feed { hasher, .. } = feed;
-        digest_of(alloc, hasher)
+        hasher.finalize()
+    }
+
+    /// The digest of the text.
+    pub(crate) fn digest(self, alloc: Global) -> Result<String, AllocError>
+        ensures { (all : List ℕ) → IsFed self all → IfOk result (λ t. string_bytes t ≡ digest all) }
+    {
+        hex::encode(alloc, self.hash())
     }
 }

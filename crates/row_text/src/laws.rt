@@ -41,10 +41,13 @@ pub fn every_row_left_by_calls_has_its_line()
     stand_in_never_shows();
 }
 
-/// The line of a partition depends on the rows of that partition alone: databases that have the same rows there have the
-/// same line. So a change of rows changes no line of another partition.
+/// The digest and the line of a partition depend on the rows of that partition alone: databases that have the same rows
+/// there have the same digest and the same line. So a change of rows changes no line of another partition.
 pub fn partition_line_is_of_its_rows()
-    ensures { (tables : List TableShape) (table part : ℕ) (one two : Database) →
+    ensures digest { (tables : List TableShape) (table part : ℕ) (one two : Database) →
+        AgreeInPartition tables table part one two →
+        partition_digest tables table part one ≡ partition_digest tables table part two }
+    ensures line { (tables : List TableShape) (table part : ℕ) (one two : Database) →
         AgreeInPartition tables table part one two →
         line_of_partition tables table one part ≡ line_of_partition tables table two part }
 {}

@@ -11,11 +11,10 @@ use Rattle.meaning.specs.Entries.{commit, aborted, stale, declares, faults, find
 use Rattle.meaning.specs.Outcomes.{as_reply, is_commit}
 use Rattle.meaning.specs.Runs.{State}
 use Rattle.meaning.specs.Serial.{serial_end, serial_replies}
-use Rattle.row_store.specs.Stock.{Stock}
 use Rattle.sequencer.specs.Attempts.{Attempt}
 use Rattle.engine.specs.declared.replies.BatchDone.{BatchDone}
 use Rattle.engine.specs.declared.replies.Reply.{Reply}
-use Rattle.engine.specs.Engines.{EngineParts, tables_of}
+use Rattle.engine.specs.Engines.{EngineParts, is_busy, tables_of}
 use Rattle.engine.specs.Executions.{IsExecutionOf, KeepsSetting}
 use Rattle.engine.specs.Replies.{reply_of}
 use Rattle.running.specs.declared.transcript.Transcript.{Transcript}
@@ -61,13 +60,13 @@ serial_leaves (r ∷ rs) (x ∷ xs) db e f =
     serial_leaves rs xs (meaning x db).1 rest both.1 ∙ meaning_leaves x x.footing db none
 
 -- the rows after a batch are reported with the digest that was kept where it has no commit
-pub rows_after : (old new : EngineParts) (transcript : Transcript) (attempts : List Attempt) (run : BatchDone) (replies : List Reply) (store : Stock) →
-    IsExecutionOf old new attempts run → KeepsSetting old new → KeepsDigest old transcript → replies ≡ run.replies.items → store.lent ≡ empty → store.tables ≡ tables_of new → store.rows ≡ new.rows →
-    AreRowsAfter (form_of transcript) replies (rows_digest_of transcript) store
-rows_after old new transcript attempts run replies store r same kept f unlent t s = record {
-  unlent = unlent;
+pub rows_after : (old new : EngineParts) (transcript : Transcript) (attempts : List Attempt) (run : BatchDone) (replies : List Reply) →
+    IsExecutionOf old new attempts run → KeepsSetting old new → KeepsDigest old transcript → replies ≡ run.replies.items → is_busy new ≡ false →
+    AreRowsAfter (form_of transcript) replies (rows_digest_of transcript) new
+rows_after old new transcript attempts run replies r same kept f idle = record {
+  idle = idle;
   digest_kept = λ none.
-      let rows : store.rows ≡ old.rows = s ∙ r.rows ∙ serial_leaves replies _ old.rows (ap (map reply_of) f ∙ r.replies) none in
-      let tables : store.tables ≡ tables_of old = t ∙ ap (λ (p : ProcsParts). p.tables) same.procs in
+      let rows : new.rows ≡ old.rows = r.rows ∙ serial_leaves replies _ old.rows (ap (map reply_of) f ∙ r.replies) none in
+      let tables : tables_of new ≡ tables_of old = ap (λ (p : ProcsParts). p.tables) same.procs in
       rw (tables, rows) kept;
 }

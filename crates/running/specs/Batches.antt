@@ -1,6 +1,6 @@
 -- Claimed: what contracts promise to a reader rests on these words.
 -- One batch of a log, run and reported.
-use Rattle.std.specs.Prelude.{◌≡◌, ℕ, ◌+◌, ◌≤◌, ◌^◌, ◌++◌, List, length, false, Option, IfSome}
+use Rattle.std.specs.Prelude.{◌≡◌, ℕ, ◌+◌, ◌≤◌, ◌^◌, ◌++◌, List, length, false, Option, Some, IfSome}
 use Rattle.std.specs.List.{AllByRecursion}
 use Rattle.std.specs.Io.KnownBytes.{Appends}
 use Rattle.sha2.specs.Hashers.{Holds256}
@@ -9,10 +9,12 @@ use Rattle.row_text.specs.Partitions.{digested_text}
 use Rattle.row_text.specs.Texts.{digest}
 use Rattle.report_text.specs.Report.{batch_text, next_batch, reply_lines}
 use Rattle.retries.specs.Standings.{attempts_at, after_batch, replies_at, transactions_at}
+use Rattle.engine.specs.declared.replies.Reply.{Reply}
 use Rattle.engine.specs.Engines.{EngineParts, is_busy, tables_of}
 use Rattle.running.specs.declared.transcript.Transcript.{Transcript}
 use Rattle.running.specs.Hashers.{batch_of, form_of, rows_digest_of, said_of}
 use Rattle.running.specs.Standings.{standing_of}
+use Rattle.running.specs.Transcripts.{said_lines, with_batch_line}
 
 -- the text of a batch of these calls, the next one after what was reported
 abbrev pub due_text : EngineParts → Transcript → List Call → List ℕ
@@ -30,6 +32,14 @@ KeepsDigest engine transcript =
 pub record HasAdded (old new : Transcript) (lines : List ℕ) : Type 0 where
   pub batch : batch_of new ≡ next_batch (batch_of old)
   pub said : (m : List ℕ) → Holds256 (said_of old) m → Holds256 (said_of new) (m ++ lines)
+
+-- the report of a batch of these replies was written, over the rows that the engine has, whose digest is kept
+pub record IsWritten (engine : EngineParts) (replies : List Reply) (before after : Transcript)
+    (sink filled : Option (List ℕ)) : Type 0 where
+  pub added : HasAdded before after (said_lines replies)
+  pub text : Appends sink filled
+      (with_batch_line (form_of before) (batch_of before) (tables_of engine) engine.rows (said_lines replies))
+  pub rows : rows_digest_of after ≡ Some (digest (digested_text (form_of before) (tables_of engine) engine.rows))
 
 -- An idle engine can run these calls as its next batch: they are over its tables, no more than a batch may have, and
 -- with what is carried to them they have numbers. The digest that the transcript keeps, if it keeps one, is that of the

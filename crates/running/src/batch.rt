@@ -87,7 +87,7 @@ pub fn run_batch<E: BatchEngine, X: Fn(&mut E, Batch) -> Result<BatchDone, ExecF
         Ok(done) => done,
         Err(fault) => return Err(exec_fault(&fault, line)),
     };
-    match transcript.write_batch(alloc, sink, engine.core().rows(), &done.replies) {
+    match transcript.write_batch(alloc, sink, engine, &done.replies) {
         Ok(()) => Ok(()),
         Err(kind) => Err(RunFault::at(kind, line)),
     }

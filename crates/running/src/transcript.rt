@@ -1,10 +1,14 @@
 //! The report of a run, as it is written.
 
-ghost use Rattle.std.specs.Prelude.{◌≡◌, ◌++◌, ◌||◌, List, ℕ, [], Some, None, IfOk, IfErr, IfSome, OnErr, OnOk, string_bytes};
+ghost use Rattle.std.specs.Prelude.{◌≡◌, ◌++◌, ◌||◌, List, ℕ, [], Some, None, IfOk, IfErr, IfSome, OnErr, OnOk, string_bytes, false};
 ghost use Rattle.std.specs.FinMap as map_of;
 ghost use Rattle.std.specs.Io.KnownBytes.{Appends};
 ghost use Rattle.sha2.specs.Hashers.{Holds256};
 ghost use Rattle.devices.specs.Devices.{AppendsFront};
+ghost use Rattle.catalogue.specs.Shapes.{TableShape};
+ghost use Rattle.values.specs.Database.{Database};
+ghost use Rattle.engine.specs.Engines.{is_busy, tables_of};
+ghost use Rattle.row_text.specs.declared.form.DigestForm.{DigestForm as AnyForm};
 ghost use Rattle.row_text.specs.Partitions.{digested_text};
 ghost use Rattle.row_text.specs.Texts.{digest};
 ghost use Rattle.report_text.specs.Texts.{end_line};
@@ -13,7 +17,7 @@ ghost use Rattle.running.specs.Transcripts.{has_commit, said_lines, with_batch_l
 ghost use Rattle.running.specs.Transcripts.{AreRowsAfter, IsOfMachine};
 
 use batch_log::{LogFaultKind, Sink, write_all};
-use engine::Reply;
+use engine::{BatchEngine, Reply};
 use meaning::Outcome;
 use report_text::{push_batch_line, push_end_line, push_reply_line};
 use row_store::{RowStore, all_is_free_with_nothing_lent};
@@ -87,30 +91,36 @@ fn has_commit(replies: &[Reply]) -> bool
     replies.iter().any(is_commit)
 }
 
-/// The digest of the rows, in that form, and reply lines with the batch line after them. A digest that was kept is not
-/// made anew.
-#[tactic(auto, unfolding(crate::specs::Transcripts::with_batch_line))]
-fn batch_text(
-    alloc: Global,
-    batch: u64,
+/// The digest that was kept, or else that of the rows of an engine, in that form.
+fn kept_or_told<E: BatchEngine>(
     kept: Option<String>,
-    rows: &RowStore,
+    engine: &mut E,
     form: DigestForm,
-    lines: &str,
-) -> Result<(String, String), AllocError>
-    requires unlent { rows.now.lent ≡ map_of.empty }
+) -> Result<String, AllocError>
+    requires idle { is_busy (E.parts engine.old) ≡ false }
     requires kept { IfSome kept (λ text.
-        string_bytes text ≡ digest (digested_text form rows.now.tables rows.now.rows)) }
-    ensures digest { IfOk result (λ made.
-        string_bytes made.0 ≡ digest (digested_text form rows.now.tables rows.now.rows)) }
-    ensures text { IfOk result (λ made.
-        string_bytes made.1 ≡ with_batch_line form batch rows.now.tables rows.now.rows lines.now) }
+        string_bytes text ≡ digest (digested_text form (tables_of (E.parts engine.old)) (E.parts engine.old).rows)) }
+    ensures digest { IfOk result (λ text.
+        string_bytes text ≡ digest (digested_text form (tables_of (E.parts engine.old)) (E.parts engine.old).rows)) }
+    ensures same { engine.new ≡ engine.old }
 {
-    let rows = kept_or_made(alloc, kept, rows, form)?;
+    match kept {
+        Some(text) => Ok(text),
+        None => engine.rows_digest(form),
+    }
+}
+
+/// Reply lines, and the batch line after them with the digest of rows.
+#[tactic(auto, unfolding(crate::specs::Transcripts::with_batch_line))]
+fn batch_text(alloc: Global, batch: u64, rows: &str, lines: &str) -> Result<String, AllocError>
+    ensures { (form : AnyForm) (tables : List TableShape) (db : Database) →
+        rows.now ≡ digest (digested_text form tables db) →
+        IfOk result (λ text. string_bytes text ≡ with_batch_line form batch tables db lines.now) }
+{
     let replies = digest_text(alloc, lines.as_bytes())?;
     let mut text = String::from_str(alloc, lines)?;
-    push_batch_line(&mut text, batch, &rows, &replies)?;
-    Ok((rows, text))
+    push_batch_line(&mut text, batch, rows, &replies)?;
+    Ok(text)
 }
 
 /// The end line with the digest of the rows, from the reply lines by their hasher.
@@ -138,7 +148,7 @@ fn write_text<K: Sink>(sink: &mut K, text: &str) -> Result<(), LogFaultKind>
 }
 
 impl Transcript {
-    ghost use Rattle.running.specs.Batches.{HasAdded};
+    ghost use Rattle.running.specs.Batches.{IsWritten};
     ghost use Rattle.running.specs.Hashers.{batch_of, form_of, rows_digest_of, said_of};
 
     /// Nothing was reported. Digests are to be of that text of the rows.
@@ -166,34 +176,34 @@ impl Transcript {
     /// Writes the report of a batch, over the rows that it has left. Where no call of it has committed, they are those
     /// that the batch before has left, if there was one: their digest is then the one in its batch line, and is not
     /// made anew. After an error no digest is kept.
-    pub fn write_batch<K: Sink>(
+    pub fn write_batch<E: BatchEngine, K: Sink>(
         &mut self,
         alloc: Global,
         sink: &mut K,
-        rows: &RowStore,
+        engine: &mut E,
         replies: &[Reply],
     ) -> Result<(), LogFaultKind>
-        requires { AreRowsAfter (form_of self.old) replies.now (rows_digest_of self.old) rows.now }
-        ensures added { OnOk result (HasAdded self.old self.new (said_lines replies.now)) }
-        ensures text { OnOk result (Appends (K.taken sink.old) (K.taken sink.new)
-            (with_batch_line (form_of self.old) (batch_of self.old) rows.now.tables rows.now.rows
-            (said_lines replies.now))) }
+        requires { AreRowsAfter (form_of self.old) replies.now (rows_digest_of self.old) (E.parts engine.old) }
+        ensures written { OnOk result
+            (IsWritten (E.parts engine.old) replies.now self.old self.new (K.taken sink.old) (K.taken sink.new)) }
         ensures front { AppendsFront (K.taken sink.old) (K.taken sink.new)
-            (with_batch_line (form_of self.old) (batch_of self.old) rows.now.tables rows.now.rows
-            (said_lines replies.now)) }
+            (with_batch_line (form_of self.old) (batch_of self.old) (tables_of (E.parts engine.old))
+            (E.parts engine.old).rows (said_lines replies.now)) }
         ensures kind { IfErr result IsOfMachine }
         ensures fails { K.broken sink.new ≡ (K.broken sink.old || write_failed result) }
-        ensures rows { OnOk result (rows_digest_of self.new
-            ≡ Some (digest (digested_text (form_of self.old) rows.now.tables rows.now.rows))) }
         ensures gone { OnErr result (rows_digest_of self.new ≡ None) }
         ensures form { form_of self.new ≡ form_of self.old }
+        ensures same { engine.new ≡ engine.old }
     {
         let kept = self.rows.take();
         let kept = if has_commit(replies) { None } else { kept };
         let Ok(lines) = reply_lines(alloc, replies) else {
             return Err(LogFaultKind::Memory);
         };
-        let Ok((rows, text)) = batch_text(alloc, self.batch, kept, rows, self.form, &lines) else {
+        let Ok(rows) = kept_or_told(kept, engine, self.form) else {
+            return Err(LogFaultKind::Memory);
+        };
+        let Ok(text) = batch_text(alloc, self.batch, &rows, &lines) else {
             return Err(LogFaultKind::Memory);
         };
         match write_text(sink, &text) {

@@ -1,11 +1,15 @@
 //! Rows put and taken away, and the digest of those that are left.
 
+ghost use Rattle.std.specs.Prelude.{◌≡◌, IfOk};
+ghost use Rattle.std.specs.FinMap as map;
+
 use catalogue::Catalogue;
 use row_store::{RowStore, all_is_free_with_nothing_lent};
 use row_text::{DigestForm, digest_text, rows_digest};
 use serde_json::Value as Json;
 use std::alloc::Global;
 use std::collections::BTreeMap;
+use std::process::Abort;
 use std::test::Fail;
 use values::{Key, Row, RowName, TableNo, Value};
 
@@ -40,14 +44,21 @@ fn writes_of(alloc: Global, made: &[Write]) -> Result<BTreeMap<RowName, Option<R
     Ok(writes)
 }
 
-/// The digest of these rows, after these writes.
-fn digest(alloc: Global, given: &[Given], made: &[Write]) -> Result<String, Fail> {
+/// A store with these rows.
+fn store_of(alloc: Global, given: &[Given]) -> Result<RowStore, Fail>
+    ensures { IfOk result (λ store. store.lent ≡ map.empty) }
+{
     let catalogue = Catalogue::read(alloc, &Json::from_str(alloc, WIDE)?)?;
     let mut rows = Vec::new(alloc);
     for (table, number, value) in given {
         rows.push((TableNo::new(*table), key(*number)?, row(alloc, *value)?))?;
     }
-    let mut store = RowStore::new(alloc, &catalogue, rows)?;
+    Ok(RowStore::new(alloc, &catalogue, rows)?)
+}
+
+/// The digest of these rows, after these writes.
+fn digest(alloc: Global, given: &[Given], made: &[Write]) -> Result<String, Fail> {
+    let mut store = store_of(alloc, given)?;
     store.apply(writes_of(alloc, made)?)?;
     all_is_free_with_nothing_lent();
     Ok(rows_digest(alloc, store.catalogue(), &store, DigestForm::Rows)?)
@@ -116,5 +127,86 @@ fn ten_thousand_rows_are_put_in_order(rt: HostRuntime) -> Result<(), Fail> {
         digest(alloc, rows.as_slice(), &[])?.as_str(),
         "963ba357fa50019a692cf8d59cb402f3788f8b17209a571bc0f8cf25e33d1c81"
     );
+    Ok(())
+}
+
+/// The name of a table and the number of its partition, and the row lines of that partition.
+type Part = (&'static str, &'static str);
+
+/// The digest of the partition text in which these partitions have their lines.
+fn digest_of_parts(alloc: Global, parts: &[Part]) -> Result<String, Fail> {
+    let mut text = String::new(alloc);
+    for (name, lines) in parts {
+        let digest = digest_text(alloc, lines.as_bytes())?;
+        writeln!(text, "{name} {digest}")?;
+    }
+    Ok(digest_text(alloc, text.as_bytes())?)
+}
+
+/// Makes writes. The store's digests are then those of these partitions, once the digests of partitions are made, and
+/// again as all of them are kept.
+fn write_and_digest(
+    rt: &impl Abort,
+    alloc: Global,
+    store: &mut RowStore,
+    made: &[Write],
+    parts: &[Part],
+) -> Result<(), Fail>
+    requires { store.old.lent ≡ map.empty }
+    ensures { store.new.lent ≡ map.empty }
+{
+    store.apply(writes_of(alloc, made)?)?;
+    let want = digest_of_parts(alloc, parts)?;
+    let found = store.rows_digest(DigestForm::Partitions)?;
+    assert_eq!(rt; found.as_str(), want.as_str());
+    let again = store.rows_digest(DigestForm::Partitions)?;
+    assert_eq!(rt; again.as_str(), want.as_str());
+    Ok(())
+}
+
+/// What a store keeps of its partitions shows in no digest: a row is written, one is added to a partition with rows and
+/// one to a partition without, a row is taken away, and then the only one of a partition.
+#[test]
+fn digests_of_partitions_follow_their_rows(rt: HostRuntime) -> Result<(), Fail> {
+    let alloc = rt.alloc();
+    let given = [(1, 1, 10), (1, 2, 20), (1, 4, 40), (2, 1, 11)];
+    let mut store = store_of(alloc, &given)?;
+    let one = ("b 1", "b 1 10\nb 4 40\n");
+    let two = ("b 2", "b 2 20\n");
+    let three = ("c 1", "c 1 11\n");
+    write_and_digest(&rt, alloc, &mut store, &[], &[one, two, three])?;
+    let one = ("b 1", "b 1 10\nb 4 70\n");
+    write_and_digest(
+        &rt,
+        alloc,
+        &mut store,
+        &[(1, 4, Some(70))],
+        &[one, two, three],
+    )?;
+    let two = ("b 2", "b 2 20\nb 5 50\n");
+    write_and_digest(
+        &rt,
+        alloc,
+        &mut store,
+        &[(1, 5, Some(50))],
+        &[one, two, three],
+    )?;
+    let four = ("c 3", "c 7 5\n");
+    write_and_digest(
+        &rt,
+        alloc,
+        &mut store,
+        &[(2, 7, Some(5))],
+        &[one, two, three, four],
+    )?;
+    let one = ("b 1", "b 4 70\n");
+    write_and_digest(
+        &rt,
+        alloc,
+        &mut store,
+        &[(1, 1, None)],
+        &[one, two, three, four],
+    )?;
+    write_and_digest(&rt, alloc, &mut store, &[(2, 1, None)], &[one, two, four])?;
     Ok(())
 }

@@ -1,4 +1,4 @@
-use Rattle.std.proofs.Common.{◌≡◌, ◌∙◌, ap, rules, subst, length, List, Option, ℕ}
+use Rattle.std.proofs.Common.{◌≡◌, ◌∙◌, ap, refl, subst, sym, length, List, Option, ℕ}
 use Rattle.catalogue.specs.Shapes.{TableShape}
 use Rattle.values.specs.Database.{Database}
 use Rattle.devices.specs.Devices.{AppendsFront}
@@ -14,7 +14,7 @@ use Rattle.engine.specs.Batches.{next_attempts}
 use Rattle.engine.specs.Engines.{tables_of, EngineParts}
 use Rattle.engine.specs.Executions.{IsExecutionOf, KeepsSetting}
 use Rattle.running.specs.declared.transcript.Transcript.{Transcript}
-use Rattle.running.specs.Batches.{due_text}
+use Rattle.running.specs.Batches.{due_text, IsReported}
 use Rattle.running.specs.Hashers.{batch_of, form_of}
 use Rattle.running.specs.Standings.{standing_of}
 use Rattle.running.specs.Transcripts.{said_lines, with_batch_line}
@@ -29,9 +29,8 @@ execute-requires-clause-over g c = c.in-Ok.ensures.over (tables_of (g.E.BatchEng
 
 pub write_batch-requires : goal.write_batch-requires
 write_batch-requires g c =
-    rows_after (g.E.BatchEngine.parts c.args.engine.now) (g.E.BatchEngine.parts c.execute.new.engine) c.args.transcript.now _ c.in-Ok-execute.done _ _ c.in-Ok-execute.ensures.done c.in-Ok-execute.ensures.same
-    c.requires.due.digest_kept c.deref.ensures.value (search rules)
-    (c.rows.ensures.tables ∙ ap tables_of c.core.ensures) (c.rows.ensures.rows ∙ ap (λ (e : EngineParts). e.rows) c.core.ensures)
+    rows_after (g.E.BatchEngine.parts c.args.engine.now) (g.E.BatchEngine.parts c.execute.new.engine) c.args.transcript.now _ c.in-Ok-execute.done _ c.in-Ok-execute.ensures.done c.in-Ok-execute.ensures.same
+    c.requires.due.digest_kept c.deref.ensures.value c.in-Ok-execute.ensures.idle
 
 pub returns-in-Ok-write_batch-clause-reported : goal.returns-in-Ok-write_batch-clause-reported
 returns-in-Ok-write_batch-clause-reported g c =
@@ -40,20 +39,20 @@ returns-in-Ok-write_batch-clause-reported g c =
     let run = c.in-Ok-execute.ensures.done in
     let requests = c.args.requests.items in
     let items = c.in-Ok.ensures.items in
-    let tables : c.rows.result.now.tables ≡ tables_of new = c.rows.ensures.tables ∙ ap tables_of c.core.ensures in
-    let rows : c.rows.result.now.rows ≡ new.rows = c.rows.ensures.rows ∙ ap (λ (e : EngineParts). e.rows) c.core.ensures in
+    let written = c.in-Ok-write_batch.ensures.written in
     let lines : said_lines c.deref.result.now ≡ reply_lines old.next (transactions_at (standing_of old) requests) (replies_at (standing_of old) requests) =
     ap said_lines c.deref.ensures.value ∙ lines_are _ _ c.in-Ok.batch c.in-Ok-execute.done requests run items in
-    let text : with_batch_line (form_of c.args.transcript.now) (batch_of c.args.transcript.now) c.rows.result.now.tables c.rows.result.now.rows (said_lines c.deref.result.now) ≡ due_text old c.args.transcript.now requests =
-    batch_text_is _ _ c.in-Ok.batch c.in-Ok-execute.done requests _ _ _ _ _ run c.in-Ok-execute.ensures.same items tables rows c.deref.ensures.value in
-    record {
+    let text : with_batch_line (form_of c.args.transcript.now) (batch_of c.args.transcript.now) (tables_of new) new.rows (said_lines c.deref.result.now) ≡ due_text old c.args.transcript.now requests =
+    batch_text_is _ _ c.in-Ok.batch c.in-Ok-execute.done requests _ _ _ _ _ run c.in-Ok-execute.ensures.same items refl refl c.deref.ensures.value in
+    subst (λ e. IsReported old (g.E.BatchEngine.parts e) c.args.transcript.now c.write_batch.new.self (g.K.Sink.taken c.args.sink.now) (g.K.Sink.taken c.write_batch.new.sink) requests) (sym c.write_batch.ensures.same)
+    (record {
       idle = c.in-Ok-execute.ensures.idle;
       standing = standing_is _ _ c.in-Ok.batch c.in-Ok-execute.done requests run items;
-      batch = c.in-Ok-write_batch.ensures.added.batch;
-      said = λ m h. rw (← lines) (c.in-Ok-write_batch.ensures.added.said m h);
-      text = rw (← text) c.in-Ok-write_batch.ensures.text;
-      digest_kept = digest_of_rows new c.write_batch.new.self _ _ _ c.in-Ok-write_batch.ensures.rows c.in-Ok-write_batch.ensures.form tables rows;
-    }
+      batch = written.added.batch;
+      said = λ m h. rw (← lines) (written.added.said m h);
+      text = rw (← text) written.text;
+      digest_kept = digest_of_rows new c.write_batch.new.self _ _ _ written.rows c.in-Ok-write_batch.ensures.form refl refl;
+    })
 
 front_is : (old new : EngineParts) (t : Transcript) (batch : Batch) (run : BatchDone) (requests : List Call) (given : List TableShape) (rows : Database) (replies : List Reply) (sink filled : Option (List ℕ)) →
     IsExecutionOf old new (next_attempts old batch) run → KeepsSetting old new → items_of batch ≡ items_from 0 requests → given ≡ tables_of new → rows ≡ new.rows → replies ≡ run.replies.items →
@@ -64,12 +63,12 @@ front_is old new t batch run requests given rows replies sink filled r same e ta
 pub returns-in-Ok-write_batch-clause-front : goal.returns-in-Ok-write_batch-clause-front
 returns-in-Ok-write_batch-clause-front g c =
     front_is _ _ c.args.transcript.now c.in-Ok.batch c.in-Ok-execute.done c.args.requests.items _ _ _ _ _ c.in-Ok-execute.ensures.done c.in-Ok-execute.ensures.same c.in-Ok.ensures.items
-    (c.rows.ensures.tables ∙ ap tables_of c.core.ensures) (c.rows.ensures.rows ∙ ap (λ (e : EngineParts). e.rows) c.core.ensures) c.deref.ensures.value c.write_batch.ensures.front
+    refl refl c.deref.ensures.value c.write_batch.ensures.front
 
 pub returns-clause-front : goal.returns-clause-front
 returns-clause-front g c =
     front_is _ _ c.args.transcript.now c.in-Ok.batch c.in-Ok-execute.done c.args.requests.items _ _ _ _ _ c.in-Ok-execute.ensures.done c.in-Ok-execute.ensures.same c.in-Ok.ensures.items
-    (c.rows.ensures.tables ∙ ap tables_of c.core.ensures) (c.rows.ensures.rows ∙ ap (λ (e : EngineParts). e.rows) c.core.ensures) c.deref.ensures.value c.write_batch.ensures.front
+    refl refl c.deref.ensures.value c.write_batch.ensures.front
 
 pub exec_fault-requires : goal.exec_fault-requires
 exec_fault-requires g c =

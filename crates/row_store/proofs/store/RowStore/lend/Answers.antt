@@ -17,6 +17,7 @@ use Rattle.shelves.specs.Rows.{rows_of}
 use Rattle.row_store.specs.Views.{lent_of, lent_at}
 use Rattle.shelves.proofs.Rows.{same_rows}
 use Rattle.row_store.proofs.Numbers.{get-lent_of, lent_put, lent_inserted}
+use Rattle.row_store.proofs.Forgotten.{kept_here}
 use Rattle.row_store.proofs.Kept.{on_err}
 use Rattle.row_store.proofs.Outgoing.{IsLending, all_here, kept_held, loan_out, shown_out, counts_out, store_out}
 use Rattle.row_store.proofs.store.RowStore.lend.Goals as goal
@@ -28,7 +29,7 @@ pub hold-requires-clause-here : goal.hold-requires-clause-here
 hold-requires-clause-here c =
     all_here c.self.inside.catalogue c.self.inside.shelves c.self.inside.lent c.args.plan.now c.locked_rows_conflict.ensures c.requests-requests.ensures.sound
     (λ i p e. c.requires.apart i p (sym (ap (λ (s : Stock). finite.get s.lent i) c.self.view_is) ∙ get-lent_of c.self.inside.lent i ∙ e))
-    c.self.invariant
+    c.self.invariant.0
 
 pub returns-in_err-ready-clause-rows : goal.returns-in_err-ready-clause-rows
 returns-in_err-ready-clause-rows c =
@@ -63,10 +64,11 @@ invariant_of-self c =
       sound = c.requests-requests.ensures.sound;
       over = subst (λ (t : List TableShape). IsPlanOver t c.args.plan.now) (sym (ap (λ (s : Stock). s.tables) c.self.view_is)) c.requires.over;
       free = λ i p e. c.requires.apart i p (sym (ap (λ (s : Stock). finite.get s.lent i) c.self.view_is) ∙ get-lent_of c.self.inside.lent i ∙ e);
-      kept = c.self.invariant;
-    } in
-    kept_held c.self.inside.catalogue c.self.inside.shelves c.hold.new.shelves c.self.inside.lent c.self.inside.lent c.args.plan.now lending
-    (λ i. refl)
+      kept = c.self.invariant.0;
+    } in (
+      kept_held c.self.inside.catalogue c.self.inside.shelves c.hold.new.shelves c.self.inside.lent c.self.inside.lent c.args.plan.now lending (λ i. refl),
+      kept_here c.self.inside.catalogue c.self.inside.shelves c.hold.new.shelves c.self.inside.kept (λ q. ap (λ p. p.counts_as) (c.hold.ensures.seen (shelf_of c.self.inside.catalogue q) q)) c.self.invariant.1,
+    )
 
 pub invariant_of-self-in_err-catalogue : goal.invariant_of-self-in_err-catalogue
 invariant_of-self-in_err-catalogue c =
@@ -79,10 +81,11 @@ invariant_of-self-in_err-catalogue c =
       sound = c.requests-requests.ensures.sound;
       over = subst (λ (t : List TableShape). IsPlanOver t c.args.plan.now) (sym (ap (λ (s : Stock). s.tables) c.self.view_is)) c.requires.over;
       free = λ i p e. c.requires.apart i p (sym (ap (λ (s : Stock). finite.get s.lent i) c.self.view_is) ∙ get-lent_of c.self.inside.lent i ∙ e);
-      kept = c.self.invariant;
-    } in
-    kept_held c.self.inside.catalogue c.self.inside.shelves c.hold.new.shelves c.self.inside.lent c.self.inside.lent c.args.plan.now lending
-    (λ i. refl)
+      kept = c.self.invariant.0;
+    } in (
+      kept_held c.self.inside.catalogue c.self.inside.shelves c.hold.new.shelves c.self.inside.lent c.self.inside.lent c.args.plan.now lending (λ i. refl),
+      kept_here c.self.inside.catalogue c.self.inside.shelves c.hold.new.shelves c.self.inside.kept (λ q. ap (λ p. p.counts_as) (c.hold.ensures.seen (shelf_of c.self.inside.catalogue q) q)) c.self.invariant.1,
+    )
 
 pub invariant_of-self-in_err-insert : goal.invariant_of-self-in_err-insert
 invariant_of-self-in_err-insert c =
@@ -95,10 +98,12 @@ invariant_of-self-in_err-insert c =
       sound = c.requests-requests.ensures.sound;
       over = subst (λ (t : List TableShape). IsPlanOver t c.args.plan.now) (sym (ap (λ (s : Stock). s.tables) c.self.view_is)) c.requires.over;
       free = λ i p e. c.requires.apart i p (sym (ap (λ (s : Stock). finite.get s.lent i) c.self.view_is) ∙ get-lent_of c.self.inside.lent i ∙ e);
-      kept = c.self.invariant;
-    } in
-    kept_held c.self.inside.catalogue c.self.inside.shelves c.hold.new.shelves c.self.inside.lent c.insert.new.self c.args.plan.now lending
-    (λ i. ap (λ (es : List (ℕ × Snapshot Requests)). option_map (λ (p : Snapshot Requests). p.value) (lookup (is_at (nat_cmp i)) es)) c.in_err-insert.ensures.err)
+      kept = c.self.invariant.0;
+    } in (
+      kept_held c.self.inside.catalogue c.self.inside.shelves c.hold.new.shelves c.self.inside.lent c.insert.new.self c.args.plan.now lending
+          (λ i. ap (λ (es : List (ℕ × Snapshot Requests)). option_map (λ (p : Snapshot Requests). p.value) (lookup (is_at (nat_cmp i)) es)) c.in_err-insert.ensures.err),
+      kept_here c.self.inside.catalogue c.self.inside.shelves c.hold.new.shelves c.self.inside.kept (λ q. ap (λ p. p.counts_as) (c.hold.ensures.seen (shelf_of c.self.inside.catalogue q) q)) c.self.invariant.1,
+    )
 
 pub returns-in_err-insert-clause-rows : goal.returns-in_err-insert-clause-rows
 returns-in_err-insert-clause-rows c =
@@ -124,7 +129,7 @@ invariant_of-result c =
       sound = c.requests-requests.ensures.sound;
       over = subst (λ (t : List TableShape). IsPlanOver t c.args.plan.now) (sym (ap (λ (s : Stock). s.tables) c.self.view_is)) c.requires.over;
       free = λ i p e. c.requires.apart i p (sym (ap (λ (s : Stock). finite.get s.lent i) c.self.view_is) ∙ get-lent_of c.self.inside.lent i ∙ e);
-      kept = c.self.invariant;
+      kept = c.self.invariant.0;
     } in
     subst (λ (t : List TableShape). IsLoanOf t c.of-2.result.value c.take_out-held.result) (sym c.in_ok-catalogue.ensures.cases)
     (subst (λ (p : Requests). IsLoanOf c.self.inside.catalogue p c.take_out-held.result) (sym c.of-2.ensures)
@@ -141,15 +146,19 @@ invariant_of-self-2 c =
       sound = c.requests-requests.ensures.sound;
       over = subst (λ (t : List TableShape). IsPlanOver t c.args.plan.now) (sym (ap (λ (s : Stock). s.tables) c.self.view_is)) c.requires.over;
       free = λ i p e. c.requires.apart i p (sym (ap (λ (s : Stock). finite.get s.lent i) c.self.view_is) ∙ get-lent_of c.self.inside.lent i ∙ e);
-      kept = c.self.invariant;
+      kept = c.self.invariant.0;
     } in
     let none : lent_at c.self.inside.lent c.args.no ≡ None =
     sym (get-lent_of c.self.inside.lent c.args.no) ∙ ap (λ (s : Stock). finite.get s.lent c.args.no) c.self.view_is ∙ c.requires.unlent in
     let put : (i : ℕ) → lent_at c.insert.new.self i ≡ cond (is_at (nat_cmp c.args.no) i) (Some c.args.plan.now) (lent_at c.self.inside.lent i) =
     λ i. lent_put c.self.inside.lent c.insert.new.self c.args.no (Some c.of.result) c.in_ok-insert.ensures.updates.0 i
-    ∙ ap (λ (p : Requests). cond (is_at (nat_cmp c.args.no) i) (Some p) (lent_at c.self.inside.lent i)) c.of.ensures in
-    store_out c.self.inside.catalogue c.self.inside.shelves c.hold.new.shelves c.take_out-held.new.shelves c.self.inside.lent c.insert.new.self c.args.no c.args.plan.now c.in_ok-ready.ready c.take_out-held.result
-    lending c.in_ok-ready.ensures.ready c.take_out-held.ensures put none c.clashes_are_either_way.ensures
+    ∙ ap (λ (p : Requests). cond (is_at (nat_cmp c.args.no) i) (Some p) (lent_at c.self.inside.lent i)) c.of.ensures in (
+      store_out c.self.inside.catalogue c.self.inside.shelves c.hold.new.shelves c.take_out-held.new.shelves c.self.inside.lent c.insert.new.self c.args.no c.args.plan.now c.in_ok-ready.ready c.take_out-held.result
+          lending c.in_ok-ready.ensures.ready c.take_out-held.ensures put none c.clashes_are_either_way.ensures,
+      kept_here c.self.inside.catalogue c.self.inside.shelves c.take_out-held.new.shelves c.self.inside.kept
+          (counts_out c.self.inside.catalogue c.self.inside.shelves c.hold.new.shelves c.take_out-held.new.shelves c.self.inside.lent c.args.plan.now c.in_ok-ready.ready c.take_out-held.result lending c.in_ok-ready.ensures.ready c.take_out-held.ensures)
+          c.self.invariant.1,
+    )
 
 pub returns-clause-rows : goal.returns-clause-rows
 returns-clause-rows c =
@@ -162,7 +171,7 @@ returns-clause-rows c =
       sound = c.requests-requests.ensures.sound;
       over = subst (λ (t : List TableShape). IsPlanOver t c.args.plan.now) (sym (ap (λ (s : Stock). s.tables) c.self.view_is)) c.requires.over;
       free = λ i p e. c.requires.apart i p (sym (ap (λ (s : Stock). finite.get s.lent i) c.self.view_is) ∙ get-lent_of c.self.inside.lent i ∙ e);
-      kept = c.self.invariant;
+      kept = c.self.invariant.0;
     } in
     same_rows c.self.inside.catalogue c.self.inside.shelves c.take_out-held.new.shelves
     (counts_out c.self.inside.catalogue c.self.inside.shelves c.hold.new.shelves c.take_out-held.new.shelves c.self.inside.lent c.args.plan.now c.in_ok-ready.ready c.take_out-held.result lending c.in_ok-ready.ensures.ready c.take_out-held.ensures)
@@ -187,7 +196,7 @@ returns-clause-loan c =
       sound = c.requests-requests.ensures.sound;
       over = subst (λ (t : List TableShape). IsPlanOver t c.args.plan.now) (sym (ap (λ (s : Stock). s.tables) c.self.view_is)) c.requires.over;
       free = λ i p e. c.requires.apart i p (sym (ap (λ (s : Stock). finite.get s.lent i) c.self.view_is) ∙ get-lent_of c.self.inside.lent i ∙ e);
-      kept = c.self.invariant;
+      kept = c.self.invariant.0;
     } in
     let tables : c.self.inside.catalogue ≡ c.args.self.now.tables = ap (λ (s : Stock). s.tables) c.self.view_is in
     record {

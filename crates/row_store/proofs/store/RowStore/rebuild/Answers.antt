@@ -13,5 +13,5 @@ returns-clause-rows c =
     let none : lent_of c.self.inside.lent ≡ empty = ap (λ (s : Stock). s.lent) c.self.view_is ∙ c.requires.unlent in
     ap (λ (t : List TableShape). rows_of t c.in_ok-shelves.shelves) c.in_ok-catalogue.ensures.cases
     ∙ rows_back c.self.inside.catalogue c.args.catalogue.now c.self.inside.shelves c.in_ok-shelves.shelves
-    (all_here c.self.inside.catalogue c.self.inside.shelves c.self.inside.lent none c.self.invariant) c.in_ok-shelves.ensures.rows
+    (all_here c.self.inside.catalogue c.self.inside.shelves c.self.inside.lent none c.self.invariant.0) c.in_ok-shelves.ensures.rows
     ∙ ap (λ (s : Stock). s.rows) c.self.view_is

@@ -12,6 +12,6 @@ returns c =
     let tables : c.self.inside.catalogue ≡ c.args.self.now.tables = ap (λ (s : Stock). s.tables) c.self.view_is in
     subst (λ (t : List TableShape). IsNext t c.args.self.now.rows c.args.table c.args.part c.args.after (option_map (λ found. (found.0, found.1.now)) c.next_row.result)) tables
     (c.next_row.ensures c.args.self.now.rows (λ q h. sym
-    (store_here c.self.inside.catalogue c.self.inside.shelves c.self.inside.lent c.args.self.now c.self.view_is c.self.invariant q
+    (store_here c.self.inside.catalogue c.self.inside.shelves c.self.inside.lent c.args.self.now c.self.view_is c.self.invariant.0 q
     (c.requires.shown q (ap (λ (t : List TableShape). is_in_part t c.args.table c.args.part q) (sym tables) ∙ h))
     ∙ sym (get-rows_of c.self.inside.catalogue c.self.inside.shelves q) ∙ ap (λ (s : Stock). finite.get s.rows q) c.self.view_is)))

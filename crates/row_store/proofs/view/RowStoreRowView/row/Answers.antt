@@ -15,6 +15,6 @@ returns c =
     c.row_at.ensures
     ∙ ap (λ (d : Resource). (seen_at c.self.inside.shelves d c.new-name.result).row) c.shelf_of.ensures
     ∙ ap (λ (q : RowName). (seen_at c.self.inside.shelves (shelf_of c.self.inside.catalogue q) q).row) c.new-name.ensures
-    ∙ store_here c.self.inside.catalogue c.self.inside.shelves c.self.inside.lent c.args.self.now c.self.view_is c.self.invariant name c.requires
+    ∙ store_here c.self.inside.catalogue c.self.inside.shelves c.self.inside.lent c.args.self.now c.self.view_is c.self.invariant.0 name c.requires
     ∙ sym (get-rows_of c.self.inside.catalogue c.self.inside.shelves name)
     ∙ ap (λ (s : Stock). finite.get s.rows name) c.self.view_is
