@@ -7,6 +7,7 @@
 - Small functions: tables, percentiles, the plot, what a run took, the waits of a batch.
 - The plain program gives the stored report of each case in cases/ whose log has no fault.
 - On a small size of each workload it gives the model's report, on setups of version 1 and of version 3.
+- bench/race.py sets workers over a run alone, and finds a report that differs.
 - scripts/compare.py runs tiny sizes by all clients that are built, with the program of the executor where it is there,
   and with one that takes its words and is the plain one.
 
@@ -24,8 +25,9 @@ from pathlib import Path
 
 HERE = Path(__file__).resolve().parent
 TOP = HERE.parent
-sys.path[:0] = [str(HERE), str(TOP / "workloads")]
+sys.path[:0] = [str(HERE), str(TOP / "workloads"), str(TOP / "scripts")]
 
+import race  # noqa: E402
 from comparing import latency, loads, machine, plot, running, systems, tables  # noqa: E402
 from comparing.figures import Figures, of_waits  # noqa: E402
 from report import Rows, digest, report_of  # noqa: E402
@@ -351,6 +353,64 @@ class CompareTest(unittest.TestCase):
             run = of_words(sys.executable, "-B", TOP / "scripts/compare.py", "--clients", room)
             self.assertEqual(run.returncode, 1)
             self.assertIn("bench/build.sh makes", run.stdout.decode())
+
+
+STOPWATCH = """#!/bin/sh
+case "$*" in *--alone*) took="2 4 1024" ;; *--workers*) took="3 1 1024" ;; esac
+echo "$took" > "$1"
+echo "{report}"
+[ "$6" = "{fails}" ] && exit 124
+exit 0
+"""
+
+
+class RaceTest(unittest.TestCase):
+    """bench/race.py, with a program in the place of what measures that takes the words and runs nothing."""
+
+    def race(self, room, *words, report="batch", fails="none"):
+        taken = Path(room) / "stopwatch"
+        taken.write_text(STOPWATCH.format(report=report, fails=fails))
+        taken.chmod(0o755)
+        programs = ["--program", f"one={taken}", "--program", f"two={taken}"]
+        return of_words(sys.executable, "-B", HERE / "race.py", "--taken", taken, *programs, "--rounds", 2, *words)
+
+    def test_workers_are_set_over_alone(self):
+        with tempfile.TemporaryDirectory() as room:
+            run = self.race(room, "--batches", 20, "--ways", "2")
+            text = run.stdout.decode()
+            self.assertEqual(run.returncode, 0, text)
+            lines = [line for line in text.splitlines() if line.startswith("| batches")]
+            cells = [[cell.strip() for cell in line.split("|")[1:-1]] for line in lines]
+            self.assertEqual(cells[0], ["batches", "4.00", "0.25", "4.00", "0.25"])
+            self.assertEqual(cells[1], ["batches", "2.00", "1.50", "2.00", "1.50"])
+            self.assertEqual(cells[2], ["batches", *["1.00"] * 4])
+            self.assertIn("all reports agree", text)
+
+    def test_another_report_is_found(self):
+        with tempfile.TemporaryDirectory() as room:
+            run = self.race(room, "--batches", 20, "--ways", "2", report="$*")
+            self.assertEqual(run.returncode, 1)
+            self.assertIn("batches: the report of one 2 is another one", run.stdout.decode())
+
+    def test_run_that_hangs_is_told(self):
+        with tempfile.TemporaryDirectory() as room:
+            run = self.race(room, "--batches", 20, "--ways", "2", fails="--workers")
+            self.assertEqual(run.returncode, 1)
+            self.assertIn("batches, one 2:", run.stdout.decode())
+
+    def test_one_of_ten_batches_has_a_long_call(self):
+        with tempfile.TemporaryDirectory() as room:
+            folder = race.make_batches(Path(room) / "batches", 40)
+            log = [json.loads(line) for line in (folder / "log").read_text().splitlines()]
+            batches = [log[at : at + 3] for at in range(0, len(log), 3)]
+            self.assertEqual([batch[2] for batch in batches], [["cut"]] * 40)
+            long = [at for at, batch in enumerate(batches) if "spin" in (batch[0][1], batch[1][1])]
+            self.assertEqual(long, [0, 10, 20, 30])
+
+    def test_words_that_are_wrong_are_refused(self):
+        for words in ("--batches 0", "--ways 17", "--ways alone", "--rounds x", "--program PATH"):
+            with self.subTest(words=words):
+                self.assertEqual(of_words(sys.executable, "-B", HERE / "race.py", *words.split()).returncode, 2)
 
 
 def main(folder=OUT, program=PROGRAM):

@@ -74,4 +74,5 @@ def main():
                 file.write('["cut"]\n')
 
 
-main()
+if __name__ == "__main__":
+    main()

@@ -1,5 +1,5 @@
 -- The next transaction run at once, where it is ready as soon as it is admitted.
-use Rattle.std.proofs.Common.{◌≡◌, ◌≢◌, ◌<◌, ◌≤◌, ◌+◌, ◌++◌, ◌&&◌, ℕ, zero, suc, nat_lt, Bool, true, false, List, [], ◌∷◌, length, map, Option, Some, None, slice_get, slice_set, refl, sym, ap, ◌∙◌, subst, arith, inl, inr, if◌then◌else◌}
+use Rattle.std.proofs.Common.{◌≡◌, ◌<◌, ◌≤◌, ◌+◌, ◌++◌, ◌&&◌, ℕ, zero, suc, nat_lt, Bool, true, false, List, [], ◌∷◌, length, map, Some, None, slice_get, slice_set, refl, sym, ap, ◌∙◌, subst, arith, inl, inr, if◌then◌else◌}
 use Rattle.std.proofs.lemmas.Bool.Decides.{nat_tests}
 use Rattle.std.proofs.lemmas.Option.{slice_get_within}
 use Rattle.std.specs.List.{list_all}
@@ -11,8 +11,7 @@ use Rattle.coarsen.specs.Subtrees.{Requests}
 use Rattle.coarsen.specs.Plans.{IsWellFormed}
 use Rattle.coarsen.specs.Clashes.{locks_row, ModesClash}
 use Rattle.coarsen.specs.Laws.{ClashEitherWay}
-use Rattle.std.specs.declared.vec.Vec.{Vec}
-use Rattle.lock_tree.specs.Locks.{Locks, Waiting, plan_of}
+use Rattle.lock_tree.specs.Locks.{Locks, Waiting}
 use Rattle.lock_tree.specs.Ready.{ready}
 use Rattle.lock_tree.specs.Laws.{FirstReady}
 use Rattle.meaning.specs.declared.outcome.Outcome.{Outcome}
@@ -26,7 +25,7 @@ use Rattle.scheduler_core.specs.declared.phase.Phase.{Phase}
 use Rattle.scheduler_core.specs.declared.phase.Phase.TheVariants as phase
 use Rattle.scheduler_core.specs.Transactions.{Transaction}
 use Rattle.scheduler_core.specs.Phases.{is_idle, is_out, is_settled, phase_of}
-use Rattle.scheduler_core.specs.Events.{waiting, enabled}
+use Rattle.scheduler_core.specs.Events.{waiting}
 use Rattle.scheduler_core.specs.Sound as core
 use Rattle.scheduler_core.specs.Laws.{StaysSound, FollowsPhases, RunOnShownRows}
 use Rattle.scheduler.specs.declared.slot.Slot.{Slot}
@@ -35,10 +34,10 @@ use Rattle.interp.specs.Entries.{EntryParts, entry_shape}
 use Rattle.scheduler.specs.Logs.{transactions_of}
 use Rattle.scheduler.specs.Schedules.{Work, Schedule, log_of, phases_of, phase_in}
 use Rattle.scheduler.specs.Moments.{can_make, with_next, is_between, is_next_ready}
-use Rattle.scheduler.specs.Scheduled.{Fits, lent_to, IsFitting, IsScheduled, AreSettledBefore, made_in, AreMade}
+use Rattle.scheduler.specs.Scheduled.{Fits, lent_to, IsFitting, IsScheduled, AreSettledBefore}
 use Rattle.scheduler.proofs.Places.{push_end, push_before, map_push, length_map}
 use Rattle.scheduler.proofs.Numbers.{same_number, at_place, who, lent_pushed, log_length}
-use Rattle.scheduler.proofs.Ends.{settled_one, all_where, both, where_all}
+use Rattle.scheduler.proofs.Ends.{settled_one, all_where, both}
 
 -- ---- phases that are all settled
 
@@ -115,6 +114,11 @@ not_true false h = refl
 
 pub all_leading : (slots : List Slot) (n : ℕ) → AreSettledBefore slots n → length slots ≤ n → all_settled (map phase_in slots) ≡ true
 all_leading slots n s enough = all_where (map phase_in slots) (λ i less. s.before i (let count : length (map phase_in slots) ≡ length slots = length_map phase_in slots in omega (arith, less, count, enough)))
+
+-- then nothing waits in the lock tree
+pub none_waiting : (w : Work) (slots : List Slot) (stock : Stock) (tree : Locks) → IsScheduled w slots stock tree → (n : ℕ) → AreSettledBefore slots n → length slots ≤ n → tree.waiting ≡ []
+none_waiting w slots stock tree s n leading enough =
+    ap (λ (l : Locks). l.waiting) s.tree_is ∙ none_waits w.first (log_of w) (map phase_in slots) (all_leading slots n leading enough)
 
 pub none_more : (s : Schedule) → length s.work.entries ≤ length s.slots → is_next_ready s ≡ false
 none_more s past =
@@ -277,31 +281,10 @@ module _ (w : Work) (sound : StaysSound w.tables w.first (log_of w) w.start) (fo
         lent_is = λ number. ap (λ m. get m number) unlent ∙ s.lent_is number ∙ sym (lent_pushed w ps phase.Settled number refl) ∙ ap (λ (qs : List Phase). lent_to w qs number) (sym more);
       }
 
--- a transaction that isn't settled had its plan made
-some_phase : (ps : List Phase) (n : ℕ) → n < length ps → (p : Phase) × (slice_get ps n ≡ Some p)
-some_phase [] n less = absurd (omega (arith, less))
-some_phase (p ∷ ps) zero less = (p, refl)
-some_phase (p ∷ ps) (suc n) less = some_phase ps n (omega (arith, less))
-
 some_transaction : (log : List Transaction) (n : ℕ) → n < length log → (t : Transaction) × (slice_get log n ≡ Some t)
 some_transaction [] n less = absurd (omega (arith, less))
 some_transaction (t ∷ log) zero less = (t, refl)
 some_transaction (t ∷ log) (suc n) less = some_transaction log n (omega (arith, less))
-
-made_of : {Z : Type 0} (plans : List Requests) (o : Option (Vec Requests Z)) (tree : Locks) (number : ℕ) (plan : Requests) → AreMade plans o tree → plan_of tree.waiting number ≡ Some plan → made_in o ≡ plans
-made_of plans None tree number plan h there = absurd (let e : None ≡ Some plan = sym (ap (λ (ws : List Waiting). plan_of ws number) h) ∙ there in cc)
-made_of plans (Some made) tree number plan h there = h
-
-pub made_where_open : {Z : Type 0} (w : Work) → FollowsPhases w.first (log_of w) → IsFitting w → (slots : List Slot) (stock : Stock) (tree : Locks) → IsScheduled w slots stock tree
-    → (n : ℕ) → AreSettledBefore slots n → n < length slots → (o : Option (Vec Requests Z)) → AreMade w.plans o tree → made_in o ≡ w.plans
-made_where_open w follows fits slots stock tree s n leading less o made =
-    let ps = map phase_in slots in
-    let count : length ps ≡ length slots = length_map phase_in slots in
-    let within : length ps ≤ length (log_of w) = s.sound.within in
-    let p = some_phase ps n (omega (arith, less, count)) in
-    let t = some_transaction (log_of w) n (omega (arith, less, count, within)) in
-    let there : plan_of (waiting w.first (log_of w) ps) (w.first + n) ≡ Some t.0.plan = follows.there ps n t.0 p.0 t.1 p.1 (sym (ap is_settled p.1) ∙ leading.next) in
-    made_of w.plans o tree (w.first + n) t.0.plan made (ap (λ (l : Locks). plan_of l.waiting (w.first + n)) s.tree_is ∙ there)
 
 pub transaction_at : (w : Work) → IsFitting w → (n : ℕ) → n < length w.entries → (t : Transaction) × (slice_get (log_of w) n ≡ Some t)
 transaction_at w fits n less = some_transaction (log_of w) n (let e = log_length w.entries w.plans fits.plans in omega (arith, e, less))

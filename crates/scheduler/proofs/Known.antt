@@ -36,7 +36,7 @@ pub record Known (s : Inside) : Type 0 where
   pub follows : FollowsPhases s.first (log_of (work_in s))
 
 pub known : (s : Inside)
-    → IsFitting (work_in s) × IsScheduled (work_in s) s.slots.items s.store s.locks × AreSettledBefore s.slots.items s.settled × HasPlans (work_in s) s.plans s.locks
+    → IsFitting (work_in s) × IsScheduled (work_in s) s.slots.items s.store s.locks × AreSettledBefore s.slots.items s.settled × HasPlans (work_in s) s.slots.items s.settled s.plans.from s.plans.made.items
     → RowsAreSerial → AdmittedAndUnsettledWait → Known s
 known s keeps serial waits = record {
   fits = keeps.0;

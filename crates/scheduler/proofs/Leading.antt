@@ -21,7 +21,7 @@ last_phase slots place e =
     ∙ ap (slice_get (map phase_in slots ++ phase.Idle ∷ [])) (e ∙ sym (length_map phase_in slots))
     ∙ push_end (map phase_in slots) phase.Idle
 
-length_pushed : (slots : List Slot) (slot : Slot) → length (slots ++ slot ∷ []) ≡ length slots + 1
+pub length_pushed : (slots : List Slot) (slot : Slot) → length (slots ++ slot ∷ []) ≡ length slots + 1
 length_pushed [] slot = refl
 length_pushed (x ∷ slots) slot = let e = length_pushed slots slot in omega (arith, e)
 

@@ -1,7 +1,6 @@
 pub mod Left
 pub mod Places
 pub mod Slots
-pub mod Logs
 pub mod Numbers
 pub mod Steps
 pub mod Restored

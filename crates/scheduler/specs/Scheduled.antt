@@ -1,8 +1,7 @@
 -- Of the code: invariants and steps; no promise rests on these words.
 -- What a scheduler keeps to: its rows, its lock tree and its slots follow the core's phases, and what is out is ready.
-use Rattle.std.specs.Prelude.{◌≡◌, ◌<◌, ◌≤◌, ◌+◌, ◌^◌, ⊤, ℕ, true, false, if◌then◌else◌, List, [], length, map, Option, Some, None, slice_get}
+use Rattle.std.specs.Prelude.{◌≡◌, ◌<◌, ◌≤◌, ◌+◌, ◌-◌, ◌^◌, ⊤, ℕ, true, false, if◌then◌else◌, List, length, map, Option, Some, None, slice_get}
 use Rattle.std.specs.FinMap.{get}
-use Rattle.std.specs.declared.vec.Vec.{Vec}
 use Rattle.coarsen.specs.Subtrees.{Requests}
 use Rattle.coarsen.specs.Plans.{IsPlanOver}
 use Rattle.meaning.specs.Outcomes.{as_reply}
@@ -54,24 +53,23 @@ pub record IsScheduled (w : Work) (slots : List Slot) (stock : Stock) (tree : Lo
   pub tree_is : tree ≡ record { arena = w.arena; waiting = waiting w.first (log_of w) (map phase_in slots) }
   pub lent_is : (number : ℕ) → get stock.lent number ≡ lent_to w (map phase_in slots) number
 
--- the plans, where they were made
-abbrev pub made_in : {Z : Type 0} → Option (Vec Requests Z) → List Requests
-made_in None = []
-made_in (Some made) = made.items
+-- these are the plans of the places from one on
+abbrev pub ArePlansFrom : List Requests → ℕ → List Requests → Type 0
+ArePlansFrom plans from made =
+    (place : ℕ) (plan : Requests) → from ≤ place → slice_get made (place - from) ≡ Some plan
+    → slice_get plans place ≡ Some plan
 
--- these plans were made
-abbrev pub IsMade : {Z : Type 0} → List Requests → Option (Vec Requests Z) → Type 0
-IsMade plans None = ⊥
-IsMade plans (Some made) = made.items ≡ plans
+-- where so many are admitted, of which so many leading ones are settled: while one of them is not settled, the plan of
+-- each that is not, and of the next one, is made
+pub record AreMade (plans : List Requests) (settled count from : ℕ) (made : List Requests) : Type 0 where
+  pub are_plans : ArePlansFrom plans from made
+  pub begun : from ≤ settled
+  pub admitted : settled < count → count ≤ from + length made
+  pub next : settled < count → count < length plans → count < from + length made
 
--- plans are made before the first of them is enqueued
-abbrev pub AreMade : {Z : Type 0} → List Requests → Option (Vec Requests Z) → Locks → Type 0
-AreMade plans None tree = tree.waiting ≡ []
-AreMade plans (Some made) tree = made.items ≡ plans
-
-pub record HasPlans {Z : Type 0} (w : Work) (made : Option (Vec Requests Z)) (tree : Locks) : Type 0 where
+pub record HasPlans (w : Work) (slots : List Slot) (settled from : ℕ) (made : List Requests) : Type 0 where
   pub some : 0 < w.arena
-  pub are_made : AreMade w.plans made tree
+  pub are_made : AreMade w.plans settled (length slots) from made
 
 -- the first so many are settled, and the next is not
 pub record AreSettledBefore (slots : List Slot) (settled : ℕ) : Type 0 where

@@ -77,11 +77,11 @@ impl Scheduler {
         if admitted >= self.entries.len() {
             return false;
         }
-        match &self.plans {
-            Some(plans) => self.locks.has_room(&plans[admitted]),
-            // Nothing waits, and each plan fits then.
-            None => true,
+        // Nothing waits then, and each plan fits.
+        if self.settled >= admitted {
+            return true;
         }
+        self.locks.has_room(self.plans.at(admitted))
     }
 
     /// Whether an admitted transaction is neither out nor settled, and not ready.

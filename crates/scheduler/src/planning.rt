@@ -1,9 +1,10 @@
 //! Plans of entries.
 
-ghost use Rattle.std.specs.Prelude.{◌≡◌, ◌<◌, IfOk, IfSome, OnOk, OnErr, Some, length, map, slice_get};
+ghost use Rattle.std.specs.Prelude.{◌≡◌, ◌<◌, ◌≤◌, ◌+◌, ◌-◌, List, [], IfOk, OnOk, Some, length, slice_get};
+ghost use Rattle.coarsen.specs.Subtrees.{Requests};
 ghost use Rattle.interp.specs.Entries.{entry_shape};
-ghost use Rattle.scheduler.specs.Logs.{IsPlanOfEntry, ArePlansOf, plans_for};
-ghost use Rattle.scheduler.specs.Scheduled.{made_in, IsMade};
+ghost use Rattle.scheduler.specs.Logs.{IsPlanOfEntry, plans_for};
+ghost use Rattle.scheduler.specs.Scheduled.{AreMade};
 
 use coarsen::{Plan, plan_is_one};
 use footprint::Footprint;
@@ -28,51 +29,103 @@ pub fn plan_of(
     }
 }
 
-/// The plan of each entry.
-fn plans_of(
-    alloc: Global,
-    entries: &[Entry],
-    threshold: usize,
-    arena: usize,
-) -> Result<Vec<Plan>, NoMemory>
-    requires { 0 < arena }
-    ensures { IfOk result (λ plans. ArePlansOf threshold arena (map entry_shape entries.now) plans.items) }
-{
-    let mut plans = Vec::with_capacity(alloc, entries.len())?;
-    for entry in entries {
-        plans.push(plan_of(alloc, entry, threshold, arena)?)?;
-    }
-    Ok(plans)
+/// The plans of neighbouring entries of a log. A plan is made when a transaction is admitted that must wait, or that
+/// others may wait for, and not before.
+#[derive(Drop)]
+pub(crate) struct Plans {
+    // The place of the first.
+    from: usize,
+    made: Vec<Plan>,
 }
 
-/// Makes the plan of each entry, where that was not done before. Where memory is refused nothing has changed.
-pub(crate) fn make_plans(
-    alloc: Global,
-    plans: &mut Option<Vec<Plan>>,
-    entries: &[Entry],
-    threshold: usize,
-    arena: usize,
-) -> Result<(), NoMemory>
-    requires room { 0 < arena }
-    requires made { IfSome plans.old (λ made. made.items ≡ plans_for threshold arena entries.now) }
-    ensures made { OnOk result (IsMade (plans_for threshold arena entries.now) plans.new) }
-    ensures err { OnErr result (plans.new ≡ plans.old) }
-{
-    // proof: a footprint has one plan.
-    plan_is_one();
-    if plans.is_none() {
-        *plans = Some(plans_of(alloc, entries, threshold, arena)?);
+impl Plans {
+    /// None.
+    pub(crate) fn new(alloc: Global) -> Plans
+        ensures from { result.from ≡ 0 }
+        ensures none { result.made.items ≡ [] }
+    {
+        Plans {
+            from: 0,
+            made: Vec::new(alloc),
+        }
     }
-    Ok(())
-}
 
-/// The plan at a place of those that were made.
-pub(crate) fn plan_at(plans: &Option<Vec<Plan>>, place: usize) -> &Plan
-    requires { place < length (made_in plans.now) }
-    ensures { slice_get (made_in plans.now) place ≡ Some result.now }
-{
-    match plans {
-        Some(plans) => &plans[place],
-        None => unreachable!(),
+    /// The plan at a place of which it is made.
+    pub(crate) fn at(&self, place: usize) -> &Plan
+        requires begun { self.now.from ≤ place }
+        requires made { place < self.now.from + length self.now.made.items }
+        ensures { slice_get self.now.made.items (place - self.now.from) ≡ Some result.now }
+    {
+        &self.made[place - self.from]
+    }
+
+    /// Begins anew at the place of the next transaction to be admitted, if so many leading ones are all that are
+    /// admitted, unless its plan is made or the next to be made.
+    fn begin_at(&mut self, settled: usize, place: usize)
+        requires begun { self.old.from ≤ settled }
+        requires settled { settled ≤ place }
+        ensures { (plans : List Requests) → AreMade plans settled place self.old.from self.old.made.items →
+            AreMade plans settled place self.new.from self.new.made.items }
+    {
+        if settled == place && place - self.from > self.made.len() {
+            self.made.clear();
+            self.from = place;
+        }
+    }
+
+    /// Makes the plans of the next transaction to be admitted, at a place of the log, and of the one after it, if there
+    /// is one, where that was not done before; so many leading ones are settled. Those of others that may be needed
+    /// stay, on an error, too.
+    pub(crate) fn make_next(
+        &mut self,
+        alloc: Global,
+        entries: &[Entry],
+        threshold: usize,
+        arena: usize,
+        settled: usize,
+        place: usize,
+    ) -> Result<(), NoMemory>
+        requires room { 0 < arena }
+        requires within { place < length entries.now }
+        requires settled { settled ≤ place }
+        requires made { AreMade (plans_for threshold arena entries.now) settled place self.old.from self.old.made.items }
+        ensures made { AreMade (plans_for threshold arena entries.now) settled place self.new.from self.new.made.items }
+        ensures next { OnOk result
+            (AreMade (plans_for threshold arena entries.now) settled (place + 1) self.new.from self.new.made.items) }
+    {
+        // proof: a footprint has one plan.
+        plan_is_one();
+        self.begin_at(settled, place);
+        while self.made.len() <= place + 1 - self.from {
+            let Some(entry) = entries.get(self.from + self.made.len()) else {
+                return Ok(());
+            };
+            self.made.push(plan_of(alloc, entry, threshold, arena)?)?;
+        }
+        Ok(())
+    }
+    /// Makes the plan of the transaction after one that is run and settled at once, at a place of the log, if one that
+    /// is admitted isn't settled; so many leading ones are. Those that may be needed stay, on an error, too.
+    pub(crate) fn make_beside(
+        &mut self,
+        alloc: Global,
+        entries: &[Entry],
+        threshold: usize,
+        arena: usize,
+        settled: usize,
+        place: usize,
+    ) -> Result<(), NoMemory>
+        requires room { 0 < arena }
+        requires within { place < length entries.now }
+        requires settled { settled ≤ place }
+        requires made { AreMade (plans_for threshold arena entries.now) settled place self.old.from self.old.made.items }
+        ensures made { AreMade (plans_for threshold arena entries.now) settled place self.new.from self.new.made.items }
+        ensures next { OnOk result (settled < place →
+            AreMade (plans_for threshold arena entries.now) settled (place + 1) self.new.from self.new.made.items) }
+    {
+        if settled < place {
+            return self.make_next(alloc, entries, threshold, arena, settled, place);
+        }
+        Ok(())
     }
 }

@@ -9,7 +9,6 @@ ghost use Rattle.scheduler.specs.Moments.{AnswersAt, PlaysAt, SettlesTakeNoMemor
 
 use crate::job::run_job;
 use crate::lending::{give_back, is_ready, lend_to};
-use crate::planning::plan_at;
 use crate::scheduler::{AdmitFault, Scheduler};
 use crate::slot::{Slot, count_settled, is_idle, put, take_held, take_run};
 use coarsen::clashes_are_either_way;
@@ -76,7 +75,7 @@ impl Scheduler {
             &mut self.locks,
             no,
             &self.entries[place],
-            plan_at(&self.plans, place),
+            self.plans.at(place),
         ) {
             Ok(job) => {
                 put(&mut self.slots, place, Slot::Held(job));

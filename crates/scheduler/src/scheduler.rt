@@ -12,10 +12,10 @@ ghost use Rattle.scheduler.specs.Jobs.{LendsTo, ComesBack, number_of_job};
 
 use crate::job::{Done, Job};
 use crate::lending::{give_back, lend_to, take_back};
-use crate::planning::{make_plans, plan_at};
+use crate::planning::Plans;
 use crate::slot::{Slot, count_settled, put};
 use catalogue::Catalogue;
-use coarsen::{Plan, clashes_are_either_way, plan_is_one, plans_serve};
+use coarsen::{clashes_are_either_way, plan_is_one, plans_serve};
 use interp::Entry;
 use lock_tree::LockTree;
 use row_store::RowStore;
@@ -52,8 +52,8 @@ pub struct Scheduler {
     pub(crate) arena: usize,
     pub(crate) first: u64,
     pub(crate) entries: Vec<Entry>,
-    // One for each entry, made before the first of them is enqueued.
-    pub(crate) plans: Option<Vec<Plan>>,
+    // One for each transaction that is admitted and not settled, and for the next one, while there are such.
+    pub(crate) plans: Plans,
     pub(crate) slots: Vec<Slot>,
     // How many leading transactions are settled.
     pub(crate) settled: usize,
@@ -84,7 +84,7 @@ impl Model for Scheduler {
         × AreSettledBefore s.slots.items s.settled
         × HasPlans (work_of s.catalogue s.arena s.first s.entries.items
         (plans_for s.threshold s.arena s.entries.items) s.start.value.rows)
-        s.plans s.locks };
+        s.slots.items s.settled s.plans.from s.plans.made.items };
 }
 
 /// What a scheduler was to be made of, where memory was refused.
@@ -138,15 +138,15 @@ impl Scheduler {
             arena,
             first,
             entries,
-            plans: None,
+            plans: Plans::new(alloc),
             slots: Vec::new(alloc),
             settled: 0,
             start,
         })
     }
 
-    /// Admits the next transaction: makes its lock requests, and room for its reply; and for the first one, the plans
-    /// of all. On an error nothing has changed.
+    /// Admits the next transaction: makes its plan, its lock requests, and room for its reply; and the plan of the one
+    /// after it. On an error nothing has changed.
     pub fn admit(&mut self) -> Result<u64, AdmitFault>
         ensures enabled { OnOk result (can_make self.old AnyEvent.Admit ≡ true) }
         ensures number { IfOk result (λ number. number ≡ self.old.work.first + length self.old.slots) }
@@ -168,20 +168,22 @@ impl Scheduler {
         if !self.can_admit() {
             return Err(AdmitFault::Full);
         }
-        let Ok(()) = make_plans(
+        let Ok(()) = self.plans.make_next(
             self.alloc,
-            &mut self.plans,
             &self.entries,
             self.threshold,
             self.arena,
-        ) else {
+            self.settled,
+            place,
+        )
+        else {
             return Err(AdmitFault::NoMemory);
         };
         let no = self.first + place as u64;
         if self.slots.push(Slot::Idle).is_err() {
             return Err(AdmitFault::NoMemory);
         }
-        match self.locks.enqueue(no, plan_at(&self.plans, place)) {
+        match self.locks.enqueue(no, self.plans.at(place)) {
             Ok(()) => Ok(no),
             Err(_) => {
                 self.slots.truncate(place);
@@ -213,7 +215,7 @@ impl Scheduler {
             &mut self.locks,
             no,
             &self.entries[place],
-            plan_at(&self.plans, place),
+            self.plans.at(place),
         )?;
         put(&mut self.slots, place, Slot::Lent);
         Ok(Some(job))

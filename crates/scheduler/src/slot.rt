@@ -97,6 +97,7 @@ pub(crate) fn count_settled(slots: &[Slot], known: usize) -> usize
     ensures before { (place : ℕ) → place < result → is_settled (slice_get (map phase_in slots.now) place) ≡ true }
     ensures next { is_settled (slice_get (map phase_in slots.now) result) ≡ false }
     ensures within { result ≤ length slots.now }
+    ensures known { known ≤ result }
 {
     let mut count = known;
     while outcome_at(slots, count).is_some() {

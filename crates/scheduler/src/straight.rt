@@ -10,7 +10,6 @@ ghost use Rattle.row_store.specs.Stock.{is_free};
 ghost use Rattle.scheduler.specs.Schedules.{KeepsItsJobs};
 ghost use Rattle.scheduler.specs.Moments.{is_between, is_next_ready};
 
-use crate::planning::plan_at;
 use crate::scheduler::Scheduler;
 use crate::slot::{Slot, count_settled};
 use coarsen::clashes_are_either_way;
@@ -68,7 +67,7 @@ impl Scheduler {
         if self.settled >= place {
             return true;
         }
-        self.locks.would_be_ready(plan_at(&self.plans, place))
+        self.locks.would_be_ready(self.plans.at(place))
     }
 
     /// Runs the next transaction on the rows themselves and settles it at once, where it is ready as soon as it is
@@ -98,6 +97,14 @@ impl Scheduler {
             return Ok(None);
         }
         let place = self.slots.len();
+        self.plans.make_beside(
+            self.alloc,
+            &self.entries,
+            self.threshold,
+            self.arena,
+            self.settled,
+            place,
+        )?;
         self.slots.reserve(1)?;
         let outcome = run_on_store(self.alloc, &self.entries[place], &mut self.store)?;
         self.slots.push_reserved(Slot::Settled(outcome));

@@ -1,26 +1,34 @@
-use Rattle.std.proofs.Common.{◌≡◌, ◌≤◌, ◌+◌, ◌++◌, ◌∷◌, [], List, length, false, Some, slice_get, refl, sym, ap, ◌∙◌, subst, arith}
+use Rattle.std.proofs.Common.{◌≡◌, ◌≤◌, ◌+◌, ◌++◌, ◌∷◌, [], ℕ, List, length, false, Some, slice_get, refl, sym, ap, ◌∙◌, subst, arith}
 use Rattle.coarsen.specs.Subtrees.{Requests}
 use Rattle.scheduler_core.specs.declared.event.Event.TheVariants.{Admit}
 use Rattle.scheduler_core.specs.Events.{enabled}
 use Rattle.scheduler.specs.declared.slot.Slot.{Slot}
 use Rattle.scheduler.specs.declared.slot.Slot.TheVariants.{Idle}
-use Rattle.scheduler.specs.Scheduled.{IsScheduled, AreSettledBefore, made_in}
+use Rattle.scheduler.specs.Scheduled.{IsScheduled, AreSettledBefore, AreMade}
 use Rattle.scheduler.specs.Schedules.{Schedule, log_of, phases_of, work_of}
 use Rattle.scheduler.proofs.Admitting.{transaction_there, none_next, below_number}
 use Rattle.scheduler.proofs.Steps.{admitted}
-use Rattle.scheduler.proofs.Leading.{settled_pushed}
+use Rattle.scheduler.proofs.Leading.{settled_pushed, length_pushed}
+use Rattle.interp.specs.Entries.{EntryParts}
+use Rattle.scheduler.specs.Logs.{plans_for}
 use Rattle.scheduler.proofs.Known.{plans_in}
-use Rattle.scheduler.proofs.Making.{is_made, made_now, made_for}
+use Rattle.scheduler.proofs.scheduler.Scheduler.admit.Goals.{In-Ok}
 use Rattle.scheduler.proofs.scheduler.Scheduler.admit.Goals as goal
+
+-- the plans that are made for it
+next_made : (c : In-Ok) → AreMade (plans_in c.self.inside) c.self.inside.settled (c.len-place.result + 1) c.make_next.new.self.from c.make_next.new.self.made.items
+next_made c =
+    subst (λ (es : List EntryParts). AreMade (plans_for c.self.inside.threshold c.self.inside.arena es) c.self.inside.settled (c.len-place.result + 1) c.make_next.new.self.from c.make_next.new.self.made.items)
+    c.deref.ensures.value c.in-Ok.ensures.next
 
 pub invariant_of-self-in-Ok-enqueue : goal.invariant_of-self-in-Ok-enqueue
 invariant_of-self-in-Ok-enqueue c =
     let w = work_of c.self.inside.catalogue c.self.inside.arena c.self.inside.first c.self.inside.entries.items (plans_in c.self.inside) c.self.inside.start.value.rows in
     let count : c.len-place.result ≡ length c.self.inside.slots.items = omega (arith, c.len-place.ensures) in
-    let made : made_in c.make_plans.new.plans ≡ plans_in c.self.inside = is_made (plans_in c.self.inside) c.make_plans.new.plans (made_for c.self.inside c.make_plans.new.plans c.deref.result.now c.deref.ensures.value c.in-Ok.ensures.made) in
-    let at : slice_get (plans_in c.self.inside) c.len-place.result ≡ Some c.plan_at.result.now =
-    sym (ap (λ (ps : List Requests). slice_get ps c.len-place.result) made) ∙ c.plan_at.ensures in
-    let t = transaction_there c.self.inside.entries.items (plans_in c.self.inside) c.len-place.result c.plan_at.result.now c.self.invariant.0.plans at in
+    let next = next_made (goal.at.invariant_of-self-in-Ok-enqueue c).In-Ok in
+    let begun : c.make_next.new.self.from ≤ c.len-place.result = (let b = next.begun in let l : c.self.inside.settled ≤ length c.self.inside.slots.items = c.self.invariant.2.within in omega (arith, b, l, count)) in
+    let at : slice_get (plans_in c.self.inside) c.len-place.result ≡ Some c.at.result.now = next.are_plans c.len-place.result c.at.result.now begun c.at.ensures in
+    let t = transaction_there c.self.inside.entries.items (plans_in c.self.inside) c.len-place.result c.at.result.now c.self.invariant.0.plans at in
     let items : c.push.new.self.items ≡ c.self.inside.slots.items ++ Idle ∷ [] = c.push.ensures.items ∙ rw c.if-is_err.ensures.negation refl in (
       c.self.invariant.0,
       subst (λ (slots : List Slot). IsScheduled w slots c.self.inside.store c.enqueue.new.self) (sym items)
@@ -30,7 +38,8 @@ invariant_of-self-in-Ok-enqueue c =
       subst (λ (slots : List Slot). AreSettledBefore slots c.self.inside.settled) (sym items) (settled_pushed c.self.inside.slots.items c.self.inside.settled c.self.invariant.2),
       record {
         some = c.self.invariant.3.some;
-        are_made = made_now (plans_in c.self.inside) c.make_plans.new.plans c.enqueue.new.self (made_for c.self.inside c.make_plans.new.plans c.deref.result.now c.deref.ensures.value c.in-Ok.ensures.made);
+        are_made = subst (λ (n : ℕ). AreMade (plans_in c.self.inside) c.self.inside.settled n c.make_next.new.self.from c.make_next.new.self.made.items)
+            (ap (λ (n : ℕ). n + 1) count ∙ sym (length_pushed c.self.inside.slots.items Idle) ∙ ap length (sym items)) next;
       },
     )
 

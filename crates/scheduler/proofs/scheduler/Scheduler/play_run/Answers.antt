@@ -1,11 +1,11 @@
-use Rattle.std.proofs.Common.{◌≡◌, List, Some, None, slice_set, refl, sym, ap, ◌∙◌, subst}
+use Rattle.std.proofs.Common.{◌≡◌, List, Some, None, slice_set, refl, sym, ap, ◌∙◌, subst, arith}
 use Rattle.scheduler.specs.JobRuns.{JobOf}
 use Rattle.scheduler.specs.declared.slot.Slot.{Slot}
 use Rattle.scheduler.specs.declared.slot.Slot.TheVariants.{Lent, Held, Ran}
 use Rattle.scheduler.specs.Schedules.{Schedule, phases_of}
 use Rattle.scheduler.proofs.Known.{known, work_in, still_keeps}
 use Rattle.scheduler.proofs.Places.{put_back, set_back}
-use Rattle.scheduler.proofs.Making.{with_plans}
+use Rattle.scheduler.proofs.Making.{with_plans, after_put}
 use Rattle.scheduler.proofs.Returns.{comes_of, runs, stays_lent}
 use Rattle.scheduler.proofs.Played.{answers_run, refuses_run, same_phases}
 use Rattle.scheduler.proofs.scheduler.Scheduler.play_run.Goals.{After-put, After-put-in-None}
@@ -32,14 +32,16 @@ invariant_of-self-in-Some-outcome c =
     let k = known c.self.inside c.self.invariant c.rows_are_serial.ensures c.admitted_and_unsettled_wait.ensures in
     let job = c.into_parts-job.result.0 in
     let comes = comes_of c.in-Some-take_held.job c.run_job.result job c.into_parts-job.result.1 (Some c.in-Some-outcome.outcome) c.run_job.ensures c.into_parts-job.ensures.job c.into_parts-job.ensures.outcome c.in-Some-outcome.is in
-    with_plans (work_in c.self.inside) c.put.new.slots.items c.self.inside.settled c.self.inside.store c.self.inside.locks c.self.inside.plans
-    (runs c.self.inside k c.in-Some.place c.in-Some-take_held.job job c.put.new.slots.items c.in-Some-take_held.ensures.was c.in-Some-outcome.outcome comes (ran_there c)) c.self.invariant.3
+    with_plans (work_in c.self.inside) c.put.new.slots.items c.self.inside.settled c.self.inside.plans.from c.self.inside.plans.made.items c.self.inside.store c.self.inside.locks
+    (runs c.self.inside k c.in-Some.place c.in-Some-take_held.job job c.put.new.slots.items c.in-Some-take_held.ensures.was c.in-Some-outcome.outcome comes (ran_there c))
+    (after_put (work_in c.self.inside) c.self.inside.slots.items c.put.new.slots.items c.in-Some.place (Ran c.into_parts-job.result.0 c.in-Some-outcome.outcome) c.self.inside.settled c.self.inside.settled c.self.inside.plans.from c.self.inside.plans.made.items (ran_there c) (omega arith) c.self.invariant.3)
 
 pub invariant_of-self-in-None : goal.invariant_of-self-in-None
 invariant_of-self-in-None c =
     let k = known c.self.inside c.self.invariant c.rows_are_serial.ensures c.admitted_and_unsettled_wait.ensures in
-    with_plans (work_in c.self.inside) c.put-in-None.new.slots.items c.self.inside.settled c.self.inside.store c.self.inside.locks c.self.inside.plans
-    (stays_lent c.self.inside k c.in-Some.place c.in-Some-take_held.job c.into_parts-job.result.0 c.put-in-None.new.slots.items c.in-Some-take_held.ensures.was (is_same c) (held_there c)) c.self.invariant.3
+    with_plans (work_in c.self.inside) c.put-in-None.new.slots.items c.self.inside.settled c.self.inside.plans.from c.self.inside.plans.made.items c.self.inside.store c.self.inside.locks
+    (stays_lent c.self.inside k c.in-Some.place c.in-Some-take_held.job c.into_parts-job.result.0 c.put-in-None.new.slots.items c.in-Some-take_held.ensures.was (is_same c) (held_there c))
+    (after_put (work_in c.self.inside) c.self.inside.slots.items c.put-in-None.new.slots.items c.in-Some.place (Held c.into_parts-job.result.0) c.self.inside.settled c.self.inside.settled c.self.inside.plans.from c.self.inside.plans.made.items (held_there c) (omega arith) c.self.invariant.3)
 
 pub returns-in-Some-outcome-clause-answer : goal.returns-in-Some-outcome-clause-answer
 returns-in-Some-outcome-clause-answer c =

@@ -3,7 +3,7 @@ use Rattle.scheduler.specs.declared.slot.Slot.{Slot}
 use Rattle.scheduler.specs.declared.slot.Slot.TheVariants.{Lent, Ran, Settled}
 use Rattle.scheduler.specs.Scheduled.{AreSettledBefore}
 use Rattle.scheduler.proofs.Known.{known, work_in, number_at, still_keeps}
-use Rattle.scheduler.proofs.Making.{after_release}
+use Rattle.scheduler.proofs.Making.{after_put}
 use Rattle.scheduler.proofs.Places.{put_back}
 use Rattle.scheduler.proofs.Returns.{Return, return}
 use Rattle.scheduler.proofs.Played.{answers_settle}
@@ -43,7 +43,7 @@ invariant_of-self-2 c = (
       (settled_there (goal.at.invariant_of-self-2 c).After-put) c.give_back.ensures.tables c.give_back.ensures.rows c.give_back.ensures.lent c.give_back.ensures.released,
   subst (λ (xs : List Slot). AreSettledBefore xs c.count_settled-self-inside.result) c.deref.ensures.value
       (record { before = c.count_settled-self-inside.ensures.before; next = c.count_settled-self-inside.ensures.next; within = c.count_settled-self-inside.ensures.within }),
-  after_release (work_in c.self.inside) c.self.inside.plans c.self.inside.locks c.give_back.new.locks c.args.no c.self.invariant.3 c.give_back.ensures.released,
+  after_put (work_in c.self.inside) c.self.inside.slots.items c.put.new.slots.items c.in-Some.place (Settled c.in-Some-take_run.outcome) c.self.inside.settled c.count_settled-self-inside.result c.self.inside.plans.from c.self.inside.plans.made.items (settled_there (goal.at.invariant_of-self-2 c).After-put) c.count_settled-self-inside.ensures.known c.self.invariant.3,
 )
 
 pub returns-clause-answer : goal.returns-clause-answer

@@ -1,21 +1,21 @@
-use Rattle.std.proofs.Common.{◌≡◌, ◌<◌, ◌+◌, ◌++◌, ◌∷◌, [], ℕ, List, Bool, map, length, true, false, Some, None, slice_get, refl, sym, ap, ◌∙◌, subst, arith}
-use Rattle.std.specs.Prelude.{is_some}
-use Rattle.std.proofs.lemmas.Bool.Decides.{nat_tests}
+use Rattle.std.proofs.Common.{◌≡◌, ◌<◌, ◌+◌, ◌++◌, ◌∷◌, [], List, map, length, true, Some, slice_get, refl, sym, ap, ◌∙◌, subst, arith}
 use Rattle.std.proofs.lemmas.Option.{slice_get_read}
 use Rattle.coarsen.specs.Subtrees.{Requests}
 use Rattle.lock_tree.specs.Ready.{ready}
-use Rattle.interp.specs.Entries.{entry_shape}
+use Rattle.interp.specs.Entries.{EntryParts, entry_shape}
+use Rattle.scheduler.specs.Logs.{plans_for}
 use Rattle.scheduler_core.specs.declared.phase.Phase.TheVariants as phase
 use Rattle.scheduler_core.specs.Phases.{is_settled}
 use Rattle.scheduler_core.specs.Events.{waiting}
 use Rattle.scheduler.specs.declared.slot.Slot.{Slot}
 use Rattle.scheduler.specs.declared.slot.Slot.TheVariants.{Settled}
 use Rattle.scheduler.specs.Schedules.{log_of, phase_in}
-use Rattle.scheduler.specs.Scheduled.{IsScheduled, AreSettledBefore}
+use Rattle.scheduler.specs.Scheduled.{IsScheduled, AreSettledBefore, AreMade}
 use Rattle.scheduler.specs.Moments.{is_between, is_next_ready}
 use Rattle.scheduler.proofs.Places.{length_map}
+use Rattle.scheduler.proofs.Making.{after_straight}
 use Rattle.scheduler.proofs.Known.{plans_in, work_in, schedule_in, keeps_jobs}
-use Rattle.scheduler.proofs.Between.{there_is, one_more, lend_is, between_is, all_free, still_lead, lead_within, keeps_on, entry_there, goes_straight}
+use Rattle.scheduler.proofs.Between.{there_is, one_more, lend_is, between_is, all_free, still_lead, keeps_on, entry_there, goes_straight}
 use Rattle.scheduler.proofs.scheduler.Scheduler.run_next.Goals.{After-index}
 use Rattle.scheduler.proofs.scheduler.Scheduler.run_next.Goals as goal
 
@@ -72,7 +72,7 @@ returns-clause-keeps c = λ keeps place lent.
 pub count_settled-self-inside-requires-clause-before : goal.count_settled-self-inside-requires-clause-before
 count_settled-self-inside-requires-clause-before c = λ place less.
     ap (λ (xs : List Slot). is_settled (slice_get (map phase_in xs) place))
-    (c.deref.ensures.value ∙ c.push_reserved.ensures.items ∙ ap (λ (xs : List Slot). xs ++ Settled c.in_ok-outcome.outcome ∷ []) c.reserve.ensures.items)
+    (c.deref-2.ensures.value ∙ c.push_reserved.ensures.items ∙ ap (λ (xs : List Slot). xs ++ Settled c.in_ok-outcome.outcome ∷ []) c.reserve.ensures.items)
     ∙ still_lead c.self.inside.slots.items c.in_ok-outcome.outcome c.self.inside.settled c.self.invariant.2 place less
 
 pub invariant_of-self-2 : goal.invariant_of-self-2
@@ -86,7 +86,15 @@ invariant_of-self-2 c =
           (goes_straight w (c.rows_are_serial.ensures w.tables w.first (log_of w) w.start c.self.invariant.0.planned) (c.admitted_and_unsettled_wait.ensures w.first (log_of w)) c.run_on_shown_rows_is_run.ensures c.stays_in_footprint.ensures
           c.clashes_are_either_way.ensures c.locked_names_are_free_where_plans_are_apart.ensures c.self.invariant.0 c.self.inside.slots.items c.self.inside.store c.self.inside.locks c.self.invariant.1 (joins a)
           (record { entry = entry_shape c.index.result.now; plan = t.0 }) c.run_on_store.new.store c.in_ok-outcome.outcome t.1 c.in_ok-outcome.ensures.run c.run_on_store.ensures.tables c.run_on_store.ensures.lent),
-      subst (λ (slots : List Slot). AreSettledBefore slots c.count_settled-self-inside.result) c.deref.ensures.value
+      subst (λ (slots : List Slot). AreSettledBefore slots c.count_settled-self-inside.result) c.deref-2.ensures.value
           (record { before = c.count_settled-self-inside.ensures.before; next = c.count_settled-self-inside.ensures.next; within = c.count_settled-self-inside.ensures.within }),
-      c.self.invariant.3,
+      record {
+        some = c.self.invariant.3.some;
+        are_made = subst (λ (xs : List Slot). AreMade (plans_in c.self.inside) c.count_settled-self-inside.result (length xs) c.make_beside.new.self.from c.make_beside.new.self.made.items) (sym items)
+            (after_straight (plans_in c.self.inside) c.self.inside.slots.items c.in_ok-outcome.outcome c.self.inside.settled c.count_settled-self-inside.result c.len-place.result c.make_beside.new.self.from c.make_beside.new.self.made.items
+            (omega (arith, c.len-place.ensures)) c.count_settled-self-inside.ensures.known
+            (ap (λ (xs : List Slot). is_settled (slice_get (map phase_in xs) c.count_settled-self-inside.result)) (sym (c.deref-2.ensures.value ∙ items)) ∙ c.count_settled-self-inside.ensures.next)
+            (subst (λ (es : List EntryParts). AreMade (plans_for c.self.inside.threshold c.self.inside.arena es) c.self.inside.settled c.len-place.result c.make_beside.new.self.from c.make_beside.new.self.made.items) c.deref.ensures.value c.make_beside.ensures.made)
+            (λ less. subst (λ (es : List EntryParts). AreMade (plans_for c.self.inside.threshold c.self.inside.arena es) c.self.inside.settled (c.len-place.result + 1) c.make_beside.new.self.from c.make_beside.new.self.made.items) c.deref.ensures.value (c.in_ok-make_beside.ensures.next less)));
+      },
     )

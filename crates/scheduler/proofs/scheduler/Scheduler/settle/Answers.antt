@@ -1,13 +1,13 @@
-use Rattle.std.proofs.Common.{◌≡◌, ◌-◌, true, false, List, map, ◌∙◌, subst}
+use Rattle.std.proofs.Common.{◌≡◌, ◌-◌, true, List, map, ◌∙◌, subst, arith}
 use Rattle.scheduler_core.specs.declared.event.Event.TheVariants.{Lend}
 use Rattle.scheduler_core.specs.Events.{enabled}
 use Rattle.scheduler.specs.declared.slot.Slot.{Slot}
-use Rattle.scheduler.specs.declared.slot.Slot.TheVariants.{Lent}
+use Rattle.scheduler.specs.declared.slot.Slot.TheVariants.{Idle, Lent, Settled}
 use Rattle.scheduler.specs.Jobs.{IsLentAt, IsRunAt}
 use Rattle.scheduler.specs.Schedules.{log_of, phase_in}
 use Rattle.scheduler.specs.Scheduled.{AreSettledBefore}
 use Rattle.scheduler.proofs.Known.{known, work_in}
-use Rattle.scheduler.proofs.Making.{with_plans, after_release, after_mark}
+use Rattle.scheduler.proofs.Making.{with_plans, after_put}
 use Rattle.scheduler.proofs.Returns.{Return, returns_run, returns_lent}
 use Rattle.scheduler.proofs.scheduler.Scheduler.settle.Goals.{In-Some, In-None}
 use Rattle.scheduler.proofs.scheduler.Scheduler.settle.Goals as goal
@@ -49,7 +49,7 @@ invariant_of-self c =
           c.give_back.ensures.tables c.give_back.ensures.rows c.give_back.ensures.lent c.give_back.ensures.released,
       subst (λ (slots : List Slot). AreSettledBefore slots c.count_settled-self-inside.result) c.deref.ensures.value
           (record { before = c.count_settled-self-inside.ensures.before; next = c.count_settled-self-inside.ensures.next; within = c.count_settled-self-inside.ensures.within }),
-      after_release (work_in c.self.inside) c.self.inside.plans c.self.inside.locks c.give_back.new.locks c.no-no.result c.self.invariant.3 c.give_back.ensures.released,
+      after_put (work_in c.self.inside) c.self.inside.slots.items c.put.new.slots.items (c.no-no.result - c.self.inside.first) (Settled c.in-Some.outcome) c.self.inside.settled c.count_settled-self-inside.result c.self.inside.plans.from c.self.inside.plans.made.items c.put.ensures c.count_settled-self-inside.ensures.known c.self.invariant.3,
     )
 
 pub take_back-requires-clause-lent : goal.take_back-requires-clause-lent
@@ -64,10 +64,10 @@ put-requires-in-None c = (given (goal.at.put-requires-in-None c).In-None).1.with
 pub invariant_of-self-in-None : goal.invariant_of-self-in-None
 invariant_of-self-in-None c =
     let g = given (goal.at.invariant_of-self-in-None c).In-None in
-    with_plans (work_in c.self.inside) c.put-in-None.new.slots.items c.self.inside.settled c.take_back.new.store c.take_back.new.locks c.self.inside.plans
+    with_plans (work_in c.self.inside) c.put-in-None.new.slots.items c.self.inside.settled c.self.inside.plans.from c.self.inside.plans.made.items c.take_back.new.store c.take_back.new.locks
     (g.1.takes_back g.0 c.put-in-None.new.slots.items c.take_back.new.store c.take_back.new.locks c.put-in-None.ensures
     c.take_back.ensures.tables c.take_back.ensures.rows c.take_back.ensures.lent c.take_back.ensures.unmarked)
-    (after_mark (work_in c.self.inside) c.self.inside.plans c.self.inside.locks c.take_back.new.locks c.no-no.result c.self.invariant.3 false c.take_back.ensures.unmarked)
+    (after_put (work_in c.self.inside) c.self.inside.slots.items c.put-in-None.new.slots.items (c.no-no.result - c.self.inside.first) Idle c.self.inside.settled c.self.inside.settled c.self.inside.plans.from c.self.inside.plans.made.items c.put-in-None.ensures (omega arith) c.self.invariant.3)
 
 pub returns-in-None-clause-ready : goal.returns-in-None-clause-ready
 returns-in-None-clause-ready c = λ _.

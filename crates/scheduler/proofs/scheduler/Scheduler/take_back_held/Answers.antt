@@ -1,9 +1,9 @@
-use Rattle.std.proofs.Common.{◌≡◌, ◌+◌, length, length-set, false, map, slice_set, refl, ap, ◌∙◌, arith}
+use Rattle.std.proofs.Common.{◌≡◌, ◌+◌, length, length-set, map, slice_set, refl, ap, ◌∙◌, arith}
 use Rattle.scheduler.specs.declared.slot.Slot.TheVariants.{Idle, Lent, Held}
 use Rattle.scheduler_core.specs.declared.phase.Phase.TheVariants as phase
 use Rattle.scheduler.specs.Schedules.{Schedule, phases_of, phase_in}
 use Rattle.scheduler.proofs.Known.{known, work_in, still_keeps}
-use Rattle.scheduler.proofs.Making.{with_plans, after_mark}
+use Rattle.scheduler.proofs.Making.{with_plans, after_put}
 use Rattle.scheduler.proofs.Places.{put_back, map_set}
 use Rattle.scheduler.proofs.Returns.{Return, return}
 use Rattle.scheduler.proofs.scheduler.Scheduler.take_back_held.Goals.{In-Some, After-put}
@@ -38,10 +38,10 @@ put-requires c =
 
 pub invariant_of-self : goal.invariant_of-self
 invariant_of-self c =
-    with_plans (work_in c.self.inside) c.put.new.slots.items c.self.inside.settled c.take_back.new.store c.take_back.new.locks c.self.inside.plans
+    with_plans (work_in c.self.inside) c.put.new.slots.items c.self.inside.settled c.self.inside.plans.from c.self.inside.plans.made.items c.take_back.new.store c.take_back.new.locks
     ((returned (goal.at.invariant_of-self c).In-Some).takes_back (c.self.invariant.1.kept c.args.place (Held c.in-Some.job) c.in-Some.ensures.was)
     c.put.new.slots.items c.take_back.new.store c.take_back.new.locks (idle_there c) c.take_back.ensures.tables c.take_back.ensures.rows c.take_back.ensures.lent c.take_back.ensures.unmarked)
-    (after_mark (work_in c.self.inside) c.self.inside.plans c.self.inside.locks c.take_back.new.locks (c.self.inside.first + c.args.place) c.self.invariant.3 false c.take_back.ensures.unmarked)
+    (after_put (work_in c.self.inside) c.self.inside.slots.items c.put.new.slots.items c.args.place Idle c.self.inside.settled c.self.inside.settled c.self.inside.plans.from c.self.inside.plans.made.items (idle_there c) (omega arith) c.self.invariant.3)
 
 pub returns-in-Some-clause-held : goal.returns-in-Some-clause-held
 returns-in-Some-clause-held c job at =
