@@ -7,3 +7,5 @@ pub mod Places
 pub mod PlainLines
 pub mod Taken
 pub mod LineLaws
+pub mod Filters
+pub mod FilterLaws

@@ -81,8 +81,8 @@ Moves-trans a b c p q r m n = record {
   );
 }
 
-pub Moves-line : (a b : Option (List ℕ)) (p q : Position) (line : List ℕ) → TakesLine a b p q line → Moves a b p q
-Moves-line a b p q line t = elim t.1 [ inl takes ↦ record { bytes = _; takes = takes } | inr last ↦ record { bytes = line; takes = last.1 } ]
+pub Moves-line : (a b : Option (List ℕ)) (p q : Position) (bare : Bool) (line : List ℕ) → TakesLine a b p q bare line → Moves a b p q
+Moves-line a b p q bare line t = elim t.1 [ inl takes ↦ record { bytes = _; takes = takes.1 } | inr last ↦ record { bytes = line; takes = last.2 } ]
 
 pub Moves-lost : (a b : Option (List ℕ)) (p q : Position) → LosesLine a b p q → Moves a b p q
 Moves-lost a b p q t = record { bytes = t.0; takes = t.2 }

@@ -1,6 +1,6 @@
 -- Places of a log, and what is ended and fed there.
 use Rattle.std.proofs.Common.{◌≡◌, ◌≢◌, ℕ, ◌+◌, ◌<◌, List, [], ◌∷◌, ◌++◌, append_assoc, append-nil, length, map, true, false, Option, None, Some, Result, Ok, Err, refl, sym, ◌∙◌, ap, arith}
-use Rattle.std.specs.Prelude.{Vec, IfOk, IfErr, IfSome, IsNone}
+use Rattle.std.specs.Prelude.{Vec, IfOk, IfErr, IfSome, IsNone, OnOk, ⊤}
 use Rattle.std.specs.declared.alloc.Global.{Global}
 use Rattle.std.proofs.lemmas.List.{length-append, nil_from_length}
 use Rattle.devices.specs.Lines.{has_newline, is_newline, newline, next_number}
@@ -16,6 +16,7 @@ use Rattle.batch_log.specs.Lines.{line_said, lines_said, Lines}
 use Rattle.batch_log.specs.Log.{batches_of, cut_apart, first_fault, is_room, last_batch, limited, whole_batches, within, IsEnd, IsFault}
 use Rattle.batch_log.proofs.Batches.{Fault-step, IsEnd-here, NextBatch-cut, NextBatch-last, Reads, Reads-call, Reads-none, Reads-step}
 use Rattle.batch_log.specs.Faults.{IsOfLine}
+use Rattle.batch_log.specs.Calls.{with_call}
 use Rattle.batch_log.specs.FeedSteps.{AddsCall, BreaksRule, EndsBatch}
 use Rattle.batch_log.specs.Places.{after_calls, said_from, batches_said, fault_said, IsAt, IsFaulty, IsWhole, Place}
 
@@ -63,6 +64,16 @@ IsAt-byte procs place ended fed b at h = record {
   one_line = has_newline-append place.line (b ∷ []) at.one_line (rw h refl);
 }
 
+-- ---- a line that comes at once
+
+pub IsAt-begun : (procs : ProcsParts) (place : Place) (ended : List Calls) (fed line : List ℕ) → IsAt procs place ended fed → place.line ≡ [] → has_newline line ≡ false →
+    IsAt procs (record place { line = line }) ended (fed ++ line)
+IsAt-begun procs place ended fed line at none one = record {
+  batches = λ more. rw (append_assoc fed line more) (rw none at (at.batches (line ++ more)));
+  fault = λ more. rw (append_assoc fed line more) (rw none at (at.fault (line ++ more)));
+  one_line = one;
+}
+
 -- ---- a call
 
 calls_and_one : (retries : ℕ) (procs : List ProcParts) (calls : Calls) (total n : ℕ) (c : requests.Call) (mid rest : Lines) → is_room retries (length calls) total ≡ true → mid ≡ (n, Ok (Call c)) ∷ rest →
@@ -86,6 +97,14 @@ IsAt-call procs place ended fed c at said room =
       fault = λ more. rw (append_assoc fed (newline ∷ []) more) (at.fault (newline ∷ more) ∙ (same more).1);
       one_line = refl;
     }
+
+pub IsAt-next : (r : Result ⊤ LogFaultKind) (procs : ProcsParts) (place new : Place) (ended : List Calls) (fed line : List ℕ) (c : requests.Call) → IsAt procs place ended fed → place.line ≡ [] →
+    (has_newline line ≡ false) × (line_said procs.procs line ≡ Ok (Call c)) × (is_room place.retries (length place.calls) place.total ≡ true) → OnOk r (new ≡ with_call place c) →
+    OnOk r (IsAt procs new ended (fed ++ (line ++ newline ∷ [])))
+IsAt-next (Err kind) procs place new ended fed line c at none said is = tt
+IsAt-next (Ok t) procs place new ended fed line c at none said is =
+    rw (is, none, ← append_assoc fed line (newline ∷ []))
+    (IsAt-call procs (record place { line = line }) ended (fed ++ line) c (IsAt-begun procs place ended fed line at none said.0) said.1 said.2)
 
 -- ---- a cut
 

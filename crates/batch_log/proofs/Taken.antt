@@ -23,10 +23,10 @@ no_newline_one (b ∷ line) h = rw (lines_of-last b line h) (omega arith)
 newline_one : (line : List ℕ) → has_newline line ≡ false → length (lines_of (line ++ newline ∷ [])) ≤ 1
 newline_one line h = rw (lines_of-newline line [] h) (omega arith)
 
-pub first_line : (a b : Option (List ℕ)) (p q : Position) (line : List ℕ) → TakesLine a b p q line → Passes (IsFirstLine line) a b
-first_line a b p q line t = elim t.1 [
-  | inl takes ↦ Passes-from_consumes (IsFirstLine line) a b (line ++ newline ∷ []) (λ ys. (t.0, inl (append_assoc line (newline ∷ []) ys))) takes.0
-  | inr last ↦ Passes-at_end (IsFirstLine line) a b line (t.0, inr (last.0, refl, refl)) last.1.0 last.2
+pub first_line : (a b : Option (List ℕ)) (p q : Position) (bare : Bool) (line : List ℕ) → TakesLine a b p q bare line → Passes (IsFirstLine line) a b
+first_line a b p q bare line t = elim t.1 [
+  | inl takes ↦ Passes-from_consumes (IsFirstLine line) a b (line ++ newline ∷ []) (λ ys. (t.0, inl (append_assoc line (newline ∷ []) ys))) takes.1.0
+  | inr last ↦ Passes-at_end (IsFirstLine line) a b line (t.0, inr (last.1, refl, refl)) last.2.0 last.3
 ]
 
 pub lost_line : (failed : Bool) (a b : Option (List ℕ)) (p q : Position) → LosesLine a b p q → Passes (LosesFirst failed) a b
@@ -38,8 +38,8 @@ lost_first line text rest h = elim h.1 [
   | inr e ↦ (line, e.1 ∙ sym (append-nil line) ∙ ap (λ l. line ++ l) (sym e.2), no_newline_one line h.0, λ f. absurd cc)
 ]
 
-pub lost_whole : (failed : Bool) (a b : Option (List ℕ)) (p q : Position) (line : List ℕ) → failed ≡ false → TakesLine a b p q line → Passes (LosesFirst failed) a b
-lost_whole failed a b p q line e t = rw e (Passes-weaken _ _ a b (first_line a b p q line t) (λ x y h. lost_first line x y h))
+pub lost_whole : (failed : Bool) (a b : Option (List ℕ)) (p q : Position) (bare : Bool) (line : List ℕ) → failed ≡ false → TakesLine a b p q bare line → Passes (LosesFirst failed) a b
+lost_whole failed a b p q bare line e t = rw e (Passes-weaken _ _ a b (first_line a b p q bare line t) (λ x y h. lost_first line x y h))
 
 -- ---- the lines of calls so far
 

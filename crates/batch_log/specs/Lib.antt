@@ -11,3 +11,6 @@ pub mod Places
 pub mod FeedSteps
 pub mod Feeds
 pub mod LineRules
+pub mod Calls
+pub mod Filters
+pub mod FilterSteps

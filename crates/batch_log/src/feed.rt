@@ -1,6 +1,6 @@
 //! The batches of a log that comes byte by byte.
 
-ghost use Rattle.std.specs.Prelude.{◌≡◌, ◌+◌, ◌≤◌, ◌^◌, List, ℕ, [], ◌∷◌, ◌++◌, None, false, IfOk, IfErr, IfSome, IsNone, length, true};
+ghost use Rattle.std.specs.Prelude.{◌≡◌, ◌+◌, ◌≤◌, ◌^◌, List, ℕ, [], ◌∷◌, ◌++◌, None, false, IfOk, IfErr, IfSome, IsNone, length, nat_lt, true};
 ghost use Rattle.std.specs.List.{AllByRecursion};
 ghost use Rattle.requests.specs.Requests.{Call};
 ghost use Rattle.batch_log.specs.Faults.{is_io, IsOfLine};
@@ -18,13 +18,13 @@ use std::mem;
 /// The calls of a batch that has not ended, and how far the log was read.
 #[derive(Drop)]
 pub struct LogFeed {
-    calls: Vec<Request>,
+    pub(crate) calls: Vec<Request>,
     // How often a stale request is tried again.
-    retries: u8,
+    pub(crate) retries: u8,
     // How many calls of the log were read.
-    total: u64,
+    pub(crate) total: u64,
     // How many lines of the log were read, up to 2^64 - 1.
-    lines: u64,
+    pub(crate) lines: u64,
     // The beginning of a line whose end has not come.
     line: Vec<u8>,
     ghost few: { length calls.items ≤ 4096 },
@@ -53,6 +53,20 @@ impl LogFeed {
         ensures { result ≡ (place_of self.now).lines }
     {
         self.lines
+    }
+
+    /// Whether a line is begun whose end has not come.
+    pub fn is_in_line(&self) -> bool
+        ensures { result ≡ nat_lt 0 (length (place_of self.now).line) }
+    {
+        !self.line.is_empty()
+    }
+
+    /// How many calls the batch has that has not ended.
+    pub fn len(&self) -> usize
+        ensures { result ≡ length (place_of self.now).calls }
+    {
+        self.calls.len()
     }
 
     /// A fault of the last line that was read.

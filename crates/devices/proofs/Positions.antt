@@ -1,5 +1,5 @@
 -- Where a reader stands after it took bytes.
-use Rattle.std.proofs.Common.{◌≡◌, ℕ, ◌+◌, ◌<◌, ◌^◌, List, [], ◌∷◌, ◌++◌, length, false, Option, refl, sym, ◌∙◌, ap, arith, inl, inr, length-append}
+use Rattle.std.proofs.Common.{◌≡◌, ℕ, ◌+◌, ◌<◌, ◌^◌, List, [], ◌∷◌, ◌++◌, length, Bool, true, false, Option, refl, sym, ◌∙◌, ap, arith, inl, inr, length-append}
 use Rattle.std.specs.Io.KnownBytes.{Consumes, IsAtEnd, Keeps}
 use Rattle.std.proofs.KnownBytes.{Consumes-kept}
 use Rattle.devices.specs.Devices.{Passes}
@@ -41,13 +41,13 @@ after_line p q line h small same none some =
 
 pub line_taken : (a c : Option (List ℕ)) (p : Position) (line : List ℕ) (m k : ℕ) → has_newline line ≡ false →
     Consumes a c (line ++ newline ∷ []) → m ≡ next_number p.newlines → k ≡ next_number p.newlines →
-    TakesLine a c p (record { newlines = m; begun = k }) line
-line_taken a c p line m k h taken e f = (h, inl (taken, rw (e, f) (sym (after_newline p line h))))
+    TakesLine a c p (record { newlines = m; begun = k }) false line
+line_taken a c p line m k h taken e f = (h, inl (refl, (taken, rw (e, f) (sym (after_newline p line h)))))
 
 pub last_taken : (a m c : Option (List ℕ)) (p q : Position) (line : List ℕ) → has_newline line ≡ false → 0 < length line → p.newlines < 2 ^ 64 → q.newlines ≡ p.newlines →
-    Consumes a m line → Keeps m c → IsAtEnd c → q.begun ≡ next_number p.newlines → TakesLine a c p q line
+    Consumes a m line → Keeps m c → IsAtEnd c → q.begun ≡ next_number p.newlines → TakesLine a c p q true line
 last_taken a m c p q line h some small same first second end f =
-    (h, inr (some, (Consumes-kept a m c line first second, after_line p q line h small same (λ none. absurd (omega arith)) (λ _. f)), end))
+    (h, inr (refl, some, (Consumes-kept a m c line first second, after_line p q line h small same (λ none. absurd (omega arith)) (λ _. f)), end))
 
 pub line_lost : (a m c : Option (List ℕ)) (p q : Position) (line : List ℕ) → has_newline line ≡ false → p.newlines < 2 ^ 64 → q.newlines ≡ p.newlines →
     (length line ≡ 0 → q.begun ≡ p.begun) → (0 < length line → q.begun ≡ next_number p.newlines) → Consumes a m line → Keeps m c → LosesLine a c p q
@@ -75,7 +75,7 @@ numbered_last a c p q line h some small takes end =
     let at : q ≡ record { newlines = p.newlines; begun = next_number p.newlines } = takes.1 ∙ sym (after_line p (record { newlines = p.newlines; begun = next_number p.newlines }) line h small refl (λ none. absurd (omega arith)) (λ _. refl)) in
     Passes-at_end _ a c line (rw at (numbered_lines-last p.newlines line h some)) takes.0 end
 
-pub numbered_of_line : (a c : Option (List ℕ)) (p q : Position) (line : List ℕ) → p.newlines < 2 ^ 64 → TakesLine a c p q line →
+pub numbered_of_line : (a c : Option (List ℕ)) (p q : Position) (bare : Bool) (line : List ℕ) → p.newlines < 2 ^ 64 → TakesLine a c p q bare line →
     Passes (λ xs ys. numbered_lines p.newlines xs ≡ (q.begun, line) ∷ numbered_lines q.newlines ys) a c
-numbered_of_line a c p q line small t =
-    elim t.1 [ inl takes ↦ numbered_newline a c p q line t.0 takes | inr last ↦ numbered_last a c p q line t.0 last.0 small last.1 last.2 ]
+numbered_of_line a c p q bare line small t =
+    elim t.1 [ inl takes ↦ numbered_newline a c p q line t.0 takes.1 | inr last ↦ numbered_last a c p q line t.0 last.1 small last.2 last.3 ]

@@ -36,6 +36,10 @@ line_begun r = r.begun
 abbrev pub fault_of : {S : Type 0} → LineReader S → Option LineReadFault
 fault_of r = r.fault
 
+-- whether the line that was read last came without a newline
+abbrev pub ends_bare : {S : Type 0} → LineReader S → Bool
+ends_bare r = r.bare
+
 -- where a reader stands in the lines of a text
 pub record Position : Type 0 where
   -- how many newlines were taken
@@ -58,10 +62,11 @@ position_after p (b ∷ rest) = record {
 abbrev pub Takes : Option (List ℕ) → Option (List ℕ) → Position → Position → List ℕ → Type 0
 Takes old new from to taken = Consumes old new taken × (to ≡ position_after from taken)
 
--- what is taken for a line: the line and its newline, or the last line, which isn't empty and has none
-abbrev pub TakesLine : Option (List ℕ) → Option (List ℕ) → Position → Position → List ℕ → Type 0
-TakesLine old new from to line = (has_newline line ≡ false) ×
-    (Takes old new from to (line ++ newline ∷ []) ⊎ ((0 < length line) × Takes old new from to line × IsAtEnd new))
+-- what is taken for a line: the line and its newline, or the last line, which isn't empty and is bare: it has none
+abbrev pub TakesLine : Option (List ℕ) → Option (List ℕ) → Position → Position → Bool → List ℕ → Type 0
+TakesLine old new from to bare line = (has_newline line ≡ false) ×
+    (((bare ≡ false) × Takes old new from to (line ++ newline ∷ []))
+    ⊎ ((bare ≡ true) × (0 < length line) × Takes old new from to line × IsAtEnd new))
 
 -- a beginning of a line is taken, and is lost
 abbrev pub LosesLine : Option (List ℕ) → Option (List ℕ) → Position → Position → Type 0

@@ -1,6 +1,6 @@
 //! The reader of a source's lines.
 
-ghost use Rattle.std.specs.Prelude.{◌≡◌, ◌≤◌, ◌<◌, ◌||◌, if◌then◌else◌, [], ◌∷◌, ◌++◌, length, take, slice_index, true, false, None, Err, IfOk, IfErr, OnOk, OnErr, IfSome, IsNone, IsOk, IsOkAnd, option_to_list};
+ghost use Rattle.std.specs.Prelude.{◌≡◌, ◌≤◌, ◌<◌, ◌||◌, if◌then◌else◌, [], ◌∷◌, ◌++◌, length, take, slice_index, slice_range, true, false, None, Err, IfOk, IfErr, OnOk, OnErr, IfSome, IsNone, IsOk, IsOkAnd, option_to_list};
 ghost use Rattle.std.specs.Result.{is_err};
 ghost use Rattle.std.specs.Io.KnownBytes.{Consumes, Keeps, IsAtEnd};
 ghost use Rattle.devices.specs.Devices.{Passes};
@@ -27,15 +27,18 @@ pub enum LineReadFault {
 #[derive(Drop)]
 pub struct LineReader<'a, S> {
     source: &'a mut S,
-    // The bytes that came and were not taken stand in `buffer[start..end]`.
+    // The bytes that came and were not taken, at most 4096, are `buffer[start..end]`.
     buffer: [u8; BUFFER_LEN],
     start: usize,
     end: usize,
     newlines: u64,
     begun: u64,
     fault: Option<LineReadFault>,
+    // Whether the line that was read last came without a newline.
+    bare: bool,
     ghost ordered: { start ≤ end },
     ghost in_bounds: { end ≤ length buffer },
+    ghost ahead: { length (slice_range buffer start end) ≤ 4096 },
 }
 
 const BUFFER_LEN: usize = 4096;
@@ -73,7 +76,7 @@ fn push_piece(line: &mut Vec<u8>, piece: &[u8]) -> Result<(), AllocError>
 }
 
 impl<'a, S: Source> LineReader<'a, S> {
-    ghost use Rattle.devices.specs.LineReader.{came, fault_in, fault_of, IsFaultAt, is_io, line_begun, LosesLine, newlines_taken, position_of, source_name, source_of, Takes, TakesLine, TellsFault, unread};
+    ghost use Rattle.devices.specs.LineReader.{came, ends_bare, fault_in, fault_of, IsFaultAt, is_io, line_begun, LosesLine, newlines_taken, position_of, source_name, source_of, Takes, TakesLine, TellsFault, unread};
 
     /// A reader that has read nothing.
     pub fn new(source: &'a mut S) -> LineReader<'a, S>
@@ -92,6 +95,7 @@ impl<'a, S: Source> LineReader<'a, S> {
             newlines: 0,
             begun: 0,
             fault: None,
+            bare: false,
         }
     }
 
@@ -116,6 +120,13 @@ impl<'a, S: Source> LineReader<'a, S> {
         ensures { result ≡ line_begun self.now }
     {
         self.begun
+    }
+
+    /// Whether the line that was read last came without a newline, as the last one of a source may.
+    pub fn ends_bare(&self) -> bool
+        ensures { result ≡ ends_bare self.now }
+    {
+        self.bare
     }
 
     // Reads on where every byte that came was taken. Then none stands in the buffer only at the end.
@@ -172,7 +183,7 @@ impl<'a, S: Source> LineReader<'a, S> {
         ensures stays { self.new.fault ≡ self.old.fault }
         ensures line { IfOk result (λ o.
             IfSome o (λ line. TakesLine (unread S.left self.old) (unread S.left self.new) (position_of self.old)
-            (position_of self.new) line.items)) }
+            (position_of self.new) (ends_bare self.new) line.items)) }
         ensures numbered { IfOk result (λ o. IfSome o (λ line. Passes
             (λ xs ys. numbered_lines (newlines_taken self.old) xs ≡ (line_begun self.new, line.items)
             ∷ numbered_lines (newlines_taken self.new) ys)
@@ -195,10 +206,14 @@ impl<'a, S: Source> LineReader<'a, S> {
                 if line.is_empty() {
                     return Ok(None);
                 }
+                self.bare = true;
                 return Ok(Some(line));
             }
             match self.take_piece(number, &mut line) {
-                Ok(true) => return Ok(Some(line)),
+                Ok(true) => {
+                    self.bare = false;
+                    return Ok(Some(line));
+                }
                 Ok(false) => {}
                 Err(AllocError) => return Err(LineReadFault::Memory { line: number }),
             }
@@ -211,7 +226,7 @@ impl<'a, S: Source> LineReader<'a, S> {
         ensures same { source_name self.new ≡ source_name self.old }
         ensures line { IfOk result (λ o. IfSome o (λ line.
             TakesLine (unread S.left self.old) (unread S.left self.new) (position_of self.old)
-            (position_of self.new) line.items ×
+            (position_of self.new) (ends_bare self.new) line.items ×
             Passes (λ xs ys. numbered_lines (newlines_taken self.old) xs ≡ (line_begun self.new, line.items)
             ∷ numbered_lines (newlines_taken self.new) ys) (unread S.left self.old) (unread S.left self.new))) }
         ensures end { IfOk result (λ o. IsNone o →

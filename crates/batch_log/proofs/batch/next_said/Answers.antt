@@ -26,19 +26,19 @@ pub returns-in-Err-clause-moves : goal.returns-in-Err-clause-moves
 returns-in-Err-clause-moves g c = Moves-lost _ _ _ _ c.in-Err.ensures.lost
 
 pub returns-in-Ok-clause-moves : goal.returns-in-Ok-clause-moves
-returns-in-Ok-clause-moves g c = Moves-line _ _ _ _ c.in-Ok-Some.line.items (rw c.in-Ok-Some.field-0-is at c.in-Ok-Some.ensures.line).0
+returns-in-Ok-clause-moves g c = Moves-line _ _ _ _ _ c.in-Ok-Some.line.items (rw c.in-Ok-Some.field-0-is at c.in-Ok-Some.ensures.line).0
 
 pub returns-clause-moves : goal.returns-clause-moves
-returns-clause-moves g c = Moves-line _ _ _ _ c.in-Ok-Some.line.items (rw c.in-Ok-Some.field-0-is at c.in-Ok-Some.ensures.line).0
+returns-clause-moves g c = Moves-line _ _ _ _ _ c.in-Ok-Some.line.items (rw c.in-Ok-Some.field-0-is at c.in-Ok-Some.ensures.line).0
 
 pub returns-in-Ok-clause-first : goal.returns-in-Ok-clause-first
 returns-in-Ok-clause-first g c =
     let said : line_said c.args.procs.now.procs c.in-Ok-Some.line.items ≡ Ok c.in-Ok.said = rw c.deref.ensures.value at c.in-Ok.ensures.exact in
-    Passes-weaken _ _ _ _ (first_line _ _ _ _ c.in-Ok-Some.line.items (rw c.in-Ok-Some.field-0-is at c.in-Ok-Some.ensures.line).0) (λ x y h. (c.in-Ok-Some.line.items, h, said))
+    Passes-weaken _ _ _ _ (first_line _ _ _ _ _ c.in-Ok-Some.line.items (rw c.in-Ok-Some.field-0-is at c.in-Ok-Some.ensures.line).0) (λ x y h. (c.in-Ok-Some.line.items, h, said))
 
 pub returns-in-Err-clause-lost : goal.returns-in-Err-clause-lost
 returns-in-Err-clause-lost g c = lost_line _ _ _ _ _ c.in-Err.ensures.lost
 
 pub returns-clause-lost : goal.returns-clause-lost
 returns-clause-lost g c =
-    lost_whole _ _ _ _ _ c.in-Ok-Some.line.items (rw c.fault_of_line.ensures c.in-Err-read_line_with.ensures.no_device) (rw c.in-Ok-Some.field-0-is at c.in-Ok-Some.ensures.line).0
+    lost_whole _ _ _ _ _ _ c.in-Ok-Some.line.items (rw c.fault_of_line.ensures c.in-Err-read_line_with.ensures.no_device) (rw c.in-Ok-Some.field-0-is at c.in-Ok-Some.ensures.line).0

@@ -27,7 +27,7 @@ returns-then-self-clause-line g c =
 
 pub returns-then-self-clause-numbered : goal.returns-then-self-clause-numbered
 returns-then-self-clause-numbered g c =
-    numbered_of_line _ _ (position_of c.args.self.now) (position_of c.fill.new.self) _ (search rules)
+    numbered_of_line _ _ (position_of c.args.self.now) (position_of c.fill.new.self) true _ (search rules)
     (last_taken _ _ _ (position_of c.args.self.now) (position_of c.fill.new.self) _ c.pieces.invariant.line (search rules) (search rules) (search rules) c.pieces.invariant.taken
     c.fill.ensures.bytes (search rules) (search rules))
 
@@ -39,7 +39,7 @@ returns-in-Ok-true-clause-line g c =
 
 pub returns-in-Ok-true-clause-numbered : goal.returns-in-Ok-true-clause-numbered
 returns-in-Ok-true-clause-numbered g c =
-    numbered_of_line _ _ (position_of c.args.self.now) (position_of c.take_piece.new.self) _ (search rules)
+    numbered_of_line _ _ (position_of c.args.self.now) (position_of c.take_piece.new.self) false _ (search rules)
     (returns-in-Ok-true-clause-line g c)
 
 pub pieces-preserved : goal.pieces-preserved
