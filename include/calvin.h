@@ -22,8 +22,17 @@ extern "C" {
 enum {
     CALVIN_DONE = 0,
     CALVIN_REFUSED = 1,  /* the setup or the log breaks a rule */
-    CALVIN_MISUSED = 2,  /* a pointer is null, a setting is outside its range, or the log has ended */
+    CALVIN_MISUSED = 2,  /* a pointer is null, a setting is outside its range, the log has ended, or a line is begun */
     CALVIN_NO_MEMORY = 3 /* memory was refused */
+};
+
+/* What calvin_call answers, too: the number of a line's fault, as docs/faults.md has it. */
+enum {
+    CALVIN_NOT_JSON = 31,     /* the line is no JSON text */
+    CALVIN_NOT_CALL = 32,     /* the line is no call: a cut, more than one line, or another form */
+    CALVIN_NO_PROCEDURE = 33, /* no procedure has that name */
+    CALVIN_ARGUMENTS = 34,    /* the values are not one for each parameter, of its type */
+    CALVIN_BATCH_FULL = 35    /* the batch has 4,096 calls, or the log as many as it may have */
 };
 
 /* The settings of `calvin run` where none are given. None of them changes a report. */
@@ -43,6 +52,9 @@ int32_t calvin_c_open(const uint8_t *setup, size_t setup_length, size_t coarsen,
                       uint8_t *message, size_t message_room, size_t *message_length);
 int32_t calvin_c_feed(calvin_c_session session, const uint8_t *bytes, size_t length);
 int32_t calvin_c_end(calvin_c_session session);
+int32_t calvin_c_call(calvin_c_session session, const uint8_t *line, size_t length, uint64_t *number);
+int32_t calvin_c_test(calvin_c_session session, const uint8_t *line, size_t length);
+int32_t calvin_c_cut(calvin_c_session session);
 size_t calvin_c_drain(calvin_c_session session, uint8_t *into, size_t room);
 int32_t calvin_c_fault(calvin_c_session session, uint64_t *line);
 void calvin_c_close(calvin_c_session session);
@@ -75,6 +87,42 @@ static inline int calvin_feed(calvin *session, const uint8_t *bytes, size_t leng
 static inline int calvin_end(calvin *session) {
     calvin_c_session live = {session};
     return session == NULL ? CALVIN_MISUSED : calvin_c_end(live);
+}
+
+/* Takes a line, which has no newline, as the next call of the log. Where it is a call that the setup takes, it waits for the cut,
+ * and `number` gets the number of its transaction: that of its first attempt. Any other line, a cut too, answers its fault, 31 to
+ * 35, and nothing has changed, as with each other answer but 0; `number` gets 0 then. CALVIN_MISUSED where the log has ended, or
+ * where the beginning of a line was fed and its end was not. The session is live. */
+static inline int calvin_call(calvin *session, const uint8_t *line, size_t length, uint64_t *number) {
+    static const uint8_t none = 0;
+    calvin_c_session live = {session};
+    if (number == NULL) return CALVIN_MISUSED;
+    *number = 0;
+    if (session == NULL || (line == NULL && length != 0)) return CALVIN_MISUSED;
+    return calvin_c_call(live, length == 0 ? &none : line, length, number);
+}
+
+/* Tells in `fault` what calvin_call would answer for the line, 0 or 31 to 35, unless memory is refused, and takes nothing. Where it
+ * would answer something else, that is the answer, and `fault` gets 0. The session is live. */
+static inline int calvin_test(calvin *session, const uint8_t *line, size_t length, int *fault) {
+    static const uint8_t none = 0;
+    calvin_c_session live = {session};
+    int32_t status;
+    if (fault == NULL) return CALVIN_MISUSED;
+    *fault = 0;
+    if (session == NULL || (line == NULL && length != 0)) return CALVIN_MISUSED;
+    status = calvin_c_test(live, length == 0 ? &none : line, length);
+    if (status < CALVIN_NOT_JSON) return status;
+    *fault = status;
+    return CALVIN_DONE;
+}
+
+/* Ends the batch: its calls are executed before the call returns, and their report waits to be drained, as if the line of a cut
+ * were fed. CALVIN_MISUSED as for calvin_call, and nothing has changed then. CALVIN_NO_MEMORY ends the session, as in calvin_feed;
+ * where calvin_call or calvin_test answers it, calvin_fault tells whether the session has ended. The session is live. */
+static inline int calvin_cut(calvin *session) {
+    calvin_c_session live = {session};
+    return session == NULL ? CALVIN_MISUSED : calvin_c_cut(live);
 }
 
 /* Moves report bytes that wait to the front of `into`, as many as there are or as fit into `room` bytes; `taken` gets how many.

@@ -4,12 +4,12 @@
 #     scripts/static_library.sh [PROGRAM]      PROGRAM is crates/cli/out/cli where none is named
 #
 # Each setup in examples/ that has a log and a report is run by each of them, fed at once and in pieces of 1 and of 7 bytes, and so
-# are a log with a fault and a setup with one: standard output, standard error and the exit status are the program's. The example in
-# C is fed the logs of the stored cases, too, in pieces of 1, 7 and 4096 bytes, and leaves what is stored with them. Then
-# `scripts/refuse_memory.c` runs a log once for each of its allocations, and refuses it memory from there on. The archive is proved
-# and built first, over what is built already. All in C needs `cc`, and the example in Rust `cargo` and `cc`, which links it; where
-# one of these isn't there, the script says what it leaves out. It ends with how many runs agree, and with status 1 where one
-# doesn't.
+# are a log with a fault and a setup with one: standard output, standard error and the exit status are the program's. These logs are
+# run by single calls, too (`scripts/session_calls.c`). The example in C is fed the logs of the stored cases in pieces of 1, 7 and
+# 4096 bytes, and leaves what is stored with them. Then `scripts/refuse_memory.c` runs a log once for each of its allocations, and
+# refuses it memory from there on. The archive is proved and built first, over what is built already. All in C needs `cc`, and the
+# example in Rust `cargo` and `cc`, which links it; where one of these isn't there, the script says what it leaves out. It ends with
+# how many runs agree, and with status 1 where one doesn't. The tests of the bindings for Python and for Rust are run, too.
 set -euo pipefail
 cd -- "$(dirname -- "$0")/.."
 program=$(readlink -f -- "${1-crates/cli/out/cli}")
@@ -26,6 +26,7 @@ if command -v cc > /dev/null; then
     cc -std=c99 -O2 -Wall -Wextra -Werror -Iinclude examples/c/replay.c "$archive" "$heap" -o "$work/replay-c"
     cc -std=c99 -O2 -Wall -Wextra -Werror -Iinclude -Wl,--wrap=malloc,--wrap=realloc,--wrap=free scripts/refuse_memory.c \
         "$archive" "$heap" -o "$work/refuse_memory"
+    cc -std=c99 -O2 -Wall -Wextra -Werror -Iinclude scripts/session_calls.c "$archive" "$heap" -o "$work/session_calls"
     languages+=(c)
 else
     echo "there is no cc here: the example in C is left out, and so are refusals of memory" >&2
@@ -73,6 +74,37 @@ for run in "${runs[@]}"; do
         done
     done
 done
+# The tests of the bindings.
+mkdir -p "$work/lib"
+if scripts/library.sh "$work/lib"; then
+    CALVIN_LIBRARY=$work/lib/libcalvin.so bindings/python/tests.py || differ=$((differ + 1))
+    if command -v cargo > /dev/null; then
+        CALVIN_LIB=$work/lib CARGO_TARGET_DIR=$work/target cargo test --quiet --offline --manifest-path bindings/rust/Cargo.toml ||
+            differ=$((differ + 1))
+    fi
+else
+    differ=$((differ + 1))
+fi
+
+# Each log by single calls, with a line that has a fault between them, and with a last cut: the program's report on the log with that
+# cut alone.
+if [[ -x $work/session_calls ]]; then
+    for report in examples/*.report; do
+        setup=${report%.report}.json log=${report%.report}.log
+        { cat "$log"; printf '["cut"]\n'; } > "$work/cut.log"
+        { printf '["call",1]\n'; cat "$log"; } > "$work/calls.log"
+        record wanted "$work/cut.log" "$program" run "$setup"
+        record given "$work/calls.log" "$work/session_calls" "$setup"
+        if cmp -s "$work/wanted.out" "$work/given.out" && cmp -s "$work/wanted.status" "$work/given.status" &&
+            [[ $(cat "$work/given.err") == 'fault 32 line 1' ]]; then
+            agree=$((agree + 1))
+        else
+            differ=$((differ + 1))
+            echo "by single calls $setup and $log print something else than the program"
+            cat "$work/given.err"
+        fi
+    done
+fi
 if [[ -x $work/replay-c ]]; then
     scripts/cases.py --sessions "$work/replay-c" || differ=$((differ + 1))
 fi

@@ -10,9 +10,17 @@ mod status;
 
 use handle::{Handle, Opaque, give_back};
 use opening::{opened, settings_of, setup_of};
-use session::SessionFault;
-use status::{DONE, session_status};
+use session::{CallFault, SessionFault};
+use status::{DONE, call_status, session_status};
 use std::alloc::Global;
+
+/// The status of a line that was taken, or was not.
+fn status_of(taken: Result<(), CallFault>) -> i32 {
+    match taken {
+        Ok(()) => DONE,
+        Err(fault) => call_status(fault),
+    }
+}
 
 /// Opens a session on the setup that a JSON text says. 0: its pointer is in `out`, and `calvin_c_close` wants it back.
 /// 1: the text breaks a rule, and the fault's line stands in the first `written` bytes of `message`. 2: a setting is
@@ -69,6 +77,47 @@ pub extern "C" fn calvin_c_end(alloc: Global, handle: Handle) -> i32 {
         Ok(_) => DONE,
         Err(fault) => session_status(fault),
     }
+}
+
+/// Takes a line without its newline as the next call. 0: it is, and `number` has the number of its transaction. 31 to
+/// 35: the fault of the line, which is 32 for a cut and for more than one line. 1: the log has a fault. 2: the log has
+/// ended, or a line is begun. 3: memory was refused. But for 0 nothing has changed.
+#[unsafe(no_mangle)]
+pub extern "C" fn calvin_c_call(
+    alloc: Global,
+    handle: Handle,
+    line: &[u8],
+    number: &mut u64,
+) -> i32 {
+    let mut session = handle.into_box(alloc);
+    let called = session.call(alloc, line);
+    give_back(session);
+    match called {
+        Ok(first) => {
+            *number = first;
+            DONE
+        }
+        Err(fault) => call_status(fault),
+    }
+}
+
+/// Tells what `calvin_c_call` would answer for the line, and takes nothing.
+#[unsafe(no_mangle)]
+pub extern "C" fn calvin_c_test(alloc: Global, handle: Handle, line: &[u8]) -> i32 {
+    let session = handle.into_box(alloc);
+    let tested = session.test(alloc, line);
+    give_back(session);
+    status_of(tested)
+}
+
+/// Ends the batch. 0: its calls are executed, and their report waits. 1: the log has a fault. 2: the log has ended, or
+/// a line is begun. 3: memory was refused.
+#[unsafe(no_mangle)]
+pub extern "C" fn calvin_c_cut(alloc: Global, handle: Handle) -> i32 {
+    let mut session = handle.into_box(alloc);
+    let cut = session.cut(alloc);
+    give_back(session);
+    status_of(cut)
 }
 
 /// Moves report bytes that wait to the front of `into`, as many as there are or as fit, and gives how many.

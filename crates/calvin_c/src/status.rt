@@ -3,14 +3,14 @@
 use batch_log::{LogFault, LogFaultKind};
 use catalogue::CatalogueFault;
 use proclang::ProcFault;
-use session::SessionFault;
+use session::{CallFault, SessionFault};
 use setup::SetupFault;
 
 /// It was done.
 pub(crate) const DONE: i32 = 0;
 /// The setup or the log breaks a rule.
 pub(crate) const REFUSED: i32 = 1;
-/// A setting is outside its range, or the log has ended.
+/// A setting is outside its range, the log has ended, or a line is begun.
 pub(crate) const MISUSED: i32 = 2;
 /// The system refused memory.
 pub(crate) const NO_MEMORY: i32 = 3;
@@ -38,5 +38,15 @@ pub(crate) fn session_status(fault: SessionFault) -> i32 {
     match fault {
         SessionFault::Over => MISUSED,
         SessionFault::Log(fault) => log_status(fault),
+    }
+}
+
+/// The status of a call or a cut that was not taken: a fault of the line is its number.
+pub(crate) fn call_status(fault: CallFault) -> i32 {
+    match fault {
+        CallFault::Stopped(fault) => session_status(fault),
+        CallFault::InLine => MISUSED,
+        CallFault::Line(LogFaultKind::Memory) => NO_MEMORY,
+        CallFault::Line(kind) => kind as i32,
     }
 }

@@ -3,3 +3,4 @@ pub mod Rooms
 pub mod Turns
 pub mod Runs
 pub mod Closed
+pub mod Numbers

@@ -34,7 +34,7 @@ few_calls : (work : Work) (batch : List Call) → IsReady work → HasRoomFor wo
     call_count log.ran + length batch ≤ most_calls work.engine.retries
 few_calls work batch h few log = within _ _ _ (length batch) (most_calls work.engine.retries) log.counted (rw h.limit at few)
 
-room_after : (work : Work) (batch : List Call) → IsReady work → HasRoomFor work batch → IsAfterCalls work.engine.retries (standing_of work.engine) (place_of work.feed) →
+pub room_after : (work : Work) (batch : List Call) → IsReady work → HasRoomFor work batch → IsAfterCalls work.engine.retries (standing_of work.engine) (place_of work.feed) →
     work.engine.next + length (attempts_at (standing_of work.engine) batch) ≤ 2 ^ 48
 room_after work batch h few log = room_at work.engine.retries (standing_of work.engine) log.db log.ran batch log.standing_is h.few (few_calls work batch h few log)
 

@@ -3,3 +3,4 @@ pub mod Writes
 pub mod Ends
 pub mod Works
 pub mod Sessions
+pub mod Calls

@@ -7,7 +7,7 @@ use Rattle.requests.specs.Requests.{Call}
 use Rattle.batch_log.specs.declared.fault.LogFault.{LogFault}
 use Rattle.batch_log.specs.Feeds.{place_of}
 use Rattle.batch_log.specs.Places.{IsAt, IsWhole, Place}
-use Rattle.retries.specs.Standings.{call_count, Standing}
+use Rattle.retries.specs.Standings.{attempts_at, call_count, Standing}
 use Rattle.engine.specs.Engines.{is_busy, tables_of, EngineParts}
 use Rattle.running.specs.declared.transcript.Transcript.{Transcript}
 use Rattle.running.specs.Batches.{KeepsDigest}
@@ -72,6 +72,11 @@ pub record HasRunWhole (start : Start) (log drained : List ℕ) (work : Work) : 
 abbrev pub Continues : Work → List ℕ → Work → Type 0
 Continues old bytes new =
     (start : Start) (fed drained : List ℕ) → HasRun start fed drained old → HasRun start (fed ++ bytes) drained new
+
+-- the number of the transaction that the next call is: those that were run stand before it, then what is carried, then
+-- the calls that wait
+abbrev pub next_number : Work → ℕ
+next_number work = work.engine.next + length (attempts_at (standing_of work.engine) (place_of work.feed).calls)
 
 -- this fault ends each log that goes on by these bytes
 abbrev pub FaultsAfter : Work → List ℕ → Report → LogFault → Type 0

@@ -1,10 +1,13 @@
 //! A run of a log, piece by piece.
 
-ghost use Rattle.std.specs.Prelude.{◌≡◌, ◌++◌, ◌≤◌, [], ℕ, List, length, take, None, Err, IfOk, IfErr, IfSome, IsSome, OnOk, drop, min};
+ghost use Rattle.std.specs.Prelude.{◌≡◌, ◌++◌, ◌≤◌, [], ◌∷◌, ℕ, List, length, take, None, Ok, Err, IfOk, IfErr, IfSome, IsSome, OnOk, OnErr, drop, min};
 ghost use Rattle.std.proofs.Props.{props};
 ghost use Rattle.running.specs.Starts.{start_in, Start};
-ghost use Rattle.session.specs.Works.{IsReady};
+ghost use Rattle.devices.specs.Lines.{newline};
+ghost use Rattle.session.specs.declared.call.CallFault.{CallFault as AnyFault};
+ghost use Rattle.session.specs.Works.{next_number, IsReady};
 
+use crate::call::CallFault;
 use crate::work::Work;
 use batch_log::LogFault;
 use engine::Settings;
@@ -12,6 +15,9 @@ use setup::SetupDocument;
 use std::alloc::Global;
 use thiserror::Error;
 use values::NoMemory;
+
+/// The line that ends a batch.
+const CUT: &str = "[\"cut\"]\n";
 
 /// Why nothing more is taken of a log.
 #[derive(Clone, Copy, Debug, PartialEq, Eq, Error)]
@@ -29,8 +35,8 @@ pub enum SessionFault {
 /// calls after the last cut are executed at the end. A stale request is tried again in the next batch, as often as the
 /// setup says; at the end batches without calls follow while there are such requests.
 ///
-/// A fault ends the run: one of a line of the log (31 to 35), or want of memory (37). What was reported until then can
-/// be drained.
+/// A fault of what is fed, of a cut or of the end stops the run: one of a line of the log (31 to 35), or want of memory
+/// (37). What was reported until then can be drained.
 #[derive(Drop)]
 pub struct Session {
     work: Work,
@@ -39,6 +45,7 @@ pub struct Session {
 }
 
 impl Session {
+    ghost use Rattle.session.specs.Calls.{at_line_of, call_said, cut_line, stop_at_cut, Answers, HasStopped};
     ghost use Rattle.session.specs.Sessions.{stop_at_end, stop_in, stop_of, waiting_of, EndsInFault, EndsWhole, FaultsOn, HasTaken, KeepsWaiting, KeepsWaitingAtEnd, TakesOn};
 
     /// A run on a setup document, of whose log nothing was fed.
@@ -77,6 +84,67 @@ impl Session {
                 self.stop = Some(fault);
                 Err(fault)
             }
+        }
+    }
+
+    /// Whether nothing keeps a call from being the next line.
+    fn is_at_line(&self) -> Result<(), CallFault>
+        ensures { result ≡ at_line_of self.now }
+    {
+        if let Some(fault) = self.stop {
+            return Err(CallFault::Stopped(fault));
+        }
+        if self.work.feed.is_in_line() {
+            return Err(CallFault::InLine);
+        }
+        Ok(())
+    }
+
+    /// Tells what `call` would answer for the line, but for its number, unless an allocation fails, and takes nothing.
+    pub fn test(&self, alloc: Global, line: &[u8]) -> Result<(), CallFault>
+        ensures { Answers result (call_said self.now line.now) }
+    {
+        self.is_at_line()?;
+        match self.work.feed.test(alloc, self.work.engine.procs(), line) {
+            Ok(()) => Ok(()),
+            Err(kind) => Err(CallFault::Line(kind)),
+        }
+    }
+
+    /// Takes a line, which comes without its newline, as the next call of the log, and gives the number of its
+    /// transaction: that of its first attempt. A line that is no call that the setup takes has its fault (31 to 35),
+    /// which is 32 for a cut and for more than one line. An error changes nothing.
+    pub fn call(&mut self, alloc: Global, line: &[u8]) -> Result<u64, CallFault>
+        ensures taken { OnOk result (TakesOn self.old (line.now ++ newline ∷ []) self.new) }
+        ensures number { IfOk result (λ number. number ≡ next_number self.old.work) }
+        ensures answer { Answers result (call_said self.old line.now) }
+        ensures err { OnErr result (TakesOn self.old [] self.new) }
+        ensures kept { waiting_of self.new ≡ waiting_of self.old }
+        ensures stays { stop_of self.new ≡ stop_of self.old }
+    {
+        self.is_at_line()?;
+        let number = self.work.next_number();
+        match self.work.take_call(alloc, line) {
+            Ok(()) => Ok(number),
+            Err(kind) => Err(CallFault::Line(kind)),
+        }
+    }
+
+    /// Ends the batch: its calls are executed, and their report waits, as if the line of a cut were fed.
+    pub fn cut(&mut self, alloc: Global) -> Result<(), CallFault>
+        ensures taken { OnOk result (TakesOn self.old cut_line self.new) }
+        ensures fault { at_line_of self.old ≡ Ok tt →
+            IfErr result (λ e. HasStopped e (FaultsOn self.old cut_line self.new)) }
+        // Report bytes that waited wait still.
+        ensures kept { KeepsWaiting self.old self.new }
+        ensures refused { (fault : AnyFault) → at_line_of self.old ≡ Err fault →
+            (result ≡ Err fault) × (self.new ≡ self.old) }
+        ensures stops { at_line_of self.old ≡ Ok tt → stop_of self.new ≡ stop_at_cut result }
+    {
+        self.is_at_line()?;
+        match self.feed(alloc, CUT.as_bytes()) {
+            Ok(()) => Ok(()),
+            Err(fault) => Err(CallFault::Stopped(fault)),
         }
     }
 

@@ -1,7 +1,12 @@
 //! The work at a log: bytes become batches, and batches report.
 
-ghost use Rattle.std.specs.Prelude.{◌≡◌, ◌++◌, [], ◌∷◌, List, ℕ, IfOk, IfErr, OnOk, Some};
+ghost use Rattle.std.specs.Prelude.{◌≡◌, ◌++◌, [], ◌∷◌, List, ℕ, IfOk, IfErr, OnOk, OnErr, Some};
+ghost use Rattle.documents.specs.Reading.{Reads};
 ghost use Rattle.devices.specs.Devices.{AppendsFront};
+ghost use Rattle.devices.specs.Lines.{newline};
+ghost use Rattle.batch_log.specs.Calls.{is_call, next_call};
+ghost use Rattle.batch_log.specs.Faults.{is_memory};
+ghost use Rattle.batch_log.specs.Feeds.{place_of};
 ghost use Rattle.sequencer.specs.Batches.{items_of, AreOver};
 ghost use Rattle.engine.specs.Engines.{tables_of};
 ghost use Rattle.engine.specs.Executions.{KeepsSetting};
@@ -12,7 +17,7 @@ ghost use Rattle.running.specs.Hashers.{form_of};
 ghost use Rattle.running.specs.Starts.{start_in, Start};
 ghost use Rattle.session.specs.Ends.{IsWholeRun};
 ghost use Rattle.session.specs.Reports.{waiting_in};
-ghost use Rattle.session.specs.Works.{Continues, FaultsAfter, FaultsAtEnd, HasRun, IsReady, ReadsWhole, RunsWhole};
+ghost use Rattle.session.specs.Works.{next_number, Continues, FaultsAfter, FaultsAtEnd, HasRun, IsReady, ReadsWhole, RunsWhole};
 ghost use Rattle.session.specs.Writes.{IsBeginning};
 
 use crate::report::Report;
@@ -129,6 +134,32 @@ impl Work {
             }
         }
         Ok(())
+    }
+
+    /// The number of the transaction that the next call is.
+    pub(crate) fn next_number(&self) -> u64
+        requires { IsReady self.now }
+        ensures { result ≡ next_number self.now }
+    {
+        let before = self.engine.carried() + self.feed.len();
+        self.engine.transactions() + before as u64
+    }
+
+    /// Takes a line, which comes without its newline, as the next call. No line is begun.
+    pub(crate) fn take_call(&mut self, alloc: Global, line: &[u8]) -> Result<(), LogFaultKind>
+        requires ready { IsReady self.old }
+        requires whole { (place_of self.old.feed).line ≡ [] }
+        ensures ready { IsReady self.new }
+        ensures taken { OnOk result (Continues self.old (line.now ++ newline ∷ []) self.new) }
+        ensures exact { Reads is_memory (λ _. tt) result
+            (is_call (next_call self.old.engine.procs.procs (place_of self.old.feed) line.now)) }
+        ensures err { OnErr result (Continues self.old [] self.new) }
+        ensures report { self.new.report ≡ self.old.report }
+    {
+        match self.feed.call(alloc, self.engine.procs(), line) {
+            Ok(()) => Ok(()),
+            Err(kind) => Err(kind),
+        }
     }
 
     /// Takes the end of the log, and executes and reports the last batch, if there is one.

@@ -2,9 +2,7 @@
 //!
 //!     replay SETUP [PIECE]      feeds PIECE bytes at a time, or 4096
 
-mod calvin;
-
-use calvin::{Fault, Session, ARENA, COARSEN};
+use calvin::{Fault, Session, Settings};
 use std::io::{self, Read, Write};
 use std::process::ExitCode;
 use std::{env, fs};
@@ -36,14 +34,13 @@ fn replay(session: &mut Session, log: &[u8], piece: usize) -> io::Result<Result<
 
 /// Says a fault on standard error, and gives the exit status that the program has for it.
 fn told(fault: Fault) -> ExitCode {
-    let (line, status) = match fault {
-        Fault::Setup(line) => (line, 1),
-        Fault::Log { number: 37, line } => (format!("fault 37 line {line}"), 3),
-        Fault::Log { number, line } => (format!("fault {number} line {line}"), 1),
-        Fault::Misused => ("misused".to_string(), 2),
-        Fault::NoMemory => ("no memory".to_string(), 3),
+    let status = match fault {
+        Fault::Setup(_) | Fault::Line(_) => 1,
+        Fault::Log { number, .. } if number != 37 => 1,
+        Fault::Misused => 2,
+        Fault::Log { .. } | Fault::NoMemory => 3,
     };
-    eprintln!("{line}");
+    eprintln!("{fault}");
     ExitCode::from(status)
 }
 
@@ -54,7 +51,7 @@ fn main() -> io::Result<ExitCode> {
         eprintln!("usage: replay SETUP [PIECE]");
         return Ok(ExitCode::from(2));
     };
-    let mut session = match Session::open(&fs::read(path)?, COARSEN, ARENA) {
+    let mut session = match Session::open(&fs::read(path)?, Settings::default()) {
         Ok(session) => session,
         Err(fault) => return Ok(told(fault)),
     };
