@@ -1,5 +1,5 @@
 -- How the plans of a first batch end.
-use Rattle.std.proofs.Common.{◌≡◌, ℕ, zero, suc, ◌+◌, ◌||◌, List, [], ◌∷◌, ◌++◌, map, Bool, true, false, Option, Some, None, is_some, Result, Ok, Err, IsOkAnd, String, string_bytes, refl, sym, ap, ◌∙◌, subst}
+use Rattle.std.proofs.Common.{◌≡◌, ℕ, zero, suc, ◌+◌, ◌≤◌, ◌||◌, List, [], ◌∷◌, ◌++◌, length, map, Bool, true, false, Option, Some, None, is_some, Result, Ok, Err, IsOkAnd, String, string_bytes, refl, sym, ap, ◌∙◌, subst}
 use Rattle.std.specs.Option.{IfSome}
 use Rattle.std.specs.declared.alloc.Global.{Global}
 use Rattle.std.specs.Io.KnownBytes.{Consumes, prepend_known}
@@ -19,6 +19,7 @@ use Rattle.batch_log.specs.declared.fault.LogFault.{LogFault}
 use Rattle.batch_log.specs.Faults.{is_io, IsOfLine, line_named}
 use Rattle.batch_log.specs.Log.{batches_of, first_fault, log_said, IsEnd, IsFault, IsNextBatch}
 use Rattle.batch_log.specs.Moves.{Moves}
+use Rattle.batch_log.specs.Taken.{TakesCalls}
 use Rattle.dispatcher.specs.declared.settings.Settings.{Settings}
 use Rattle.running.specs.declared.run_fault.RunFault.{RunFault}
 use Rattle.running.specs.declared.run_fault.RunFault.TheVariants as runs
@@ -97,31 +98,36 @@ fault_first procs retries db left now newlines calls fault n k p = Passes-first 
 
 -- ---- how it ends
 
-module _ (procs : ProcsParts) (retries : ℕ) (db : Database) (settings : Settings) (left last : Option (List ℕ)) (came : List ℕ) (at : Position) (f f2 : Bool) (moves : Moves left (prepend_known came last) nothing_taken at) where
+module _ (procs : ProcsParts) (retries : ℕ) (db : Database) (settings : Settings) (left last : Option (List ℕ)) (came : List ℕ) (at : Position) (f f2 : Bool) (moves : Moves left (prepend_known came last) nothing_taken at) (few : length came ≤ 4096) where
   was_read : (taken : List ℕ) × Consumes left last taken
   was_read = (moves.bytes ++ came, taken_and_came left last moves.bytes came moves.takes.0)
 
+  -- the bytes that the reader took, before those that came
+  abbrev TakesAhead : Bool → Type 0
+  TakesAhead failed = Passes (TakesCalls retries procs.procs 0 failed) left (prepend_known came last)
+
   -- with the text of the plans
-  pub ends_planned : (text : String Global) → f2 ≡ (f || false) → IfSome left (λ log. IsOkAnd (first_batch procs retries db log) (λ entries. IsPlansText procs.tables settings entries (string_bytes text))) →
+  pub ends_planned : (text : String Global) → TakesAhead false → f2 ≡ (f || false) → IfSome left (λ log. IsOkAnd (first_batch procs retries db log) (λ entries. IsPlansText procs.tables settings entries (string_bytes text))) →
       IsFirstBatchPlanned procs retries db settings (device_with left f) (device_with last f2) (Ok text)
-  ends_planned text works planned = record { text = planned; fault = tt; device = works; threadless = tt; line = λ _. tt; read = was_read }
+  ends_planned text takes works planned = record { text = planned; fault = tt; device = works; threadless = tt; line = λ _. tt; read = was_read; last = (came, few, takes) }
 
   -- with a fault of the reader
-  pub ends_at_fault : (fault : LogFault) → f2 ≡ (f || is_io fault.kind) → (IsOfLine fault.kind → IfSome left (λ log. first_batch procs retries db log ≡ Err fault)) →
+  pub ends_at_fault : (fault : LogFault) → TakesAhead (is_io fault.kind) → f2 ≡ (f || is_io fault.kind) → (IsOfLine fault.kind → IfSome left (λ log. first_batch procs retries db log ≡ Err fault)) →
       fault.line ≡ line_named fault.kind at → (is_io fault.kind ≡ true → came ≡ []) → IsFirstBatchPlanned procs retries db settings (device_with left f) (device_with last f2) (Err (runs.Log fault))
-  ends_at_fault fault fails first place spent = record {
+  ends_at_fault fault takes fails first place spent = record {
     text = tt;
     fault = first;
     device = fails;
     threadless = tt;
     line = λ works. λ _. line_of_fault fault.kind f2 left last came at fault.line (fails ∙ ap (λ x. x || is_io fault.kind) works) place spent moves;
     read = was_read;
+    last = (came, few, takes);
   }
 
   -- with memory that was refused for the plans
-  pub ends_without_memory : (told : RunFault) (line : ℕ) → told ≡ runs.Log (record { kind = Memory; line = line }) → f2 ≡ (f || false) → line ≡ at.begun →
+  pub ends_without_memory : (told : RunFault) (line : ℕ) → TakesAhead false → told ≡ runs.Log (record { kind = Memory; line = line }) → f2 ≡ (f || false) → line ≡ at.begun →
       IsFirstBatchPlanned procs retries db settings (device_with left f) (device_with last f2) (Err told)
-  ends_without_memory told line is fails begun =
+  ends_without_memory told line takes is fails begun =
       let ended : IsFirstBatchPlanned procs retries db settings (device_with left f) (device_with last f2) (Err (runs.Log (record { kind = Memory; line = line }))) = record {
         text = tt;
         fault = not_of_line (runs.Log (record { kind = Memory; line = line })) line (λ e. IfSome left (λ log. first_batch procs retries db log ≡ Err e)) (tt, refl);
@@ -129,6 +135,7 @@ module _ (procs : ProcsParts) (retries : ℕ) (db : Database) (settings : Settin
         threadless = tt;
         line = λ works. λ _. line_begun_is f2 left last came at line (fails ∙ sym (or_nothing f) ∙ works) begun moves;
         read = was_read;
+        last = (came, few, takes);
       } in
       rw is ended
 

@@ -1,8 +1,9 @@
 -- Claimed: what contracts promise to a reader rests on these words.
 -- The plans of a log's first batch, and their text.
-use Rattle.std.specs.Prelude.{◌≡◌, ℕ, ◌+◌, ◌||◌, List, [], ◌∷◌, ◌++◌, false, Option, Some, None, Result, Ok, Err, String, string_bytes, map, IfOk, IfErr, IfSome, IsOkAnd}
+use Rattle.std.specs.Prelude.{◌≡◌, ℕ, ◌+◌, ◌≤◌, ◌||◌, List, [], ◌∷◌, ◌++◌, length, false, Option, Some, None, Result, Ok, Err, String, string_bytes, map, IfOk, IfErr, IfSome, IsOkAnd}
 use Rattle.std.specs.declared.alloc.Global.{Global}
-use Rattle.std.specs.Io.KnownBytes.{Consumes}
+use Rattle.std.specs.Io.KnownBytes.{Consumes, prepend_known}
+use Rattle.devices.specs.Devices.{Passes}
 use Rattle.catalogue.specs.Shapes.{TableShape}
 use Rattle.values.specs.Database.{Database}
 use Rattle.requests.specs.ProcLists.{ProcsParts}
@@ -10,6 +11,7 @@ use Rattle.coarsen.specs.Subtrees.{Requests}
 use Rattle.meaning.specs.Entries.{EntryShape}
 use Rattle.scheduler.specs.Logs.{ArePlansOf}
 use Rattle.batch_log.specs.declared.fault.LogFault.{LogFault}
+use Rattle.batch_log.specs.Taken.{TakesCalls}
 use Rattle.report_text.specs.PlanTexts.{plan_lines}
 use Rattle.report_text.specs.Report.{entries_in}
 use Rattle.dispatcher.specs.declared.settings.Settings.{Settings}
@@ -69,3 +71,7 @@ pub record IsFirstBatchPlanned (procs : ProcsParts) (retries : ℕ) (db : Databa
   pub line : source.failed ≡ false → IfErr result (λ e. IfOfMachine e (IsLineOf spent.failed source.bytes spent.bytes))
   -- What was read is a beginning of the log.
   pub read : (taken : List ℕ) × Consumes source.bytes spent.bytes taken
+  -- Lines of calls were taken, and then of one more line all, a beginning or nothing. At most 4,096 bytes came ahead of
+  -- what was taken, and were lost.
+  pub last : (ahead : List ℕ) × (length ahead ≤ 4096) × Passes (TakesCalls retries procs.procs 0 (ends_in_io result))
+      source.bytes (prepend_known ahead spent.bytes)
