@@ -3,7 +3,7 @@
 
 use crate::executing::Then::ResumeAlone;
 use crate::executing::{engine_over, gone_on_with};
-use calvin::{Engine, Gate, Watcher};
+use calvin::{BatchDone, Engine, ExecFault, Gate, Watcher};
 use std::sync::Wait;
 use std::sync::atomic::{AtomicU64, Ordering};
 use std::thread::Threads;
@@ -26,6 +26,22 @@ impl Gate for NearingGate<'_> {
     }
 }
 
+/// How an execution of the log through such a gate ends, and how many allocations were made at the gate.
+fn run_near<R: Threads + Wait + Sync + AllocGlobal>(
+    rt: &R,
+    refusal: &Refusal,
+    engine: &mut Engine,
+) -> Option<(Result<BatchDone, ExecFault>, u64)> {
+    let alloc = rt.alloc();
+    let batch = batch(alloc, engine.procs())?;
+    let gate = NearingGate {
+        refusal,
+        made: AtomicU64::new(0),
+    };
+    let ended = engine.execute(rt, alloc, batch, &gate);
+    Some((ended, gate.made.load(Ordering::SeqCst)))
+}
+
 /// An engine runs the log through such a gate.
 fn execute<R: Threads + Wait + Sync + AllocGlobal>(
     rt: &R,
@@ -33,22 +49,30 @@ fn execute<R: Threads + Wait + Sync + AllocGlobal>(
     engine: &mut Engine,
     watcher: &mut Watcher,
 ) -> Option<Answer> {
-    let alloc = rt.alloc();
-    let batch = batch(alloc, engine.procs())?;
-    let gate = NearingGate {
-        refusal: &*refusal,
-        made: AtomicU64::new(0),
-    };
-    let ended = engine.execute(rt, alloc, batch, &gate);
-    let made = gate.made.load(Ordering::SeqCst);
+    let (ended, made) = run_near(rt, refusal, engine)?;
     refusal.note_approach(made);
     refusal.pass();
     let settled = watcher.watch(rt).settled;
     let answer = gone_on_with(rt, engine, ended, ResumeAlone, &CountingGate::new(false))?;
-    Some(match answer {
+    Some(if_none_settled(answer, settled))
+}
+
+/// An answer, which tells of a refusal only where nothing was settled before it.
+fn if_none_settled(answer: Answer, settled: u64) -> Answer {
+    match answer {
         Answer::Refused if settled > 0 => Answer::Right,
         Answer::Right | Answer::Refused | Answer::Wrong => answer,
-    })
+    }
+}
+
+/// The same beside a watcher of the engine.
+fn execute_watched<R: Threads + Wait + Sync + AllocGlobal>(
+    rt: &R,
+    refusal: &mut Refusal,
+    engine: &mut Engine,
+) -> Option<Answer> {
+    let mut watcher = engine.watcher(rt).ok()?;
+    execute(rt, refusal, engine, &mut watcher)
 }
 
 /// The log on one worker, over one lane, whose first job comes near the refused allocation at the gate. `Refused` says
@@ -59,6 +83,5 @@ pub(crate) fn try_gate<R: Threads + Wait + Sync + AllocGlobal>(
 ) -> Option<Answer> {
     let alloc = rt.alloc();
     let mut engine = engine_over(alloc, bank(alloc)?, 1, 1)?;
-    let mut watcher = engine.watcher(rt).ok()?;
-    execute(rt, refusal, &mut engine, &mut watcher)
+    execute_watched(rt, refusal, &mut engine)
 }

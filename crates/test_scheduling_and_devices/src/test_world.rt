@@ -35,18 +35,23 @@ pub(crate) const TWO_BATCHES: &str =
 
 /// The report of a payment of 30, a cut, and a second one.
 pub(crate) const TWO_BATCH_REPORT: &str = "0 commit 70\n\
-batch 1 rows 77c71e7158ef9dd1261c616d96297a3d25f0173baf33c35fd2218de6651ebb95 replies 4f17b80d79bfc3a75492ce18b44b1eb844398e49ff0351065af95b282b90c2b2\n\
+batch 1 rows 77c71e7158ef9dd1261c616d96297a3d25f0173baf33c35fd2218de6651ebb95 replies \
+4f17b80d79bfc3a75492ce18b44b1eb844398e49ff0351065af95b282b90c2b2\n\
 1 commit 40\n\
-batch 2 rows 68ac09305eca49a274f3934804070e0de76ae55d440e16f99225b50e2aa7c15b replies 253441159e755f09fa35091eaab27292e3f5c910f51fd0e926a22bfe6ea9eeea\n\
-end 2 rows 68ac09305eca49a274f3934804070e0de76ae55d440e16f99225b50e2aa7c15b replies 7ad580324160126f3415a69928b5ccf43101d2e9b7929b6b688c5241878f5de6\n";
+batch 2 rows 68ac09305eca49a274f3934804070e0de76ae55d440e16f99225b50e2aa7c15b replies \
+253441159e755f09fa35091eaab27292e3f5c910f51fd0e926a22bfe6ea9eeea\n\
+end 2 rows 68ac09305eca49a274f3934804070e0de76ae55d440e16f99225b50e2aa7c15b replies \
+7ad580324160126f3415a69928b5ccf43101d2e9b7929b6b688c5241878f5de6\n";
 
 /// The report of the first batch of it.
 pub(crate) const ONE_BATCH: &str = "0 commit 70\n\
-batch 1 rows 77c71e7158ef9dd1261c616d96297a3d25f0173baf33c35fd2218de6651ebb95 replies 4f17b80d79bfc3a75492ce18b44b1eb844398e49ff0351065af95b282b90c2b2\n";
+batch 1 rows 77c71e7158ef9dd1261c616d96297a3d25f0173baf33c35fd2218de6651ebb95 replies \
+4f17b80d79bfc3a75492ce18b44b1eb844398e49ff0351065af95b282b90c2b2\n";
 
 /// The report of an empty log on no rows.
 pub(crate) const NOTHING: &str =
-    "end 0 rows e3b0c44298fc1c149afbf4c8996fb92427ae41e4649b934ca495991b7852b855 replies e3b0c44298fc1c149afbf4c8996fb92427ae41e4649b934ca495991b7852b855\n";
+    "end 0 rows e3b0c44298fc1c149afbf4c8996fb92427ae41e4649b934ca495991b7852b855 replies \
+e3b0c44298fc1c149afbf4c8996fb92427ae41e4649b934ca495991b7852b855\n";
 
 /// The files `bank.json` and `report.txt`, or a machine without memory to read them.
 #[derive(Drop)]
