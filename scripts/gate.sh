@@ -2,7 +2,8 @@
 # Runs the gate: `rt ci`; then, on the programs that it left built,
 #
 # - `scripts/examples.py`, `scripts/manual.py --check` and `scripts/crates.py --check`, which compare what comes out, and the crates,
-#   with what the documents say, and `scripts/unsafe.py`, which refuses words that let a value go without its end,
+#   with what the documents say, `scripts/pages.py --check` with its tests, which looks at the documents' lengths, words, links and
+#   names of files, and `scripts/unsafe.py`, which refuses words that let a value go without its end,
 # - `scripts/cases.py`, which runs the stored cases, and `scripts/hostile_documents.py`, which runs 1,000 setups and logs made at
 #   random, each on the program as either compiler makes it,
 # - `tools/notation/tests.py`, which tries the notation of setups, `workloads/cases.py --check`, which compares the stored cases of
@@ -15,7 +16,8 @@
 #
 # One check runs on each processor; each takes less than 5 GB of memory. The time of the whole is exact. The shares of the crates,
 # for their own proof, for their tests and for their edits, are read off the checks every two seconds, so that each lacks the
-# end of its checks. Checks of other process sessions count for nothing. It ends with 0 only where all of these do.
+# end of its checks. Checks of other process sessions count for nothing. It ends with 0 only where all of these do. Where it does on
+# a checkout without changes, it leaves out/gate.passed, for scripts/release.sh: the commit, the toolchain and the last line.
 set -uo pipefail
 cd -- "$(dirname -- "$0")/.."
 
@@ -60,6 +62,8 @@ gate() {
     counted scripts/examples.py || status=1
     counted scripts/manual.py --check || status=1
     counted scripts/crates.py --check || status=1
+    counted scripts/pages.py --check || status=1
+    counted scripts/pages_tests.py || status=1
     counted scripts/unsafe.py || status=1
     counted tools/notation/tests.py || status=1
     counted workloads/cases.py --check || status=1
@@ -101,6 +105,13 @@ awk -v minutes="$((SECONDS / 60))" -v taken="$(awk '{ print ($1 + $2) / 60 }' "$
                 share[crate, "edits"], of_crate[crate] | sorted
         close(sorted)
     }' "$notes"
-awk '/^[0-9]+ (passed, [0-9]+ failed|edits refused, [0-9]+ not)$/ { passed += $1; failed += $(NF - 1) }
-    END { printf "%d passed, %d failed\n", passed, failed }' "$output"
+last=$(awk '/^[0-9]+ (passed, [0-9]+ failed|edits refused, [0-9]+ not)$/ { passed += $1; failed += $(NF - 1) }
+    END { printf "%d passed, %d failed\n", passed, failed }' "$output")
+
+# scripts/release.sh packs a commit on which the gate has passed.
+if ((status == 0)) && [[ -z $(git status --porcelain) ]]; then
+    mkdir -p out
+    printf '%s\n' "$(git rev-parse HEAD)" "$(rt --version)" "$last" > out/gate.passed
+fi
+echo "$last"
 exit "$status"
