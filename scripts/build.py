@@ -4,8 +4,9 @@
     scripts/build.py PROGRAM [WORD ..]
     scripts/build.py --only PROGRAM
 
-and runs the program with these words, whose exit status is then its own; with `--only` it runs nothing that can be seen. A library is begun once those that it stands on are
-built. The one with the longest chain of code above it has as many jobs as there are processors, and goes before the others,
+and runs the program with these words, whose exit status is then its own; with `--only` it runs nothing that can be seen. A library
+is begun once those that it stands on are built. It is proved whole, and what is kept of it for the crates above are the
+statements of its proofs, as in the gate: they are loaded sooner. The one with the longest chain of code above it has as many jobs as there are processors, and goes before the others,
 which have two jobs each and take the processors where it leaves them. What is begun, how long it took and how many are left
 goes to standard error; what the toolchain says of a crate, to the file `build.log` in its folder `out/`. A crate whose source
 is as it was is not built again. However the script ends, its checks end with it, and the next run goes on from the work that
@@ -66,7 +67,7 @@ def build(library, jobs, is_first):
     os.makedirs(os.path.join(library.folder, "out"), exist_ok=True)
     library = copy.copy(library)
     with open(os.path.join(library.folder, "out", "build.log"), "w+") as library.out:
-        status = library.build_rlib(["--jobs", str(jobs)], anew=False)
+        status = library.build_rlib(["--jobs", str(jobs), "--statements"], anew=False)
     return status == 0, time.monotonic() - begun
 
 

@@ -25,7 +25,8 @@ UNSAFE = re.compile(
     r"\b(?:unsafe|into_raw|from_raw|into_raw_parts|from_raw_parts|transmute|NonNull)\b"
     r"|\.(?:de)?allocate\(|\*\s*(?:mut|const)\b|&raw\b"
 )
-LETS_GO = re.compile(r"\b(?:ManuallyDrop|MaybeUninit|forget|leak)\b")
+# (`forget` of the library is a function; a method of that name is one of these crates)
+LETS_GO = re.compile(r"\b(?:ManuallyDrop|MaybeUninit|leak)\b|(?<!\.)(?<!\bfn )\bforget\b")
 TEXTS = re.compile(
     r"""\bb?r(#*)".*?"\1|"(?:[^"\\]|\\.)*"|b?'(?:[^'\\\n]|\\[^\n]{1,9}?)'|//[^\n]*|/\*.*?\*/""", re.DOTALL
 )
