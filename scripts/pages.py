@@ -1,0 +1,217 @@
+#!/usr/bin/env python3
+"""Checks the pages of the repository, its Markdown files beside those of `must-fail` folders:
+
+    scripts/pages.py [--check]
+
+- A page with a limit has at most as many words; what a script writes into it between two marks is not counted.
+- No page has a word of the list below, in place of which there is a plain one.
+- A link to a file of the repository leads to one that is there, and its anchor to a heading or an anchor of that page.
+- A file or folder that a code span names is there: from the top, the page's folder, `crates/` or a crate's folder, or
+  anywhere by its name alone. So is each file that a command in a code block begins with. What a build leaves in `out/`
+  or `target/` is passed over, and so is a name with a placeholder, as NAME, N or `*`.
+
+Without `--check` it also prints how many words each page with a limit has. A last line says what came of it. The status is 1
+where something is wrong.
+"""
+import os
+import re
+import sys
+from functools import cached_property
+from pathlib import Path
+
+TOP = Path(__file__).resolve().parent.parent
+LIMITS = {
+    "README.md": 700,
+    "CONTRIBUTING.md": 900,
+    "docs/architecture.md": 2000,
+    "docs/trust.md": 2500,
+    "docs/DECISIONS.md": 3000,
+    "docs/verification.md": 1500,
+    "docs/embedding.md": 1500,
+    "docs/replication.md": 1200,
+    "docs/performance.md": 900,
+}
+# What a page that is over its limit may have meanwhile. Lower it with the page, and take it out once the limit is met.
+MEANWHILE = {
+    "docs/architecture.md": 4926,
+    "docs/trust.md": 9510,
+    "docs/embedding.md": 2703,
+}
+# Each word that no page is to have, and what is written in its place.
+WORDS = {
+    r"behind": "after",
+    r"stands?(?!-)": "is",
+    r"so many": "n",
+    r"hangs? on": "depends on",
+    r"memory (?:is|was) refused": "allocation fails",
+    r"shown? to nobody": "not copied",
+}
+# How many of these words a page may have meanwhile.
+WORDS_MEANWHILE = {
+    "cases/README.md": 2,
+    "docs/architecture.md": 4,
+    "docs/definitions.md": 33,
+    "docs/embedding.md": 8,
+    "docs/faults.md": 2,
+    "docs/language.md": 8,
+    "docs/notation.md": 5,
+    "docs/replication.md": 3,
+    "docs/trust.md": 27,
+}
+
+MADE = re.compile(r"<!-- figures -->.*?<!-- end of figures -->", re.DOTALL)
+FENCE = re.compile(r"^(`{3,}).*?^\1`*$", re.DOTALL | re.MULTILINE)
+SPAN = re.compile(r"(`+)(?!`)(.+?)(?<!`)\1(?!`)", re.DOTALL)
+LINK = re.compile(r"\]\(([^()\s]+)\)")
+HEADING = re.compile(r"^#+ +(.*?) *#*$", re.MULTILINE)
+ANCHOR = re.compile(r"<a id=\"([^\"]+)\"")
+ELSEWHERE = re.compile(r"[a-z][a-z+.-]*:")
+KINDS = "md|py|sh|rt|rs|antt|c|h|calvin|json|log|report|svg|txt|toml|bash|1|edit"
+FILE = re.compile(rf"(?:\./)?[\w.-]+(?:/[\w.-]+)*(?:/|\.(?:{KINDS}))")
+PLACEHOLDER = re.compile(r"(?<![A-Za-z])(?:NAME|N|X|SET|FOLDER|PREFIX|PROGRAM|VERSION)(?![A-Za-z])|\.\.|[*<>{}$]")
+PASSED_OVER = {"out", "target", ".git", "__pycache__"}
+
+
+def without(pattern, text):
+    """The text with blanks in the place of what the pattern finds, line for line."""
+    return pattern.sub(lambda found: re.sub(r"[^\n]", " ", found[0]), text)
+
+
+def line_of(text, place):
+    return text.count("\n", 0, place) + 1
+
+
+def count_words(text):
+    """The words of a page, but for those that a script writes."""
+    return len(MADE.sub(" ", text).split())
+
+
+def anchors(text):
+    """What a link to a page may name after `#`: its headings, as they are written in links, and its anchors."""
+    found = set(ANCHOR.findall(text))
+    for heading in HEADING.findall(without(FENCE, text)):
+        heading = re.sub(r"\[([^\]]*)\]\([^)]*\)", r"\1", heading)
+        name = re.sub(r"[^\w\- ]", "", heading.lower()).replace(" ", "-")
+        again = 0
+        while (name if not again else f"{name}-{again}") in found:
+            again += 1
+        found.add(name if not again else f"{name}-{again}")
+    return found
+
+
+class Repository:
+    """The files below a folder, and what its pages say of them."""
+
+    def __init__(self, top):
+        self.top = Path(top)
+
+    @cached_property
+    def files(self):
+        """The path of each file and folder from the top, but for what a build leaves."""
+        found = set()
+        for folder, below, names in os.walk(self.top):
+            below[:] = sorted(set(below) - PASSED_OVER)
+            here = os.path.relpath(folder, self.top)
+            found |= {os.path.normpath(os.path.join(here, name)) for name in [*below, *names]}
+        return found
+
+    @cached_property
+    def names(self):
+        """The name of each file and folder, without the folders that it is in."""
+        return {os.path.basename(path) for path in self.files}
+
+    @cached_property
+    def in_crates(self):
+        """The path of each file and folder of a crate, from the crate's folder."""
+        return {path.split("/", 2)[2] for path in self.files if path.startswith("crates/") and path.count("/") > 1}
+
+    @cached_property
+    def pages(self):
+        """The text of each page, by its path."""
+        paths = [it for it in self.files if it.endswith(".md") and "must-fail" not in it.split("/")]
+        return {path: (self.top / path).read_text() for path in sorted(paths)}
+
+    def is_there(self, page, name):
+        """Whether a page may speak of a file or folder by this name."""
+        path = os.path.normpath(name)
+        if PASSED_OVER & set(path.split("/")):
+            return True
+        roots = ["", os.path.dirname(page), "crates"]
+        if any(os.path.normpath(os.path.join(root, path)) in self.files for root in roots):
+            return True
+        return path in (self.names if "/" not in path else self.in_crates)
+
+    def too_long(self, page, text):
+        words = count_words(text)
+        most = MEANWHILE.get(page, LIMITS.get(page, words))
+        if words > most:
+            yield f"{page}: {words:,} words, and it may have {most:,}"
+
+    def listed_words(self, page, text):
+        found = []
+        for word, plain in WORDS.items():
+            for it in re.finditer(rf"\b{word}\b", without(SPAN, without(FENCE, text)), re.IGNORECASE):
+                found.append((line_of(text, it.start()), it[0], plain))
+        most = WORDS_MEANWHILE.get(page, 0)
+        if len(found) > most and most:
+            yield f"{page}: {len(found)} words of the list, and it may have {most}"
+        if len(found) > most:
+            for line, word, plain in sorted(found):
+                yield f"{page}:{line}: `{word}`, where `{plain}` is plainer"
+
+    def dead_links(self, page, text):
+        prose = without(SPAN, without(FENCE, text))
+        for it in LINK.finditer(prose):
+            path, _, anchor = it[1].partition("#")
+            if ELSEWHERE.match(it[1]):
+                continue
+            target = os.path.normpath(os.path.join(os.path.dirname(page), path)) if path else page
+            if target not in self.files:
+                yield f"{page}:{line_of(text, it.start())}: a link to {it[1]}, which is not there"
+            elif anchor and anchor not in anchors(self.pages.get(target, "")):
+                yield f"{page}:{line_of(text, it.start())}: a link to {it[1]}, and that page has no such heading"
+
+    def files_that_are_not_there(self, page, text):
+        spans = [(it.start(), it[2].split()) for it in SPAN.finditer(without(FENCE, text))]
+        for block in FENCE.finditer(text):
+            for it in re.finditer(r"^.*$", block[0], re.MULTILINE):
+                first = [word for word in it[0].split()[:1] if "/" in word and re.search("[a-z]$", word)]
+                spans.append((block.start() + it.start(), first))
+        for place, words in spans:
+            for word in words:
+                name = word.strip(",;:()")
+                if FILE.fullmatch(name) and not PLACEHOLDER.search(name) and not self.is_there(page, name):
+                    yield f"{page}:{line_of(text, place)}: `{name}` is not there"
+
+    def findings(self):
+        """What is wrong, page by page."""
+        for page, text in self.pages.items():
+            yield from self.too_long(page, text)
+            yield from self.listed_words(page, text)
+            yield from self.dead_links(page, text)
+            yield from self.files_that_are_not_there(page, text)
+        for page in sorted(LIMITS.keys() - self.pages.keys()):
+            yield f"{page}: there is no such page"
+
+
+def main(*words):
+    if words not in [(), ("--check",)]:
+        print("usage: scripts/pages.py [--check]", file=sys.stderr)
+        return 2
+    repository = Repository(TOP)
+    if not words:
+        for page in sorted(LIMITS.keys() & repository.pages.keys()):
+            print(f"{page}: {count_words(repository.pages[page]):,} words of {LIMITS[page]:,}")
+    found = list(repository.findings())
+    for it in found:
+        print(it)
+    pages = {it.partition(":")[0] for it in found}
+    if found:
+        print(f"{len(found)} findings in {len(pages)} of {len(repository.pages)} pages: each line above names one")
+    else:
+        print(f"{len(repository.pages)} pages are in order: no page is too long, no link and no file name is dead")
+    return 1 if found else 0
+
+
+if __name__ == "__main__":
+    sys.exit(main(*sys.argv[1:]))
