@@ -37,6 +37,8 @@ SETTINGS = (
     ("run --workers 2 setup.json", 1),
 )
 PIECES = (1, 7, 4096)
+# The words of the commands whose outputs a case stores in files that begin with these names.
+COMMANDS = {"filter": "filter setup.json"}
 # A case of `locks` whose log goes on after its first batch, and the line that ends a batch.
 GOES_ON, CUT = CASES / "plans/nothing-read-behind-the-first-batch", b'["cut"]\n'
 FAULT_OF_SETUP = re.compile(rb"fault (?:[1-9]|1[1-9]|4[1-7])(?: at .*)?\n")
@@ -108,6 +110,8 @@ class Case:
             return list(self.runs_of_setups())
         if self.has("logs"):
             return list(self.runs_of_logs())
+        if self.names_commands:
+            return list(self.runs_of_commands())
         runs = [self.run(line.split(), most=most) for line, most in SETTINGS]
         runs += [self.run(line.split()) for line in self.lines_of("runs")]
         return runs + list(self.runs_of_plans())
@@ -132,10 +136,23 @@ class Case:
             answer, _, log = row.partition(b"\t")
             yield said(["run", "setup.json"], log, answer, self.bytes_of("setup.json"))
 
+    def runs_of_commands(self):
+        """Those of commands whose outputs are each stored in files that begin with the command's name."""
+        for name, words in COMMANDS.items():
+            out, err = self.bytes_of(f"{name}.stdout"), self.bytes_of(f"{name}.stderr")
+            status = int(self.bytes_of(f"{name}.status", b"0"))
+            for most in (None, 1):
+                yield Run(words.split(), self.bytes_of("log"), out, err, status, most)
+
+    @property
+    def names_commands(self):
+        """Whether it stores the outputs of commands by their names."""
+        return any(self.has(f"{name}.status") for name in COMMANDS)
+
     @property
     def is_a_log(self):
         """Whether it has no words of its own."""
-        return not any(map(self.has, ("args", "progress", "setups", "logs")))
+        return not self.names_commands and not any(map(self.has, ("args", "progress", "setups", "logs")))
 
     def __str__(self):
         return "/".join(self.folder.parts[-2:])
@@ -165,7 +182,7 @@ def handed_over(case, run):
 
 def is_at_work(run, left, is_handed):
     """Whether a run has started no thread where it needs none, and some where its calls are handed over to workers."""
-    if "--alone" in run.words or run.words[:1] in (["check"], ["locks"]):
+    if "--alone" in run.words or run.words[:1] in (["check"], ["filter"], ["locks"]):
         return left.threads == 0
     return left.threads > 0 or not (is_handed and run.starts_threads)
 

@@ -1,15 +1,18 @@
 -- How the commands end.
-use Rattle.std.proofs.Common.{◌≡◌, ℕ, List, [], Bool, true, false, Option, Some, Result, Ok, Err, String, refl, sym, ap, ◌∙◌, subst, inl, inr, if◌then◌else◌}
+use Rattle.std.proofs.Common.{◌≡◌, ℕ, List, [], Bool, true, false, ◌||◌, Option, Some, Result, Ok, Err, String, refl, sym, ap, ◌∙◌, subst, inl, inr, if◌then◌else◌}
 use Rattle.std.specs.FinMap as map_of
 use Rattle.std.specs.declared.alloc.Global.{Global}
 use Rattle.row_store.specs.Stock.{with_rows}
+use Rattle.batch_log.specs.Faults.{ends_in_io}
+use Rattle.batch_log.specs.Filters.{IsFilterOf}
+use Rattle.batch_log.specs.declared.fault.LogFault.{LogFault}
 use Rattle.setup.specs.declared.fault.SetupFault.{SetupFault}
 use Rattle.setup.specs.declared.document.SetupDocument.{SetupDocument}
 use Rattle.setup.specs.Faults.{is_memory}
 use Rattle.setup.specs.FirstFault.{BreaksFirst}
 use Rattle.dispatcher.specs.declared.settings.Settings.{Settings}
 use Rattle.running.specs.declared.run_fault.RunFault.{RunFault}
-use Rattle.calvin.specs.CommandEnds.{AreLocksAt, AreReplicas, IsAnswered, IsCompared, IsRunAt, IsSetupAt, IsTold, IsWithoutSetup, kept_status, run_status, setup_status}
+use Rattle.calvin.specs.CommandEnds.{filter_status, AreLocksAt, AreReplicas, IsAnswered, IsCompared, IsFilterAt, IsRunAt, IsSetupAt, IsTold, IsWithoutSetup, kept_status, run_status, setup_status}
 use Rattle.calvin.specs.FirstBatches.{IsFirstBatchPlanned}
 use Rattle.running.specs.Runs.{Device, IsRunOfLog}
 use Rattle.running.specs.Starts.{start_in}
@@ -68,3 +71,15 @@ replicas_at holds holds_other source spent sink filled status other document res
       whole = from.ok;
       ends = ends;
     }
+
+pub filter_at : (holds : Option (List ℕ) → Type 0) (source spent sink filled : Device) (status : ℕ) (document : SetupDocument) (result told : Result Bool LogFault) → IsSetupAt holds document →
+    IsFilterOf document.setup.procs.procs source.bytes spent.bytes sink.bytes filled.bytes source.failed spent.failed result →
+    (spent.failed || filled.failed) ≡ ((source.failed || sink.failed) || ends_in_io result) → result ≡ told → status ≡ filter_status told → IsFilterAt holds source spent sink filled status
+filter_at holds source spent sink filled status document result told is filter fails same ends = record {
+  document = document;
+  is_setup = is;
+  result = result;
+  filter = filter;
+  fails = fails;
+  ends = ends ∙ ap filter_status (sym same);
+}

@@ -1,6 +1,6 @@
 -- Claimed: what contracts promise to a reader rests on these words.
 -- How a command ends: its exit status, and what it wrote.
-use Rattle.std.specs.Prelude.{◌≡◌, ℕ, ◌⊎◌, List, [], ◌++◌, length, Bool, true, false, ◌&&◌, Option, Some, None, IfSome, OnOk, Result, Ok, Err, codes, if◌then◌else◌, String, string_bytes, ⊤}
+use Rattle.std.specs.Prelude.{◌≡◌, ℕ, ◌⊎◌, List, [], ◌++◌, length, Bool, true, false, ◌&&◌, ◌||◌, Option, Some, None, IfSome, OnOk, Result, Ok, Err, codes, if◌then◌else◌, String, string_bytes, ⊤}
 use Rattle.std.specs.Fmt.{decimal}
 use Rattle.std.specs.FinMap as map_of
 use Rattle.std.specs.declared.alloc.Global.{Global}
@@ -15,11 +15,14 @@ use Rattle.setup.specs.FirstFault.{BreaksFirst}
 use Rattle.requests.specs.ProcLists.{AreOver}
 use Rattle.setup.specs.Says.{SaysSetup}
 use Rattle.setup.specs.Setups.{setup_view}
+use Rattle.batch_log.specs.Faults.{ends_in_io}
+use Rattle.batch_log.specs.Filters.{IsFilterOf}
+use Rattle.batch_log.specs.declared.fault.LogFault.{LogFault}
 use Rattle.batch_log.specs.declared.fault.LogFaultKind.{LogFaultKind}
 use Rattle.batch_log.specs.declared.fault.LogFaultKind.TheVariants.{Io, Memory}
 use Rattle.command_line.specs.CommandLine.{IsAskedFor}
 use Rattle.command_line.specs.declared.line.Command.{Command}
-use Rattle.command_line.specs.declared.line.Command.TheVariants.{Run, Locks, Replicas, Check}
+use Rattle.command_line.specs.declared.line.Command.TheVariants.{Run, Filter, Locks, Replicas, Check}
 use Rattle.command_line.specs.declared.line.Line.{Line}
 use Rattle.dispatcher.specs.declared.settings.Settings.{Settings}
 use Rattle.running.specs.declared.run_fault.RunFault.{RunFault}
@@ -88,6 +91,31 @@ abbrev pub IsRunCommand : Bool → Holding → Device → Device → Device → 
 IsRunCommand alone holds source spent sink filled status =
     (IsWithoutSetup holds status × (spent ≡ source) × (filled ≡ sink))
     ⊎ IsRunAt alone holds source spent sink filled status
+
+-- ---- the command `filter`
+
+-- 0 where each line was copied, 1 where some was not
+abbrev pub filter_status : Result Bool LogFault → ℕ
+filter_status (Ok true) = 0
+filter_status (Ok false) = 1
+filter_status (Err fault) = kind_status fault.kind
+
+-- The lines of the log that say a call or a cut to the procedures of the setup at a path were copied.
+pub record IsFilterAt (holds : Holding) (source spent sink filled : Device) (status : ℕ) : Type 0 where
+  pub document : SetupDocument
+  pub is_setup : IsSetupAt holds document
+  pub result : Result Bool LogFault
+  pub filter : IsFilterOf document.setup.procs.procs source.bytes spent.bytes sink.bytes filled.bytes source.failed
+      spent.failed result
+  -- A device fails where the fault is of one, and only there.
+  pub fails : (spent.failed || filled.failed) ≡ ((source.failed || sink.failed) || ends_in_io result)
+  pub ends : status ≡ filter_status result
+
+-- Without a setup nothing is read of the log, and nothing is written.
+abbrev pub IsFilterCommand : Holding → Device → Device → Device → Device → ℕ → Type 0
+IsFilterCommand holds source spent sink filled status =
+    (IsWithoutSetup holds status × (spent ≡ source) × (filled ≡ sink))
+    ⊎ IsFilterAt holds source spent sink filled status
 
 -- ---- the command `replicas`
 
@@ -196,6 +224,11 @@ abbrev pub IfRun : Command → (Bool → List ℕ → Type 0) → Type 0
 IfRun (Run alone progress setup) P = P alone (string_bytes setup)
 IfRun command P = ⊤
 
+-- what holds of the setup's path of `filter`
+abbrev pub IfFilter : Command → (List ℕ → Type 0) → Type 0
+IfFilter (Filter setup) P = P (string_bytes setup)
+IfFilter command P = ⊤
+
 -- what holds of the setup's path of `locks`
 abbrev pub IfLocks : Command → (List ℕ → Type 0) → Type 0
 IfLocks (Locks setup) P = P (string_bytes setup)
@@ -212,11 +245,13 @@ IfCheck (Check setup) P = P (string_bytes setup)
 IfCheck command P = ⊤
 
 -- What comes of a command line, by its command: `run` writes the report of the log on the setup at its path, and
--- `replicas` compares that report with the text at another; `locks` writes the plans of the log's first batch; `check`
--- writes how much the setup has, and reads nothing of the log.
+-- `replicas` compares that report with the text at another; `filter` writes the lines of the log that say a call or a
+-- cut; `locks` writes the plans of the log's first batch; `check` writes how much the setup has, and reads nothing of
+-- the log.
 pub record Does (holds : List ℕ → Option (List ℕ) → Type 0) (line : Line) (source spent sink filled : Device)
     (status : ℕ) : Type 0 where
   pub run : IfRun line.command (λ alone path. IsRunCommand alone (holds path) source spent sink filled status)
+  pub filter : IfFilter line.command (λ path. IsFilterCommand (holds path) source spent sink filled status)
   pub locks : IfLocks line.command (λ path. IsLocksCommand (holds path) line.settings source spent sink filled status)
   pub replicas : IfReplicas line.command
       (λ path report. IsReplicasCommand (holds path) (holds report) source spent sink filled status)

@@ -5,6 +5,7 @@ ghost use Rattle.calvin.specs.CommandEnds.{Does, IsLocksCommand, IsRunCommand};
 
 use crate::checking::check;
 use crate::files::Files;
+use crate::filtering::filter;
 use crate::inputs::{print, refused, setup_at};
 use crate::locks::plans_of;
 use crate::replicas::replicas;
@@ -79,11 +80,11 @@ fn locks<F: Files, S: Source, K: Sink, E: Sink>(
     }
 }
 
-/// Does what a command line asks for, and gives the exit status: 0; 1 where the setup or the log is refused; 3 where
-/// memory was refused; 4 where a device failed, a file can't be read, or a thread was refused, as none is to `run
-/// --alone` and `locks`; 5 where reports differ. A fault goes to `err` in a line. After a fault of the setup or the log
-/// `locks` and `replicas` write nothing to `out`. What is asked for of a run's progress goes to `err`, line over line
-/// where that is a terminal, and changes nothing else.
+/// Does what a command line asks for, and gives the exit status: 0; 1 where the setup, the log or a line that `filter`
+/// looks at is refused; 3 where memory was refused; 4 where a device failed, a file can't be read, or a thread was
+/// refused, as none is to `run --alone`, `filter` and `locks`; 5 where reports differ. A fault goes to `err` in a line.
+/// After a fault of the setup or the log `locks` and `replicas` write nothing to `out`. What is asked for of a run's
+/// progress goes to `err`, line over line where that is a terminal, and changes nothing else.
 pub fn command<R: Threads + Wait + Sync, F: Files, S: Source, K: Sink, E: Sink + Send>(
     rt: &R,
     alloc: Global,
@@ -112,6 +113,7 @@ pub fn command<R: Threads + Wait + Sync, F: Files, S: Source, K: Sink, E: Sink +
                 rt, alloc, *alone, lines, settings, setup, files, source, out, err,
             )
         }
+        Command::Filter { setup } => filter(rt, alloc, setup, files, source, out, err),
         Command::Locks { setup } => locks(alloc, settings, setup, files, source, out, err),
         Command::Check { setup } => check(alloc, setup, files, out, err),
         Command::Replicas {

@@ -7,24 +7,10 @@ ghost use Rattle.calvin.specs.CommandEnds.{fault_status, IsSetupAt, IsWithoutSet
 
 use crate::files::{FileFault, Files};
 use crate::status::{DEVICE, MEMORY, run_status, setup_status};
-use batch_log::{LogFaultKind, Sink, write_all};
+use batch_log::{LogFaultKind, Sink, say, write_all};
 use running::RunFault;
 use setup::{SetupDocument, read_setup};
-use std::alloc::{AllocError, Global};
-use std::fmt::Display;
-
-/// Writes a line; a write that fails is passed over, and so is want of memory for the line.
-pub(crate) fn say<K: Sink, D: Display>(alloc: Global, sink: &mut K, words: &D) {
-    if let Ok(text) = line_of(alloc, words) {
-        let _ = write_all(sink, text.as_bytes());
-    }
-}
-
-fn line_of<D: Display>(alloc: Global, words: &D) -> Result<String, AllocError> {
-    let mut text = String::new(alloc);
-    writeln!(text, "{words}")?;
-    Ok(text)
-}
+use std::alloc::Global;
 
 /// Says a fault of a run and gives its exit status.
 pub(crate) fn refused<E: Sink>(alloc: Global, err: &mut E, fault: RunFault) -> u8

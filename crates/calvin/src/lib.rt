@@ -6,6 +6,7 @@ mod commands;
 mod comparison;
 mod executing;
 mod files;
+mod filtering;
 mod inputs;
 mod laws;
 mod locks;

@@ -6,9 +6,8 @@ ghost use Rattle.running.specs.Runs.{device_with};
 
 use crate::commands::command;
 use crate::files::Files;
-use crate::inputs::say;
 use crate::status::{COMMAND_LINE, MEMORY};
-use batch_log::{Sink, Source, write_all};
+use batch_log::{Sink, Source, say, write_all};
 use command_line::{LineFault, read_line};
 use std::alloc::Global;
 use std::sync::Wait;

@@ -1,7 +1,7 @@
 //! The exit statuses of the program.
 
-ghost use Rattle.std.specs.Prelude.{◌≡◌};
-ghost use Rattle.calvin.specs.CommandEnds.{fault_status, setup_status};
+ghost use Rattle.std.specs.Prelude.{◌≡◌, Ok};
+ghost use Rattle.calvin.specs.CommandEnds.{fault_status, filter_status, setup_status};
 
 use batch_log::LogFaultKind;
 use catalogue::CatalogueFault;
@@ -32,6 +32,13 @@ pub(crate) fn setup_status(fault: &SetupFault) -> u8
         | SetupFault::Procedure(ProcFault::Memory) => MEMORY,
         _ => REFUSED_INPUT,
     }
+}
+
+/// The status where a log was filtered, by whether each line was copied.
+pub(crate) fn filter_status(all_copied: bool) -> u8
+    ensures { result ≡ filter_status (Ok all_copied) }
+{
+    if all_copied { DONE } else { REFUSED_INPUT }
 }
 
 /// The status of a run that did not come to its end.

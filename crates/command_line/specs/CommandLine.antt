@@ -4,7 +4,7 @@ use Rattle.std.specs.Prelude.{◌≡◌, ℕ, List, [], Bool, true, false, Optio
 use Rattle.std.specs.Str.Parse.{IsNumeral, digits_value, without_leading_plus}
 use Rattle.clap.specs.Words.{Row, Text, fault_of, first_of, one_of, subcommand_of}
 use Rattle.command_line.specs.declared.line.Command.{Command}
-use Rattle.command_line.specs.declared.line.Command.TheVariants.{Check, Locks, Replicas, Run}
+use Rattle.command_line.specs.declared.line.Command.TheVariants.{Check, Filter, Locks, Replicas, Run}
 use Rattle.command_line.specs.declared.line.Line.{Line}
 use Rattle.command_line.specs.declared.line.LineFault.{LineFault}
 use Rattle.command_line.specs.declared.line.LineFault.TheVariants.{NoMemory, Refused}
@@ -37,6 +37,10 @@ pub record IsRun (word : Text) (rows : List Row) (alone progress : Bool) (setup 
   pub progress_is : IsFlag rows (codes "progress") progress
   pub setup_is : first_of (codes "setup") rows ≡ Some setup
 
+pub record IsFilter (word : Text) (rows : List Row) (setup : Text) : Type 0 where
+  pub name : word ≡ codes "filter"
+  pub setup_is : first_of (codes "setup") rows ≡ Some setup
+
 pub record IsLocks (word : Text) (rows : List Row) (setup : Text) : Type 0 where
   pub name : word ≡ codes "locks"
   pub setup_is : first_of (codes "setup") rows ≡ Some setup
@@ -53,6 +57,7 @@ pub record IsReplicas (word : Text) (rows : List Row) (progress : Bool) (setup r
 
 abbrev pub IsCommand : Text → List Row → Command → Type 0
 IsCommand name rows (Run alone progress setup) = IsRun name rows alone progress (string_bytes setup)
+IsCommand name rows (Filter setup) = IsFilter name rows (string_bytes setup)
 IsCommand name rows (Locks setup) = IsLocks name rows (string_bytes setup)
 IsCommand name rows (Check setup) = IsCheck name rows (string_bytes setup)
 IsCommand name rows (Replicas progress setup report) =

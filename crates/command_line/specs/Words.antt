@@ -40,6 +40,11 @@ run_app = with_settings (with_rule (with_rule (with_rule (new_app (codes "run"))
     (flag_rule (codes "alone")))
     (flag_rule (codes "progress")))
 
+-- `filter SETUP`, with settings
+unfoldable pub filter_app : App
+filter_app = with_settings (with_rule (new_app (codes "filter"))
+    (word_rule (codes "setup")))
+
 -- `replicas [--progress] SETUP REPORT`, with settings
 unfoldable pub replicas_app : App
 replicas_app = with_settings (with_rule (with_rule (with_rule (new_app (codes "replicas"))
@@ -59,9 +64,10 @@ check_app = with_settings (with_rule (new_app (codes "check"))
 
 -- the commands, of which one must be named; the words begin after the program's name
 unfoldable pub calvin_app : App
-calvin_app = with_subcommand (with_subcommand (with_subcommand (with_subcommand (on_top (λ s. record s {
-  no_binary_name = true;
-  subcommand_required = true;
-  arg_required_else_help = true;
-  has_version = true;
-}) (new_app (codes "calvin"))) run_app.top) replicas_app.top) locks_app.top) check_app.top
+calvin_app = with_subcommand (with_subcommand (with_subcommand (with_subcommand (with_subcommand
+    (on_top (λ s. record s {
+      no_binary_name = true;
+      subcommand_required = true;
+      arg_required_else_help = true;
+      has_version = true;
+    }) (new_app (codes "calvin"))) run_app.top) filter_app.top) replicas_app.top) locks_app.top) check_app.top

@@ -24,6 +24,10 @@ pub enum Command {
         progress: bool,
         setup: String,
     },
+    /// Copy the lines of the log that a run on the setup at this path would take.
+    Filter {
+        setup: String,
+    },
     /// Print the plans of the log's first batch on the setup at this path.
     Locks {
         setup: String,
@@ -112,6 +116,19 @@ fn run_of(alloc: Global, matches: &ArgMatches<'_>) -> Result<Option<Command>, Al
     }))
 }
 
+// The command `filter`, by its arguments.
+fn filter_of(alloc: Global, matches: &ArgMatches<'_>) -> Result<Option<Command>, AllocError>
+    ensures some { IfOk result (λ o. IfSome o (IsCommand (codes "filter") (rows_of (found_of matches.now)))) }
+    ensures none { IfOk result (λ o. IsNone o → (command : Command) →
+        ¬ IsCommand (codes "filter") (rows_of (found_of matches.now)) command) }
+{
+    let Some(setup) = matches.get_str("setup") else {
+        return Ok(None);
+    };
+    let setup = String::from_str(alloc, setup)?;
+    Ok(Some(Command::Filter { setup }))
+}
+
 // The command `replicas`, by its arguments.
 fn replicas_of(alloc: Global, matches: &ArgMatches<'_>) -> Result<Option<Command>, AllocError>
     ensures some { IfOk result (λ o. IfSome o (IsCommand (codes "replicas") (rows_of (found_of matches.now)))) }
@@ -172,6 +189,7 @@ fn command_of(
 {
     match name {
         "run" => run_of(alloc, matches),
+        "filter" => filter_of(alloc, matches),
         "locks" => locks_of(alloc, matches),
         "check" => check_of(alloc, matches),
         "replicas" => replicas_of(alloc, matches),

@@ -4,7 +4,7 @@ ghost use Rattle.std.specs.Prelude.{◌≡◌, codes, IfOk, false, true};
 ghost use Rattle.clap.specs.Simple.{on_top};
 ghost use Rattle.clap.specs.Words.{app_of, new_app, rule_of};
 ghost use Rattle.clap.specs.declared.builder.command.Command.TheViews.{out-Command as fields_of};
-ghost use Rattle.command_line.specs.Words.{calvin_app, check_app, flag_rule, locks_app, number_rule, replicas_app, run_app, with_settings, word_rule};
+ghost use Rattle.command_line.specs.Words.{calvin_app, check_app, filter_app, flag_rule, locks_app, number_rule, replicas_app, run_app, with_settings, word_rule};
 
 use clap::builder::ValueParser;
 use clap::{Arg, ArgAction, Command};
@@ -46,6 +46,21 @@ Exit status:
   2  the command line was refused, or help was asked for
   3  no memory
   4  reading or writing failed, or a thread was refused";
+
+const FILTER_ABOUT: &str =
+    "Copies the lines of the log on standard input that a run would take, calls and cuts";
+
+const FILTER_EXAMPLE: &str = "Example:
+  calvin filter bank.json < tried.log > calls.log
+
+tells each other line on standard error as `fault N line L`, and runs nothing. The options change nothing.
+
+Exit status:
+  0  each line was copied
+  1  the setup was refused, or some line was not copied; standard error has the faults
+  2  the command line was refused, or help was asked for
+  3  no memory
+  4  reading or writing failed";
 
 const REPLICAS_ABOUT: &str =
     "Runs the log on standard input and compares its report with another replica's";
@@ -221,6 +236,19 @@ fn run_command<'a>(alloc: Global) -> Result<Command<'a>, AllocError>
     with_settings(alloc, command)
 }
 
+/// The command `filter`.
+fn filter_command<'a>(alloc: Global) -> Result<Command<'a>, AllocError>
+    ensures app { IfOk result (λ r. app_of r ≡ filter_app) }
+    ensures local { IfOk result (λ r. (fields_of r).has_globals ≡ false) }
+{
+    let setup = required_word(alloc, "setup", "SETUP", SETUP_HELP);
+    let command = Command::new(alloc, "filter")
+        .about(FILTER_ABOUT)
+        .after_help(FILTER_EXAMPLE)
+        .arg(setup)?;
+    with_settings(alloc, command)
+}
+
 /// The command `locks`.
 fn locks_command<'a>(alloc: Global) -> Result<Command<'a>, AllocError>
     ensures app { IfOk result (λ r. app_of r ≡ locks_app) }
@@ -279,6 +307,7 @@ pub(crate) fn calvin_command<'a>(alloc: Global) -> Result<Command<'a>, AllocErro
     ensures { IfOk result (λ r. app_of r ≡ calvin_app) }
 {
     let run = run_command(alloc)?;
+    let filter = filter_command(alloc)?;
     let replicas = replicas_command(alloc)?;
     let locks = locks_command(alloc)?;
     let check = check_command(alloc)?;
@@ -287,6 +316,7 @@ pub(crate) fn calvin_command<'a>(alloc: Global) -> Result<Command<'a>, AllocErro
         .subcommand_required(true)
         .arg_required_else_help(true)
         .subcommand(run)?
+        .subcommand(filter)?
         .subcommand(replicas)?
         .subcommand(locks)?
         .subcommand(check)

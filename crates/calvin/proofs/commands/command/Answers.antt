@@ -4,6 +4,7 @@ use Rattle.calvin.proofs.commands.command.Goals as goal
 pub returns-in-Check : goal.returns-in-Check
 returns-in-Check g c = record {
   run = rw c.in-Check.is tt;
+  filter = rw c.in-Check.is tt;
   locks = rw c.in-Check.is tt;
   replicas = rw c.in-Check.is tt;
   check = rw (c.in-Check.is, ← c.deref-in-Check.ensures) c.check.ensures;
@@ -13,8 +14,19 @@ returns-in-Check g c = record {
 pub returns-in-Locks : goal.returns-in-Locks
 returns-in-Locks g c = record {
   run = rw c.in-Locks.is tt;
+  filter = rw c.in-Locks.is tt;
   locks = rw (c.in-Locks.is, ← c.deref-in-Locks.ensures) c.locks.ensures;
   replicas = rw c.in-Locks.is tt;
   check = rw c.in-Locks.is tt;
   unread = rw c.in-Locks.is tt;
+}
+
+pub returns-in-Filter : goal.returns-in-Filter
+returns-in-Filter g c = record {
+  run = rw c.in-Filter.is tt;
+  filter = rw (c.in-Filter.is, ← c.deref-in-Filter.ensures) c.filter.ensures;
+  locks = rw c.in-Filter.is tt;
+  replicas = rw c.in-Filter.is tt;
+  check = rw c.in-Filter.is tt;
+  unread = rw c.in-Filter.is tt;
 }

@@ -15,6 +15,7 @@ returns c =
     ∙ ap (λ f. app_of_fields (record f { arg_required_else_help = true })) c.subcommand_required.ensures
     ∙ ap (on_top (λ s. record s { subcommand_required = true; arg_required_else_help = true })) bare in
     let first = c.in_ok-subcommand.ensures.shape (search rules) ∙ ap₂ with_subcommand asked (ap (λ (a : App). a.top) c.in_ok-run.ensures.app) in
-    let second = c.in_ok-subcommand-2.ensures.shape (search rules) ∙ ap₂ with_subcommand first (ap (λ (a : App). a.top) c.in_ok-replicas.ensures.app) in
-    let third = c.in_ok-subcommand-3.ensures.shape (search rules) ∙ ap₂ with_subcommand second (ap (λ (a : App). a.top) c.in_ok-locks.ensures.app) in
-    IfOk-weaker c.subcommand-4.result _ _ (λ r h. h.shape (search rules) ∙ ap₂ with_subcommand third (ap (λ (a : App). a.top) c.in_ok-check.ensures.app)) c.subcommand-4.ensures
+    let second = c.in_ok-subcommand-2.ensures.shape (search rules) ∙ ap₂ with_subcommand first (ap (λ (a : App). a.top) c.in_ok-filter.ensures.app) in
+    let third = c.in_ok-subcommand-3.ensures.shape (search rules) ∙ ap₂ with_subcommand second (ap (λ (a : App). a.top) c.in_ok-replicas.ensures.app) in
+    let fourth = c.in_ok-subcommand-4.ensures.shape (search rules) ∙ ap₂ with_subcommand third (ap (λ (a : App). a.top) c.in_ok-locks.ensures.app) in
+    IfOk-weaker c.subcommand-5.result _ _ (λ r h. h.shape (search rules) ∙ ap₂ with_subcommand fourth (ap (λ (a : App). a.top) c.in_ok-check.ensures.app)) c.subcommand-5.ensures

@@ -1,7 +1,5 @@
-use Rattle.std.proofs.Common.{◌≡◌, true, false, ap, ◌∙◌, codes}
+use Rattle.std.proofs.Common.{true, ap, ◌∙◌}
 use Rattle.clap.specs.Simple.{app_of_fields, on_top}
-use Rattle.clap.specs.Words.{app_of, new_app}
-use Rattle.clap.specs.declared.builder.command.Command.TheViews.{out-Command as fields_of}
 use Rattle.command_line.proofs.parser.described.Goals as goal
 
 pub returns-clause-app : goal.returns-clause-app
