@@ -109,12 +109,12 @@ printf '%s\n' "${commit/[0-9a-f]/x}" 'toolchain' '3 passed, 0 failed' > out/gate
 try 'a commit other than that of the gate is refused' is_refused
 printf '%s\n' "$commit" 'toolchain' '3 passed, 0 failed' > out/gate.passed
 
-is_packed() {
+is_packed() (
     scripts/release.sh "$work/release" && cp -r "$work/release" "$work/first" && scripts/release.sh "$work/release" &&
         diff -r "$work/first" "$work/release" && cd -- "$work/release" && sha256sum -c SHA256SUMS && tar -xzf ./*.tar.gz &&
         cd calvin-*-linux-x86_64 && sha256sum -c SHA256SUMS && grep -q "3 passed, 0 failed" RELEASE.md &&
         bin/calvin run "$copy/examples/bank.json" < "$copy/examples/two-pays.log" | grep -q '^end 2 '
-}
+)
 try 'what is packed' is_packed
 
 touch crates/cli/src/main.rt

@@ -100,7 +100,7 @@ class FaultsTest(unittest.TestCase):
         setup[0] = "setups"
         with self.assertRaises(SetupFault) as raised:
             Session.open(json.dumps(setup).encode())
-        self.assertRegex(str(raised.exception), r"^fault \d+ at /")
+        self.assertEqual(str(raised.exception), "fault 42")
 
     def test_settings_outside_their_ranges(self):
         for settings in ({"coarsen": 65_536}, {"arena": 0}, {"arena": 1_048_577}, {"coarsen": -1}):
