@@ -5,12 +5,12 @@
     scripts/build.py --only PROGRAM
 
 and runs the program with these words, whose exit status is then its own; with `--only` it runs nothing that can be seen. A library
-is begun once those that it stands on are built. It is proved whole, and what is kept of it for the crates above are the
-statements of its proofs, as in the gate: they are loaded sooner. The one with the longest chain of code above it has as many jobs as there are processors, and goes before the others,
-which have two jobs each and take the processors where it leaves them. What is begun, how long it took and how many are left
-goes to standard error; what the toolchain says of a crate, to the file `build.log` in its folder `out/`. A crate whose source
-is as it was is not built again. However the script ends, its checks end with it, and the next run goes on from the work that
-they kept.
+is begun once those that it depends on are built. It is proved whole, and what is kept of it for the crates above are the
+statements of its proofs, as in the gate: they are loaded sooner. The one with the longest chain of code above it has as many
+jobs as there are processors, and goes before the others, which have two jobs each and take the processors where it leaves
+them. What is begun, how long it took and how many are left goes to standard error; what the toolchain says of a crate, to the
+file `build.log` in its folder `out/`. A crate whose source is as it was is not built again. However the script ends, its
+checks end with it, and the next run goes on from the libraries that are built.
 
 Several runs of the toolchain's command `rt` wait for each other at the libraries that they share, so this script calls the
 module that `rt` itself is made of.
@@ -18,6 +18,7 @@ module that `rt` itself is made of.
 import copy
 import functools
 import os
+import shutil
 import subprocess
 import sys
 import threading
@@ -59,16 +60,28 @@ def processors():
     return max(1, min(len(os.sched_getaffinity(0)), free // MEMORY_OF_A_CHECK))
 
 
-def build(library, jobs, is_first):
-    """Builds one library with so many jobs, before other checks or after them, and tells whether it is built and how long it took."""
+def keep_statements(rtlib, library, jobs):
+    """Proves a library, keeps the statements of its proofs, and tells whether it is built. The toolchain's own build keeps proofs."""
+    stamp, kept = library.stamp(), os.path.dirname(library.rlib)
+    shutil.rmtree(kept, ignore_errors=True)
+    os.makedirs(kept)
+    words = library.words(["--jobs", str(jobs), "--statements"], keeps=False)
+    if library.call(rtlib.RATTLE, "build", *words, "-o", library.rlib) != 0:
+        return False
+    with open(os.path.join(kept, "stamp"), "w", encoding="utf-8") as file:
+        file.write(stamp)
+    return True
+
+
+def build(rtlib, library, jobs, is_first):
+    """Builds one library with n jobs, before other checks or after them, and tells whether it is built and how long it took."""
     begun = time.monotonic()
     if not is_first:
         os.setpriority(os.PRIO_PROCESS, threading.get_native_id(), LATER)
     os.makedirs(os.path.join(library.folder, "out"), exist_ok=True)
     library = copy.copy(library)
     with open(os.path.join(library.folder, "out", "build.log"), "w+") as library.out:
-        status = library.build_rlib(["--jobs", str(jobs), "--statements"], anew=False)
-    return status == 0, time.monotonic() - begun
+        return keep_statements(rtlib, library, jobs), time.monotonic() - begun
 
 
 def chains(libraries):
@@ -80,7 +93,7 @@ def chains(libraries):
     return length
 
 
-def build_all(libraries):
+def build_all(rtlib, libraries):
     """Builds the libraries, each after those below it, and gives the first that can't be built, if there is one."""
     length, most = chains(libraries), processors()
     left, running, built = sorted(libraries, key=lambda it: -length[it]), {}, set()
@@ -92,7 +105,7 @@ def build_all(libraries):
             say(f"proving {library.name}; {len(left)} of {len(libraries)} crates are left")
             left.remove(library)
             # (a thread of its own, since a thread's priority can't be raised again)
-            running[ThreadPoolExecutor(1).submit(build, library, jobs, is_first)] = library, is_first
+            running[ThreadPoolExecutor(1).submit(build, rtlib, library, jobs, is_first)] = library, is_first
         for ended in wait(running, return_when=FIRST_COMPLETED).done:
             library, _ = running.pop(ended)
             well, seconds = ended.result()
@@ -124,7 +137,7 @@ def main(*words):
     crate.held = rtlib.lock([*crate.below(), crate])
     os.chdir(crate.folder)
     try:
-        failed = build_all([it for it in crate.below() if not it.is_built()])
+        failed = build_all(rtlib, [it for it in crate.below() if not it.is_built()])
         if failed:
             say(f"{failed.name} is not proved: crates/{failed.name}/out/build.log says why")
             status = 1
