@@ -6,15 +6,16 @@
 
 and runs the program with these words, whose exit status is then its own; with `--only` it runs nothing that can be seen. A library
 is begun once those that it depends on are built. It is proved whole, and what is kept of it for the crates above are the
-statements of its proofs, as in the gate: they are loaded sooner. The one with the longest chain of code above it has as many
-jobs as there are processors, and goes before the others, which have two jobs each and take the processors where it leaves
-them. What is begun, how long it took and how many are left goes to standard error; what the toolchain says of a crate, to the
+statements of its proofs, as in the gate: they are loaded sooner. The longer the chain of code above a library is, the higher is
+the priority of its checks among those that run, so that what most wait for has the processors first, and the others take
+what it leaves. What is begun, how long it took and how many are left goes to standard error; what the toolchain says of a crate, to the
 file `build.log` in its folder `out/`. A crate whose source is as it was is not built again. However the script ends, its
 checks end with it, and the next run goes on from the libraries that are built.
 
 Several runs of the toolchain's command `rt` wait for each other at the libraries that they share, so this script calls the
 module that `rt` itself is made of.
 """
+import contextlib
 import copy
 import functools
 import os
@@ -27,8 +28,8 @@ from concurrent.futures import FIRST_COMPLETED, ThreadPoolExecutor, wait
 
 MEMORY_OF_A_CHECK = 4 << 30  # bytes
 MOST_JOBS = 4
-FEW_JOBS = 2
-LATER = 10  # how much less a processor is given to a check that none waits for most
+STEP = 10  # by how much the niceness of a check is above that of the one that more wait for
+MOST_NICE = 19  # the system's lowest priority
 
 
 def toolchain():
@@ -73,11 +74,10 @@ def keep_statements(rtlib, library, jobs):
     return True
 
 
-def build(rtlib, library, jobs, is_first):
-    """Builds one library with n jobs, before other checks or after them, and tells whether it is built and how long it took."""
+def build(rtlib, library, jobs, niceness):
+    """Builds one library with n jobs, at a priority, and tells whether it is built and how long it took."""
     begun = time.monotonic()
-    if not is_first:
-        os.setpriority(os.PRIO_PROCESS, threading.get_native_id(), LATER)
+    os.setpriority(os.PRIO_PROCESS, threading.get_native_id(), niceness)
     os.makedirs(os.path.join(library.folder, "out"), exist_ok=True)
     library = copy.copy(library)
     with open(os.path.join(library.folder, "out", "build.log"), "w+") as library.out:
@@ -93,21 +93,56 @@ def chains(libraries):
     return length
 
 
+def processes_below(process):
+    """The processes that a process started, and those that these started."""
+    with contextlib.suppress(OSError):  # it ended meanwhile
+        for thread in os.listdir(f"/proc/{process}/task"):
+            with open(f"/proc/{process}/task/{thread}/children") as file:
+                children = file.read().split()
+            for child in children:
+                yield int(child)
+                yield from processes_below(child)
+
+
+def lower(library, niceness):
+    """Lowers the priority of the checks of a library, which run in its folder."""
+    for process in processes_below(os.getpid()):
+        with contextlib.suppress(OSError):  # it ended meanwhile
+            if os.readlink(f"/proc/{process}/cwd") == os.path.realpath(library.folder):
+                os.setpriority(os.PRIO_PROCESS, process, niceness)
+
+
+def ranked(running, length):
+    """The niceness of each library that is built, by the one that it has or, if it is to be begun, None: the longer the chain
+    above it, the lower, but none falls, since a priority can't be raised."""
+    found, least = {}, None
+    for library in sorted(running, key=lambda it: -length[it]):
+        wanted = 0 if least is None else min(MOST_NICE, least + STEP)
+        least = max(wanted, running[library] or 0)
+        found[library] = least
+    return found
+
+
 def build_all(rtlib, libraries):
     """Builds the libraries, each after those below it, and gives the first that can't be built, if there is one."""
     length, most = chains(libraries), processors()
-    left, running, built = sorted(libraries, key=lambda it: -length[it]), {}, set()
-    while left or running:
+    left, niceness, builds, built = sorted(libraries, key=lambda it: -length[it]), {}, {}, set()
+    while left or builds:
         ready = [it for it in left if built.issuperset(set(it.below()) & set(libraries))]
-        for library in ready[: most - len(running)]:
-            is_first = not any(first for _, first in running.values())
-            jobs = min(MOST_JOBS if is_first else FEW_JOBS, most)
-            say(f"proving {library.name}; {len(left)} of {len(libraries)} crates are left")
-            left.remove(library)
-            # (a thread of its own, since a thread's priority can't be raised again)
-            running[ThreadPoolExecutor(1).submit(build, rtlib, library, jobs, is_first)] = library, is_first
-        for ended in wait(running, return_when=FIRST_COMPLETED).done:
-            library, _ = running.pop(ended)
+        niceness |= dict.fromkeys(ready[: most - len(builds)])
+        for library, wanted in ranked(niceness, length).items():
+            if niceness[library] is None:
+                say(f"proving {library.name}; {len(left)} of {len(libraries)} crates are left")
+                left.remove(library)
+                # (a thread of its own, since a thread's priority can't be raised again)
+                begun = ThreadPoolExecutor(1).submit(build, rtlib, library, min(MOST_JOBS, most), wanted)
+                builds[begun] = library
+            elif niceness[library] < wanted:
+                lower(library, wanted)
+            niceness[library] = wanted
+        for ended in wait(builds, return_when=FIRST_COMPLETED).done:
+            library = builds.pop(ended)
+            del niceness[library]
             well, seconds = ended.result()
             if not well:
                 return library

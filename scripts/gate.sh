@@ -3,7 +3,8 @@
 #
 # - `scripts/examples.py`, `scripts/manual.py --check` and `scripts/crates.py --check`, which compare what comes out, and the crates,
 #   with what the documents say, `scripts/pages.py --check` with its tests, which looks at the documents' lengths, words, links and
-#   names of files, and `scripts/unsafe.py`, which refuses words that let a value go without its end,
+#   names of files, `scripts/unsafe.py`, which refuses words that let a value go without its end, and `scripts/build_tests.py`,
+#   which tries the script of the first build,
 # - `scripts/cases.py`, which runs the stored cases, and `scripts/hostile_documents.py`, which runs 1,000 setups and logs made at
 #   random, each on the program as either compiler makes it,
 # - `tools/notation/tests.py`, which tries the notation of setups, `workloads/cases.py --check`, which compares the stored cases of
@@ -65,6 +66,7 @@ gate() {
     counted scripts/pages.py --check || status=1
     counted scripts/pages_tests.py || status=1
     counted scripts/unsafe.py || status=1
+    counted scripts/build_tests.py || status=1
     counted tools/notation/tests.py || status=1
     counted workloads/cases.py --check || status=1
     counted bench/tests.py || status=1
