@@ -34,7 +34,6 @@ LIMITS = {
 # What a page that is over its limit may have meanwhile. Lower it with the page, and take it out once the limit is met.
 MEANWHILE = {
     "docs/architecture.md": 4926,
-    "docs/trust.md": 9510,
     "docs/embedding.md": 2703,
 }
 # Each word that no page is to have, and what is written in its place.
@@ -56,7 +55,6 @@ WORDS_MEANWHILE = {
     "docs/language.md": 8,
     "docs/notation.md": 5,
     "docs/replication.md": 3,
-    "docs/trust.md": 27,
 }
 
 MADE = re.compile(r"<!-- figures -->.*?<!-- end of figures -->", re.DOTALL)

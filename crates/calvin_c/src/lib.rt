@@ -1,4 +1,14 @@
 //! The executor as a static library, for C and for what calls C. `include/calvin.h` declares it.
+//!
+//! Proved: each call returns, with no panic, and writes nothing but what C passes for it; the bytes of a fault's line
+//! and of the report fit their room.
+//!
+//! Tested only, by `scripts/static_library.sh`: examples in C and Rust print and end as the program does, also by
+//! single calls and in the tests of the bindings; if every allocation fails from any one on, a run ends with status 3,
+//! and with fault 37 where its session is open, has given a beginning of the report, and frees all that it took.
+//!
+//! Not proved: that a call's status is what the session answered, and that the session is there again afterwards: no
+//! clause says it of what a pointer of C points to. `include/calvin.h` says what C owes.
 #![tactic(auto)]
 
 ghost use Rattle.std.specs.Prelude.{◌≤◌, length};
