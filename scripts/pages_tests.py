@@ -43,6 +43,10 @@ class Lengths(unittest.TestCase):
         text = "one <!-- figures -->\n| 1 | 2 |\n<!-- end of figures --> two"
         self.assertEqual(pages.count_words(text), 2)
 
+    def test_definitions_that_a_script_writes_are_not_counted(self):
+        text = "one <!-- definitions -->\n- `a`: b\n<!-- end of definitions --> two <!-- end of figures -->"
+        self.assertEqual(pages.count_words(text), 7)
+
     def test_a_page_with_a_limit_that_is_not_there_is_told(self):
         self.assertEqual(findings({"b.md": ""}, {"a.md": 2}), ["a.md: there is no such page"])
 
