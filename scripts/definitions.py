@@ -23,7 +23,8 @@ LIST = re.compile(f"{BEGIN}\n.*?{END}\n", re.DOTALL)
 CLAIMED = "-- Claimed:"
 HEADING = "-- ---- "
 COMMENT = re.compile(r" *--(?: |$)")
-DEFINITION = re.compile(r"(?:abbrev pub|unfoldable pub|pub record|pub data|  pub) +(\S+) *[:({]")
+DEFINITION = re.compile(r"(?:  )?(?:abbrev pub|unfoldable pub|pub record|pub data) +([^\s:]+) *[:({]")
+IN_GROUP = re.compile(r"  pub ([^\s:]+) *:")
 GROUP = "abbrev mutual"
 SPAN = re.compile(r"(`[^`]+`)")
 
@@ -80,8 +81,7 @@ def parts(source):
         else:
             if line and not line.startswith(" "):
                 in_group = line == GROUP
-            found = DEFINITION.match(line)
-            if found and (in_group or not line.startswith(" ")):
+            if found := (IN_GROUP if in_group else DEFINITION).match(line):
                 yield Definition(found[1], joined(above))
             above = []
 

@@ -65,6 +65,11 @@ class Parts(unittest.TestCase):
         source = ["abbrev mutual", "  -- one", "  pub a : ℕ", "  a = b", "", "  pub b : ℕ"]
         self.assertEqual(parts(*source), [Definition("a", "one"), Definition("b", "")])
 
+    def test_definitions_with_common_parameters_are_found_and_fields_are_not(self):
+        source = ["module _ {Q : Type 0} where", "  -- one", "  pub record A (q : Q) : Type 0 where", "    pub b : Q",
+                  "", "  abbrev pub c : Q", "pub record R : Type 0 where", "  pub data : (Q)"]
+        self.assertEqual(parts(*source), [Definition("A", "one"), Definition("c", ""), Definition("R", "")])
+
     def test_a_comment_before_an_empty_line_belongs_to_no_definition(self):
         self.assertEqual(parts("-- a note", "", "abbrev pub a : ℕ"), [Definition("a", "")])
 

@@ -59,6 +59,7 @@ abbrev pub or_fault : ℕ → Result LogLine LogFaultKind → Option LogFault �
 or_fault n (Ok said) later = later
 or_fault n (Err kind) later = Some (record { kind = kind; line = n })
 
+-- the fault of the first line that has one, with its number
 abbrev pub first_fault : Lines → Option LogFault
 first_fault [] = None
 first_fault (line ∷ rest) = or_fault line.0 line.1 (first_fault rest)

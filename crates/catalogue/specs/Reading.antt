@@ -15,6 +15,7 @@ use Rattle.catalogue.specs.declared.table.Table.{Table}
 use Rattle.values.specs.Names.{is_name}
 use Rattle.catalogue.specs.Shapes.{ColumnShape, SplitShape, by_remainder, at_bounds, TableShape, split_shape, columns_shape}
 
+-- the fault is that allocation failed
 abbrev pub is_memory : CatalogueFault → Bool
 is_memory Memory = true
 is_memory e = false

@@ -9,6 +9,7 @@ use Rattle.catalogue.specs.declared.split.Split.{Split}
 use Rattle.catalogue.specs.declared.split.Split.TheVariants as splits
 use Rattle.catalogue.specs.declared.table.Table.{Table}
 
+-- a column's name and the type of its values
 pub record ColumnShape : Type 0 where
   pub name : List ℕ
   pub kind : ColType
@@ -35,6 +36,7 @@ abbrev pub is_end_with : SplitShape → ℕ → Bool
 is_end_with (by_remainder count) key = false
 is_end_with (at_bounds bounds) key = list_any (λ bound. bound == key + 1) bounds
 
+-- a table: its name, how its keys are split, and its columns in order
 pub record TableShape : Type 0 where
   pub name : List ℕ
   pub split : SplitShape

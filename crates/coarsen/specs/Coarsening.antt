@@ -21,6 +21,7 @@ gathered es = with_rights empty es
 abbrev pub is_needed : FootprintOf → Resource × Right → Bool
 is_needed footprint e = not (list_any (λ r. is_at_least e.1 (get footprint r)) (ancestors_of e.0))
 
+-- the entries that no entry of an ancestor covers
 abbrev pub needed : FootprintOf → FootprintOf
 needed footprint = gathered (filter (is_needed footprint) (entries footprint))
 
@@ -50,6 +51,7 @@ abbrev pub place : Option Resource → (Resource → ℕ) → ℕ → Resource �
 place None counts k resource = resource
 place (Some parent) counts k resource = if nat_lt k (counts parent) then parent else resource
 
+-- where more than k entries of a level have one parent, one entry on the parent has their greatest right
 abbrev pub lifted : Level → ℕ → FootprintOf → FootprintOf
 lifted level k footprint = gathered
     (map {B = Resource × Right}

@@ -47,6 +47,7 @@ pub record Position : Type 0 where
   -- the number of the line of which a byte was last taken, or 0
   pub begun : ℕ
 
+-- how many newlines were taken, and the number of the line that was last begun
 abbrev pub position_of : {S : Type 0} → LineReader S → Position
 position_of r = record { newlines = r.newlines; begun = r.begun }
 

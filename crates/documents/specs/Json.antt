@@ -22,6 +22,7 @@ abbrev pub two : List Data → Option (Data × Data)
 two (a ∷ b ∷ []) = Some (a, b)
 two ds = None
 
+-- lists of three items; the words below do the same for longer ones
 abbrev pub three : List Data → Option (Data × Data × Data)
 three (a ∷ b ∷ c ∷ []) = Some (a, b, c)
 three ds = None

@@ -26,6 +26,7 @@ abbrev pub reply_in : Result Outcome RequestFault → Result Reply RequestFault
 reply_in (Ok outcome) = Ok (as_reply outcome)
 reply_in (Err fault) = Err fault
 
+-- what was told: an answer, and whom it is for
 abbrev pub said_in : Told → Said
 said_in told = record { client = told.client; number = told.number; answer = reply_in told.answer }
 
@@ -38,6 +39,7 @@ said_to asked (Some fault) others replies = said asked (Err fault) ∷ others re
 said_to asked None others [] = []
 said_to asked None others (reply ∷ replies) = said asked (Ok reply) ∷ others replies
 
+-- what is said to those who asked: why a call is no request, or the reply to the next one that is
 abbrev pub answers_to : List Asked → List Reply → List Said
 answers_to [] replies = []
 answers_to (x ∷ xs) replies = said_to x x.refused (answers_to xs) replies
@@ -77,6 +79,7 @@ abbrev pub all_said : ℕ → ProcsParts → Standing → List (List CallItem) �
 all_said retries procs s [] = []
 all_said retries procs s (b ∷ bs) = batch_said procs s b ++ all_said retries procs (batch_end retries procs s b) bs
 
+-- where a service is after all batches
 abbrev pub all_end : ℕ → ProcsParts → Standing → List (List CallItem) → Standing
 all_end retries procs s [] = s
 all_end retries procs s (b ∷ bs) = all_end retries procs (batch_end retries procs s b) bs

@@ -16,6 +16,7 @@ use Rattle.footprint.specs.contracts.resource.ResourceOrd.TheImpl as order
 abbrev pub resource_cmp : Resource → Resource → Ordering
 resource_cmp = order.ghosts.cmp
 
+-- the resource above one in the tree: a partition has its table, a table the database
 abbrev pub parent_of : Resource → Option Resource
 parent_of Db = None
 parent_of (Table t WholeTable) = Some Db

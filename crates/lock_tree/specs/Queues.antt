@@ -33,6 +33,7 @@ granted_beside held [] = []
 granted_beside held (q ∷ qs) =
     if list_all (λ h. are_compatible h q.1) held then q ∷ granted_beside (q.1 ∷ held) qs else []
 
+-- what is granted of a queue: its longest front whose members go together
 abbrev pub granted : Queue → Queue
 granted queue = granted_beside [] queue
 

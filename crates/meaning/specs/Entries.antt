@@ -32,11 +32,13 @@ pub data Reply : Type 0 where
   aborted : AbortCode → Reply
   stale : Reply
 
+-- the footprint of what an entry may touch; none where its declaration faults
 abbrev pub footprint_of : Footing → Option FootprintOf
 footprint_of (declares footprint) = Some footprint
 footprint_of (faults code) = None
 footprint_of (finds footprint) = Some footprint
 
+-- where a run begins: the arguments are variables, no step is taken and nothing is replied
 abbrev pub start : List Value → Database → State
 start arguments db = record { rows = db; variables = arguments; steps = 0; reply = []; accesses = [] }
 
@@ -64,6 +66,7 @@ meaning_by d tables body arguments (faults code) db = (aborted code, db)
 meaning_by d tables body arguments (finds footprint) db =
     run_of d (covered tables footprint endings.Stale) body arguments db
 
+-- the number 0 and the empty text, for a variable or a column that is not there or has the other type
 abbrev pub nothing : StandIn
 nothing = record { number = pos 0; text = [] }
 

@@ -15,6 +15,7 @@ abbrev pub may_touch : List TableShape → Option FootprintOf → RowName → Ri
 may_touch tables None name right = false
 may_touch tables (Some footprint) name right = covers_row tables footprint name right
 
+-- an entry may touch a row name with this right
 abbrev pub touches : EntryShape → RowName → Right → Bool
 touches entry = may_touch entry.tables (footprint_of entry.footing)
 

@@ -22,6 +22,7 @@ pub record StandIn : Type 0 where
   pub number : ℤ
   pub text : List ℕ
 
+-- the text of a variable, or another text in the place of one that is not there or is a number
 abbrev pub text_or : List ℕ → Option Value → List ℕ
 text_or other (Some (values.Int z)) = other
 text_or other (Some (values.Text s)) = s
@@ -82,6 +83,7 @@ bool_of d rule (row_exists table key) = do
   found ← row_now name
   ok (is_some found)
 
+-- the value of an expression that gives a number or a text
 abbrev pub value_of : StandIn → AccessRule → ValueSyntax → Ran Value
 value_of d rule (int_value e) = do
   z ← int_of d rule e
@@ -90,6 +92,7 @@ value_of d rule (text_value e) = do
   s ← text_of d rule e
   ok (values.Text s)
 
+-- the values of expressions, from left to right
 abbrev pub values_of : StandIn → AccessRule → List ValueSyntax → Ran (List Value)
 values_of d rule [] = ok []
 values_of d rule (e ∷ es) = do

@@ -146,6 +146,7 @@ part_now rule table part = look (λ st. part_rows rule.tables table part st.rows
 abbrev pub row_now : RowName → Ran (Option RowOf)
 row_now name = look (λ st. get st.rows name)
 
+-- a row that is there, or an abort
 abbrev pub present : Option RowOf → Ran RowOf
 present None = abort NoRow
 present (Some row) = ok row
@@ -154,9 +155,11 @@ abbrev pub absent : Option RowOf → Ran (Unit {0})
 absent None = ok tt
 absent (Some row) = abort DuplicateRow
 
+-- a row is put in the place of what was there
 abbrev pub set_row : RowName → RowOf → Ran (Unit {0})
 set_row name row = alter (λ st. record st { rows = insert st.rows name row })
 
+-- no row is left at a name
 abbrev pub remove_row : RowName → Ran (Unit {0})
 remove_row name = alter (λ st. record st { rows = remove st.rows name })
 
@@ -169,6 +172,7 @@ abbrev pub with_variable : List Value → ℕ → Value → List Value
 with_variable variables place value =
     if place == length variables then variables ++ value ∷ [] else slice_set variables place value
 
+-- a variable is declared after the others, or changed
 abbrev pub set_variable : ℕ → Value → Ran (Unit {0})
 set_variable place value = alter (λ st. record st { variables = with_variable st.variables place value })
 

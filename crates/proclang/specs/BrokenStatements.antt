@@ -144,6 +144,7 @@ in_statement_form tables block path scope (Some (each_parts form)) = in_each_loo
 in_statement_form tables block path scope (Some (abort_code code)) = in_abort path code
 in_statement_form tables block path scope (Some (reply_values ds)) = in_reply tables path scope ds
 
+-- the faults of a statement, each with its path: its form, its limits, its parts from left to right, and then its types
 abbrev pub in_statement : List TableShape → BlockRules → List ℕ → List Seen → Data → List ProcFault
 in_statement tables block path scope d = in_statement_form tables block path scope (statement_form d)
 

@@ -114,6 +114,7 @@ parts_at tables path form = do
   body ← block_at tables deepest (path ++ 3 ∷ []) (seen_of params) form.body
   Ok (record { params = params; footprint = footprint; body = body })
 
+-- a procedure read from left to right: its typed syntax, or its first fault and the path to it
 unfoldable pub proc_at : List TableShape → List ℕ → List ProcSyntax → Data → Result ProcSyntax ProcFault
 proc_at tables path before d = do
   form ← formed (At Shape path) (proc_form d)

@@ -135,6 +135,7 @@ form_at tables block path scope (each_parts form) = in_scope scope (each_loop_at
 form_at tables block path scope (abort_code z) = in_scope scope (abort_at path z)
 form_at tables block path scope (reply_values ds) = in_scope scope (reply_at tables path scope ds)
 
+-- a statement read from left to right: its typed syntax, or its first fault and the path to it
 abbrev pub statement_at : List TableShape → BlockReader → List ℕ → List Seen → Data
     → Result (StmtSyntax × List Seen) ProcFault
 statement_at tables block path scope d = do

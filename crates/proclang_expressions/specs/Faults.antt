@@ -5,6 +5,7 @@ use Rattle.proclang_expressions.specs.declared.fault.FaultKind.{FaultKind}
 use Rattle.proclang_expressions.specs.declared.fault.ProcFault.{ProcFault}
 use Rattle.proclang_expressions.specs.declared.fault.ProcFault.TheVariants.{Memory, At}
 
+-- the fault is that allocation failed
 abbrev pub is_memory : ProcFault → Bool
 is_memory Memory = true
 is_memory (At kind path) = false

@@ -63,6 +63,7 @@ abbrev pub footprint_words : List Data → Option FootprintDocument
 footprint_words [] = None
 footprint_words (head ∷ parts) = option_and_then (λ word. footprint_word word parts) (as_str head)
 
+-- the form of a footprint: its entries, or that reconnaissance finds it
 unfoldable pub footprint_form : Data → Option FootprintDocument
 footprint_form d = option_and_then footprint_words (elements d)
 
@@ -134,5 +135,6 @@ abbrev pub entry_words : List Data → Option EntryDocument
 entry_words [] = None
 entry_words (head ∷ parts) = option_and_then (λ word. entry_word word parts) (as_str head)
 
+-- the form of an entry of a footprint, whose expressions read no rows
 unfoldable pub entry_form : Data → Option EntryDocument
 entry_form d = option_and_then entry_words (elements d)

@@ -7,6 +7,7 @@ use Rattle.proclang_types.specs.declared.operator.IntOperator.{IntOperator}
 use Rattle.proclang_types.specs.declared.operator.Comparison.{Comparison}
 use Rattle.proclang_types.specs.declared.operator.Equality.{Equality}
 
+-- an expression that gives a number; a variable is its place in the order of declarations
 pub data IntSyntax : Type 0 where
   number : ℤ → IntSyntax
   variable : ℕ → IntSyntax
@@ -20,6 +21,7 @@ pub data TextSyntax : Type 0 where
   literal : List ℕ → TextSyntax
   text_variable : ℕ → TextSyntax
 
+-- an expression that gives true or false
 pub data BoolSyntax : Type 0 where
   compare_ints : Comparison → IntSyntax → IntSyntax → BoolSyntax
   compare_texts : Equality → TextSyntax → TextSyntax → BoolSyntax
@@ -28,6 +30,7 @@ pub data BoolSyntax : Type 0 where
   -- whether a row is there: table, key
   row_exists : ℕ → IntSyntax → BoolSyntax
 
+-- an expression that gives a number or a text
 pub data ValueSyntax : Type 0 where
   int_value : IntSyntax → ValueSyntax
   text_value : TextSyntax → ValueSyntax
@@ -95,6 +98,7 @@ pub record ProcSyntax : Type 0 where
   pub footprint : FootprintSyntax
   pub body : List StmtSyntax
 
+-- reconnaissance finds the footprint
 abbrev pub is_recon : FootprintSyntax → Bool
 is_recon (declared_by entries) = false
 is_recon found_by_recon = true

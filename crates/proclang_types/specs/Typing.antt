@@ -125,6 +125,7 @@ abbrev pub FootprintFits : List TableShape → List ColType → FootprintSyntax 
 FootprintFits tables kinds (declared_by entries) = AllByRecursion (EntryFits tables kinds) entries
 FootprintFits tables kinds found_by_recon = ⊤
 
+-- the types of parameters, in order
 abbrev pub kinds_of : List ParamShape → List ColType
 kinds_of params = map (λ p. p.kind) params
 

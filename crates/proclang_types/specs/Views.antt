@@ -19,6 +19,7 @@ use Rattle.proclang_types.specs.declared.statement.ProcFootprint.{ProcFootprint}
 use Rattle.proclang_types.specs.declared.statement.ProcFootprint.TheVariants as footprints
 use Rattle.proclang_types.specs.Syntax.{IntSyntax, number, variable, binary, count_rows, sum_column, TextSyntax, literal, text_variable, BoolSyntax, compare_ints, compare_texts, both, either, negated, row_exists, ValueSyntax, int_value, text_value, ExprSyntax, int, text, bool, StmtSyntax, assign, get, put, insert_row, delete_row, choose, for_numbers, for_keys, abort, reply, block_of, EntrySyntax, row_entry, rows_entry, part_entry, table_entry, db_entry, FootprintSyntax, declared_by, found_by_recon}
 
+-- the typed syntax of an expression of the code that gives a number
 abbrev pub int_view : IntExpr → IntSyntax
 int_view (Number z) = number z
 int_view (Variable p) = variable p
@@ -30,6 +31,7 @@ abbrev pub text_view : TextExpr → TextSyntax
 text_view (texts.Literal s) = literal s
 text_view (texts.Variable p) = text_variable p
 
+-- the typed syntax of one that gives true or false
 abbrev pub bool_view : BoolExpr → BoolSyntax
 bool_view (CompareInts test a b) = compare_ints test (int_view a) (int_view b)
 bool_view (CompareTexts test a b) = compare_texts test (text_view a) (text_view b)
@@ -38,6 +40,7 @@ bool_view (Or' p a q b) = either (bool_view a) (bool_view b)
 bool_view (Not' p a) = negated (bool_view a)
 bool_view (Exists table key) = row_exists table (int_view key)
 
+-- the typed syntax of one that gives a number or a text
 abbrev pub value_view : ValueExpr → ValueSyntax
 value_view (values.Int e) = int_value (int_view e)
 value_view (values.Text e) = text_value (text_view e)

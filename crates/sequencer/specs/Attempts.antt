@@ -45,6 +45,7 @@ carried_of attempts = attempts.carried.items
 abbrev pub batch_of : Attempts → Batch
 batch_of attempts = attempts.batch
 
+-- the attempts of a batch of the code: the carried requests, and then its own calls
 abbrev pub attempts_in : Attempts → List Attempt
 attempts_in attempts = attempts_of (carried_of attempts) (items_of (batch_of attempts))
 

@@ -6,6 +6,7 @@ use Rattle.setup.specs.declared.fault.SetupFault.TheVariants.{Memory, Catalogue,
 use Rattle.catalogue.specs.Reading as catalogue
 use Rattle.proclang_expressions.specs.Faults as procedures
 
+-- the fault of a setup, of its catalogue or of its procedures is that allocation failed
 abbrev pub is_memory : SetupFault → Bool
 is_memory Memory = true
 is_memory (Catalogue fault) = catalogue.is_memory fault

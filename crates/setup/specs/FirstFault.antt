@@ -65,6 +65,7 @@ abbrev pub in_rows_form : List TableShape → Option (List Data) → List SetupF
 in_rows_form tables None = Shape ∷ []
 in_rows_form tables (Some ds) = in_each (table_key_said tables) (in_row tables) [] ds
 
+-- the faults of a document of rows, in the order in which they are looked for
 abbrev pub rows_faults : List TableShape → Data → List SetupFault
 rows_faults tables d = in_rows_form tables (versioned_list (codes "rows") d)
 

@@ -102,6 +102,7 @@ pub record IsJson (text : List ℕ) (d : Data) : Type 0 where
 abbrev pub IsNotJson : List ℕ → Type 0
 IsNotJson text = (is_utf8 text ≡ false) ⊎ (read text ≡ None)
 
+-- a text says a setup
 abbrev pub SaysSetup : List ℕ → SetupShape → Type 0
 SaysSetup text s = (d : Data) × IsJson text d × SaysDocument d s
 

@@ -116,6 +116,7 @@ pub record SetupShape : Type 0 where
   pub retries : ℕ
   pub digest : DigestForm
 
+-- a setup read from left to right, or its first fault
 unfoldable pub setup_at : Data → Result SetupShape SetupFault
 setup_at d = do
   form ← formed Shape (setup_form d)
@@ -132,6 +133,7 @@ document_said (Some d) = setup_at d
 unfoldable pub setup_said : List ℕ → Result SetupShape SetupFault
 setup_said text = if is_utf8 text then document_said (read text) else Err NotJson
 
+-- what a setup document of the code means
 abbrev pub setup_view : SetupDocument → SetupShape
 setup_view document = record {
   tables = document.setup.catalogue;
