@@ -116,7 +116,7 @@ def sections(top):
         if claimed:
             yield f"### {crate}\n\n"
         for name, source in claimed:
-            yield f"**[{name}](../crates/{crate}/specs/{name}.antt)** {escaped(about(source))}\n\n"
+            yield f"**[`{name}`](../crates/{crate}/specs/{name}.antt)** {escaped(about(source))}\n\n"
             yield "".join(items(parts(source))).lstrip("\n") + "\n"
 
 

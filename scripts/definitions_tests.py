@@ -107,7 +107,7 @@ class Pages(unittest.TestCase):
             self.assertEqual(run(top)[0], 0)
             page = (top / "docs/definitions.md").read_text()
         self.assertLess(page.index("### two"), page.index("### one"))
-        self.assertIn("**[A](../crates/one/specs/A.antt)** First.\n\n- `a`\n", page)
+        self.assertIn("**[`A`](../crates/one/specs/A.antt)** First.\n\n- `a`\n", page)
         self.assertNotIn("`b`", page)
         self.assertTrue(page.startswith("# Page\n") and page.endswith(f"{definitions.END}\n\nafter\n"))
 

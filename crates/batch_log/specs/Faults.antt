@@ -37,7 +37,7 @@ abbrev pub device_fault : LineReadFault → LogFault
 device_fault (devices.Io line) = record { kind = Io; line = line }
 device_fault (devices.Memory line) = record { kind = Memory; line = line }
 
--- The line of a fault, by where the reader stands: that of the newlines taken, plus 1, for a read that failed, and else
+-- The line of a fault, by where the reader is: that of the newlines taken, plus 1, for a read that failed, and else
 -- the line last begun, or 0.
 abbrev pub line_named : LogFaultKind → Position → ℕ
 line_named kind p = if is_io kind then next_number p.newlines else p.begun

@@ -17,7 +17,7 @@ abbrev pub form_view : LineForm → Form
 form_view (forms.Call name values) = call_form name.now (map view values.now)
 form_view forms.Cut = cut_form
 
--- by the head word and what stands after it
+-- by the head word and what comes after it
 unfoldable pub words_form : List ℕ → List Data → Option Form
 words_form word [] = if bytes_eq word (codes "cut") then Some cut_form else None
 words_form word (name ∷ values ∷ []) =

@@ -49,7 +49,7 @@ line_said procs line = if is_utf8 line then document_said procs (read line) else
 abbrev pub Lines : Type 0
 Lines = List (ℕ × Result LogLine LogFaultKind)
 
--- what the lines of a text say, where so many newlines stand before the text
+-- what the lines of a text say, where n newlines come before the text
 abbrev pub lines_said : List ProcParts → ℕ → List ℕ → Lines
 lines_said procs newlines text = map (λ line. (line.0, line_said procs line.1)) (numbered_lines newlines text)
 

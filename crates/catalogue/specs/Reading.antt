@@ -22,7 +22,7 @@ is_memory e = false
 
 -- ---- forms
 
--- the type that a word stands for
+-- the type that a word means
 abbrev pub type_of_word : List ℕ → Option ColType
 type_of_word s =
     if bytes_eq s (codes "int") then Some Int else

@@ -19,7 +19,7 @@ use std::alloc::Global;
 use std::marker::Model;
 use values::NoMemory;
 
-/// A plan: the lock requests of a transaction. They stand in tree order, each resource stands once, each request has
+/// A plan: the lock requests of a transaction. They are in tree order, each resource is there once, each request has
 /// one on each ancestor whose mode serves it, and none asks for rights in a subtree where the plan asks for none.
 #[derive(Drop)]
 pub struct Plan {
@@ -69,7 +69,7 @@ impl Plan {
         Ok(plan)
     }
 
-    /// The requests, in tree order: a resource's ancestors stand before it.
+    /// The requests, in tree order: a resource's ancestors come before it.
     pub fn requests(&self) -> &[(Resource, Mode)]
         ensures same { result.now ≡ self.now }
         ensures sound { IsWellFormed self.now }

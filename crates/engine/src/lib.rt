@@ -4,9 +4,9 @@
 //! order and the choices of events: the replies are those of the batch's attempts one by one on the rows before it,
 //! carried requests first, with numbers, clients and first attempts; the rows are theirs; carried on are exactly the
 //! stale requests with fewer earlier attempts than allowed. A batch comes back exactly from a busy engine or where the
-//! log would pass 2^48 transactions. If a thread or memory is refused the engine holds the batch with all that was
-//! carried, and the rows before it, and no job is out; if it was a thread, nothing has run. `resume`, `resume_in` and
-//! `resume_alone` go on, and give the replies of the whole batch; what was settled stays settled.
+//! log would pass 2^48 transactions. If a thread is refused or allocation fails the engine holds the batch with all
+//! that was carried, and the rows before it, and no job is out; if it was a thread, nothing has run. `resume`,
+//! `resume_in` and `resume_alone` go on, and give the replies of the whole batch; what was settled stays settled.
 //! `QuietEngine::execute`, `execute_by` and `resume`: the same on the calling thread, without a tally; they have no
 //! leave to wait, so they return. `repartition`: over other splits rows and promises stay; an error, `Busy` or
 //! `Different`, comes exactly where it should, and changes nothing.

@@ -51,7 +51,7 @@ said_again (one ∷ others) [] = []
 said_again (one ∷ others) (reply ∷ replies) =
     record { client = one.client; number = one.number; answer = Ok reply } ∷ said_again others replies
 
--- the attempts of a batch of calls: what is carried stands before the requests that procedures make of the calls
+-- the attempts of a batch of calls: what is carried comes before the requests that procedures make of the calls
 abbrev pub attempts_for : ProcsParts → Standing → List CallItem → List Attempt
 attempts_for procs s items = attempts_of s.carried (requests_of procs items)
 

@@ -42,7 +42,7 @@ pub fn recon<V: RowView>(
     ensures not_stale { (db : Database) →
         Agree (found_entry proc.now.tables (stmts_view proc.now.body) args.now (V.rows view.now)) (V.rows view.now) db
         → HoldsAsFound proc.now.tables (stmts_view proc.now.body) args.now (V.rows view.now) db }
-    // What stands for a variable or a column that is not there makes no difference, for arguments of the parameters'
+    // What is taken for a variable or a column that is not there makes no difference, for arguments of the parameters'
     // types and on rows of the columns' types.
     ensures stand_in { map type_of args.now ≡ kinds_of proc.now.params → HasTypes proc.now.tables (V.rows view.now)
         → StandInNeverFound proc.now.tables (stmts_view proc.now.body) args.now (V.rows view.now) }

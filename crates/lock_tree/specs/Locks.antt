@@ -9,7 +9,7 @@ pub record Waiting : Type 0 where
   pub plan : Requests
   pub marked : Bool
 
--- room for so many requests, and the transactions in order
+-- room for `arena` requests, and the transactions in order
 pub record Locks : Type 0 where
   pub arena : ℕ
   pub waiting : List Waiting

@@ -48,7 +48,7 @@ impl Model for LockTree {
 }
 
 impl LockTree {
-    /// A tree with room for so many requests, and no transaction. This body never fails, since it makes the block of
+    /// A tree with room for `arena` requests, and no transaction. This body never fails, since it makes the block of
     /// the requests with the first of them; a caller is to expect a tree that makes it at once.
     pub fn new(alloc: Global, arena: usize) -> Result<LockTree, NoMemory>
         ensures { IfOk result (λ tree. tree ≡ record { arena = arena; waiting = [] }) }

@@ -16,7 +16,7 @@ use Rattle.meaning.specs.Partitions.{keys_of, total}
 use Rattle.meaning.specs.Turns.{numbers_between}
 use Rattle.meaning.specs.Runs.{Ran, ◌>>=◌, ok, abort, look, AccessRule, step, int_result, computed, accessed, part_accessed, part_now, row_now, present, absent, set_row, remove_row, declare, set_variable, scoped, replying}
 
--- What stands for a variable or a column that is not there, or has the other type. That it never shows
+-- What is taken for a variable or a column that is not there, or has the other type. That it never shows
 -- where procedure, arguments and rows fit the tables is a law of its own, StandInNeverShows.
 pub record StandIn : Type 0 where
   pub number : ℤ

@@ -112,7 +112,7 @@ abbrev pub GoesOnLike : {A B : Type 0} → Ran A → Ran B → Type 0
 GoesOnLike {A} {B} parts whole = (before left : State) (x : A) → parts before ≡ (Ok x, left)
     → (after : State) × (y : B) × (whole before ≡ (Ok y, after))
 
--- no block stands in the statement, and it is no abort
+-- the statement has no block, and is no abort
 abbrev pub is_plain : StmtSyntax → Bool
 is_plain (choose test first second) = false
 is_plain (for_numbers low high body) = false

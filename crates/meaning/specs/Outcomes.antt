@@ -1,5 +1,5 @@
 -- Claimed: what contracts promise to a reader rests on these words.
--- Outcomes as values of the code, and the replies that they stand for.
+-- Outcomes as values of the code, and the replies that they represent.
 use Rattle.std.specs.Prelude.{Bool, true, false}
 use Rattle.meaning.specs.declared.outcome.Outcome.{Outcome}
 use Rattle.meaning.specs.declared.outcome.Outcome.TheVariants as outcomes

@@ -115,7 +115,7 @@ FindsOfTables tables body arguments db =
     All (λ (access : Access). HasKey access.0) (accesses_of tables body arguments db)
     → IsFootprintOf tables (found_footprint tables body arguments db)
 
--- the accesses are the same whatever stands for a variable or a column that is not there or has another type
+-- the accesses are the same whatever is taken for a variable or a column that is not there or has another type
 abbrev pub StandInNeverFound : List TableShape → List StmtSyntax → List Value → Database → Type 0
 StandInNeverFound tables body arguments db =
     (other : StandIn) → accesses_by other tables body arguments db ≡ accesses_of tables body arguments db

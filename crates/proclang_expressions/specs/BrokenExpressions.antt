@@ -22,7 +22,7 @@ use Rattle.proclang_expressions.specs.BrokenNames.{not_table, column_type_said, 
 
 -- ---- types
 
--- an expression of another type stands where an Int is asked for
+-- an expression of another type is where an Int is asked for
 abbrev pub not_int : List ℕ → List Seen → Data → List ProcFault
 not_int path scope d = broken (is_int_type (type_said scope d)) (At TypeMismatch path)
 

@@ -1,5 +1,5 @@
 -- Claimed: what contracts promise to a reader rests on these words.
--- The first fault, and where it stands.
+-- The first fault, and where it is.
 use Rattle.std.specs.Prelude.{◌≡◌, ℕ, List, Bool, true, false, Result, Err}
 use Rattle.proclang_expressions.specs.declared.fault.FaultKind.{FaultKind}
 use Rattle.proclang_expressions.specs.declared.fault.ProcFault.{ProcFault}

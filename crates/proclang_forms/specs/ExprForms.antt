@@ -96,7 +96,7 @@ abbrev pub is_body : Section → Bool
 is_body sections.Footprint = false
 is_body sections.Body = true
 
--- whether an expression of that form may stand in a section: those of a footprint read no rows
+-- whether an expression of that form may be in a section: those of a footprint read no rows
 abbrev pub is_allowed : Section → Form → Bool
 is_allowed section (exists_form table key) = is_body section
 is_allowed section (count_form table part) = is_body section

@@ -84,7 +84,7 @@ entry_form_view (forms.Part right table part) = part_parts right table.now (view
 entry_form_view (forms.Table right table) = table_parts right table.now
 entry_form_view (forms.Db right) = db_parts right
 
--- the right that a word stands for
+-- the right that a word means
 abbrev pub right_of : List ℕ → Option Right
 right_of word =
     if bytes_eq word (codes "r") then Some Read else

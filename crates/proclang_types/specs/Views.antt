@@ -1,5 +1,5 @@
 -- Claimed: what contracts promise to a reader rests on these words.
--- The syntax that a value of the code stands for.
+-- The syntax that a value of the code represents.
 use Rattle.std.specs.Prelude.{List, map}
 use Rattle.proclang_types.specs.declared.expression.IntExpr.{IntExpr}
 use Rattle.proclang_types.specs.declared.expression.IntExpr.TheVariants.{Number, Variable, Binary', Count', Sum'}

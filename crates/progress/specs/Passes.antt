@@ -16,7 +16,7 @@ published w = (cell_view w.pass).seen
 abbrev pub seen : WatchPass → List Tally
 seen p = (cell_view p.pass).seen
 
--- where a list is published: no two lists that stand at a time have one place
+-- where a list is published: no two lists that exist at a time have one place
 abbrev pub progress_place : Progress → TableId
 progress_place progress = progress.cell.table.shared.table_id
 

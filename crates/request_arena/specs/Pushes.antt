@@ -16,7 +16,7 @@ appended (Some t) y xs = cond (list_any (eqb t) xs) (xs ++ y ∷ []) xs
 pub record Pushed (was : Lists) (queue : ℕ) (tail : Option ℕ) (request : Request) (id : ℕ) (now : Lists) : Type 0 where
   -- the node was free
   pub fresh : slice_get was.held id ≡ Some None
-  -- it stands at the back of the queue
+  -- it is at the back of the queue
   pub queues : now.queues ≡ slice_set was.queues queue (slice_index_or was.queues queue [] ++ id ∷ [])
   -- it holds the request, and comes after the tail: no other node holds anything else than before
   pub held : now.held ≡ slice_set (linked tail id was.held) id (Some (record { request = request; successor = None }))

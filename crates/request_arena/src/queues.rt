@@ -45,7 +45,7 @@ impl Model for Queues {
 }
 
 impl Queues {
-    /// So many free nodes, and so many empty queues. No other call takes memory.
+    /// `nodes` free nodes, and `queues` empty queues. No other call takes memory.
     pub fn with_capacity(alloc: Global, nodes: usize, queues: usize) -> Result<Queues, NoMemory>
         ensures { IfOk result (λ q. q ≡ record { queues = replicate queues []; held = replicate nodes None }) }
     {

@@ -1,4 +1,4 @@
-//! The serial run of batches one after another, where stale requests are tried again. The definitions stand in
+//! The serial run of batches one after another, where stale requests are tried again. The definitions are in
 //! `specs/`; here are the laws that follow from them, each as the contract of a function.
 //!
 //! Proved: `nothing_is_left_at_the_end`, after all batches of a log without a fault nothing is carried;

@@ -48,7 +48,7 @@ pub struct Scheduler {
     pub(crate) store: RowStore,
     pub(crate) locks: LockTree,
     pub(crate) threshold: usize,
-    // Room for so many requests.
+    // Room for `arena` requests.
     pub(crate) arena: usize,
     pub(crate) first: u64,
     pub(crate) entries: Vec<Entry>,
@@ -87,14 +87,14 @@ impl Model for Scheduler {
         s.slots.items s.settled s.plans.from s.plans.made.items };
 }
 
-/// What a scheduler was to be made of, where memory was refused.
+/// What a scheduler was to be made of, where allocation failed.
 pub type Unmade = (Catalogue, RowStore, Vec<Entry>, NoMemory);
 
 impl Scheduler {
     /// A scheduler of these entries on these rows, with nothing admitted. The entries are over the catalogue, nothing
     /// is lent of the rows, and the numbers, from the first one on, are below 2^48. More than `threshold` rows of a
     /// partition, or partitions of a table, are locked as one; the lock tree has room for `arena` requests. Where
-    /// memory is refused, all comes back.
+    /// allocation fails, all comes back.
     pub fn new(
         alloc: Global,
         catalogue: Catalogue,

@@ -81,7 +81,7 @@ RunOnShownRows =
     → AgreeOnLocked tables t.plan after (meaning t.entry shown).1
     → IsRunOf tables t shown (meaning t.entry shown).0 after
 
--- ---- one event after the other, on rows that stand for others
+-- ---- one event after the other, on rows that represent others
 
 pub record StaysSound (tables : List TableShape) (first : ℕ) (log : List Transaction) (start : Database) : Type 0 where
   pub starts : IsSound tables log start [] start

@@ -1,5 +1,5 @@
 //! The core of a scheduler: which events are enabled in it, what each does, and that every order of them gives the
-//! serial run. The definitions stand in `specs/`; here are the types that they speak of, and the laws that follow from
+//! serial run. The definitions are in `specs/`; here are the types that they speak of, and the laws that follow from
 //! them, each as the contract of a function.
 //!
 //! Proved, by `every_run_is_serial`: whatever the order of admitting, lending, running, giving back and settling, each

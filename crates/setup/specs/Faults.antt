@@ -1,5 +1,5 @@
 -- Claimed: what contracts promise to a reader rests on these words.
--- Which faults stand for want of memory.
+-- Which faults say that allocation failed.
 use Rattle.std.specs.Prelude.{Bool, true, false}
 use Rattle.setup.specs.declared.fault.SetupFault.{SetupFault}
 use Rattle.setup.specs.declared.fault.SetupFault.TheVariants.{Memory, Catalogue, Procedure}

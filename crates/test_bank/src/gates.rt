@@ -49,7 +49,7 @@ impl Gate for CountingGate {
     }
 }
 
-/// Holds one job until another comes, for so many turns at most, and notes whether it came. It counts the jobs, too.
+/// Holds one job until another comes, for `turns` turns at most, and notes whether it came. It counts the jobs, too.
 #[derive(Drop)]
 pub struct Meeting {
     count: CountingGate,

@@ -62,7 +62,7 @@ impl Workspace {
         })
     }
 
-    /// The number of a variable; 0 stands for one that is not there or is a text.
+    /// The number of a variable; 0 for one that is not there or is a text.
     pub fn number(&self, place: usize) -> i64
         ensures { result ≡ number_or (pos 0) (slice_get self.now.variables.items place) }
     {
@@ -72,7 +72,7 @@ impl Workspace {
         }
     }
 
-    /// The text of a variable; the empty text stands for one that is not there or is a number.
+    /// The text of a variable; the empty text for one that is not there or is a number.
     pub fn text(&self, place: usize) -> &str
         ensures { result.now ≡ text_or [] (slice_get self.now.variables.items place) }
     {
