@@ -41,6 +41,8 @@ impl Plan {
     /// The plan for a footprint. The footprint is coarsened first: entries that an ancestor's entry covers are dropped,
     /// more than `threshold` rows of a partition become one entry on the partition, more than `threshold` partitions of
     /// a table one entry on the table, and if the plan has more than `arena` requests it becomes one on the database.
+    /// `arena` is at least 1; `threshold` may be 0. A request on a resource has one of intention on each of its
+    /// ancestors (Gray and others, 1975 and 1976). The only error is that allocation failed.
     pub fn new(
         alloc: Global,
         footprint: &Footprint,

@@ -22,7 +22,7 @@ use workspace::{Passage, Permit, RowView, Shown};
 
 /// The footprint that the body of a procedure turns out to need, over a view of the procedure's catalogue that shows
 /// each name: the body is run with every access allowed, up to its end, however it ends, and its writes and its reply
-/// are dropped. The only error is want of memory.
+/// are dropped (Calvin, 2012: reconnaissance of dependent transactions). The only error is that allocation failed.
 pub fn recon<V: RowView>(
     alloc: Global,
     catalogue: &Catalogue,

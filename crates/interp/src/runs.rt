@@ -57,7 +57,7 @@ fn run_here<V: RowView>(
 }
 
 /// Runs an entry over a view of the entry's catalogue that shows each name that the entry may read, and is asked for no
-/// other name. The only error is want of memory.
+/// other name. The only error is that allocation failed.
 pub fn run<V: RowView>(
     alloc: Global,
     catalogue: &Catalogue,

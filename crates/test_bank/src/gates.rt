@@ -18,6 +18,7 @@ pub struct CountingGate {
 }
 
 impl CountingGate {
+    /// A gate that no job has passed.
     pub fn new(is_open: bool) -> CountingGate {
         CountingGate {
             is_open,

@@ -33,6 +33,7 @@ pub struct Refusal {
 }
 
 impl Refusal {
+    /// A refusal before which `wanted` allocations are made, and none is made yet.
     pub fn new(alloc: Global, wanted: u64) -> Refusal {
         Refusal {
             alloc,
