@@ -28,7 +28,7 @@ type_of_word s =
     if bytes_eq s (codes "int") then Some Int else
     (if bytes_eq s (codes "text") then Some Text else None)
 
--- a name and a type
+-- a name and a type, which is `int` or `text`
 unfoldable pub column_form : Data → Option (List ℕ × ColType)
 column_form d =
     option_and_then (λ (p : Data × Data).

@@ -73,7 +73,7 @@ TakesLine old new from to bare line = (has_newline line ≡ false) ×
 abbrev pub LosesLine : Option (List ℕ) → Option (List ℕ) → Position → Position → Type 0
 LosesLine old new from to = (lost : List ℕ) × (has_newline lost ≡ false) × Takes old new from to lost
 
--- the line of a fault, by where the reader is
+-- the line of a fault: where a read failed the one after the newlines taken, and else the one last begun, or 0
 abbrev pub IsFaultAt : LineReadFault → Position → Type 0
 IsFaultAt (Io line) p = line ≡ line_number (p.newlines + 1)
 IsFaultAt (Memory line) p = line ≡ p.begun

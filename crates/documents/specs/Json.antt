@@ -1,5 +1,5 @@
 -- Claimed: what contracts promise to a reader rests on these words.
--- One level of a JSON document: the elements of an array, a whole number.
+-- One level of a JSON document (RFC 8259): the elements of an array, a whole number.
 use Rattle.std.specs.Prelude.{ℕ, pos, negsuc, Bool, false, ◌&&◌, ◌==◌, if◌then◌else◌, ℤ, List, [], ◌∷◌, Option, Some, None, option_map, option_and_then}
 use Rattle.serde_json.specs.Data.{Data, Items, no_items, item}
 use Rattle.std.specs.Str.{bytes_eq}

@@ -92,6 +92,6 @@ with_entries other tables arguments count footprint (entry ∷ entries) = do
 abbrev pub declared_with : ℤ → List TableShape → List Value → List EntrySyntax → Result FootprintOf AbortCode
 declared_with other tables arguments entries = with_entries other tables arguments 0 empty entries
 
--- the footprint that a procedure declares, or the abort of its first fault
+-- the footprint that a procedure declares, entry by entry, or the abort of its first fault
 abbrev pub declared_footprint : List TableShape → List Value → List EntrySyntax → Result FootprintOf AbortCode
 declared_footprint = declared_with (pos 0)

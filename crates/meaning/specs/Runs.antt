@@ -100,7 +100,7 @@ recording tables = record { tables = tables; access = recorded }
 
 -- ---- what steps are made of
 
--- one step of 10,000
+-- one step of 10,000, or abort 8
 abbrev pub step : Ran (Unit {0})
 step = do
   taken ← look (λ st. st.steps)

@@ -122,7 +122,7 @@ SaysStatementForm tables block scope (abort_code z) s after =
 SaysStatementForm tables block scope (reply_values ds) s after =
     (vs : List ValueSyntax) × (length ds ≤ 64) × Says (SaysValue tables scope) ds vs × (s ≡ reply vs) × (after ≡ scope)
 
--- a document says a statement, which turns a scope into a scope
+-- a document says a statement, which is well typed in a scope and turns it into another
 abbrev pub SaysStatement : List TableShape → (List Seen → Data → List StmtSyntax → Type 0) → List Seen → Data
     → StmtSyntax → List Seen → Type 0
 SaysStatement tables block scope d s after =

@@ -80,7 +80,7 @@ pub data EntrySyntax : Type 0 where
   -- the whole database
   db_entry : Right → EntrySyntax
 
--- how the footprint of a procedure's calls is known
+-- how the footprint of a procedure's calls is known (Calvin, 2012: that of a dependent transaction is found)
 pub data FootprintSyntax : Type 0 where
   -- these entries declare it
   declared_by : List EntrySyntax → FootprintSyntax

@@ -129,7 +129,8 @@ FootprintFits tables kinds found_by_recon = ⊤
 abbrev pub kinds_of : List ParamShape → List ColType
 kinds_of params = map (λ p. p.kind) params
 
--- the footprint and the body fit the parameters
+-- the footprint and the body fit the parameters: each variable, table and column is there, and has the type that is
+-- asked of it
 pub record ProcFits (tables : List TableShape) (proc : ProcSyntax) : Type 0 where
   pub footprint : FootprintFits tables (kinds_of proc.params) proc.footprint
   pub body : BlockFits tables (kinds_of proc.params) (block_of proc.body)

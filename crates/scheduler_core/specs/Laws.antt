@@ -28,7 +28,7 @@ use Rattle.scheduler_core.specs.Choices.{next_step, next_steps, first_step, enab
 use Rattle.scheduler_core.specs.Sound.{IsSound, IsLent, IsRun, IsRunOf}
 use Rattle.scheduler_core.specs.Machine.{Machine, Move, lent, settled, phases_of, at_start, TakesBack, Does, Runs}
 
--- the serial run by places is the serial run
+-- the serial run by places is the serial run: each transaction is run on the rows that the one before it left
 abbrev pub SerialRunByPlaces : Type 0
 SerialRunByPlaces = (log : List Transaction) (start : Database) → IsByPlaces log start
 
@@ -132,7 +132,9 @@ pub record StaysSound (tables : List TableShape) (first : ℕ) (log : List Trans
   pub ends : (phases : List Phase) (rows : Database) → IsSound tables log start phases rows → is_done log phases ≡ true
       → rows ≡ serial_end (entries_of log) start
 
--- the rows on what the plan of a ready transaction locks are those of the serial run, event by event
+-- what `IsSound` says of the rows is so at the start and stays so, event by event; while it is so, the rows on what the
+-- plan of a ready transaction locks, or of one that is out, are those of the serial run, and no two plans that are out
+-- are in conflict
 abbrev pub RowsAreSerial : Type 0
 RowsAreSerial =
     (tables : List TableShape) (first : ℕ) (log : List Transaction) (start : Database) → ArePlanned tables log
@@ -158,7 +160,7 @@ pub record StaysReady (first : ℕ) (log : List Transaction) : Type 0 where
   pub settles : (phases : List Phase) (place : ℕ) → is_out (slice_get phases place) ≡ true
       → OutAreReady first log phases → OutAreReady first log (slice_set phases place Settled)
 
--- jobs that are given back
+-- a job that is out and not run can be given back, and its transaction can then be lent its rows again
 pub record GivenBackCanBeLent : Type 0 where
   -- a job that is out and not run can be given back
   pub can_be : (tables : List TableShape) (first : ℕ) (log : List Transaction) (now : Machine) (number : ℕ)
@@ -204,7 +206,8 @@ pub record FollowsPhases (first : ℕ) (log : List Transaction) : Type 0 where
   -- what is out stays ready
   pub stays_ready : StaysReady first log
 
--- the transactions that wait are those that are admitted and unsettled, with their plans
+-- the transactions that wait are those that are admitted and unsettled, with their plans; the least that is ready and
+-- has no mark is the least to which rows may be lent; each that is out stays ready
 abbrev pub AdmittedAndUnsettledWait : Type 0
 AdmittedAndUnsettledWait = (first : ℕ) (log : List Transaction) → FollowsPhases first log
 
