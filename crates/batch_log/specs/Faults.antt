@@ -10,6 +10,7 @@ use Rattle.batch_log.specs.declared.fault.LogFaultKind.{LogFaultKind}
 use Rattle.batch_log.specs.declared.fault.LogFaultKind.TheVariants.{NotJson, Shape, UnknownProc, Args, BatchTooLong, Io, Memory}
 use Rattle.batch_log.specs.declared.fault.LogFault.{LogFault}
 
+-- the fault is that allocation failed
 abbrev pub is_memory : LogFaultKind → Bool
 is_memory NotJson = false
 is_memory Shape = false
@@ -19,6 +20,7 @@ is_memory BatchTooLong = false
 is_memory Io = false
 is_memory Memory = true
 
+-- the fault is that of a device
 abbrev pub is_io : LogFaultKind → Bool
 is_io NotJson = false
 is_io Shape = false

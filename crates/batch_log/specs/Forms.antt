@@ -9,6 +9,7 @@ use Rattle.documents.specs.Json.{elements}
 use Rattle.batch_log.specs.declared.form.LineForm.{LineForm}
 use Rattle.batch_log.specs.declared.form.LineForm.TheVariants as forms
 
+-- a call, by its procedure and its values, or a cut
 pub data Form : Type 0 where
   call_form : List ℕ → List Data → Form
   cut_form : Form
@@ -29,5 +30,6 @@ abbrev pub items_form : List Data → Option Form
 items_form [] = None
 items_form (head ∷ rest) = option_and_then (λ word. words_form word rest) (as_str head)
 
+-- the form of a line, if it has one
 unfoldable pub line_form : Data → Option Form
 line_form d = option_and_then items_form (elements d)

@@ -33,10 +33,12 @@ call_said procs name ds = do
   _ ← rule (all_fit proc.params args) Args
   Ok (record { proc = proc; args = args })
 
+-- what a line of that form says, or its fault
 abbrev pub form_said : List ProcParts → Form → Result LogLine LogFaultKind
 form_said procs (call_form name ds) = call_said procs name ds >>= (λ call. Ok (Call call))
 form_said procs cut_form = Ok Cut
 
+-- what a document says, or its fault
 abbrev pub document_said : List ProcParts → Option Data → Result LogLine LogFaultKind
 document_said procs None = Err NotJson
 document_said procs (Some d) = formed Shape (line_form d) >>= form_said procs

@@ -51,10 +51,12 @@ abbrev pub fault_status : RunFault → ℕ
 fault_status (runs.Log fault) = kind_status fault.kind
 fault_status (runs.Spawn line) = 4
 
+-- the status of `run`
 abbrev pub run_status : Result ℕ RunFault → ℕ
 run_status (Ok count) = 0
 run_status (Err fault) = fault_status fault
 
+-- the status where a setup was not read: 3 where allocation failed, and else 1
 abbrev pub setup_status : SetupFault → ℕ
 setup_status fault = if is_memory fault then 3 else 1
 
@@ -124,6 +126,7 @@ abbrev pub answer_text : Option ℕ → List ℕ
 answer_text None = codes "same\n"
 answer_text (Some place) = codes "differ at byte " ++ decimal place ++ codes "\n"
 
+-- the status of a comparison: 0 where the texts are one, and else 5
 abbrev pub answer_status : Option ℕ → ℕ
 answer_status None = 0
 answer_status (Some place) = 5

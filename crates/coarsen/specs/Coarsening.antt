@@ -14,6 +14,7 @@ use Rattle.coarsen.specs.declared.level.Level.{Level}
 use Rattle.coarsen.specs.declared.level.Level.TheVariants.{Rows, Partitions}
 use Rattle.coarsen.specs.Subtrees.{is_same}
 
+-- the footprint of these rights, the greater of two on one resource
 abbrev pub gathered : List (Resource × Right) → FootprintOf
 gathered es = with_rights empty es
 
@@ -36,6 +37,7 @@ parent_at Partitions (Table t WholeTable) = None
 parent_at Partitions (Table t (Part p WholePart)) = Some (Table t WholeTable)
 parent_at Partitions (Table t (Part p (Row k))) = None
 
+-- the one that was found is that parent
 abbrev pub is_parent : Option Resource → Resource → Bool
 is_parent None parent = false
 is_parent (Some found) parent = is_same found parent

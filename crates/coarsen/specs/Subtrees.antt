@@ -56,6 +56,7 @@ Requests = List (Resource × Mode)
 abbrev pub own_on : Requests → Resource → ℕ
 own_on requests resource = greatest own (is_same resource) requests
 
+-- the greatest right that a request on the resource asks for in the subtree
 abbrev pub subtree_on : Requests → Resource → ℕ
 subtree_on requests resource = greatest subtree (is_same resource) requests
 

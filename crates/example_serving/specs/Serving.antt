@@ -22,6 +22,7 @@ pub record Said : Type 0 where
   pub number : ℕ
   pub answer : Result Reply RequestFault
 
+-- the answer, as clauses see it
 abbrev pub reply_in : Result Outcome RequestFault → Result Reply RequestFault
 reply_in (Ok outcome) = Ok (as_reply outcome)
 reply_in (Err fault) = Err fault
@@ -30,6 +31,7 @@ reply_in (Err fault) = Err fault
 abbrev pub said_in : Told → Said
 said_in told = record { client = told.client; number = told.number; answer = reply_in told.answer }
 
+-- an answer to one who asked
 abbrev pub said : Asked → Result Reply RequestFault → Said
 said asked answer = record { client = asked.client; number = asked.number; answer = answer }
 

@@ -39,6 +39,7 @@ abbrev pub AreAbove : ℕ → List Waiting → Type 0
 AreAbove number [] = ⊤
 AreAbove number (w ∷ ws) = (number < w.no) × AreAbove number ws
 
+-- the numbers rise
 abbrev pub IsRising : List Waiting → Type 0
 IsRising [] = ⊤
 IsRising (w ∷ ws) = AreAbove w.no ws × IsRising ws

@@ -18,6 +18,7 @@ mode_on resource requests = find resource_cmp resource requests
 abbrev pub Queue : Type 0
 Queue = List (ℕ × Mode)
 
+-- the request of a transaction for this resource, if it has one, before those of the others
 abbrev pub asks : ℕ → Option Mode → Queue → Queue
 asks number None queue = queue
 asks number (Some mode) queue = (number, mode) ∷ queue

@@ -27,6 +27,7 @@ pub record EntryShape : Type 0 where
   pub arguments : List Value
   pub footing : Footing
 
+-- what a transaction answers: values, the code of an abort, or that it is stale
 pub data Reply : Type 0 where
   commit : List Value → Reply
   aborted : AbortCode → Reply
@@ -42,6 +43,7 @@ footprint_of (finds footprint) = Some footprint
 abbrev pub start : List Value → Database → State
 start arguments db = record { rows = db; variables = arguments; steps = 0; reply = []; accesses = [] }
 
+-- the reply of a run that ended before its body did
 abbrev pub reply_of : Ending → Reply
 reply_of (endings.Abort code) = aborted code
 reply_of endings.Stale = stale
@@ -55,6 +57,7 @@ finished db (Err e, st) = (reply_of e, db)
 abbrev pub end_of : StandIn → AccessRule → List StmtSyntax → List Value → Database → Result (Unit {0}) Ending × State
 end_of d rule body arguments db = in_order d rule (block_of body) (start arguments db)
 
+-- the reply of the run of a body, and the database that it leaves
 abbrev pub run_of : StandIn → AccessRule → List StmtSyntax → List Value → Database → Reply × Database
 run_of d rule body arguments db = finished db (end_of d rule body arguments db)
 

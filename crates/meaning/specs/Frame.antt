@@ -1,6 +1,6 @@
 -- Claimed: what contracts promise to a reader rests on these words.
--- The frame of a meaning: what it depends on, and what it changes. (Calvin, 2012: what a transaction reads and writes is
--- known before it asks for locks.)
+-- The frame of a meaning: what it depends on, and what it changes. (Calvin, 2012: what a transaction reads and writes
+-- is known before it asks for locks.)
 use Rattle.std.specs.Prelude.{◌≡◌, Bool, true, false, List, Option, Some, None}
 use Rattle.std.specs.FinMap.{get}
 use Rattle.values.specs.declared.name.RowName.{RowName}

@@ -49,6 +49,7 @@ int_of d rule (sum_column table part column) = do
   rows ← part_now rule table p
   int_result (total d.number column (entries rows))
 
+-- the value of an expression that gives a text
 abbrev pub text_of : StandIn → AccessRule → TextSyntax → Ran (List ℕ)
 text_of d rule (literal s) = ok s
 text_of d rule (text_variable place) = look (λ st. text_or d.text (slice_get st.variables place))

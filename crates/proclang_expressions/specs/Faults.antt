@@ -14,5 +14,6 @@ is_memory (At kind path) = false
 abbrev pub IsFault : FaultKind → List ℕ → ProcFault → Type 0
 IsFault kind path e = is_memory e ≡ false → e ≡ At kind path
 
+-- the fault of this kind at this path
 abbrev pub refuse : {A : Type 0} → FaultKind → List ℕ → Result A ProcFault
 refuse kind path = Err (At kind path)

@@ -14,6 +14,7 @@ use Rattle.proclang_forms.specs.declared.proc_forms.FootprintForm.TheVariants as
 use Rattle.proclang_forms.specs.declared.proc_forms.EntryForm.{EntryForm}
 use Rattle.proclang_forms.specs.declared.proc_forms.EntryForm.TheVariants as forms
 
+-- the parts of a procedure, not read yet
 pub record ProcDocument : Type 0 where
   pub name : List ℕ
   pub params : List Data
@@ -40,6 +41,7 @@ proc_form d =
 
 -- ---- footprints
 
+-- the parts of a footprint, not read yet
 pub data FootprintDocument : Type 0 where
   -- entries
   declared_parts : List Data → FootprintDocument
@@ -67,6 +69,7 @@ footprint_words (head ∷ parts) = option_and_then (λ word. footprint_word word
 unfoldable pub footprint_form : Data → Option FootprintDocument
 footprint_form d = option_and_then footprint_words (elements d)
 
+-- the parts of an entry of a footprint, not read yet
 pub data EntryDocument : Type 0 where
   -- right, table, KEY
   row_parts : Right → List ℕ → Data → EntryDocument

@@ -17,6 +17,7 @@ pub data IntSyntax : Type 0 where
   -- the total of a column over the rows of a partition: table, partition, column
   sum_column : ℕ → IntSyntax → ℕ → IntSyntax
 
+-- an expression that gives a text
 pub data TextSyntax : Type 0 where
   literal : List ℕ → TextSyntax
   text_variable : ℕ → TextSyntax
@@ -35,12 +36,14 @@ pub data ValueSyntax : Type 0 where
   int_value : IntSyntax → ValueSyntax
   text_value : TextSyntax → ValueSyntax
 
+-- an expression of any type
 pub data ExprSyntax : Type 0 where
   int : IntSyntax → ExprSyntax
   text : TextSyntax → ExprSyntax
   bool : BoolSyntax → ExprSyntax
 
 mutual
+  -- a statement
   pub data StmtSyntax : Type 0 where
     -- a variable gets a value
     assign : ℕ → ValueSyntax → StmtSyntax
@@ -60,10 +63,12 @@ mutual
     abort : ℕ → StmtSyntax
     reply : List ValueSyntax → StmtSyntax
 
+  -- the statements of a block, in order
   pub data BlockSyntax : Type 0 where
     no_statements : BlockSyntax
     followed : StmtSyntax → BlockSyntax → BlockSyntax
 
+-- the block of these statements
 abbrev pub block_of : List StmtSyntax → BlockSyntax
 block_of [] = no_statements
 block_of (s ∷ ss) = followed s (block_of ss)
@@ -87,6 +92,7 @@ pub data FootprintSyntax : Type 0 where
   -- reconnaissance finds it
   found_by_recon : FootprintSyntax
 
+-- a parameter's name and type
 pub record ParamShape : Type 0 where
   pub name : List ℕ
   pub kind : ColType

@@ -27,6 +27,7 @@ int_view (Binary' op p a q b) = binary op (int_view a) (int_view b)
 int_view (Count' table p part) = count_rows table (int_view part)
 int_view (Sum' table p part column) = sum_column table (int_view part) column
 
+-- the typed syntax of one that gives a text
 abbrev pub text_view : TextExpr → TextSyntax
 text_view (texts.Literal s) = literal s
 text_view (texts.Variable p) = text_variable p
@@ -45,6 +46,7 @@ abbrev pub value_view : ValueExpr → ValueSyntax
 value_view (values.Int e) = int_value (int_view e)
 value_view (values.Text e) = text_value (text_view e)
 
+-- the typed syntax of one of any type
 abbrev pub expr_view : Expr → ExprSyntax
 expr_view (exprs.Int e) = int (int_view e)
 expr_view (exprs.Text e) = text (text_view e)
@@ -63,12 +65,14 @@ stmt_step (Stmt-F.Each table part body) = for_keys table (int_view part) (block_
 stmt_step (Stmt-F.Abort code) = abort code
 stmt_step (Stmt-F.Reply es) = reply (map value_view es.items)
 
+-- the typed syntax of a statement of the code
 abbrev pub stmt_view : Stmt → StmtSyntax
 stmt_view = fold-Stmt StmtSyntax stmt_step
 
 abbrev pub stmts_view : List Stmt → List StmtSyntax
 stmts_view ss = map stmt_view ss
 
+-- the typed syntax of an entry of a footprint
 abbrev pub entry_view : FootprintEntry → EntrySyntax
 entry_view (entries.Row right table key) = row_entry right table (int_view key)
 entry_view (entries.Rows right table low high) = rows_entry right table (int_view low) (int_view high)
@@ -76,6 +80,7 @@ entry_view (entries.Part right table part) = part_entry right table (int_view pa
 entry_view (entries.Table right table) = table_entry right table
 entry_view (entries.Db right) = db_entry right
 
+-- the typed syntax of how a footprint is known
 abbrev pub footprint_view : ProcFootprint → FootprintSyntax
 footprint_view (footprints.Declared entries) = declared_by (map entry_view entries.items)
 footprint_view footprints.Recon = found_by_recon

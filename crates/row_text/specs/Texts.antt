@@ -11,6 +11,7 @@ use Rattle.values.specs.declared.value.Value.TheVariants.{Int, Text}
 use Rattle.catalogue.specs.Shapes.{TableShape}
 use Rattle.values.specs.Database.{Database, RowOf}
 
+-- a newline
 abbrev pub line_end : List ℕ
 line_end = 10 ∷ []
 

@@ -125,6 +125,7 @@ setup_at d = do
   rows ← rows_at tables form.rows
   Ok (record { tables = tables; procs = procs; rows = rows; retries = form.retries; digest = form.digest })
 
+-- the setup that a document says, if there is one, or the first fault
 abbrev pub document_said : Option Data → Result SetupShape SetupFault
 document_said None = Err NotJson
 document_said (Some d) = setup_at d
