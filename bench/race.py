@@ -10,7 +10,7 @@ that of `--alone`, and likewise the time of the processors, each the best of the
 pay. Every second round goes backwards. A program that is named after the first one is set beside it: what it takes
 where the first one takes 1. All reports of a load must be the same; the script ends with status 1 where one isn't.
 
-With --batches there is one load more, of so many batches of two transfers between a hundred accounts; in each tenth
+With --batches there is one load more, of N batches of two transfers between a hundred accounts; in each tenth
 batch one call is long. So threads wait and are woken all the time. A run that takes longer than --limit seconds ends
 the race with status 1: it hangs.
 """
@@ -73,7 +73,7 @@ def call_at(place, draw):
 
 
 def make_batches(folder, count):
-    """Writes a load of so many batches of two."""
+    """Writes a load of `count` batches of two."""
     draw = loads.random.Random("batches")
     folder.mkdir()
     (folder / "setup.json").write_text(json.dumps(loads.setup(ACCOUNTS, draw)))
@@ -86,7 +86,7 @@ def make_batches(folder, count):
 
 
 class Race:
-    """Programs that are run in so many ways, and the best that each took on each load."""
+    """Programs that are run in several ways, and the best that each took on each load."""
 
     def __init__(self, words, folder):
         self.programs, self.ways, self.words, self.out = words.program, words.ways, words, folder / "out"

@@ -23,7 +23,7 @@ enum {
     CALVIN_DONE = 0,
     CALVIN_REFUSED = 1,  /* the setup or the log breaks a rule */
     CALVIN_MISUSED = 2,  /* a pointer is null, a setting is outside its range, the log has ended, or a line is begun */
-    CALVIN_NO_MEMORY = 3 /* memory was refused */
+    CALVIN_NO_MEMORY = 3 /* allocation failed */
 };
 
 /* What calvin_call answers, too: the number of a line's fault, as docs/faults.md has it. */
@@ -102,7 +102,7 @@ static inline int calvin_call(calvin *session, const uint8_t *line, size_t lengt
     return calvin_c_call(live, length == 0 ? &none : line, length, number);
 }
 
-/* Tells in `fault` what calvin_call would answer for the line, 0 or 31 to 35, unless memory is refused, and takes nothing. Where it
+/* Tells in `fault` what calvin_call would answer for the line, 0 or 31 to 35, unless allocation fails, and takes nothing. Where it
  * would answer something else, that is the answer, and `fault` gets 0. The session is live. */
 static inline int calvin_test(calvin *session, const uint8_t *line, size_t length, int *fault) {
     static const uint8_t none = 0;

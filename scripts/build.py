@@ -1,5 +1,5 @@
 #!/usr/bin/env python3
-"""Proves and builds a program of the repository and the libraries that it stands on, on all processors:
+"""Proves and builds a program of the repository and the libraries that it depends on, on all processors:
 
     scripts/build.py PROGRAM [WORD ..]
     scripts/build.py --only PROGRAM

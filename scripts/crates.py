@@ -4,7 +4,7 @@
     scripts/crates.py [--check]
 
 A comment line of crates.txt is the name of a layer, and the crates of the lines after it are in that layer. Of the crates that a line
-names the table leaves out those that another of them stands on. What a crate is, is the first paragraph of its head.
+names the table leaves out those that another of them depends on. What a crate is, is the first paragraph of its head.
 
 With --check nothing is written; it ends with status 1 where the table is not what it would write, or a crate is in no layer.
 """
@@ -31,12 +31,12 @@ def layers():
 
 
 def below(name, named):
-    """Every library of the repository that a crate stands on."""
+    """Every library of the repository that a crate depends on."""
     return {it for one in named.get(name, []) for it in {one, *below(one, named)}}
 
 
 def stands_on(name, named):
-    """The libraries that a crate names, without those that another of them stands on."""
+    """The libraries that a crate names, without those that another of them depends on."""
     hidden = {it for one in named[name] for it in below(one, named)}
     return [it for it in named[name] if it not in hidden]
 

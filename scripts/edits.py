@@ -61,7 +61,7 @@ def toolchain():
 
 
 def owner_of(header):
-    """What stands for an `impl` in the name of its functions: the type, the trait and what it is made from."""
+    """What an `impl` is in the name of its functions: the type, the trait and what it is made from."""
     made_from = re.findall(r"From<(\w+)", header)
     while re.search("<[^<>]*>", header):
         header = re.sub("<[^<>]*>", "", header)
@@ -169,7 +169,7 @@ class Edit:
         return bool(self.functions()) and None not in self.touched
 
 
-# What stands in the place of a proof that a check is to leave out: that the function meets its contract is assumed.
+# What takes the place of a proof that a check is to leave out: that the function meets its contract is assumed.
 ASSUMED = """use Rattle.{crate}.proofs.{statement}.{{statement}}
 
 axiom pub {function}_spec : {{M : Type 1}} → statement M
@@ -183,7 +183,7 @@ def modules_of(source):
 
 
 def proofs_of(crate):
-    """The folders where the proofs of a crate's functions stand, as far as its text says where, each with the names of
+    """The folders that have the proofs of a crate's functions, as far as its text says where, each with the names of
     the functions that are proved there. A method is in the module of its type; a cycle of functions has a folder with a
     plus before its name."""
     src = Path(crate.folder, "src")
@@ -330,7 +330,7 @@ def not_sound(crate, edits):
 
 
 def crates_with(edits, names):
-    """The crates that have such edits, each with what it stands on built, by their names."""
+    """The crates that have such edits, each with what it depends on built, by their names."""
     crates = toolchain().rtlib.crates_below(os.getcwd())
     # `rt ci` leaves the libraries that it built, without the stamps of those that other commands build.
     built = [Path(crate.rlib) for crate in crates if crate.makes_rlib()]

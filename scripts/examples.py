@@ -21,7 +21,7 @@ INLINE = re.compile(r"`\./calvin ([^`]*)` prints `([^`]*)`")
 
 
 def printed(program, words):
-    """What a command line prints on standard output; `<` stands before the file of its log."""
+    """What a command line prints on standard output; `<` comes before the file of its log."""
     words = shlex.split(words)
     log = TOP / words[-1] if "<" in words else Path("/dev/null")
     if "<" in words:

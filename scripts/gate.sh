@@ -2,9 +2,10 @@
 # Runs the gate: `rt ci`; then, on the programs that it left built,
 #
 # - `scripts/examples.py`, `scripts/manual.py --check` and `scripts/crates.py --check`, which compare what comes out, and the crates,
-#   with what the documents say, `scripts/pages.py --check` with its tests, which looks at the documents' lengths, words, links and
-#   names of files, `scripts/unsafe.py`, which refuses words that let a value go without its end, and `scripts/build_tests.py`,
-#   which tries the script of the first build,
+#   with what the documents say, `scripts/definitions.py --check` with its tests, which compares the list of definitions with the
+#   comments in `specs/`, `scripts/pages.py --check` with its tests, which looks at the documents' lengths, words, links and names
+#   of files, `scripts/unsafe.py`, which refuses words that let a value go without its end, and `scripts/build_tests.py`, which
+#   tries the script of the first build,
 # - `scripts/cases.py`, which runs the stored cases, and `scripts/hostile_documents.py`, which runs 1,000 setups and logs made at
 #   random, each on the program as either compiler makes it,
 # - `tools/notation/tests.py`, which tries the notation of setups, `workloads/cases.py --check`, which compares the stored cases of
@@ -63,6 +64,8 @@ gate() {
     counted scripts/examples.py || status=1
     counted scripts/manual.py --check || status=1
     counted scripts/crates.py --check || status=1
+    counted scripts/definitions.py --check || status=1
+    counted scripts/definitions_tests.py || status=1
     counted scripts/pages.py --check || status=1
     counted scripts/pages_tests.py || status=1
     counted scripts/unsafe.py || status=1

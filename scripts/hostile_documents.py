@@ -1,8 +1,8 @@
 #!/usr/bin/env -S python3 -B
 """Makes setups and logs by changing, cutting and joining those below at random, and runs them on a built program:
 
-    scripts/hostile_documents.py [COUNT [SEED [PROGRAM]]]     runs so many pairs in three ways each, or 1,000
-    scripts/hostile_documents.py tell COUNT SEED [PROGRAM]    prints of so many setups their bytes in hexadecimal, a
+    scripts/hostile_documents.py [COUNT [SEED [PROGRAM]]]     runs COUNT pairs in three ways each, or 1,000
+    scripts/hostile_documents.py tell COUNT SEED [PROGRAM]    prints of COUNT setups their bytes in hexadecimal, a
                                                               space, and what `check` says, for second_reader.py
 
 Each pair is run on two workers, on three with the least of all other settings where each read and write moves one
@@ -39,7 +39,7 @@ LEAVES = (
 )  # fmt: skip
 # The bytes that a byte may be changed into.
 BYTES = b'[]{},:"\\-+.019 \n\t\r\x00\xffaeltu_'
-# The bytes between which the parts of a document stand.
+# The bytes between which the parts of a document are.
 LEAF, LINE = b"[],\n", b"\n"
 # The ways that a pair is run in, and how many bytes a read or a write moves at most.
 WAYS = (
@@ -69,7 +69,7 @@ class Chance:
 
 
 def around(document, place, ends):
-    """A document in three: what stands before the part at a place, that part, and what stands after it."""
+    """A document in three: what comes before the part at a place, that part, and what comes after it."""
     begin, end = place, place
     while begin > 0 and document[begin - 1] not in ends:
         begin -= 1
@@ -127,7 +127,7 @@ def drawn(chance, documents, chosen):
 
 
 def pairs(count, seed):
-    """So many setups, each with a log, and whether its calls are to be handed over."""
+    """A number of setups, each with a log, and whether its calls are to be handed over."""
     setups, logs = ([(TOP / path).read_bytes() for path in paths] for paths in zip(*DOCUMENTS))
     chance = Chance(seed)
     for _ in range(count):
@@ -136,7 +136,7 @@ def pairs(count, seed):
 
 
 def batches_in(lines):
-    """How many calls each batch has that ends in some lines without a fault, and how many stand after these."""
+    """How many calls each batch has that ends in some lines without a fault, and how many come after these."""
     batches = [0]
     for line in lines:
         if line[line.find(b'"') :].startswith(b'"cut"'):
@@ -168,7 +168,7 @@ def has_digests(line, front):
 
 
 def has_shape(report, batches, retries, is_whole):
-    """Whether a report has the lines of some batches, where a stale call is tried again so many times at most."""
+    """Whether a report has the lines of some batches, where a stale call is tried again `retries` times at most."""
     lines, number, batch, carried = iter(report.split(b"\n")), 0, 0, []
     batches = list(batches)
     while batches or (is_whole and carried):
@@ -258,7 +258,7 @@ def tried(program, pair):
 
 
 def run_all(count, seed, path):
-    """Runs so many pairs, says what came of them, and gives the status."""
+    """Runs a number of pairs, says what came of them, and gives the status."""
     with tempfile.TemporaryDirectory() as room, ProcessPoolExecutor(os.cpu_count()) as pool:
         found = list(pool.map(partial(tried, Program.watched(path, room)), pairs(count, seed), chunksize=8))
     for number, (wrong, _, _) in enumerate(found):
@@ -271,7 +271,7 @@ def run_all(count, seed, path):
 
 
 def tell_all(count, seed, path):
-    """Prints of so many setups what `check` says."""
+    """Prints of a number of setups what `check` says."""
     with tempfile.TemporaryDirectory() as room:
         program = Program.watched(path, room)
         for setup, _, _ in pairs(count, seed):

@@ -1,17 +1,18 @@
 #!/usr/bin/env python3
-"""Checks the pages of the repository, its Markdown files beside those of `must-fail` folders:
+"""Checks the pages of the repository, its Markdown files beside those of `must-fail` folders, and words of comments:
 
     scripts/pages.py [--check]
 
 - A page with a limit has at most as many words; what a script writes into it between two marks is not counted.
-- No page has a word of the list below, in place of which there is a plain one.
+- No page has a word of the list below, in place of which there is a plain one. Nor has a comment of the code, of the
+  definitions, of a script or of the header for C.
 - A link to a file of the repository leads to one that is there, and its anchor to a heading or an anchor of that page.
 - A file or folder that a code span names is there: from the top, the page's folder, `crates/` or a crate's folder, or
   anywhere by its name alone. So is each file that a command in a code block begins with. What a build leaves in `out/`
   or `target/` is passed over, and so is a name with a placeholder, as NAME, N or `*`.
 
-Without `--check` it also prints how many words each page with a limit has. A last line says what came of it. The status is 1
-where something is wrong.
+Without `--check` it also prints how many words each page with a limit has. A last line says what came of it. The status
+is 1 where something is wrong.
 """
 import os
 import re
@@ -25,6 +26,7 @@ LIMITS = {
     "CONTRIBUTING.md": 900,
     "docs/architecture.md": 2000,
     "docs/trust.md": 2500,
+    "docs/definitions.md": 1500,
     "docs/DECISIONS.md": 3000,
     "docs/verification.md": 1500,
     "docs/embedding.md": 1500,
@@ -34,7 +36,6 @@ LIMITS = {
 # What a page that is over its limit may have meanwhile. Lower it with the page, and take it out once the limit is met.
 MEANWHILE = {
     "docs/architecture.md": 4926,
-    "docs/trust.md": 9510,
     "docs/embedding.md": 2703,
 }
 # Each word that no page is to have, and what is written in its place.
@@ -48,18 +49,24 @@ WORDS = {
 }
 # How many of these words a page may have meanwhile.
 WORDS_MEANWHILE = {
-    "cases/README.md": 2,
     "docs/architecture.md": 4,
-    "docs/definitions.md": 33,
     "docs/embedding.md": 8,
-    "docs/faults.md": 2,
-    "docs/language.md": 8,
-    "docs/notation.md": 5,
     "docs/replication.md": 3,
-    "docs/trust.md": 27,
 }
+# The files whose comments are looked at for these words, and what a comment is, by the end of a file's name.
+SOURCES = re.compile(r"crates/[^/]+/(?:src|specs)/|(?:scripts|bindings|tools|bench|workloads|include)/")
+COMMENTS = {
+    ".rt": r"//.*",
+    ".rs": r"//.*",
+    ".antt": r"(?<!\S)--(?= |$).*",
+    ".py": r"(?<!\S)# .*|^[ \t]*\"{3}[\s\S]*?\"{3}",
+    ".sh": r"(?<!\S)# .*",
+    ".c": r"//.*|/\*[\s\S]*?\*/",
+    ".h": r"//.*|/\*[\s\S]*?\*/",
+}
+MARKS = re.compile(r"^[ \t]*(?://[/!]?|--|#|/?\*+)", re.MULTILINE)
 
-MADE = re.compile(r"<!-- figures -->.*?<!-- end of figures -->", re.DOTALL)
+MADE = re.compile(r"<!-- (figures|definitions) -->.*?<!-- end of \1 -->", re.DOTALL)
 FENCE = re.compile(r"^(`{3,}).*?^\1`*$", re.DOTALL | re.MULTILINE)
 SPAN = re.compile(r"(`+)(?!`)(.+?)(?<!`)\1(?!`)", re.DOTALL)
 LINK = re.compile(r"\]\(([^()\s]+)\)")
@@ -75,6 +82,15 @@ PASSED_OVER = {"out", "target", ".git", "__pycache__"}
 def without(pattern, text):
     """The text with blanks in the place of what the pattern finds, line for line."""
     return pattern.sub(lambda found: re.sub(r"[^\n]", " ", found[0]), text)
+
+
+def comments(text, kind):
+    """The text with blanks in the place of all but its comments, line for line; and of their marks and code spans."""
+    kept, at = [], 0
+    for it in re.finditer(COMMENTS[kind], text, re.MULTILINE):
+        kept += [re.sub(r"[^\n]", " ", text[at : it.start()]), without(re.compile("`[^`\n]*`"), without(MARKS, it[0]))]
+        at = it.end()
+    return "".join(kept)
 
 
 def line_of(text, place):
@@ -131,6 +147,12 @@ class Repository:
         paths = [it for it in self.files if it.endswith(".md") and "must-fail" not in it.split("/")]
         return {path: (self.top / path).read_text() for path in sorted(paths)}
 
+    @cached_property
+    def sources(self):
+        """The comments of each source that has some, by its path."""
+        paths = sorted(it for it in self.files if SOURCES.match(it) and Path(it).suffix in COMMENTS)
+        return {path: comments((self.top / path).read_text(), Path(path).suffix) for path in paths}
+
     def is_there(self, page, name):
         """Whether a page may speak of a file or folder by this name."""
         path = os.path.normpath(name)
@@ -150,8 +172,9 @@ class Repository:
     def listed_words(self, page, text):
         found = []
         for word, plain in WORDS.items():
-            for it in re.finditer(rf"\b{word}\b", without(SPAN, without(FENCE, text)), re.IGNORECASE):
-                found.append((line_of(text, it.start()), it[0], plain))
+            pattern = rf"\b{word}\b".replace(" ", r"\s+")
+            for it in re.finditer(pattern, text, re.IGNORECASE):
+                found.append((line_of(text, it.start()), " ".join(it[0].split()), plain))
         most = WORDS_MEANWHILE.get(page, 0)
         if len(found) > most and most:
             yield f"{page}: {len(found)} words of the list, and it may have {most}"
@@ -187,9 +210,11 @@ class Repository:
         """What is wrong, page by page."""
         for page, text in self.pages.items():
             yield from self.too_long(page, text)
-            yield from self.listed_words(page, text)
+            yield from self.listed_words(page, without(LINK, without(SPAN, without(FENCE, text))))
             yield from self.dead_links(page, text)
             yield from self.files_that_are_not_there(page, text)
+        for path, text in self.sources.items():
+            yield from self.listed_words(path, text)
         for page in sorted(LIMITS.keys() - self.pages.keys()):
             yield f"{page}: there is no such page"
 
@@ -205,11 +230,12 @@ def main(*words):
     found = list(repository.findings())
     for it in found:
         print(it)
-    pages = {it.partition(":")[0] for it in found}
+    files = {it.partition(":")[0] for it in found}
+    looked_at = f"{len(repository.pages)} pages and the comments of {len(repository.sources)} sources"
     if found:
-        print(f"{len(found)} findings in {len(pages)} of {len(repository.pages)} pages: each line above names one")
+        print(f"{len(found)} findings in {len(files)} files, of {looked_at}: each line above names one")
     else:
-        print(f"{len(repository.pages)} pages are in order: no page is too long, no link and no file name is dead")
+        print(f"{looked_at} are in order: no page is too long, no link and no file name is dead")
     return 1 if found else 0
 
 

@@ -43,6 +43,10 @@ class Lengths(unittest.TestCase):
         text = "one <!-- figures -->\n| 1 | 2 |\n<!-- end of figures --> two"
         self.assertEqual(pages.count_words(text), 2)
 
+    def test_definitions_that_a_script_writes_are_not_counted(self):
+        text = "one <!-- definitions -->\n- `a`: b\n<!-- end of definitions --> two <!-- end of figures -->"
+        self.assertEqual(pages.count_words(text), 7)
+
     def test_a_page_with_a_limit_that_is_not_there_is_told(self):
         self.assertEqual(findings({"b.md": ""}, {"a.md": 2}), ["a.md: there is no such page"])
 
@@ -58,12 +62,42 @@ class Words(unittest.TestCase):
     def test_two_words_are_found_over_one_space(self):
         self.assertEqual(len(findings({"a.md": "so many keys; if memory is refused it hangs on it"})), 3)
 
-    def test_words_in_code_and_longer_words_are_passed_over(self):
-        self.assertEqual(findings({"a.md": "`behind`\n```\nstands\n```\nunderstand, a stand-in, outstanding"}), [])
+    def test_words_in_code_and_in_links_and_longer_words_are_passed_over(self):
+        text = "[it](stands.md) `behind`\n```\nstands\n```\nunderstand, a stand-in, outstanding"
+        self.assertEqual(findings({"stands.md": "", "a.md": text}), [])
 
     def test_a_page_may_have_some_meanwhile_and_no_more(self):
         self.assertEqual(findings({"a.md": "it stands"}, words_meanwhile={"a.md": 1}), [])
         self.assertEqual(len(findings({"a.md": "it stands, they stand"}, words_meanwhile={"a.md": 1})), 3)
+
+
+class Comments(unittest.TestCase):
+    def test_a_word_in_a_comment_is_told_with_its_line(self):
+        comments = {
+            "crates/x/src/a.rt": "fn behind() {}\n/// It is behind.\n",
+            "crates/x/specs/A.antt": "behind x--behind = x\n  x -- behind",
+            "scripts/a.py": 'X = """behind"""\n"""It is\nbehind."""',
+            "scripts/b.py": "behind = '#behind'\n# It is behind.\n",
+            "scripts/a.sh": "behind='#behind'\nx\t# behind\n",
+            "include/a.h": "int behind;\n/* behind */",
+        }
+        for path, text in comments.items():
+            wanted = f"{path}:{3 if path == 'scripts/a.py' else 2}: `behind`, where `after` is plainer"
+            self.assertEqual(findings({path: text}), [wanted])
+
+    def test_words_are_found_over_the_end_of_a_line(self):
+        text = "    /// Room for so\n    /// many keys.\n"
+        wanted = ["crates/x/src/a.rt:1: `so many`, where `n` is plainer"]
+        self.assertEqual(findings({"crates/x/src/a.rt": text}), wanted)
+
+    def test_names_in_comments_and_other_folders_are_passed_over(self):
+        files = {
+            "crates/x/src/a.rt": "// `stands` and names_stand_so, Stands_at\n",
+            "crates/x/proofs/A.antt": "-- behind",
+            "bench/out/a.py": "# behind\n",
+            "docs/a.py": "# behind\n",
+        }
+        self.assertEqual(findings(files), [])
 
 
 class Links(unittest.TestCase):

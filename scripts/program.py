@@ -37,7 +37,7 @@ class Program:
         return Program(Path(path).resolve(), library)
 
     def run(self, words, folder, log=b"", most=None):
-        """What a run in a folder leaves. Each of its reads and writes moves so many bytes at most."""
+        """What a run in a folder leaves. Each of its reads and writes moves `most` bytes at most."""
         started = os.memfd_create("started")
         try:
             given = {"LD_PRELOAD": str(self.library), "STARTED": str(started), **({"MOST": str(most)} if most else {})}
@@ -84,7 +84,7 @@ def count_statement(statement):
 
 
 def with_loops(setup):
-    """A setup without a fault, no call of which is brief: before each body of few steps stands a loop of one turn.
+    """A setup without a fault, no call of which is brief: before each body of few steps is a loop of one turn.
 
     How many turns the loop has isn't known before, since it goes to a sum. So the scheduler's thread doesn't run such a
     call in place: it gets a plan, locks, a loan and a lane, and a worker may run it. The setup means the same but for

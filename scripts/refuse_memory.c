@@ -72,7 +72,7 @@ static int replay(calvin *session) {
     return status;
 }
 
-/* Whether a run that is granted so many allocations ends as it is to. */
+/* Whether a run that is granted a number of allocations ends as it is to. */
 static bool ends_well(size_t allocations) {
     calvin *session;
     uint64_t line;

@@ -26,7 +26,7 @@ cd -- "$(dirname -- "$0")/../crates/test_memory_refusals"
 
 # The number of the allocation that is refused, which is that of src/refusal.rt.
 refused=20000
-# Runs with threads don't always make the same number of allocations: so many more are tried.
+# Runs with threads don't always make the same number of allocations: this many more are tried.
 spare=80
 every=${EVERY:-1}
 
@@ -109,7 +109,7 @@ int pthread_create(pthread_t *thread, const pthread_attr_t *attributes, void *(*
 SOURCE
 }
 
-# Runs the program once for each line of a file, `STEP BEFORE`: with so many allocations before the step; or `STEP 0 THREAD`: where
+# Runs the program once for each line of a file, `STEP BEFORE`: with BEFORE allocations before the step; or `STEP 0 THREAD`: where
 # the thread with this number is refused, and no allocation.
 run_built() {
     mkdir -- "$folder/shares"

@@ -1,6 +1,6 @@
 /* A library that is loaded in front of the system's, for scripts/program.py. It notes each thread that the program starts, as a
  * byte more in the file whose descriptor STARTED says; and where MOST says a number, each read of standard input and each write to
- * an output moves so many bytes at most. */
+ * an output moves that many bytes at most. */
 #define _GNU_SOURCE
 #include <dlfcn.h>
 #include <pthread.h>

@@ -64,7 +64,7 @@ done >"$folder/transfers.log"
 
 seq 0 3999 | sed 's/.*/["call","compute",[&]]/' >"$folder/computing.log"
 
-# Writes a procedure with a footprint, which follows the ring by so many pairs of steps.
+# Writes a procedure with a footprint, which follows the ring by a number of pairs of steps.
 procedure() {
     cat <<SETUP
 ["$1",[["k","int"]],$2,
@@ -74,7 +74,7 @@ procedure() {
 SETUP
 }
 
-# Writes a setup whose ring has so many rows.
+# Writes a setup whose ring has a number of rows.
 ring() {
     local ten='["declared",["rows","r","ring","k",["+","k",9]]]' all='["declared",["rows","r","ring",0,9]]'
     cat <<'SETUP'
@@ -104,7 +104,7 @@ for footprint in found declared idle; do
 done
 head -n 1 "$folder/found_hop.log" >"$folder/one.log"
 
-# Writes a setup whose table of 2 partitions has so many rows.
+# Writes a setup whose table of 2 partitions has a number of rows.
 accounts() {
     cat <<'SETUP'
 ["setup",1,

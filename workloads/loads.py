@@ -59,7 +59,7 @@ def setup_with(notation, rows):
 
 
 def write(folder, setup, calls, batch):
-    """Writes a setup and the log of these calls, each a list of a procedure's name and its values, so many a batch."""
+    """Writes a setup and the log of these calls, each a procedure's name and its values, `batch` in a batch."""
     folder.mkdir(parents=True, exist_ok=True)
     (folder / "setup.json").write_text(json.dumps(setup, separators=(",", ":")) + "\n")
     with (folder / "log").open("w") as log:

@@ -115,7 +115,7 @@ class Talk:
 
 
 def measured(command, calls, size, count):
-    """The waits of so many batches of a size, of calls that are taken from the front again where they run out."""
+    """The waits of `count` batches of a size, of calls that are taken from the front again where they run out."""
     seconds = []
     with Talk(command) as talk:
         for turn in range(count + WARM_UP):

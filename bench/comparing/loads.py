@@ -23,7 +23,7 @@ class Load:
 
     def make(self, folder, scale, batch=None):
         """Writes setup.json, setup3.json (the same setup in version 3) and log into a folder; answers how many calls
-        there are. With a scale there are so many times the calls."""
+        there are. With a scale there are that many times the calls."""
         calls = max(FEWEST, round(self.calls * scale))
         if self.workload:
             maker = [TOP / "workloads" / self.workload / "generate.py", folder, "--calls", calls, *self.words.split()]

@@ -17,7 +17,7 @@ def processor():
 
 
 def other_work(load, count):
-    """What is said of a load that so many processors had before anything was measured."""
+    """What is said of a load that `count` processors had before anything was measured."""
     return f", on which other work went on (a load of {load:.1f})" if load > count / 2 else ""
 
 

@@ -11,7 +11,7 @@ def number(value):
 
 
 def percentile(values, share):
-    """The least of the values such that so many of a hundred are at most it (the nearest rank)."""
+    """The least of the values such that `share` of a hundred are at most it (the nearest rank)."""
     if not values:
         raise ValueError("no values")
     ordered = sorted(values)

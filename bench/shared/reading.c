@@ -29,7 +29,7 @@ static const char *over(const char *at, char wanted)
     return at + 1;
 }
 
-/* Whether a list goes on, from behind one of its elements or from its bracket. */
+/* Whether a list goes on, from after one of its elements or from its bracket. */
 static bool goes_on(const char **at)
 {
     *at = spaced(*at);

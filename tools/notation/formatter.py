@@ -41,7 +41,7 @@ def text(value):
 
 
 def parts(spot, *counts):
-    """The parts of a list with so many."""
+    """The parts of a list that has one of these counts of them."""
     if not spot.is_list or counts and len(spot.value) not in counts:
         raise unsayable(spot)
     return spot.value
@@ -138,7 +138,7 @@ class Layout:
             self.lines.append("")
 
     def begin(self, line):
-        """Writes the comments that stand before a line of the source, and an empty line where one was there."""
+        """Writes the comments that come before a line of the source, and an empty line where one was there."""
         while self.left and self.left[0].line < line:
             comment = self.left.pop(0)
             if comment.line - 1 in self.source.empty_lines:
@@ -148,7 +148,7 @@ class Layout:
             self.blank()
 
     def end(self, line):
-        """Writes the comments that stand within what ends on this line of the source: the last one beside it, and the
+        """Writes the comments that are within what ends on this line of the source: the last one beside it, and the
         others before it."""
         while self.left and self.left[0].line <= line:
             comment = self.left.pop(0)
@@ -251,7 +251,7 @@ class Layout:
 
     def procedure(self, item):
         procedure, parameters, footprint, body = parts(item.spots[0], 4)
-        # (a comment within the head stands before it)
+        # (a comment within the head comes before it)
         while self.left and self.left[0].line < body.line:
             self.put(self.left.pop(0).text)
         head = f"proc {name(procedure)}({typed(parameters)})"

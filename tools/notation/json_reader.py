@@ -175,7 +175,7 @@ def listed_after(spot, head):
 
 
 def item(kind, spot, count):
-    """An item of a document with so many parts, the first of which is its name."""
+    """An item of a document with `count` parts, the first of which is its name."""
     first = parts_of(spot, count)[0]
     if not first.is_text:
         refuse(first)

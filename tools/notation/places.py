@@ -15,7 +15,7 @@ def is_number(spot):
 
 
 def is_list(spot, *kinds):
-    """Whether it is a list of so many parts, each of its kind."""
+    """Whether it is a list of parts, one of each of these kinds."""
     return spot.is_list and len(spot.value) == len(kinds) and all(is_kind(it) for is_kind, it in zip(kinds, spot.value))
 
 

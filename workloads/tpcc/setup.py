@@ -157,7 +157,7 @@ proc stock_level(d int, least int) reads district[d], orders/d, order_line/d, st
 
 
 def notation(warehouses):
-    """The tables and procedures for so many warehouses, at most 102."""
+    """The tables and procedures for a number of warehouses, at most 102."""
     sizes = {"warehouses": warehouses, "districts": 10 * warehouses}
     parts = [TABLES.format(**sizes)]
     for count in range(5, 16):

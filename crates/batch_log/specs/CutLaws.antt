@@ -28,7 +28,7 @@ EndIsACut = (batches : List (List requests.Call)) (calls : List requests.Call) (
     Say lines (with_cuts batches ++ map Call calls) → (batches_of lines ≡ batches ++ calls ∷ [])
     × (first_fault lines ≡ None)
 
--- and are none, where a fault stands after them, whatever comes after it
+-- and are none, where a fault comes after them, whatever comes after it
 abbrev pub FaultIsNoCut : Type 0
 FaultIsNoCut = (batches : List (List requests.Call)) (calls : List requests.Call) (lines : Lines) (n : ℕ)
     (kind : LogFaultKind) (after : Lines) →

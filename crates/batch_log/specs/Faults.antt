@@ -10,6 +10,7 @@ use Rattle.batch_log.specs.declared.fault.LogFaultKind.{LogFaultKind}
 use Rattle.batch_log.specs.declared.fault.LogFaultKind.TheVariants.{NotJson, Shape, UnknownProc, Args, BatchTooLong, Io, Memory}
 use Rattle.batch_log.specs.declared.fault.LogFault.{LogFault}
 
+-- the fault is that allocation failed
 abbrev pub is_memory : LogFaultKind → Bool
 is_memory NotJson = false
 is_memory Shape = false
@@ -19,6 +20,7 @@ is_memory BatchTooLong = false
 is_memory Io = false
 is_memory Memory = true
 
+-- the fault is that of a device
 abbrev pub is_io : LogFaultKind → Bool
 is_io NotJson = false
 is_io Shape = false
@@ -37,7 +39,7 @@ abbrev pub device_fault : LineReadFault → LogFault
 device_fault (devices.Io line) = record { kind = Io; line = line }
 device_fault (devices.Memory line) = record { kind = Memory; line = line }
 
--- The line of a fault, by where the reader stands: that of the newlines taken, plus 1, for a read that failed, and else
+-- The line of a fault, by where the reader is: that of the newlines taken, plus 1, for a read that failed, and else
 -- the line last begun, or 0.
 abbrev pub line_named : LogFaultKind → Position → ℕ
 line_named kind p = if is_io kind then next_number p.newlines else p.begun

@@ -11,7 +11,7 @@ use Rattle.batch_log.specs.declared.filter.LookedAt.TheVariants.{Taken, Refused}
 use Rattle.batch_log.specs.Filters.{is_taken, taken_of, whole_lines, without_newline}
 use Rattle.batch_log.specs.Lines.{line_said}
 
--- what stands after a line, which may have come without its newline
+-- what comes after a line, which may have come without its newline
 abbrev pub newline_of : Bool → List ℕ
 newline_of true = []
 newline_of false = newline ∷ []

@@ -1,5 +1,5 @@
 -- Claimed: what contracts promise to a reader rests on these words.
--- Which lines of a log say a call or a cut, and the faults of a line. No rule here hangs on what reading gives.
+-- Which lines of a log say a call or a cut, and the faults of a line. No rule here depends on what reading gives.
 use Rattle.std.specs.Prelude.{◌≡◌, ℕ, Bool, true, false, List, [], ◌∷◌, ◌++◌, Option, Some, None, is_some, Ok, if◌then◌else◌, codes}
 use Rattle.std.specs.Str.{is_utf8}
 use Rattle.serde_json.specs.Data.{Data, string, array}
@@ -31,6 +31,7 @@ pub record SaysCall (procs : List ProcParts) (name : List ℕ) (ds : List Data) 
   pub are_values : values_said ds ≡ Some call.args
   pub fit : all_fit call.proc.params call.args ≡ true
 
+-- what a line of that form says
 abbrev pub SaysForm : List ProcParts → Form → LogLine → Type 0
 SaysForm procs (call_form name ds) said = (call : requests.Call) × SaysCall procs name ds call × (said ≡ Call call)
 SaysForm procs cut_form said = said ≡ Cut
@@ -46,6 +47,7 @@ pub record SaysLine (procs : List ProcParts) (line : List ℕ) (said : LogLine) 
 
 -- ---- the faults of a line, in the order in which its rules are looked at
 
+-- the parameters of a procedure take the values
 abbrev pub takes : ProcParts → Option (List Value) → Bool
 takes proc None = false
 takes proc (Some args) = all_fit proc.params args
@@ -55,15 +57,18 @@ abbrev pub are_taken : Option ProcParts → Option (List Value) → Bool
 are_taken None args = true
 are_taken (Some proc) args = takes proc args
 
+-- the procedure is unknown, or does not take the values
 abbrev pub in_call : List ProcParts → List ℕ → List Data → List LogFaultKind
 in_call procs name ds = broken (is_some (proc_named procs name)) UnknownProc
     ++ broken (are_taken (proc_named procs name) (values_said ds)) Args
 
+-- the rules that a line of that form breaks
 abbrev pub in_form : List ProcParts → Option Form → List LogFaultKind
 in_form procs None = Shape ∷ []
 in_form procs (Some (call_form name ds)) = in_call procs name ds
 in_form procs (Some cut_form) = []
 
+-- the rules that a document breaks
 abbrev pub in_document : List ProcParts → Option Data → List LogFaultKind
 in_document procs None = NotJson ∷ []
 in_document procs (Some d) = in_form procs (line_form d)

@@ -33,10 +33,12 @@ call_said procs name ds = do
   _ ← rule (all_fit proc.params args) Args
   Ok (record { proc = proc; args = args })
 
+-- what a line of that form says, or its fault
 abbrev pub form_said : List ProcParts → Form → Result LogLine LogFaultKind
 form_said procs (call_form name ds) = call_said procs name ds >>= (λ call. Ok (Call call))
 form_said procs cut_form = Ok Cut
 
+-- what a document says, or its fault
 abbrev pub document_said : List ProcParts → Option Data → Result LogLine LogFaultKind
 document_said procs None = Err NotJson
 document_said procs (Some d) = formed Shape (line_form d) >>= form_said procs
@@ -49,7 +51,7 @@ line_said procs line = if is_utf8 line then document_said procs (read line) else
 abbrev pub Lines : Type 0
 Lines = List (ℕ × Result LogLine LogFaultKind)
 
--- what the lines of a text say, where so many newlines stand before the text
+-- what the lines of a text say, where n newlines come before the text
 abbrev pub lines_said : List ProcParts → ℕ → List ℕ → Lines
 lines_said procs newlines text = map (λ line. (line.0, line_said procs line.1)) (numbered_lines newlines text)
 

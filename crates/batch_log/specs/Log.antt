@@ -23,7 +23,7 @@ most_calls (suc retries) = 2 ^ 46
 abbrev pub is_room : ℕ → ℕ → ℕ → Bool
 is_room retries calls total = nat_lt calls 4096 && nat_lt total (most_calls retries)
 
--- a line after so many calls of its batch and of the log: a call for which there is no room is a fault
+-- a line, after n calls of its batch and m of the log: a call for which there is no room is a fault
 abbrev pub within : ℕ → ℕ → ℕ → Result LogLine LogFaultKind → Result LogLine LogFaultKind
 within retries calls total (Ok (Call call)) = if is_room retries calls total then Ok (Call call) else Err BatchTooLong
 within retries calls total (Ok Cut) = Ok Cut
@@ -47,7 +47,7 @@ limited retries calls total [] = []
 limited retries calls total (line ∷ rest) = (line.0, within retries calls total line.1)
     ∷ limited retries (calls_after calls line.1) (total_after total line.1) rest
 
--- what a log says from a place on where a batch begins, after so many newlines and calls, where a stale request is
+-- what a log says from a place on where a batch begins, after n newlines and m calls, where a stale request is
 -- tried again so often
 abbrev pub log_said : ℕ → List ProcParts → ℕ → ℕ → List ℕ → Lines
 log_said retries procs newlines total text = limited retries 0 total (lines_said procs newlines text)
@@ -59,6 +59,7 @@ abbrev pub or_fault : ℕ → Result LogLine LogFaultKind → Option LogFault �
 or_fault n (Ok said) later = later
 or_fault n (Err kind) later = Some (record { kind = kind; line = n })
 
+-- the fault of the first line that has one, with its number
 abbrev pub first_fault : Lines → Option LogFault
 first_fault [] = None
 first_fault (line ∷ rest) = or_fault line.0 line.1 (first_fault rest)

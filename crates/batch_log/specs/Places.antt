@@ -15,6 +15,7 @@ use Rattle.batch_log.specs.Log.{batches_of, first_fault, last_batch, limited, lo
 abbrev pub batches_said : ProcsParts → ℕ → List ℕ → List (List requests.Call)
 batches_said procs retries log = batches_of (log_said retries procs.procs 0 0 log)
 
+-- the first fault of a log
 abbrev pub fault_said : ProcsParts → ℕ → List ℕ → Option LogFault
 fault_said procs retries log = first_fault (log_said retries procs.procs 0 0 log)
 

@@ -9,7 +9,7 @@ use Rattle.batch_log.specs.declared.line.LogLine.TheVariants.{Call}
 use Rattle.batch_log.specs.Lines.{line_said}
 use Rattle.batch_log.specs.Log.{most_calls}
 
--- the text begins with the line and its newline, or is the line, and the rest stands after it
+-- the text begins with the line and its newline, or is the line, and the rest comes after it
 abbrev pub IsFirstLine : List ℕ → List ℕ → List ℕ → Type 0
 IsFirstLine line text rest =
     (has_newline line ≡ false) × ((text ≡ line ++ newline ∷ rest) ⊎ ((0 < length line) × (text ≡ line) × (rest ≡ [])))
@@ -23,7 +23,7 @@ LosesFirst failed text rest =
 abbrev pub SaysCall : List ProcParts → List ℕ → Type 0
 SaysCall procs line = (has_newline line ≡ false) × (call : requests.Call) × (line_said procs line ≡ Ok (Call call))
 
--- Of a log that has so many calls before this place, whole lines are taken, each a call for which there is room. Then
+-- Of a log that has `total` calls before this place, whole lines are taken, each a call for which there is room. Then
 -- of one more line all is taken, or a beginning, or nothing; not all of it, and so no fault of it, where a read failed.
 pub record TakesCalls (retries : ℕ) (procs : List ProcParts) (total : ℕ) (failed : Bool) (text rest : List ℕ) : Type
     0 where

@@ -75,7 +75,7 @@ fn most_calls(retries: u8) -> u64
     if retries == 0 { 1 << 48 } else { 1 << 46 }
 }
 
-/// Whether a call may follow so many of its batch and of the log.
+/// Whether a call may follow `calls` of its batch and `total` of the log.
 pub(crate) fn is_room(retries: u8, calls: usize, total: u64) -> bool
     ensures { result ≡ is_room retries calls total }
 {

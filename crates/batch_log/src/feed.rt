@@ -194,7 +194,7 @@ impl LogFeed {
         self.take_line(alloc, procs)
     }
 
-    /// Takes the end of the log. A last line may have no newline. Where calls stand after the last cut, or the last
+    /// Takes the end of the log. A last line may have no newline. Where calls come after the last cut, or the last
     /// line is a cut without a newline, a last batch comes out.
     pub fn end(&mut self, alloc: Global, procs: &Procs) -> Result<Option<Vec<Request>>, LogFault>
         requires tables { AllByRecursion (λ c. c.proc.tables ≡ procs.now.tables) (place_of self.old).calls }

@@ -8,7 +8,7 @@ ghost use Rattle.batch_log.specs.LineRules.{LineIsExact};
 
 /// Does nothing. Its contract says of the batches of a log that batches with a cut after each are
 /// read back, that calls after the last cut are a batch where the log ends with them, and that
-/// they are none where a fault stands after them, whatever comes after it.
+/// they are none where a fault comes after them, whatever comes after it.
 pub fn batches_end_at_cuts()
     ensures back { BatchesAreReadBack }
     ensures end { EndIsACut }

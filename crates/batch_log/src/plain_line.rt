@@ -54,7 +54,7 @@ fn integer_of(text: &str) -> Option<i64>
     }
 }
 
-/// The value that a token says by itself. `None` where it says none or memory is refused.
+/// The value that a token says by itself. `None` where it says none or allocation fails.
 fn token_value(alloc: Global, token: Token<'_>) -> Option<Value>
     ensures { IfSome result (SaysValue (token_of token.entry)) }
 {
@@ -67,8 +67,8 @@ fn token_value(alloc: Global, token: Token<'_>) -> Option<Value>
     }
 }
 
-/// The values up to the bracket that closes their list, which is taken, too. `None` where a token says none or memory
-/// is refused.
+/// The values up to the bracket that closes their list, which is taken, too. `None` where a token says none or
+/// allocation fails.
 fn listed_values(alloc: Global, reader: &mut Reader<'_>) -> Option<Vec<Value>>
     ensures { IfSome result (λ values. ListsValues reader.old values.items reader.new) }
 {
@@ -100,7 +100,7 @@ fn take_text<'a>(reader: &mut Reader<'a>) -> Option<&'a str>
     }
 }
 
-/// What a line in the plain form says. `None` of a line in any other form, or where memory is refused.
+/// What a line in the plain form says. `None` of a line in any other form, or if allocation fails.
 pub(crate) fn plain_line<'a>(
     alloc: Global,
     text: &'a str,

@@ -27,7 +27,7 @@ impl Model for Crowd {
 }
 
 impl Crowd {
-    /// No transaction, and room for so many requests.
+    /// No transaction, and room for `most` requests.
     pub(crate) fn new(alloc: Global, most: usize) -> Result<Crowd, NoMemory> {
         Ok(Crowd {
             tree: LockTree::new(alloc, most)?,

@@ -48,7 +48,7 @@ fn draw_all(
     Ok(drawn)
 }
 
-/// Lets so many clients submit so many numbers each to an intake, and gives how many were drawn.
+/// Lets `clients` clients submit `each` numbers each to an intake, and gives how many were drawn.
 pub fn through_intake<R: Threads + Wait + Sync>(
     rt: &R,
     alloc: Global,

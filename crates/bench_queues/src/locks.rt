@@ -19,7 +19,7 @@ fn plan_with(alloc: Global, right: Right) -> Result<Plan, NoMemory> {
     Plan::new(alloc, &footprint, 64, 65_536)
 }
 
-/// So many transactions, each in the queue of one resource.
+/// `count` transactions, each in the queue of one resource.
 fn crowd_of(alloc: Global, count: usize) -> Result<Crowd, EnqueueFault> {
     let read = plan_with(alloc, Right::Read)?;
     let write = plan_with(alloc, Right::Write)?;
@@ -52,7 +52,7 @@ fn shuffle(numbers: &mut [usize]) {
     }
 }
 
-/// The numbers of so many transactions, in the order in which they are released.
+/// The numbers of `count` transactions, in the order in which they are released.
 fn numbers_in(alloc: Global, count: usize, order: Order) -> Result<Vec<usize>, NoMemory> {
     let mut numbers: Vec<usize> = (0..count).collect(alloc)?;
     if let Order::AtRandom = order {
@@ -67,7 +67,8 @@ fn release_all(crowd: &mut Crowd, numbers: &[usize]) {
     }
 }
 
-/// Enqueues so many and releases them in that order: how many microseconds the latter takes, and whether any is left.
+/// Enqueues `count` transactions and releases them in that order: how many microseconds the latter takes, and whether
+/// any is left.
 pub(crate) fn measured<R: Clock + AllocGlobal>(
     rt: &R,
     count: usize,

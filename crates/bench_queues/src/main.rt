@@ -2,10 +2,10 @@
 //! owner, through an intake and through the bare queue below it.
 //!
 //!     bench_queues                  a few of each, and how many are left or were drawn
-//!     bench_queues locks COUNT      how many microseconds it takes to release so many transactions, from the front and
+//!     bench_queues locks COUNT      how many microseconds it takes to release COUNT transactions, from the front and
 //!                                   in random order
 //!     bench_queues intake COUNT     how many numbers a second are submitted and drawn, at best, where each client
-//!                                   hands over so many
+//!                                   hands over COUNT
 #![tactic(auto)]
 
 ghost use Rattle.std.specs.Prelude.{◌<◌, ◌≤◌};

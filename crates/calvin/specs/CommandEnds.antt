@@ -51,16 +51,18 @@ abbrev pub fault_status : RunFault → ℕ
 fault_status (runs.Log fault) = kind_status fault.kind
 fault_status (runs.Spawn line) = 4
 
+-- the status of `run`
 abbrev pub run_status : Result ℕ RunFault → ℕ
 run_status (Ok count) = 0
 run_status (Err fault) = fault_status fault
 
+-- the status where a setup was not read: 3 where allocation failed, and else 1
 abbrev pub setup_status : SetupFault → ℕ
 setup_status fault = if is_memory fault then 3 else 1
 
 -- ---- setups
 
--- No setup was read: nothing can be read at its path, or the text there breaks a rule, or memory was refused.
+-- No setup was read: nothing can be read at its path, or the text there breaks a rule, or allocation failed.
 abbrev pub IsWithoutSetup : Holding → ℕ → Type 0
 IsWithoutSetup holds status =
     ((status ≡ 4) × holds None)
@@ -124,11 +126,12 @@ abbrev pub answer_text : Option ℕ → List ℕ
 answer_text None = codes "same\n"
 answer_text (Some place) = codes "differ at byte " ++ decimal place ++ codes "\n"
 
+-- the status of a comparison: 0 where the texts are one, and else 5
 abbrev pub answer_status : Option ℕ → ℕ
 answer_status None = 0
 answer_status (Some place) = 5
 
--- A text was written and the command ended as it should; or its write failed; or memory was refused, and nothing was
+-- A text was written and the command ended as it should; or its write failed; or allocation failed, and nothing was
 -- written.
 abbrev pub IsWritten : List ℕ → Device → Device → ℕ → ℕ → Type 0
 IsWritten text sink filled done status =
@@ -158,7 +161,7 @@ pub record AreReplicas (holds holds_other : Holding) (source spent sink filled :
   pub document : SetupDocument
   pub is_setup : IsSetupAt holds document
   pub result : Result ℕ RunFault
-  -- what was kept of the report, and whether memory was refused for it
+  -- what was kept of the report, and whether allocation failed for it
   pub report : List ℕ
   pub is_full : Bool
   pub run : IsRunOfLog (start_in document) source spent (record { bytes = Some []; failed = false })
@@ -259,7 +262,7 @@ pub record Does (holds : List ℕ → Option (List ℕ) → Type 0) (line : Line
   pub unread : IfCheck line.command (λ path. spent ≡ source)
 
 -- What comes of the words after the program's name: they ask for a line, which is done; or they ask for none, or
--- memory was refused, and nothing is read of the log, and nothing is written.
+-- allocation failed, and nothing is read of the log, and nothing is written.
 abbrev pub IsProgram : (List ℕ → Option (List ℕ) → Type 0) → List (List ℕ) → Device → Device → Device → Device → ℕ
     → Type 0
 IsProgram holds words source spent sink filled status =

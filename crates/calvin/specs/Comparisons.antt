@@ -7,7 +7,7 @@ use Rattle.calvin.specs.declared.comparison.KeptReport.{KeptReport}
 abbrev pub bytes_of : KeptReport → List ℕ
 bytes_of kept = kept.bytes.items
 
--- memory was refused for it
+-- allocation failed for it
 abbrev pub is_full : KeptReport → Bool
 is_full kept = kept.is_full
 

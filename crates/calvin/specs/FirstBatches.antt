@@ -48,7 +48,8 @@ first_of (batch ∷ batches) fault = Ok batch
 first_of [] (Some fault) = Err fault
 first_of [] None = Ok []
 
--- the entries of a log's first batch, on procedures and starting rows
+-- the entries of a log's first batch, on procedures and starting rows, or the fault that comes before its end; none
+-- where the log ends before either
 abbrev pub first_batch : ProcsParts → ℕ → Database → List ℕ → Result (List EntryShape) LogFault
 first_batch procs retries db log =
     first_of (map entries_in (batches_in procs retries db log)) (fault_in procs retries log)

@@ -11,7 +11,7 @@ use std::alloc::Global;
 #[derive(Drop)]
 pub(crate) struct KeptReport {
     bytes: Vec<u8>,
-    // Whether memory was refused for it.
+    // Whether allocation failed for it.
     is_full: bool,
 }
 

@@ -15,7 +15,7 @@ use std::thread::Threads;
 
 /// Reads a command line from the words after the program's name, does what it asks for, and gives the exit status:
 /// those of `command`; 2 where the words are no command line that is served, with a text for the user on `err`; 3 where
-/// memory was refused meanwhile.
+/// allocation failed meanwhile.
 pub fn program<R: Threads + Wait + Sync, F: Files, S: Source, K: Sink, E: Sink + Send>(
     rt: &R,
     alloc: Global,

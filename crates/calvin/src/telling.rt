@@ -13,7 +13,7 @@ use std::sync::atomic::{AtomicBool, Ordering};
 use std::thread::Parker;
 use std::time::Duration;
 
-/// For how many milliseconds a line stands before the next one comes.
+/// For how many milliseconds a line stays before the next one comes.
 const LINE_STANDS: u64 = 500;
 
 /// How the lines follow one another.
@@ -38,7 +38,7 @@ pub(crate) fn lines_of(progress: bool, on_terminal: bool) -> Option<Lines>
     }
 }
 
-/// What stands in a line before its words.
+/// What is in a line before its words.
 fn before(lines: Lines) -> &'static str
     ensures { result.now ≡ before lines }
 {
@@ -48,7 +48,7 @@ fn before(lines: Lines) -> &'static str
     }
 }
 
-/// What stands after the words of a line, which may be the last one.
+/// What comes after the words of a line, which may be the last one.
 fn line_ending(lines: Lines, is_last: bool) -> &'static str
     ensures { result.now ≡ line_ending lines is_last }
 {

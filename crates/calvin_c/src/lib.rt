@@ -1,4 +1,14 @@
 //! The executor as a static library, for C and for what calls C. `include/calvin.h` declares it.
+//!
+//! Proved: each call returns, with no panic, and writes nothing but what C passes for it; the bytes of a fault's line
+//! and of the report fit their room.
+//!
+//! Tested only, by `scripts/static_library.sh`: examples in C and Rust print and end as the program does, also by
+//! single calls and in the tests of the bindings; if every allocation fails from any one on, a run ends with status 3,
+//! and with fault 37 where its session is open, has given a beginning of the report, and frees all that it took.
+//!
+//! Not proved: that a call's status is what the session answered, and that the session is there again afterwards: no
+//! clause says it of what a pointer of C points to. `include/calvin.h` says what C owes.
 #![tactic(auto)]
 
 ghost use Rattle.std.specs.Prelude.{◌≤◌, length};
@@ -23,8 +33,8 @@ fn status_of(taken: Result<(), CallFault>) -> i32 {
 }
 
 /// Opens a session on the setup that a JSON text says. 0: its pointer is in `out`, and `calvin_c_close` wants it back.
-/// 1: the text breaks a rule, and the fault's line stands in the first `written` bytes of `message`. 2: a setting is
-/// outside its range. 3: memory was refused.
+/// 1: the text breaks a rule, and the fault's line is in the first `written` bytes of `message`. 2: a setting is
+/// outside its range. 3: allocation failed.
 #[unsafe(no_mangle)]
 pub extern "C" fn calvin_c_open(
     alloc: Global,
@@ -55,7 +65,7 @@ pub extern "C" fn calvin_c_open(
 }
 
 /// Feeds the next bytes of the log. 0: they were taken, and each batch whose cut was among them is executed, and its
-/// report waits. 1: the log has a fault. 2: the log has ended. 3: memory was refused.
+/// report waits. 1: the log has a fault. 2: the log has ended. 3: allocation failed.
 #[unsafe(no_mangle)]
 pub extern "C" fn calvin_c_feed(alloc: Global, handle: Handle, bytes: &[u8]) -> i32 {
     let mut session = handle.into_box(alloc);
@@ -81,7 +91,7 @@ pub extern "C" fn calvin_c_end(alloc: Global, handle: Handle) -> i32 {
 
 /// Takes a line without its newline as the next call. 0: it is, and `number` has the number of its transaction. 31 to
 /// 35: the fault of the line, which is 32 for a cut and for more than one line. 1: the log has a fault. 2: the log has
-/// ended, or a line is begun. 3: memory was refused. But for 0 nothing has changed.
+/// ended, or a line is begun. 3: allocation failed. But for 0 nothing has changed.
 #[unsafe(no_mangle)]
 pub extern "C" fn calvin_c_call(
     alloc: Global,
@@ -111,7 +121,7 @@ pub extern "C" fn calvin_c_test(alloc: Global, handle: Handle, line: &[u8]) -> i
 }
 
 /// Ends the batch. 0: its calls are executed, and their report waits. 1: the log has a fault. 2: the log has ended, or
-/// a line is begun. 3: memory was refused.
+/// a line is begun. 3: allocation failed.
 #[unsafe(no_mangle)]
 pub extern "C" fn calvin_c_cut(alloc: Global, handle: Handle) -> i32 {
     let mut session = handle.into_box(alloc);

@@ -37,8 +37,8 @@ fn line_of(alloc: Global, fault: &SetupFault) -> Result<String, AllocError> {
     format!(in alloc; "{fault}")
 }
 
-/// Writes the line of a fault to the front of `message`, as far as it fits, and gives its length; 0 where memory is
-/// refused.
+/// Writes the line of a fault to the front of `message`, as far as it fits, and gives its length; 0 if
+/// allocation fails.
 fn write_fault(alloc: Global, fault: &SetupFault, message: &mut [u8]) -> usize
     ensures bound { result ≤ length message.new }
     ensures room { length message.new ≡ length message.old }

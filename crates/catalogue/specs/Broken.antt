@@ -12,6 +12,7 @@ use Rattle.values.specs.declared.value.ColType.{ColType}
 use Rattle.values.specs.Names.{is_name}
 use Rattle.catalogue.specs.Reading.{column_form, SplitForm, counted, bounded, table_form, catalogue_form}
 
+-- a name is one of these
 abbrev pub is_among : List ℕ → List (List ℕ) → Bool
 is_among name names = list_any (λ other. bytes_eq name other) names
 
@@ -24,9 +25,11 @@ abbrev pub in_column_form : List (List ℕ) → Option (List ℕ × ColType) →
 in_column_form names None = Shape ∷ []
 in_column_form names (Some f) = broken (is_name f.0) BadName ++ broken (not (is_among f.0 names)) DuplicateName
 
+-- the rules that a column breaks, after columns of these names
 abbrev pub in_column : List (List ℕ) → Data → List CatalogueFault
 in_column names d = in_column_form names (column_form d)
 
+-- a number of partitions is 1 to 1,024
 abbrev pub is_partitions : ℤ → Bool
 is_partitions (pos n) = nat_le 1 n && nat_le n 1024
 is_partitions (negsuc n) = false
@@ -56,9 +59,11 @@ in_table_form names (Some f) =
     ++ (broken (nat_le (length f.2) 16) Limit
     ++ in_each name_of_column in_column [] f.2))))
 
+-- the rules that a table breaks, after tables of these names
 abbrev pub in_table : Bool → List (List ℕ) → Data → List CatalogueFault
 in_table has_bounds names d = in_table_form names (table_form has_bounds d)
 
+-- the rules that a catalogue of that form breaks: 1 to 64 tables, and those of each table
 abbrev pub in_catalogue_form : Option (Bool × List Data) → List CatalogueFault
 in_catalogue_form None = Shape ∷ []
 in_catalogue_form (Some f) =

@@ -4,11 +4,12 @@ use Rattle.std.specs.Prelude.{ℕ, ℤ, pos, negsuc, Bool, nat_lt, List, Option,
 use Rattle.std.specs.Str.{bytes_eq}
 use Rattle.catalogue.specs.Shapes.{ColumnShape, TableShape, partitions, part_with, is_end_with}
 
--- a key falls in the partition in which its table's split has it
+-- a key falls in the partition in which its table's split has it: by the remainder in partition k mod P, and at bounds
+-- in the one whose number is how many bounds are at most the key
 abbrev pub partition_of : List TableShape → ℕ → ℕ → Option ℕ
 partition_of tables table key = option_map (λ t. part_with t.split key) (slice_get tables table)
 
--- whether a partition of a table ends with a key, at a bound
+-- whether a partition of a table ends with a key: the next number is a bound
 abbrev pub is_end_of : List TableShape → ℕ → ℕ → Option Bool
 is_end_of tables table key = option_map (λ t. is_end_with t.split key) (slice_get tables table)
 

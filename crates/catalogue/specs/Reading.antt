@@ -15,19 +15,20 @@ use Rattle.catalogue.specs.declared.table.Table.{Table}
 use Rattle.values.specs.Names.{is_name}
 use Rattle.catalogue.specs.Shapes.{ColumnShape, SplitShape, by_remainder, at_bounds, TableShape, split_shape, columns_shape}
 
+-- the fault is that allocation failed
 abbrev pub is_memory : CatalogueFault → Bool
 is_memory Memory = true
 is_memory e = false
 
 -- ---- forms
 
--- the type that a word stands for
+-- the type that a word means
 abbrev pub type_of_word : List ℕ → Option ColType
 type_of_word s =
     if bytes_eq s (codes "int") then Some Int else
     (if bytes_eq s (codes "text") then Some Text else None)
 
--- a name and a type
+-- a name and a type, which is `int` or `text`
 unfoldable pub column_form : Data → Option (List ℕ × ColType)
 column_form d =
     option_and_then (λ (p : Data × Data).
@@ -88,9 +89,11 @@ catalogue_form d =
 abbrev pub is_used : {X : Type 0} → (X → List ℕ) → List ℕ → List X → Bool
 is_used name_of name xs = list_any (λ x. bytes_eq name (name_of x)) xs
 
+-- one of the columns has that name
 abbrev pub is_column : List ℕ → List ColumnShape → Bool
 is_column = is_used (λ c. c.name)
 
+-- one of the tables has that name
 abbrev pub is_table : List ℕ → List TableShape → Bool
 is_table = is_used (λ t. t.name)
 
@@ -102,9 +105,11 @@ column_at before d = do
   _ ← rule (not (is_column form.0 before)) DuplicateName
   Ok (record { name = form.0; kind = form.1 })
 
+-- columns, one after another
 abbrev pub columns_at : List ColumnShape → List Data → Result (List ColumnShape) CatalogueFault
 columns_at = each_at column_at
 
+-- 1 to 1,024 partitions
 abbrev pub partitions_at : ℤ → Result ℕ CatalogueFault
 partitions_at (pos n) = if nat_le 1 n && nat_le n 1024 then Ok n else Err Limit
 partitions_at (negsuc n) = Err Limit
@@ -114,6 +119,7 @@ abbrev pub bound_at : ℕ → ℤ → Result ℕ CatalogueFault
 bound_at least (pos n) = if nat_lt least n then Ok n else Err BadBounds
 bound_at least (negsuc n) = Err BadBounds
 
+-- bounds, each above the one before it
 abbrev pub bounds_at : ℕ → List ℤ → Result (List ℕ) CatalogueFault
 bounds_at least [] = Ok []
 bounds_at least (z ∷ zs) = do
@@ -121,6 +127,7 @@ bounds_at least (z ∷ zs) = do
   others ← bounds_at bound zs
   Ok (bound ∷ others)
 
+-- how keys are split, or the first fault
 unfoldable pub split_at : SplitForm → Result SplitShape CatalogueFault
 split_at (counted z) = do
   count ← partitions_at z
@@ -138,6 +145,7 @@ pub record Body : Type 0 where
 abbrev pub body_shape : Table → Body
 body_shape t = record { split = split_shape t.split; columns = columns_shape t.columns.entries }
 
+-- a split and 1 to 16 columns, or the first fault
 unfoldable pub body_at : SplitForm → List Data → Result Body CatalogueFault
 body_at form columns = do
   split ← split_at form
@@ -155,6 +163,7 @@ table_at has_bounds before d = do
   body ← body_at form.1 form.2
   Ok (record { name = form.0; split = body.split; columns = body.columns })
 
+-- tables, one after another
 abbrev pub tables_at : Bool → List TableShape → List Data → Result (List TableShape) CatalogueFault
 tables_at has_bounds = each_at (table_at has_bounds)
 

@@ -58,6 +58,7 @@ abbrev pub SaysColumn : Data → ColumnShape → Type 0
 SaysColumn d c =
     (word : List ℕ) × (d ≡ array (items_of (string c.name ∷ string word ∷ []))) × (type_of_word word ≡ Some c.kind)
 
+-- a document is a number that is not negative
 abbrev pub SaysNumber : Data → ℕ → Type 0
 SaysNumber d n = integer d ≡ Some (pos n)
 
@@ -73,6 +74,7 @@ SaysTable d t = (split : Data) × (columns : List Data)
     × (d ≡ array (items_of (string t.name ∷ split ∷ array (items_of columns) ∷ [])))
     × SaysSplit split t.split × Says SaysColumn columns t.columns
 
+-- the keys of a table are split by the remainder
 abbrev pub IsByRemainder : TableShape → Type 0
 IsByRemainder t = (count : ℕ) × (t.split ≡ by_remainder count)
 

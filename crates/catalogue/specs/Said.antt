@@ -24,5 +24,6 @@ abbrev pub values_after : List Value → List Data → Option (List Value)
 values_after before [] = Some before
 values_after before (d ∷ ds) = option_and_then (λ v. values_after (before ++ v ∷ []) ds) (value_said d)
 
+-- the values that documents say, where each says one
 abbrev pub values_said : List Data → Option (List Value)
 values_said ds = values_after [] ds

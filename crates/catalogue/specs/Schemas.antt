@@ -3,6 +3,7 @@
 use Rattle.std.specs.Prelude.{◌≡◌, ℕ, List, map}
 use Rattle.catalogue.specs.Shapes.{ColumnShape, TableShape}
 
+-- a table's name and columns
 pub record TableSchema : Type 0 where
   pub name : List ℕ
   pub columns : List ColumnShape
@@ -10,6 +11,7 @@ pub record TableSchema : Type 0 where
 abbrev pub table_schema : TableShape → TableSchema
 table_schema t = record { name = t.name; columns = t.columns }
 
+-- the tables without their splits
 abbrev pub schema_of : List TableShape → List TableSchema
 schema_of ts = map table_schema ts
 

@@ -14,6 +14,7 @@ use Rattle.coarsen.specs.declared.level.Level.{Level}
 use Rattle.coarsen.specs.declared.level.Level.TheVariants.{Rows, Partitions}
 use Rattle.coarsen.specs.Subtrees.{is_same}
 
+-- the footprint of these rights, the greater of two on one resource
 abbrev pub gathered : List (Resource × Right) → FootprintOf
 gathered es = with_rights empty es
 
@@ -21,6 +22,7 @@ gathered es = with_rights empty es
 abbrev pub is_needed : FootprintOf → Resource × Right → Bool
 is_needed footprint e = not (list_any (λ r. is_at_least e.1 (get footprint r)) (ancestors_of e.0))
 
+-- the entries that no entry of an ancestor covers
 abbrev pub needed : FootprintOf → FootprintOf
 needed footprint = gathered (filter (is_needed footprint) (entries footprint))
 
@@ -35,6 +37,7 @@ parent_at Partitions (Table t WholeTable) = None
 parent_at Partitions (Table t (Part p WholePart)) = Some (Table t WholeTable)
 parent_at Partitions (Table t (Part p (Row k))) = None
 
+-- the one that was found is that parent
 abbrev pub is_parent : Option Resource → Resource → Bool
 is_parent None parent = false
 is_parent (Some found) parent = is_same found parent
@@ -50,13 +53,15 @@ abbrev pub place : Option Resource → (Resource → ℕ) → ℕ → Resource �
 place None counts k resource = resource
 place (Some parent) counts k resource = if nat_lt k (counts parent) then parent else resource
 
+-- where more than k entries of a level have one parent, one entry on the parent has their greatest right
 abbrev pub lifted : Level → ℕ → FootprintOf → FootprintOf
 lifted level k footprint = gathered
     (map {B = Resource × Right}
     (λ (e : Resource × Right). (place (parent_at level e.0) (children level footprint) k e.0, e.1))
     (entries footprint))
 
--- steps 1 to 4
+-- steps 1 to 4: covered entries go; more than k rows of a partition become one entry, and then more than k partitions
+-- of a table; covered entries go again
 abbrev pub coarsened : ℕ → FootprintOf → FootprintOf
 coarsened k footprint = needed (lifted Partitions k (lifted Rows k (needed footprint)))
 

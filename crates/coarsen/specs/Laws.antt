@@ -46,7 +46,7 @@ pub record ReplacesMany : Type 0 where
       (if nat_lt k (children level f r) then greatest rank_of (λ s. is_parent (parent_at level s) r) (entries f)
       else 0)
 
--- Coarsening as a whole. What was covered is covered. No entry stands under one of at least its right. In the subtree
+-- Coarsening as a whole. What was covered is covered. No entry is under one of at least its right. In the subtree
 -- of no resource is a right that is greater than all that were there. At most k entries of a level are the children of
 -- one resource; and where it is so once the entries that are covered are gone, nothing else is done
 pub record CoversWithoutExcess : Type 0 where

@@ -16,7 +16,7 @@ use Rattle.coarsen.specs.Subtrees.{Requests, holds, right_on, right_under, own_o
 use Rattle.coarsen.specs.Coarsening.{coarsened, on_database}
 
 -- a request for each resource whose subtree has an entry: its own right is that of the resource's entry, its subtree
--- right the greatest right in the subtree. Requests stand in tree order, and each resource stands once
+-- right the greatest right in the subtree. Requests are in tree order, and each resource is there once
 pub record IsPlanOf (footprint : FootprintOf) (requests : Requests) : Type 0 where
   pub ordered : IsStrictlySortedBy resource_cmp (keys_of requests)
   pub owns : (resource : Resource) → own_on requests resource ≡ right_on footprint resource

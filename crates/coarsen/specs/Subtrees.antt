@@ -25,6 +25,7 @@ holds_in_table WholeTable b = true
 holds_in_table (Part p a) WholeTable = false
 holds_in_table (Part p a) (Part q b) = (p == q) && holds_in_part a b
 
+-- the second resource is the first, or has it as an ancestor
 abbrev pub holds : Resource → Resource → Bool
 holds Db b = true
 holds (Table t a) Db = false
@@ -43,6 +44,7 @@ greatest value test (e ∷ es) = max (if test e.0 then value e.1 else 0) (greate
 abbrev pub right_on : FootprintOf → Resource → ℕ
 right_on footprint resource = rank (get footprint resource)
 
+-- the greatest right in the subtree of a resource
 abbrev pub right_under : FootprintOf → Resource → ℕ
 right_under footprint resource = greatest rank_of (holds resource) (entries footprint)
 
@@ -54,6 +56,7 @@ Requests = List (Resource × Mode)
 abbrev pub own_on : Requests → Resource → ℕ
 own_on requests resource = greatest own (is_same resource) requests
 
+-- the greatest right that a request on the resource asks for in the subtree
 abbrev pub subtree_on : Requests → Resource → ℕ
 subtree_on requests resource = greatest subtree (is_same resource) requests
 

@@ -46,6 +46,7 @@ at_head Less resource mode e es rest = (resource, mode) ∷ e ∷ es
 at_head Equal resource mode e es rest = (e.0, joined e.1 mode) ∷ es
 at_head Greater resource mode e es rest = e ∷ rest
 
+-- one more request, joined to the one that is there on the resource
 abbrev pub request : Resource → Mode → Requests → Requests
 request resource mode [] = (resource, mode) ∷ []
 request resource mode (e ∷ es) = at_head (resource_cmp resource e.0) resource mode e es (request resource mode es)
@@ -60,6 +61,7 @@ on_part t p mode es = request (Table t (Part p WholePart)) mode (on_table t (int
 abbrev pub on_row : ℕ → ℕ → ℕ → Mode → Requests → Requests
 on_row t p k mode es = request (Table t (Part p (Row k))) mode (on_part t p (intention mode) es)
 
+-- a request on a resource, with its intention on each ancestor
 abbrev pub request_up : Resource → Mode → Requests → Requests
 request_up Db mode es = request Db mode es
 request_up (Table t WholeTable) mode es = on_table t mode es
@@ -75,7 +77,8 @@ requests_for (e ∷ es) = request_up e.0 (whole e.1) (requests_for es)
 abbrev pub plan_of : FootprintOf → Requests
 plan_of footprint = requests_for (entries footprint)
 
--- the plan for a footprint, with threshold k and at most c requests
+-- the plan for a footprint, with threshold k and at most c requests: its entries one after the other, each with its
+-- mode on the resource and its intention on the ancestors
 abbrev pub plan_for : ℕ → ℕ → FootprintOf → Requests
 plan_for k c footprint =
     if nat_le (length (plan_of (coarsened k footprint))) c then plan_of (coarsened k footprint)

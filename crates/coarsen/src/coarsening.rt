@@ -77,7 +77,7 @@ fn lifted(
     Ok(new)
 }
 
-/// Whether it is seen at a glance that no entry stands under another. In tree order what stands under an entry comes
+/// Whether it is seen at a glance that no entry is under another. In tree order what is under an entry comes
 /// right after it, so each entry is compared with the next one alone.
 fn stand_apart(footprint: &Footprint) -> bool
     ensures { result ≡ true → needed footprint.now ≡ footprint.now }
@@ -94,7 +94,7 @@ fn stand_apart(footprint: &Footprint) -> bool
     true
 }
 
-/// Whether it is seen at a glance that coarsening leaves a footprint as it is: no entry stands under another, and there
+/// Whether it is seen at a glance that coarsening leaves a footprint as it is: no entry is under another, and there
 /// are at most the threshold of entries in all.
 fn is_coarse(footprint: &Footprint, threshold: usize) -> bool
     ensures { result ≡ true → coarsened threshold footprint.now ≡ footprint.now }

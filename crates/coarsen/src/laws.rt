@@ -17,7 +17,7 @@ pub fn many_entries_become_one()
     ensures { ReplacesMany }
 {}
 
-/// What coarsening keeps, and what it leaves out: all that was covered is covered, no entry stands under one of at
+/// What coarsening keeps, and what it leaves out: all that was covered is covered, no entry is under one of at
 /// least its right, and at most the threshold of entries of a level are the children of one resource.
 pub fn coarsened_footprints_cover()
     ensures { CoversWithoutExcess }

@@ -19,7 +19,7 @@ use std::alloc::Global;
 use std::marker::Model;
 use values::NoMemory;
 
-/// A plan: the lock requests of a transaction. They stand in tree order, each resource stands once, each request has
+/// A plan: the lock requests of a transaction. They are in tree order, each resource is there once, each request has
 /// one on each ancestor whose mode serves it, and none asks for rights in a subtree where the plan asks for none.
 #[derive(Drop)]
 pub struct Plan {
@@ -41,6 +41,8 @@ impl Plan {
     /// The plan for a footprint. The footprint is coarsened first: entries that an ancestor's entry covers are dropped,
     /// more than `threshold` rows of a partition become one entry on the partition, more than `threshold` partitions of
     /// a table one entry on the table, and if the plan has more than `arena` requests it becomes one on the database.
+    /// `arena` is at least 1; `threshold` may be 0. A request on a resource has one of intention on each of its
+    /// ancestors (Gray and others, 1975 and 1976). The only error is that allocation failed.
     pub fn new(
         alloc: Global,
         footprint: &Footprint,
@@ -69,7 +71,7 @@ impl Plan {
         Ok(plan)
     }
 
-    /// The requests, in tree order: a resource's ancestors stand before it.
+    /// The requests, in tree order: a resource's ancestors come before it.
     pub fn requests(&self) -> &[(Resource, Mode)]
         ensures same { result.now ≡ self.now }
         ensures sound { IsWellFormed self.now }

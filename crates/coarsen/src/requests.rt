@@ -56,7 +56,7 @@ fn intention(mode: Mode) -> Mode
 }
 
 impl Draft {
-    /// Where the request on a resource stands, or else where it would go.
+    /// Where the request on a resource is, or else where it would go.
     fn place(&self, resource: &Resource) -> Result<usize, usize>
         ensures found { IfOk result (IsAt self.now resource.now) }
         ensures absent { IfErr result (IsGapFor self.now resource.now) }

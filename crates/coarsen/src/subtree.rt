@@ -5,7 +5,7 @@ ghost use Rattle.coarsen.specs.Subtrees.{holds, holds_in_table, holds_in_part};
 
 use footprint::{InPart, InTable, Resource};
 
-/// Whether the second resource is the first or stands under it.
+/// Whether the second resource is the first or is under it.
 pub(crate) fn holds(above: &Resource, resource: &Resource) -> bool
     ensures { result ≡ holds above.now resource.now }
 {

@@ -37,24 +37,29 @@ pub record IsRun (word : Text) (rows : List Row) (alone progress : Bool) (setup 
   pub progress_is : IsFlag rows (codes "progress") progress
   pub setup_is : first_of (codes "setup") rows ≡ Some setup
 
+-- `filter SETUP`
 pub record IsFilter (word : Text) (rows : List Row) (setup : Text) : Type 0 where
   pub name : word ≡ codes "filter"
   pub setup_is : first_of (codes "setup") rows ≡ Some setup
 
+-- `locks SETUP`
 pub record IsLocks (word : Text) (rows : List Row) (setup : Text) : Type 0 where
   pub name : word ≡ codes "locks"
   pub setup_is : first_of (codes "setup") rows ≡ Some setup
 
+-- `check SETUP`
 pub record IsCheck (word : Text) (rows : List Row) (setup : Text) : Type 0 where
   pub name : word ≡ codes "check"
   pub setup_is : first_of (codes "setup") rows ≡ Some setup
 
+-- `replicas SETUP REPORT`, and whether progress is asked for
 pub record IsReplicas (word : Text) (rows : List Row) (progress : Bool) (setup report : Text) : Type 0 where
   pub name : word ≡ codes "replicas"
   pub progress_is : IsFlag rows (codes "progress") progress
   pub setup_is : first_of (codes "setup") rows ≡ Some setup
   pub report_is : first_of (codes "report") rows ≡ Some report
 
+-- the words ask for this command
 abbrev pub IsCommand : Text → List Row → Command → Type 0
 IsCommand name rows (Run alone progress setup) = IsRun name rows alone progress (string_bytes setup)
 IsCommand name rows (Filter setup) = IsFilter name rows (string_bytes setup)

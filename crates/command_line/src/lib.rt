@@ -1,4 +1,9 @@
 //! The command line of the program: what its words ask for, and with which settings.
+//!
+//! Proved, by `read_line`: the command, its paths, and each option its own setting, in its range; no line that could be
+//! asked for is refused.
+//!
+//! Tested only: the texts of `clap`.
 #![tactic(auto)]
 
 pub mod line;

@@ -59,7 +59,7 @@ pub enum LineFault {
     /// whole lines.
     #[error("{0}")]
     Refused(String),
-    /// Memory was refused.
+    /// Allocation failed.
     #[error("out of memory")]
     NoMemory,
 }
@@ -72,7 +72,7 @@ impl From<AllocError> for LineFault {
     }
 }
 
-// What stands for an error of the parser.
+// What represents an error of the parser.
 fn fault_in(alloc: Global, error: &Error) -> LineFault
     ensures { kind_of error.now ≡ ErrorKind.OutOfMemory → result ≡ LineFault.NoMemory }
 {
@@ -218,7 +218,7 @@ fn line_of(alloc: Global, matches: &ArgMatches<'_>) -> Result<Option<Line>, Allo
 /// are 4 workers, 8 lanes, 64 entries before coarsening and room for 65,536 requests.
 ///
 /// Words that ask for no line are `Refused`, with the text that `clap` answers in place of a line;
-/// a call for help is refused with the help. `NoMemory` is answered where memory was refused.
+/// a call for help is refused with the help. `NoMemory` is answered where allocation failed.
 pub fn read_line(alloc: Global, words: &[String]) -> Result<Line, LineFault>
     ensures line { IfOk result (IsAskedFor (map string_bytes words.now)) }
     ensures refused { IfErr result (λ fault. IsRefused fault → (line : Line) →
@@ -235,7 +235,7 @@ pub fn read_line(alloc: Global, words: &[String]) -> Result<Line, LineFault>
     }
 }
 
-// Stands for what the parser lets through and no line answers: no words are known that lead here.
+// Represents what the parser lets through and no line answers: no words are known that lead here.
 fn unserved(alloc: Global) -> LineFault {
     match String::from_str(alloc, "error: the command is not served\n") {
         Ok(text) => LineFault::Refused(text),

@@ -1,5 +1,5 @@
 -- Claimed: what contracts promise to a reader rests on these words.
--- What the devices over std's readers and writers stand on.
+-- What the devices over std's readers and writers depend on.
 use Rattle.std.specs.Prelude.{Bool}
 use Rattle.devices.specs.declared.read_source.ReadSource.{ReadSource}
 use Rattle.devices.specs.declared.write_sink.WriteSink.{WriteSink}

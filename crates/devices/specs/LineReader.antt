@@ -40,13 +40,14 @@ fault_of r = r.fault
 abbrev pub ends_bare : {S : Type 0} → LineReader S → Bool
 ends_bare r = r.bare
 
--- where a reader stands in the lines of a text
+-- where a reader is in the lines of a text
 pub record Position : Type 0 where
   -- how many newlines were taken
   pub newlines : ℕ
   -- the number of the line of which a byte was last taken, or 0
   pub begun : ℕ
 
+-- how many newlines were taken, and the number of the line that was last begun
 abbrev pub position_of : {S : Type 0} → LineReader S → Position
 position_of r = record { newlines = r.newlines; begun = r.begun }
 
@@ -72,7 +73,7 @@ TakesLine old new from to bare line = (has_newline line ≡ false) ×
 abbrev pub LosesLine : Option (List ℕ) → Option (List ℕ) → Position → Position → Type 0
 LosesLine old new from to = (lost : List ℕ) × (has_newline lost ≡ false) × Takes old new from to lost
 
--- the line of a fault, by where the reader stands
+-- the line of a fault: where a read failed the one after the newlines taken, and else the one last begun, or 0
 abbrev pub IsFaultAt : LineReadFault → Position → Type 0
 IsFaultAt (Io line) p = line ≡ line_number (p.newlines + 1)
 IsFaultAt (Memory line) p = line ≡ p.begun

@@ -46,7 +46,7 @@ abbrev pub numbered : ℕ → List (List ℕ) → List (ℕ × List ℕ)
 numbered n [] = []
 numbered n (line ∷ lines) = (next_number n, line) ∷ numbered (next_number n) lines
 
--- the lines of a text, each with its number, where n newlines stand before the text
+-- the lines of a text, each with its number, where n newlines come before the text
 abbrev pub numbered_lines : ℕ → List ℕ → List (ℕ × List ℕ)
 numbered_lines n text = numbered n (lines_of text)
 

@@ -1,4 +1,9 @@
 //! Byte devices: what bytes are read from, what they are written to, and the reader of lines.
+//!
+//! Proved: what a source gives and a sink takes; `write_all`; `LineReader`: lines, their numbers, whether the last one
+//! has a newline, and where a fault is, byte by byte.
+//!
+//! Tested only: how often an interrupted call is tried again, and that another error is not.
 #![tactic(auto)]
 
 pub mod device;

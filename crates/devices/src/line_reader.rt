@@ -17,12 +17,12 @@ pub enum LineReadFault {
     /// A read failed. The line's number is that of the newlines taken, plus 1.
     #[error("a read failed at line {line}")]
     Io { line: u64 },
-    /// Memory was refused. The line is the one last begun, or 0 where none is.
+    /// Allocation failed. The line is the one last begun, or 0 where none is.
     #[error("out of memory at line {line}")]
     Memory { line: u64 },
 }
 
-/// Reads lines from a source: what stands between its newline bytes, and a rest after the last of
+/// Reads lines from a source: what is between its newline bytes, and a rest after the last of
 /// them that isn't empty. Line numbers stop rising at 2^64 - 1.
 #[derive(Drop)]
 pub struct LineReader<'a, S> {
@@ -43,10 +43,10 @@ pub struct LineReader<'a, S> {
 
 const BUFFER_LEN: usize = 4096;
 
-/// A line has room for so many bytes at first, so that few lines take memory twice.
+/// A line has room for 64 bytes at first, so that few lines take memory twice.
 const LINE_ROOM: usize = 64;
 
-/// Where the first newline of some bytes stands, or how many they are where they have none.
+/// Where the first newline of some bytes is, or how many they are where they have none.
 fn line_end(bytes: &[u8]) -> usize
     ensures within { result ≤ length bytes.now }
     ensures before { has_newline (take result bytes.now) ≡ false }
@@ -129,7 +129,7 @@ impl<'a, S: Source> LineReader<'a, S> {
         self.bare
     }
 
-    // Reads on where every byte that came was taken. Then none stands in the buffer only at the end.
+    // Reads on where every byte that came was taken. Then the buffer has none but at the end.
     fn fill(&mut self) -> Result<(), DeviceFailed>
         ensures same { source_name self.new ≡ source_name self.old }
         ensures stays { (self.new.newlines ≡ self.old.newlines) × (self.new.begun ≡ self.old.begun) ×
@@ -150,8 +150,8 @@ impl<'a, S: Source> LineReader<'a, S> {
     }
 
     // Takes what came of a line of that number: the bytes before the newline and then the newline,
-    // or all that came. The bytes go after those of the line, and are lost where memory is
-    // refused. Answers whether the line ends.
+    // or all that came. The bytes go after those of the line, and are lost if allocation
+    // fails. Answers whether the line ends.
     fn take_piece(&mut self, number: u64, line: &mut Vec<u8>) -> Result<bool, AllocError>
         requires { self.old.start < self.old.end }
         ensures same { source_name self.new ≡ source_name self.old }

@@ -55,6 +55,7 @@ abbrev pub AreOthersCounted : Schedule → ℕ → Option Account → Type 0
 AreOthersCounted s number None = ⊤
 AreOthersCounted s number (Some account) = CountsOthers s number account
 
+-- a listener has heard of all that is settled
 abbrev pub AreCounted : Schedule → Option Account → Type 0
 AreCounted s None = ⊤
 AreCounted s (Some account) = Counts s account

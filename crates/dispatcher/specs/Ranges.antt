@@ -2,7 +2,8 @@
 -- The ranges of a run's settings.
 use Rattle.std.specs.Prelude.{◌≤◌, ◌<◌, ◌⊎◌, ℕ}
 
--- each setting is in its range
+-- each setting is in its range: 1 to 16 workers, 1 to 64 lanes, a threshold of 0 to 65,535, room for 1 to 1,048,576
+-- requests
 pub record AreInRange (workers lanes threshold arena : ℕ) : Type 0 where
   pub some_workers : 1 ≤ workers
   pub few_workers : workers ≤ 16

@@ -8,11 +8,13 @@ use Rattle.sequencer.specs.Attempts.{is_stale}
 use Rattle.progress.specs.declared.tally.Tally.{Tally}
 use Rattle.progress.specs.Tallies.{latest}
 
+-- the reply is a commit
 abbrev pub is_commit : Reply → Bool
 is_commit (commit values) = true
 is_commit (aborted code) = false
 is_commit stale = false
 
+-- the reply is an abort
 abbrev pub is_abort : Reply → Bool
 is_abort (commit values) = false
 is_abort (aborted code) = true

@@ -43,8 +43,7 @@ fn make<L: Listener>(
     Ok(())
 }
 
-/// Makes an enabled event as `make` does: the state is one of at most four steps a transaction further, and what is
-/// settled stays settled.
+/// Makes an enabled event as `make` does, one of at most four steps a transaction; what is settled stays settled.
 fn go_on<L: Listener>(
     scheduler: &mut Scheduler,
     listener: &mut L,

@@ -13,7 +13,7 @@ const FEW_ENTRIES: usize = 32;
 const FEW_STEPS: usize = 32;
 
 /// A call that may look at more rows isn't brief. The rows that its footprint covers are counted once for each of its
-/// steps, since each statement may look at all of them. To look at so many takes about as long as to hand a job over,
+/// steps, since each statement may look at all of them. To look at 512 takes about as long as to hand a job over,
 /// wake a worker and take in what comes of it.
 const FEW_ROWS: usize = 512;
 
@@ -72,7 +72,7 @@ fn count_rows(resource: &Resource, rows: &RowStore) -> Option<usize> {
     }
 }
 
-/// Whether a footprint has few entries, and covers at most so many rows.
+/// Whether a footprint has few entries, and covers at most `most` rows.
 fn covers_at_most(footprint: &Footprint, most: usize, rows: &RowStore) -> bool {
     let mut left = most;
     for (place, (resource, _)) in footprint.iter().enumerate() {
@@ -87,7 +87,7 @@ fn covers_at_most(footprint: &Footprint, most: usize, rows: &RowStore) -> bool {
     true
 }
 
-/// Whether a call of so many steps may look at few rows alone. What a procedure declares tells it of all of its calls
+/// Whether a call of `steps` steps may look at few rows alone. What a procedure declares tells it of all of its calls
 /// where it names few rows, each statement looking at one, without a look at their footprints.
 fn looks_at_few_rows(entry: &Entry, steps: usize, rows: &RowStore) -> bool {
     if let ProcFootprint::Declared(entries) = entry.request().proc().footprint() {

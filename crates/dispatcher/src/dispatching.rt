@@ -60,7 +60,7 @@ impl<'s, R: Wait, G: Gate> Dispatcher<'s, R, G> {
         run_one(&place.lanes, &mut self.own, &place.parking, self.gate)
     }
 
-    /// Takes in what comes of jobs, until so many at most are out and nothing more is found. Where one job alone is out
+    /// Takes in what comes of jobs, until `most` at most are out and nothing more is found. Where one job alone is out
     /// and waits, no worker could do anything beside it, so it is run here. Else this parks until something is
     /// delivered. An error says that a job came back without a run, since an allocation failed.
     fn take_in_until<L: Listener>(

@@ -187,8 +187,7 @@ impl Parking {
         }
     }
 
-    /// Takes the scheduler's thread, which has found no result, a step nearer to being parked, or parks it until it is
-    /// woken.
+    /// Takes the scheduler's thread, which found no result, a step nearer to being parked, or parks it until woken.
     pub(crate) fn idle_scheduler<R: Wait>(&self, rt: &R, idling: Idling) -> Idling {
         self.scheduler.idle(rt, idling)
     }

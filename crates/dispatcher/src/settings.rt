@@ -12,10 +12,9 @@ pub struct Settings {
     pub workers: usize,
     /// Lanes between the scheduler and the workers, 1 to 64.
     pub lanes: usize,
-    /// How many entries below one parent are locked apart before the parent is locked in their
-    /// place, 0 to 65,535.
+    /// How many entries below one parent are locked apart before the parent is locked in their place, 0 to 65,535.
     pub threshold: usize,
-    /// Lock requests that stand at a time, 1 to 1,048,576.
+    /// Lock requests that are held or wait at a time, 1 to 1,048,576.
     pub arena: usize,
     ghost some_workers: { 1 ≤ workers },
     ghost few_workers: { workers ≤ 16 },

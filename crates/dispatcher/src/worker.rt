@@ -42,8 +42,7 @@ fn find_job(lanes: &Lanes, seat: &mut WorkerSeat, parking: &Parking) -> Option<(
     }
 }
 
-/// Claims a job that waits, if there is one, and delivers what comes of it, as a worker does; `false` where none was
-/// found.
+/// Claims a job that waits, and delivers what comes of it, as a worker does; `false` where none was found.
 #[tactic(auto, using(crate::proofs::Worked::delivered, crate::proofs::Worked::none_claimed))]
 pub(crate) fn run_one<G: Gate>(
     lanes: &Lanes,

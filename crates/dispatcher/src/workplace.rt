@@ -9,8 +9,7 @@ use std::alloc::Global;
 use std::marker::Model;
 use values::NoMemory;
 
-/// Where a scheduler and its workers meet, as their threads share it: the lanes between them, and where each of them
-/// parks.
+/// Where a scheduler and its workers meet, as their threads share it: the lanes between them, and where each parks.
 #[derive(Drop)]
 pub struct Workplace {
     pub(crate) lanes: Lanes,
@@ -32,8 +31,7 @@ impl Model for Workplace {
     ghost invariant = { λ place. (place.count ≡ place.lanes.count) × (0 < place.lanes.count) };
 }
 
-/// The one seat from which jobs are handed out at a workplace, and a worker's seat for the same thread. Each job that
-/// was handed out has come back.
+/// The seat from which jobs are handed out, and a worker's seat for the same thread. Each of these jobs has come back.
 #[derive(Drop)]
 pub struct HeadSeat {
     pub(crate) seat: SchedulerSeat,

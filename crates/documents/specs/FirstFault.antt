@@ -14,6 +14,7 @@ abbrev pub in_each : {N F : Type 0} → (Data → Option N) → (List N → Data
 in_each named one names [] = []
 in_each named one names (d ∷ ds) = one names d ++ in_each named one (names ++ option_to_list (named d)) ds
 
+-- the first fault of a list, if it has one
 abbrev pub first : {F : Type 0} → List F → Option F
 first [] = None
 first (f ∷ fs) = Some f

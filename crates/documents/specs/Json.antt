@@ -1,10 +1,11 @@
 -- Claimed: what contracts promise to a reader rests on these words.
--- One level of a JSON document: the elements of an array, a whole number.
+-- One level of a JSON document (RFC 8259): the elements of an array, a whole number.
 use Rattle.std.specs.Prelude.{ℕ, pos, negsuc, Bool, false, ◌&&◌, ◌==◌, if◌then◌else◌, ℤ, List, [], ◌∷◌, Option, Some, None, option_map, option_and_then}
 use Rattle.serde_json.specs.Data.{Data, Items, no_items, item}
 use Rattle.std.specs.Str.{bytes_eq}
 use Rattle.serde_json.specs.Find.{as_str, as_array, as_number, as_i64}
 
+-- the items of a list of documents
 abbrev pub list_of : Items → List Data
 list_of no_items = []
 list_of (item d ds) = d ∷ list_of ds
@@ -22,6 +23,7 @@ abbrev pub two : List Data → Option (Data × Data)
 two (a ∷ b ∷ []) = Some (a, b)
 two ds = None
 
+-- lists of three items; the words below do the same for longer ones
 abbrev pub three : List Data → Option (Data × Data × Data)
 three (a ∷ b ∷ c ∷ []) = Some (a, b, c)
 three ds = None
@@ -49,6 +51,7 @@ text_number_list d =
     (as_str p.0))
     (option_and_then three (elements d))
 
+-- the number is 1
 abbrev pub is_one : ℤ → Bool
 is_one (pos n) = n == 1
 is_one (negsuc n) = false

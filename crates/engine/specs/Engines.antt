@@ -41,6 +41,7 @@ pub record PublishingParts : Type 0 where
   pub core : EngineParts
   pub account : Account
 
+-- the tables of an engine's procedures
 abbrev pub tables_of : EngineParts → List TableShape
 tables_of engine = engine.procs.tables
 

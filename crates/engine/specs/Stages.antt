@@ -146,7 +146,7 @@ abbrev pub refusal_in : Result (Unit {0}) Refusal → Refusal
 refusal_in (Ok ran) = Memory
 refusal_in (Err refusal) = refusal
 
--- where a stop leaves an unfinished batch: where memory was refused no job of it is out and what was settled of it is
+-- where a stop leaves an unfinished batch: where allocation failed no job of it is out and what was settled of it is
 -- settled still, and where a thread was refused, nothing has changed
 abbrev pub Stopped : Refusal → Option Unfinished → Option Unfinished → Type 0
 Stopped Memory old new = WaitsIn old new

@@ -135,7 +135,7 @@ impl Engine {
     /// lanes, and the calling thread may run it where it is the only one out. Who claims a job passes the gate once for
     /// it, before it runs it.
     ///
-    /// The carried requests stand before the batch's calls, and an empty batch runs them alone. The replies are those
+    /// The carried requests come before the batch's calls, and an empty batch runs them alone. The replies are those
     /// of their entries one by one on the rows before it, and the rows afterwards are theirs. A stale request that was
     /// tried few enough times is carried to the next batch.
     pub fn execute<R: Threads + Wait + Sync, G: Gate>(

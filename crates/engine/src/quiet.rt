@@ -268,7 +268,7 @@ impl QuietEngine {
         conclude(&mut self.next, &mut self.stage, ended)
     }
 
-    /// Runs a batch. The carried requests stand before its calls, and an empty batch runs them alone. The replies are
+    /// Runs a batch. The carried requests come before its calls, and an empty batch runs them alone. The replies are
     /// those of their entries one by one on the rows before the batch, and the rows afterwards are theirs. A stale
     /// request that was tried few enough times is carried to the next batch.
     pub fn execute(&mut self, alloc: Global, batch: Batch) -> Result<BatchDone, ExecFault>

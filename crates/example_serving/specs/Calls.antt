@@ -24,6 +24,7 @@ takes [] (v ∷ vs) = false
 takes (p ∷ ps) [] = false
 takes (p ∷ ps) (v ∷ vs) = fits p.kind v && takes ps vs
 
+-- the request of a procedure with values, or why there is none
 abbrev pub request_with : Option ProcParts → List Value → Result Call RequestFault
 request_with None values = Err UnknownProc
 request_with (Some proc) values =

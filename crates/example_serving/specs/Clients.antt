@@ -9,7 +9,7 @@ use Rattle.example_serving.specs.declared.call.ClientCall.{ClientCall}
 use Rattle.example_serving.specs.declared.client.Client.{Client}
 use Rattle.example_serving.specs.Logs.{ClientLog}
 
--- one of so many clients of an intake, with this number, which has submitted nothing: all of its log is left
+-- one of the clients of an intake, with this number, which has submitted nothing: all of its log is left
 pub record IsAtItsLog (intake : Intake ClientCall) (clients number : ℕ) (at : Client) (log : ClientLog) : Type 0 where
   pub intake_is : at.intake.now ≡ intake
   pub client_is : client_of at.pass ≡ number

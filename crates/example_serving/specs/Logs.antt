@@ -6,6 +6,7 @@ use Rattle.intake.specs.declared.view.History.{History}
 use Rattle.intake.specs.Histories.{history}
 use Rattle.example_serving.specs.declared.call.ClientCall.{ClientCall}
 
+-- the calls that a client submits, in order
 abbrev pub ClientLog : Type 0
 ClientLog = Vec ClientCall Global
 

@@ -62,7 +62,7 @@ pub record IsTooLong (procs : ProcsParts) (s : Standing) (calls : List CallItem)
 
 -- What is so in the end of the engine, whose log is there, and of the calls that were drawn and not answered. After
 -- `Ok` there are none, and nothing is carried. Where the engine's log would be too long, it holds no batch. Where a
--- thread was refused, it holds the batch that comes next; where memory was refused, that batch or none. Where all calls
+-- thread was refused, it holds the batch that comes next; where allocation failed, that batch or none. Where all calls
 -- were answered, the batch that comes next has what is carried alone
 abbrev pub EndsSo : Served → Standing → EngineParts → List CallItem → Type 0
 EndsSo (Ok done) s engine left = (left ≡ []) × (is_busy engine ≡ false) × (engine.carried ≡ [])

@@ -22,13 +22,16 @@ pub record Said : Type 0 where
   pub number : ℕ
   pub answer : Result Reply RequestFault
 
+-- the answer, as clauses see it
 abbrev pub reply_in : Result Outcome RequestFault → Result Reply RequestFault
 reply_in (Ok outcome) = Ok (as_reply outcome)
 reply_in (Err fault) = Err fault
 
+-- what was told: an answer, and whom it is for
 abbrev pub said_in : Told → Said
 said_in told = record { client = told.client; number = told.number; answer = reply_in told.answer }
 
+-- an answer to one who asked
 abbrev pub said : Asked → Result Reply RequestFault → Said
 said asked answer = record { client = asked.client; number = asked.number; answer = answer }
 
@@ -38,6 +41,7 @@ said_to asked (Some fault) others replies = said asked (Err fault) ∷ others re
 said_to asked None others [] = []
 said_to asked None others (reply ∷ replies) = said asked (Ok reply) ∷ others replies
 
+-- what is said to those who asked: why a call is no request, or the reply to the next one that is
 abbrev pub answers_to : List Asked → List Reply → List Said
 answers_to [] replies = []
 answers_to (x ∷ xs) replies = said_to x x.refused (answers_to xs) replies
@@ -49,7 +53,7 @@ said_again (one ∷ others) [] = []
 said_again (one ∷ others) (reply ∷ replies) =
     record { client = one.client; number = one.number; answer = Ok reply } ∷ said_again others replies
 
--- the attempts of a batch of calls: what is carried stands before the requests that procedures make of the calls
+-- the attempts of a batch of calls: what is carried comes before the requests that procedures make of the calls
 abbrev pub attempts_for : ProcsParts → Standing → List CallItem → List Attempt
 attempts_for procs s items = attempts_of s.carried (requests_of procs items)
 
@@ -77,6 +81,7 @@ abbrev pub all_said : ℕ → ProcsParts → Standing → List (List CallItem) �
 all_said retries procs s [] = []
 all_said retries procs s (b ∷ bs) = batch_said procs s b ++ all_said retries procs (batch_end retries procs s b) bs
 
+-- where a service is after all batches
 abbrev pub all_end : ℕ → ProcsParts → Standing → List (List CallItem) → Standing
 all_end retries procs s [] = s
 all_end retries procs s (b ∷ bs) = all_end retries procs (batch_end retries procs s b) bs

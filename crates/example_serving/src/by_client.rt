@@ -24,7 +24,7 @@ fn apart(alloc: Global, told: Vec<Told>, client: u8) -> Result<(Vec<Told>, Vec<T
     Ok((own, others))
 }
 
-/// What was told to each of so many clients, in its order: a list a client, in the order of their numbers from 1.
+/// What was told to each of `clients` clients, in its order: a list a client, in the order of their numbers from 1.
 #[tactic(auto, using(crate::proofs::Apart::others_keep, crate::proofs::Apart::lists_more))]
 pub fn told_by_client(
     alloc: Global,

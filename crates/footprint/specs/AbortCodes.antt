@@ -4,6 +4,7 @@ use Rattle.std.specs.Prelude.{ℕ}
 use Rattle.footprint.specs.declared.abort_code.AbortCode.{AbortCode}
 use Rattle.footprint.specs.declared.abort_code.AbortCode.TheVariants.{NoRow, DuplicateRow, Overflow, DivisionByZero, BadKey, BadPart, TooLong, Budget, Uncovered, Own}
 
+-- the number of an abort: 1 to 9 for the language's own, and for a procedure's own the number that it gives
 abbrev pub number_of : AbortCode → ℕ
 number_of NoRow = 1
 number_of DuplicateRow = 2

@@ -26,7 +26,7 @@ number_or other (Some (values.Int z)) = z
 number_or other (Some (values.Text s)) = other
 number_or other None = other
 
--- An expression over the parameters, from left to right. The other number stands for a count or a sum too, of which
+-- An expression over the parameters, from left to right. The other number is taken for a count or a sum too, of which
 -- there is none in an entry that fits.
 abbrev pub declared_number : ℤ → List Value → IntSyntax → Result ℤ AbortCode
 declared_number other arguments (number z) = Ok z
@@ -87,11 +87,11 @@ with_entries other tables arguments count footprint (entry ∷ entries) = do
   _ ← rule (nat_le (count + length grants) 65536) TooLong
   with_entries other tables arguments (count + length grants) (with_rights footprint grants) entries
 
--- the footprint that entries declare, where another number stands for a parameter that is not there or is a text, for a
--- count and for a sum
+-- the footprint that entries declare, where another number is taken for a parameter that is not there or is a text, for
+-- a count and for a sum
 abbrev pub declared_with : ℤ → List TableShape → List Value → List EntrySyntax → Result FootprintOf AbortCode
 declared_with other tables arguments entries = with_entries other tables arguments 0 empty entries
 
--- the footprint that a procedure declares, or the abort of its first fault
+-- the footprint that a procedure declares, entry by entry, or the abort of its first fault
 abbrev pub declared_footprint : List TableShape → List Value → List EntrySyntax → Result FootprintOf AbortCode
 declared_footprint = declared_with (pos 0)

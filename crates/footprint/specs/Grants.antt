@@ -10,7 +10,7 @@ use Rattle.footprint.specs.declared.grant.Grant.TheVariants as grants
 use Rattle.footprint.specs.OfCatalogue.{IsResourceOf}
 use Rattle.footprint.specs.Declaration.{keys_from, on_rows}
 
--- the rights on resources that a grant stands for
+-- the rights on resources that a grant means
 abbrev pub granted : List TableShape → Grant → List (Resource × Right)
 granted tables (grants.OnOne right resource) = (resource, right) ∷ []
 granted tables (grants.OnRows right table first count) = on_rows tables right table (keys_from count first)
@@ -25,7 +25,7 @@ abbrev pub IsGrantOf : List TableShape → Grant → Type 0
 IsGrantOf tables (grants.OnOne right resource) = IsResourceOf tables resource
 IsGrantOf tables (grants.OnRows right table first count) = (table < length tables) × (first + count ≤ 2 ^ 63)
 
--- the grant stands for what is meant, or the abort is the one that is meant
+-- the grant says what is meant, or the abort is the one that is meant
 abbrev pub GrantsAs : List TableShape → Result Grant AbortCode → Result (List (Resource × Right)) AbortCode → Type 0
 GrantsAs tables (Ok grant) meant = meant ≡ Ok (granted tables grant)
 GrantsAs tables (Err code) meant = meant ≡ Err code

@@ -16,6 +16,7 @@ use Rattle.footprint.specs.contracts.resource.ResourceOrd.TheImpl as order
 abbrev pub resource_cmp : Resource → Resource → Ordering
 resource_cmp = order.ghosts.cmp
 
+-- the resource above one in the tree: a partition has its table, a table the database
 abbrev pub parent_of : Resource → Option Resource
 parent_of Db = None
 parent_of (Table t WholeTable) = Some Db
@@ -29,7 +30,7 @@ ancestors_of (Table t WholeTable) = Db ∷ []
 ancestors_of (Table t (Part p WholePart)) = Table t WholeTable ∷ Db ∷ []
 ancestors_of (Table t (Part p (Row k))) = Table t (Part p WholePart) ∷ Table t WholeTable ∷ Db ∷ []
 
--- the row name (t, k) stands under the partition that the catalogue gives key k in table t
+-- the row name (t, k) is under the partition that the catalogue gives key k in table t
 abbrev pub row_resource : List TableShape → RowName → Resource
 row_resource tables name =
     Table name.table (Part (unwrap_or (partition_of tables name.table name.key) 0) (Row name.key))

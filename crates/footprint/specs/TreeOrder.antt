@@ -10,7 +10,7 @@ use Rattle.footprint.specs.declared.resource.Resource.{Resource}
 use Rattle.footprint.specs.declared.resource.Resource.TheVariants.{Table}
 use Rattle.footprint.specs.Tree.{resource_cmp, parent_of}
 
--- A parent stands before its children. What is in an earlier table stands before what is in a later one, in a table
+-- A parent comes before its children. What is in an earlier table comes before what is in a later one, in a table
 -- what is in a partition of a lesser number, and in a partition the row with the lesser key
 pub record StandsInTreeOrder : Type 0 where
   pub parents : (r : Resource) → IfSome (parent_of r) (λ p. resource_cmp p r ≡ Less)

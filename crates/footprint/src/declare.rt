@@ -47,7 +47,7 @@ impl From<AbortCode> for DeclarationFault {
     }
 }
 
-/// The number of a variable; 0 stands for one that is not there or is a text.
+/// The number of a variable; 0 for one that is not there or is a text.
 fn int_at(arguments: &[Value], place: usize) -> i64
     ensures { result ≡ number_or (pos 0) (slice_get arguments.now place) }
 {
@@ -59,7 +59,7 @@ fn int_at(arguments: &[Value], place: usize) -> i64
 }
 
 /// The value of an expression over the parameters, or the abort of its first fault. No entry of a procedure asks for a
-/// count or a sum; 0 stands for one.
+/// count or a sum; 0 for one.
 fn int_value(arguments: &[Value], expression: &IntExpr) -> Result<i64, AbortCode>
     ensures { result ≡ declared_number (pos 0) arguments.now (int_view expression.now) }
 {

@@ -10,8 +10,8 @@ ghost use Rattle.footprint.specs.Arithmetic.{IsDivision};
 ghost use Rattle.footprint.specs.Declaration.{declared_with, declared_footprint, keys_between};
 ghost use Rattle.footprint.specs.TreeOrder.{StandsInTreeOrder};
 
-/// What stands for a parameter that is not there, or is a text, and for a count or a sum, never shows: a procedure that
-/// fits its tables declares the same for arguments of the parameters' types, whatever number stands for it.
+/// What is taken for a parameter that is not there, or is a text, and for a count or a sum, never shows: a procedure
+/// that fits its tables declares the same for arguments of the parameters' types, whatever number is taken for it.
 #[tactic(auto, using(crate::proofs::StandIns::never_shows))]
 pub fn stand_in_never_shows()
     ensures { (tables : List TableShape) (proc : ProcSyntax) (arguments : List Value) (other : ℤ) →
@@ -35,7 +35,7 @@ pub fn quotients_are_rounded_towards_zero()
     ensures { (x y : ℤ) → ¬ (y ≡ pos 0) → IsDivision x y (int_div x y) (int_rem x y) }
 {}
 
-/// The order of resources is tree order: a parent stands before its children, and what is in an earlier table, a
+/// The order of resources is tree order: a parent comes before its children, and what is in an earlier table, a
 /// partition of a lesser number or a row with a lesser key before what is in another of the same parent.
 #[tactic(auto, using(crate::proofs::TreeOrder::stands_in_tree_order))]
 pub fn stands_in_tree_order()

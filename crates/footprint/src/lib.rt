@@ -1,4 +1,8 @@
 //! Resources and their tree, rights, and footprints: what a transaction may read and write.
+//!
+//! Proved: `covers`, `declared`, `iter` and `compute` are exact. Laws: a quotient is rounded towards 0; a range has the
+//! keys from its least to its greatest; `stand_in_never_shows`: a procedure that fits its tables declares the same
+//! whatever is taken for a parameter that isn't there.
 #![tactic(auto)]
 
 mod abort_code;

@@ -3,14 +3,14 @@
 use catalogue::Catalogue;
 use values::{RowName, TableNo};
 
-/// What stands in a partition: the whole of it, or the row with a key, whether or not such a row is there.
+/// What is in a partition: the whole of it, or the row with a key, whether or not such a row is there.
 #[derive(Clone, Copy, Debug, PartialEq, Eq, PartialOrd, Ord, Hash)]
 pub enum InPart {
     WholePart,
     Row(u64),
 }
 
-/// What stands in a table: the whole of it, or something in one of its partitions.
+/// What is in a table: the whole of it, or something in one of its partitions.
 #[derive(Clone, Copy, Debug, PartialEq, Eq, PartialOrd, Ord, Hash)]
 pub enum InTable {
     WholeTable,

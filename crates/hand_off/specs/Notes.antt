@@ -4,7 +4,7 @@ use Rattle.std.specs.Prelude.{◌≡◌, ◌≢◌, ℕ, List, [], ◌∷◌, �
 use Rattle.hand_off.specs.declared.state.LaneState.{LaneState}
 use Rattle.hand_off.specs.declared.state.Note.{Note}
 
--- notes are added of so many lanes, each looked at once, from 0 on in order, and none found in this state
+-- notes are added of `count` lanes, each looked at once, from 0 on in order, and none found in this state
 pub record Misses (state : LaneState) (count : ℕ) (before after : List Note) : Type 0 where
   pub added : List Note
   pub all : after ≡ before ++ added

@@ -79,6 +79,7 @@ module _ {J D : Type 0} (comes_of : J → D → Type 0) where
     pub shows : slice_index_or words i 0 ≡ word_of (state_of p)
     pub lies : Lies homes i p
 
+  -- what holds of the lanes between two steps: each lane's word, what is in its slot, and what the seats know of it
   pub record Laned (s : State (Option (Load J D)) (View J)) : Type 0 where
     pub phases : ℕ → Phase J
     pub puts : List (ℕ × J)

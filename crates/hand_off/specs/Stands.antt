@@ -13,6 +13,7 @@ use Rattle.hand_off.specs.Words.{word_of}
 use Rattle.hand_off.specs.Rule.{Laned}
 use Rattle.hand_off.specs.Views.{looked}
 
+-- the lanes between two steps: their words, their slots and all views
 abbrev pub Moment : Type 0 → Type 0 → Type 0
 Moment J D = State (Option (Load J D)) (View J)
 

@@ -9,7 +9,7 @@ use Rattle.hand_off.specs.declared.view.Known.TheVariants.{Idle, Put}
 use Rattle.hand_off.specs.declared.view.View.{View}
 
 module _ {J : Type 0} where
-  -- the scheduler's view at the start, of so many lanes
+  -- the scheduler's view at the start, of n lanes
   abbrev pub opened : ℕ → View J
   opened n = record {
     schedules = true;

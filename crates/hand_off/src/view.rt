@@ -71,7 +71,7 @@ impl<J, D, W: Work<J, D>> TableRule<Option<Load<J, D>>, View<J>, usize> for Lane
     ghost first = { opened };
 }
 
-// It stands apart from the alias below, since a struct imports all that its file's ghost members name.
+// It is apart from the alias below, since a struct imports all that its file's ghost members name.
 /// A table of as many words as slots, under a rule.
 #[derive(Drop)]
 pub struct LaneTable<S, V, Q: TableRule<S, V, usize>, A: Allocator> {

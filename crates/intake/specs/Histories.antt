@@ -24,6 +24,7 @@ module _ {Q : Type 0} where
   HasAll items [] = Unit {0}
   HasAll items (h ∷ hs) = (from_client h.client items ≡ numbered h.client 0 h.sent) × HasAll items hs
 
+  -- what a client has submitted, in order
   abbrev pub history : ℕ → List Q → History Q
   history client sent = record { client = client; sent = sent }
 

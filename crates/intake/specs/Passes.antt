@@ -12,11 +12,13 @@ use Rattle.intake.specs.declared.passes.DrawPass.{DrawPass}
 use Rattle.intake.specs.Histories.{history, view, sent_first, rest_of, spare_for, IsNumbered}
 
 module _ {Q : Type 0} where
+  -- how many requests the queue takes
   abbrev pub capacity_of : Intake Q → ℕ
   capacity_of intake = ruled_capacity intake.queue
 
   -- ---- the pass of a client
 
+  -- the number of the client
   abbrev pub client_of : ClientPass Q → ℕ
   client_of p = p.client
 

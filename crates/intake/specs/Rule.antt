@@ -44,6 +44,8 @@ module _ {Q : Type 0} where
   AreTrue sent [] = Unit {0}
   AreTrue sent (h ∷ hs) = (0 < h.client) × (h.client ≤ 4) × (h.sent ≡ sent h.client) × AreTrue sent hs
 
+  -- what holds of the queue between two steps: client by client, what was drawn and then what is in the queue is what
+  -- was submitted; one pass at most submits for a client, and one at most draws
   pub record IsInOrder (items : List (Item Q)) (views : List (View Q)) : Type 0 where
     -- what each client sent, and what was drawn
     pub sent : ℕ → List Q

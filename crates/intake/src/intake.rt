@@ -24,8 +24,8 @@ pub struct Intake<Q> {
 }
 
 impl<Q> Intake<Q> {
-    /// An intake of 1 to 4 clients, whose queue takes `capacity` requests, and the passes: of the clients in the order
-    /// of their numbers, from 1, and of the owner.
+    /// An intake of 1 to 4 clients, whose queue takes `capacity` requests, at least 1, and the passes: of the clients
+    /// in the order of their numbers, from 1, and of the owner. The only error is that allocation failed.
     pub fn new(
         alloc: Global,
         clients: u8,

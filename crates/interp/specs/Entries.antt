@@ -12,11 +12,13 @@ pub record EntryParts : Type 0 where
   pub request : Call
   pub footing : Footing
 
+-- what an entry of the code may touch
 abbrev pub footing_shape : Footing → meant.Footing
 footing_shape (Declared footprint) = declares footprint
 footing_shape (Faulting code) = faults code
 footing_shape (Found footprint) = finds footprint
 
+-- the entry that a request and its footing are
 abbrev pub entry_shape : EntryParts → EntryShape
 entry_shape e = record {
   tables = e.request.proc.tables;

@@ -19,5 +19,6 @@ pub record IsEntryOver (tables : List TableShape) (entry : EntryParts) : Type 0 
   pub of_tables : entry.request.proc.tables ≡ tables
   pub touches : IsFootprintOf tables (locked_for (footprint_of (entry_shape entry).footing))
 
+-- each entry is over these tables, and so is its footprint, if it has one
 abbrev pub AreEntriesOver : List TableShape → List EntryParts → Type 0
 AreEntriesOver tables entries = AllByRecursion (IsEntryOver tables) entries

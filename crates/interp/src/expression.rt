@@ -136,7 +136,8 @@ fn total_of<V: RowView>(
     total_in(shown, space, table, part, column)
 }
 
-/// The value of a number expression.
+/// The value of a number expression, or how the run ends: by abort 3 for a result outside the signed 64-bit range, 4
+/// for a division by 0, or as a step and an access in it end. The only other error is that allocation failed.
 #[cycle(numbers)]
 pub(crate) fn evaluate_int<V: RowView>(
     shown: &Shown<'_, V>,
@@ -167,7 +168,7 @@ pub(crate) fn text_of<'a>(space: &'a Workspace, expression: &'a TextExpr) -> &'a
     }
 }
 
-/// The value of an expression.
+/// The value of an expression, with the errors of `evaluate_int`; to copy a text takes memory.
 pub(crate) fn evaluate<V: RowView>(
     alloc: Global,
     shown: &Shown<'_, V>,
@@ -191,7 +192,7 @@ pub(crate) fn evaluate<V: RowView>(
     }
 }
 
-/// The values of expressions, from left to right.
+/// The values of expressions, from left to right; the error is the first of theirs, or that allocation failed.
 pub(crate) fn evaluate_all<V: RowView>(
     alloc: Global,
     shown: &Shown<'_, V>,

@@ -22,7 +22,7 @@ use workspace::{Passage, Permit, RowView, Shown};
 
 /// The footprint that the body of a procedure turns out to need, over a view of the procedure's catalogue that shows
 /// each name: the body is run with every access allowed, up to its end, however it ends, and its writes and its reply
-/// are dropped. The only error is want of memory.
+/// are dropped (Calvin, 2012: reconnaissance of dependent transactions). The only error is that allocation failed.
 pub fn recon<V: RowView>(
     alloc: Global,
     catalogue: &Catalogue,
@@ -42,7 +42,7 @@ pub fn recon<V: RowView>(
     ensures not_stale { (db : Database) →
         Agree (found_entry proc.now.tables (stmts_view proc.now.body) args.now (V.rows view.now)) (V.rows view.now) db
         → HoldsAsFound proc.now.tables (stmts_view proc.now.body) args.now (V.rows view.now) db }
-    // What stands for a variable or a column that is not there makes no difference, for arguments of the parameters'
+    // What is taken for a variable or a column that is not there makes no difference, for arguments of the parameters'
     // types and on rows of the columns' types.
     ensures stand_in { map type_of args.now ≡ kinds_of proc.now.params → HasTypes proc.now.tables (V.rows view.now)
         → StandInNeverFound proc.now.tables (stmts_view proc.now.body) args.now (V.rows view.now) }

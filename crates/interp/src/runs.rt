@@ -57,7 +57,7 @@ fn run_here<V: RowView>(
 }
 
 /// Runs an entry over a view of the entry's catalogue that shows each name that the entry may read, and is asked for no
-/// other name. The only error is want of memory.
+/// other name. The only error is that allocation failed.
 pub fn run<V: RowView>(
     alloc: Global,
     catalogue: &Catalogue,
@@ -75,7 +75,7 @@ pub fn run<V: RowView>(
     ensures covered { IfOk result (λ effect. OnlyTouched (entry_shape entry.now) effect.writes.entries) }
     // Without a commit there is none.
     ensures unchanged { IfOk result (λ effect. is_commit effect.outcome ≡ false → effect.writes.entries ≡ []) }
-    // What stands for a variable or a column that is not there makes no difference, on rows of the columns' types.
+    // What is taken for a variable or a column that is not there makes no difference, on rows of the columns' types.
     ensures stand_in { (db : Database) → HasTypes entry.now.request.proc.tables db →
         StandInNeverShows (entry_shape entry.now) db }
 {

@@ -17,7 +17,7 @@ use std::alloc::Global;
 use values::{NoMemory, Row, TableNo, Value};
 use workspace::{RowView, Shown, Stop, Workspace, access, present_row};
 
-/// The value in a column; 0 stands for a column that is not there.
+/// The value in a column; 0 for a column that is not there.
 fn column_value(row: &Row, column: usize) -> Result<Value, NoMemory>
     ensures { IfOk result (λ value. value ≡ unwrap_or (slice_get row.now column) (Int (pos 0))) }
 {

@@ -1,9 +1,9 @@
 -- Claimed: what contracts promise to a reader rests on these words.
--- Laws of lanes: what their rule says of the seats that stand together at one moment of theirs. `claim` tells of a
--- moment at which the rule holds and the worker's seat stands there with its new claim. So the laws are of that moment:
--- whichever other seats stand there have no claim of that put, and the scheduler, as it stands there, has put that job
--- into that lane. That a seat stands there, at every moment between two steps of its own, with the value that the first
--- of them left it, is the promise of the table of words, and not of these laws.
+-- Laws of lanes: what their rule says of the seats that are there at one moment. `claim` tells of a moment at which the
+-- rule holds and the worker's seat has its new claim. So the laws are of that moment: whichever other seats are there
+-- have no claim of that put, and the scheduler, as it is then, has put that job into that lane. That a seat is there,
+-- at every moment between two steps of its own, with the value that the first of them left it, is the promise of the
+-- table of words, and not of these laws.
 use Rattle.std.specs.Prelude.{◌≡◌, ℕ, length, Some, slice_get}
 use Rattle.hand_off.specs.declared.view.Claim.{Claim}
 use Rattle.hand_off.specs.Rule.{Laned}

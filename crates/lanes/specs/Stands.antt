@@ -1,6 +1,6 @@
 -- Claimed: what contracts promise to a reader rests on these words.
--- Moments of the lanes, the seats that stand there with their values, and what calls tell of them: each tells of
--- moments at which the rule held and its own seat stood there. The laws speak of such moments.
+-- Moments of the lanes, the seats that are there with their values, and what calls tell of them: each tells of moments
+-- at which the rule held and its own seat was there. The laws speak of such moments.
 use Rattle.std.specs.Prelude.{◌≡◌, ◌<◌, ◌≤◌, ℕ, true, List, map, length, take, Some, slice_get, slice_index_or}
 use mathlib.Core.Option.{some}
 use lib.ListN.{get_elem?}

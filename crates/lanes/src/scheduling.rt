@@ -13,7 +13,8 @@ use std::collections::VecDeque;
 use values::NoMemory;
 
 impl Lanes {
-    /// This many lanes without a job, and the scheduler's seat. `NoMemory` comes only where memory is refused.
+    /// `count` lanes, 1 to 64, numbered from 0 and without a job, and the scheduler's seat. The only error is that
+    /// allocation failed.
     pub fn new(alloc: Global, count: usize) -> Result<(Lanes, SchedulerSeat), NoMemory>
         requires { (0 < count) × (count ≤ 64) }
         ensures count { IfOk result (λ made. made.0.count ≡ count) }
@@ -24,7 +25,7 @@ impl Lanes {
         Ok((Lanes { alloc, table }, SchedulerSeat { seat }))
     }
 
-    /// A seat for one more worker. `NoMemory` comes only where memory is refused. The scheduler's seat stays as it is.
+    /// A seat for one more worker. `NoMemory` comes only if allocation fails. The scheduler's seat stays as it is.
     pub fn worker_seat(&self, seat: &mut SchedulerSeat) -> Result<WorkerSeat, NoMemory>
         requires { seat.old.lanes ≡ self.now }
         ensures seat { seat.new ≡ seat.old }

@@ -5,7 +5,7 @@ use scheduler::{Done, Job};
 use std::alloc::Global;
 use std::marker::Model;
 
-/// So many lanes. Threads share them by reference.
+/// Lanes, numbered from 0. Threads share them by reference.
 #[derive(Drop)]
 pub struct Lanes {
     pub(crate) alloc: Global,

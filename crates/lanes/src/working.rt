@@ -14,8 +14,8 @@ impl Lanes {
     /// A job that waits, from the lowest lane where one was found. From now on this seat has it. It tries one lane
     /// after another, from 0, each by one compare-exchange; `None` comes only where each lane was found without a
     /// waiting job when it was tried. The seat's notes say what each lane that it tried was doing at a moment of the
-    /// try. A claim tells of a moment at which this seat stands with it. That no other seat there has claimed that put,
-    /// and that the job is the one that the scheduler put into that lane, is the law `claims_are_single`.
+    /// try. A claim tells of a moment at which this seat has it. That no other seat there has claimed that put, and
+    /// that the job is the one that the scheduler put into that lane, is the law `claims_are_single`.
     pub fn claim(&self, seat: &mut WorkerSeat) -> Option<(LaneNo, Job)>
         requires { seat.old.lanes ≡ self.now }
         ensures some { IfSome result (λ r. Claims seat.old r.0 r.1 seat.new) }

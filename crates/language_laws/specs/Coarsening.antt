@@ -9,7 +9,7 @@ use Rattle.footprint.specs.declared.resource.Resource.TheVariants.{Db, Table}
 use Rattle.footprint.specs.Rights.{FootprintOf, is_at_least}
 use Rattle.coarsen.specs.Coarsening.{on_database}
 
--- What one entry on the database stands for: its right is at least each right of the footprint, and is one of them, so
+-- What one entry on the database says: its right is at least each right of the footprint, and is one of them, so
 -- it is the greatest and no more. There is no other entry.
 pub record DatabaseHasGreatest : Type 0 where
   pub at_least_each : (f : FootprintOf) (r : Resource) (x : Right) → get f r ≡ Some x

@@ -9,7 +9,7 @@ use Rattle.request_arena.specs.Lists.{IsLive, BeginsChain, EndsChain}
 use Rattle.lock_tree.specs.Entered.{Enqueued}
 use Rattle.lock_tree.specs.Lines.{Lines, request_at, nodes_of, number_of}
 
--- a node of the transaction stands in the queue of a resource, which has that number
+-- a node of the transaction is in the queue of a resource, which has that number
 pub record IsPlaced (lines : Lines) (owner : ℕ) (resource : Resource) (number a : ℕ) : Type 0 where
   pub named : number_of lines resource ≡ Some number
   pub place : ℕ

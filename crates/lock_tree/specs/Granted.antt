@@ -12,7 +12,7 @@ use Rattle.lock_tree.specs.Lines.{Lines, requests, nodes_of, numbers_of, modes_o
 use Rattle.lock_tree.specs.Open.{AreRising}
 use Rattle.lock_tree.specs.Held.{AreHeld}
 
--- a front of the nodes is granted: so many, in the modes that are held; and the first of the others is known
+-- a front of the nodes is granted: `granted` of them, in the modes that are held; and the first of the others is known
 pub record IsFront (queue : Queue) (nodes : List ℕ) (line : Line) : Type 0 where
   pub within : line.granted ≤ length (granted queue)
   pub held : AreHeld line.held (modes_of (take line.granted queue))

@@ -14,7 +14,7 @@ is_mode SharedIntentionExclusive SharedIntentionExclusive = true
 is_mode Exclusive Exclusive = true
 is_mode a b = false
 
--- how often a mode stands in a list
+-- how often a mode is in a list
 abbrev pub times : Mode → List Mode → ℕ
 times mode [] = 0
 times mode (h ∷ held) = if is_mode mode h then times mode held + 1 else times mode held
@@ -27,6 +27,6 @@ pub record AreHeld (counts : Held) (held : List Mode) : Type 0 where
   pub shared_intention_exclusive : counts.shared_intention_exclusive ≡ times SharedIntentionExclusive held
   pub exclusive : counts.exclusive ≡ times Exclusive held
 
--- none of so many in a mode bars another
+-- none of `count` requests in a mode bars another
 abbrev pub spares : ℕ → Mode → Mode → Bool
 spares count held mode = (count == 0) || are_compatible held mode

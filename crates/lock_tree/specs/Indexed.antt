@@ -9,7 +9,7 @@ use Rattle.lock_tree.specs.Placing.{place_numbered}
 use Rattle.lock_tree.specs.Views.{all_waiting, enqueued}
 use Rattle.lock_tree.specs.Open.{open_of}
 
--- each transaction stands under its own number
+-- each transaction is under its own number
 abbrev pub AreNamed : List (ℕ × Enqueued) → Type 0
 AreNamed [] = ⊤
 AreNamed (e ∷ es) = (e.0 ≡ e.1.no) × AreNamed es
@@ -25,7 +25,7 @@ pub record IsIndexed (t : Transactions) : Type 0 where
 pub record HasPlace (t : Transactions) : Type 0 where
   pub open_ones : length (enqueued t) < deque_capacity t.open
 
--- the one with a number stands at its place
+-- the one with a number is at its place
 pub record IsFound (es : List Enqueued) (number : ℕ) (e : Enqueued) : Type 0 where
   pub place : ℕ
   pub exact : place_numbered number (all_waiting es) ≡ Some place

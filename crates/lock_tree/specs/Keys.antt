@@ -27,7 +27,7 @@ partly_equal = partly.lawful.laws
 pub equal_resources : IsEquivalence resource_eq
 equal_resources = fully.lawful.laws
 
--- the word of what stands in a table
+-- the word of what is in a table
 abbrev pub word_in_table : InTable → ℕ
 word_in_table WholeTable = 2 ^ 38
 word_in_table (Part p WholePart) = bit_xor (2 ^ 39) p

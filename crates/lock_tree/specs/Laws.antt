@@ -11,6 +11,7 @@ use Rattle.lock_tree.specs.Locks.{Waiting, plan_of, without, with_mark, IsRising
 use Rattle.lock_tree.specs.Queues.{Queue, granted}
 use Rattle.lock_tree.specs.Ready.{ready}
 
+-- each two of these go together
 abbrev pub AreCompatible : Queue → Type 0
 AreCompatible queue = AllPairs (λ (a : ℕ × Mode) (b : ℕ × Mode). are_compatible a.1 b.1 ≡ true) queue
 

@@ -48,7 +48,7 @@ number_of lines resource = get resource_eq lines.numbers resource
 abbrev pub line : Lines → Resource → Queue
 line lines resource = numbered lines.nodes (number_of lines resource)
 
--- the numbers of so many more resources can be noted
+-- the numbers of `count` more resources can be noted
 abbrev pub HasRoom : Lines → ℕ → Type 0
 HasRoom lines count = count ≤ spare lines.numbers
 

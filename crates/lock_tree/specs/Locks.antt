@@ -9,7 +9,7 @@ pub record Waiting : Type 0 where
   pub plan : Requests
   pub marked : Bool
 
--- room for so many requests, and the transactions in order
+-- room for `arena` requests, and the transactions in order
 pub record Locks : Type 0 where
   pub arena : ℕ
   pub waiting : List Waiting
@@ -39,6 +39,7 @@ abbrev pub AreAbove : ℕ → List Waiting → Type 0
 AreAbove number [] = ⊤
 AreAbove number (w ∷ ws) = (number < w.no) × AreAbove number ws
 
+-- the numbers rise
 abbrev pub IsRising : List Waiting → Type 0
 IsRising [] = ⊤
 IsRising (w ∷ ws) = AreAbove w.no ws × IsRising ws

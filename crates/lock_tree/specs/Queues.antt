@@ -18,6 +18,7 @@ mode_on resource requests = find resource_cmp resource requests
 abbrev pub Queue : Type 0
 Queue = List (ℕ × Mode)
 
+-- the request of a transaction for this resource, if it has one, before those of the others
 abbrev pub asks : ℕ → Option Mode → Queue → Queue
 asks number None queue = queue
 asks number (Some mode) queue = (number, mode) ∷ queue
@@ -33,6 +34,7 @@ granted_beside held [] = []
 granted_beside held (q ∷ qs) =
     if list_all (λ h. are_compatible h q.1) held then q ∷ granted_beside (q.1 ∷ held) qs else []
 
+-- what is granted of a queue: its longest front whose members go together
 abbrev pub granted : Queue → Queue
 granted queue = granted_beside [] queue
 

@@ -45,7 +45,7 @@ pub record IsForgotten (was : Lines) (resource : Resource) (number : ℕ) (now :
 abbrev pub AreLive : Lists → Type 0
 AreLive lists = (q i a : ℕ) → slice_get (nodes_of lists q) i ≡ Some a → IsLive lists a
 
--- a node of a queue stands in no other queue, and at no other place
+-- a node of a queue is in no other queue, and at no other place
 abbrev pub StandApart : Lists → Type 0
 StandApart lists = (q r i j a : ℕ) → slice_get (nodes_of lists q) i ≡ Some a → slice_get (nodes_of lists r) j ≡ Some a
     → (q ≡ r) × (i ≡ j)

@@ -42,7 +42,7 @@ fn enqueue_requests(lines: &mut Lines, plan: &[(Resource, Mode)], no: u64) -> Op
 }
 
 /// Puts a transaction after the others in the queues of its plan, and notes where its
-/// requests stand and whether it is ready.
+/// requests are and whether it is ready.
 fn enqueue_entry(lines: &mut Lines, plan: &[(Resource, Mode)], entry: &mut Enqueued, no: u64)
     requires owner { entry.old.no ≡ no }
     requires plan { entry.old.plan.value ≡ plan.now }

@@ -67,10 +67,10 @@ pub(crate) fn add(
     requires above { AllUnder request.no (numbers_of (in_order lines.old.nodes number)) }
     ensures { IsAdded lines.old number tail request result lines.new }
 {
-    // proof: a node stands at one place of one queue.
+    // proof: a node is at one place of one queue.
     lines.nodes.nodes_stand_apart();
     let node = push(&mut lines.nodes, number, tail, request);
-    // proof: a node stands at one place of one queue.
+    // proof: a node is at one place of one queue.
     lines.nodes.nodes_stand_apart();
     let waiting = lines.lines[number].waiting.or(Some(node));
     lines.lines[number].waiting = waiting;
@@ -87,7 +87,7 @@ pub(crate) fn is_granted(lines: &Lines, number: usize, no: u64) -> bool
         × ((request_at lines.now.nodes.held a).0 ≡ no) }
     ensures { result ≡ has_number no (granted (in_order lines.now.nodes number)) }
 {
-    // proof: a node stands at one place of one queue.
+    // proof: a node is at one place of one queue.
     lines.nodes.nodes_stand_apart();
     match lines.lines[number].waiting {
         Some(node) => no < lines.nodes.get(node).no,
@@ -115,7 +115,7 @@ fn without(lines: &Lines, number: usize, node: NodeId, no: u64) -> Line
     requires owned { (request_at lines.now.nodes.held node).0 ≡ no }
     ensures { Stays lines.now.nodes.held (nodes_of lines.now.nodes number) node no result }
 {
-    // proof: a node stands at one place of one queue.
+    // proof: a node is at one place of one queue.
     lines.nodes.nodes_stand_apart();
     let mut line = lines.lines[number];
     if is_granted(lines, number, no) {
@@ -162,11 +162,11 @@ pub(crate) fn leave(lines: &mut Lines, number: usize, node: NodeId, no: u64) -> 
     ensures stay { result.stay ≡ length (others no (granted (in_order lines.old.nodes number))) }
     ensures first { result.first ≡ slice_get (nodes_of lines.new.nodes number) result.stay }
 {
-    // proof: a node stands at one place of one queue.
+    // proof: a node is at one place of one queue.
     lines.nodes.nodes_stand_apart();
     let line = without(lines, number, node, no);
     let successor = take_out(&mut lines.nodes, node);
-    // proof: a node stands at one place of one queue.
+    // proof: a node is at one place of one queue.
     lines.nodes.nodes_stand_apart();
     let left = Left {
         successor,

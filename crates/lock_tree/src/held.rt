@@ -18,7 +18,7 @@ pub(crate) struct Held {
     exclusive: u32,
 }
 
-/// Whether none of so many requests in a mode bars another mode.
+/// Whether none of `count` requests in a mode bars another mode.
 #[inline(always)]
 fn spares(count: u32, held: Mode, mode: Mode) -> bool
     ensures { result ≡ spares count held mode }

@@ -31,7 +31,7 @@ pub(crate) struct Lines {
 }
 
 impl Lines {
-    /// Room for so many requests, and none yet.
+    /// Room for `arena` requests, and none yet.
     pub(crate) fn new(alloc: Global, arena: usize) -> Result<Lines, NoMemory>
         ensures numbered { IfOk result (λ lines. IsNumbered lines None) }
         ensures granted { IfOk result AreGranted }
@@ -50,7 +50,7 @@ impl Lines {
         })
     }
 
-    /// Makes room for the numbers of so many more resources.
+    /// Makes room for the numbers of `count` more resources.
     pub(crate) fn make_room(&mut self, count: usize) -> Result<(), NoMemory>
         requires numbered { IsNumbered self.old None }
         requires granted { AreGranted self.old }

@@ -45,7 +45,7 @@ fn record_ready(lines: &Lines, transactions: &mut Transactions, no: u64)
 }
 
 /// Notes which of the transactions are ready whose requests in a queue are granted, from a
-/// place on, where a node stands.
+/// place on, where a node is.
 fn record_granted(
     lines: &Lines,
     transactions: &mut Transactions,
@@ -59,7 +59,7 @@ fn record_granted(
     ensures agree { Correspond lines.now [] transactions.new }
     ensures same { all_waiting (enqueued transactions.new) ≡ all_waiting (enqueued transactions.old) }
 {
-    // proof: a node stands at one place of one queue.
+    // proof: a node is at one place of one queue.
     lines.nodes.nodes_stand_apart();
     let granted = lines.lines[number].granted;
     while place < granted {

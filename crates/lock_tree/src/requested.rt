@@ -44,7 +44,7 @@ impl Model for Requested {
 }
 
 impl Requested {
-    /// Room for so many requests, and no transaction.
+    /// Room for `arena` requests, and no transaction.
     pub(crate) fn new(alloc: Global, arena: usize) -> Result<Requested, NoMemory>
         ensures { IfOk result (λ requested. requested ≡ record { arena = arena; waiting = [] }) }
     {

@@ -31,7 +31,7 @@ const PART: u64 = 2 << 38;
 
 const ROW: u64 = 3 << 38;
 
-/// The word of what stands in a table.
+/// The word of what is in a table.
 #[inline(always)]
 fn word_in_table(within: InTable) -> u64
     ensures { result ≡ word_in_table within }

@@ -22,8 +22,8 @@ pub enum EnqueueFault {
     NoMemory,
 }
 
-/// Transactions with their plans, in the order in which they were enqueued, and a mark on some of them. Contracts see
-/// the list of them.
+/// Transactions with their plans, in the order in which they were enqueued, and a mark on some of them. Locks are
+/// granted in that order (Calvin, 2012), in the modes of Gray and others (1975, 1976). Contracts see the list of them.
 #[derive(Drop)]
 pub struct LockTree {
     alloc: Global,
@@ -48,8 +48,9 @@ impl Model for LockTree {
 }
 
 impl LockTree {
-    /// A tree with room for so many requests, and no transaction. This body never fails, since it makes the block of
-    /// the requests with the first of them; a caller is to expect a tree that makes it at once.
+    /// A tree with room for `arena` requests, and no transaction. `arena` may be 0; then only plans without a request
+    /// can be enqueued. This body never fails, since it makes the block of the requests with the first of them; a
+    /// caller is to expect a tree that makes it at once.
     pub fn new(alloc: Global, arena: usize) -> Result<LockTree, NoMemory>
         ensures { IfOk result (λ tree. tree ≡ record { arena = arena; waiting = [] }) }
     {

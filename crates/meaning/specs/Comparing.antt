@@ -8,6 +8,7 @@ use Rattle.proclang_types.specs.declared.operator.Comparison.TheVariants as ints
 use Rattle.proclang_types.specs.declared.operator.Equality.{Equality}
 use Rattle.proclang_types.specs.declared.operator.Equality.TheVariants as texts
 
+-- the tests of two numbers
 abbrev pub compare : Comparison → ℤ → ℤ → Bool
 compare ints.Equal x y = int_eq x y
 compare ints.Unequal x y = not (int_eq x y)

@@ -27,19 +27,23 @@ pub record EntryShape : Type 0 where
   pub arguments : List Value
   pub footing : Footing
 
+-- what a transaction answers: values, the code of an abort, or that it is stale
 pub data Reply : Type 0 where
   commit : List Value → Reply
   aborted : AbortCode → Reply
   stale : Reply
 
+-- the footprint of what an entry may touch; none where its declaration faults
 abbrev pub footprint_of : Footing → Option FootprintOf
 footprint_of (declares footprint) = Some footprint
 footprint_of (faults code) = None
 footprint_of (finds footprint) = Some footprint
 
+-- where a run begins: the arguments are variables, no step is taken and nothing is replied
 abbrev pub start : List Value → Database → State
 start arguments db = record { rows = db; variables = arguments; steps = 0; reply = []; accesses = [] }
 
+-- the reply of a run that ended before its body did
 abbrev pub reply_of : Ending → Reply
 reply_of (endings.Abort code) = aborted code
 reply_of endings.Stale = stale
@@ -53,6 +57,7 @@ finished db (Err e, st) = (reply_of e, db)
 abbrev pub end_of : StandIn → AccessRule → List StmtSyntax → List Value → Database → Result (Unit {0}) Ending × State
 end_of d rule body arguments db = in_order d rule (block_of body) (start arguments db)
 
+-- the reply of the run of a body, and the database that it leaves
 abbrev pub run_of : StandIn → AccessRule → List StmtSyntax → List Value → Database → Reply × Database
 run_of d rule body arguments db = finished db (end_of d rule body arguments db)
 
@@ -64,6 +69,7 @@ meaning_by d tables body arguments (faults code) db = (aborted code, db)
 meaning_by d tables body arguments (finds footprint) db =
     run_of d (covered tables footprint endings.Stale) body arguments db
 
+-- the number 0 and the empty text, for a variable or a column that is not there or has the other type
 abbrev pub nothing : StandIn
 nothing = record { number = pos 0; text = [] }
 

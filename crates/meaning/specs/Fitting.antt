@@ -1,5 +1,5 @@
 -- Claimed: what contracts promise to a reader rests on these words.
--- Calls of procedures that fit their tables, and what stands for a variable or a column that is not there.
+-- Calls of procedures that fit their tables, and what is taken for a variable or a column that is not there.
 use Rattle.std.specs.Prelude.{◌≡◌, ℕ, List, Some, map, option_map, slice_get}
 use Rattle.std.specs.FinMap.{get}
 use Rattle.values.specs.declared.name.RowName.{RowName}
@@ -27,7 +27,7 @@ pub record IsCallOf (proc : ProcSyntax) (entry : EntryShape) : Type 0 where
   pub body : entry.body ≡ proc.body
   pub arguments : map type_of entry.arguments ≡ kinds_of proc.params
 
--- The meaning is the same whatever stands for a variable or a column that is not there or has another type. And the
+-- The meaning is the same whatever is taken for a variable or a column that is not there or has another type. And the
 -- database that is left has again rows of its tables.
 pub record StandInNeverShows (entry : EntryShape) (db : Database) : Type 0 where
   pub same : (other : StandIn)

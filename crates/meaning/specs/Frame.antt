@@ -1,5 +1,6 @@
 -- Claimed: what contracts promise to a reader rests on these words.
--- The frame of a meaning: what it depends on, and what it changes.
+-- The frame of a meaning: what it depends on, and what it changes. (Calvin, 2012: what a transaction reads and writes
+-- is known before it asks for locks.)
 use Rattle.std.specs.Prelude.{◌≡◌, Bool, true, false, List, Option, Some, None}
 use Rattle.std.specs.FinMap.{get}
 use Rattle.values.specs.declared.name.RowName.{RowName}
@@ -15,6 +16,7 @@ abbrev pub may_touch : List TableShape → Option FootprintOf → RowName → Ri
 may_touch tables None name right = false
 may_touch tables (Some footprint) name right = covers_row tables footprint name right
 
+-- an entry may touch a row name with this right
 abbrev pub touches : EntryShape → RowName → Right → Bool
 touches entry = may_touch entry.tables (footprint_of entry.footing)
 

@@ -16,12 +16,13 @@ use Rattle.meaning.specs.Partitions.{keys_of, total}
 use Rattle.meaning.specs.Turns.{numbers_between}
 use Rattle.meaning.specs.Runs.{Ran, ◌>>=◌, ok, abort, look, AccessRule, step, int_result, computed, accessed, part_accessed, part_now, row_now, present, absent, set_row, remove_row, declare, set_variable, scoped, replying}
 
--- What stands for a variable or a column that is not there, or has the other type. That it never shows
+-- What is taken for a variable or a column that is not there, or has the other type. That it never shows
 -- where procedure, arguments and rows fit the tables is a law of its own, StandInNeverShows.
 pub record StandIn : Type 0 where
   pub number : ℤ
   pub text : List ℕ
 
+-- the text of a variable, or another text in the place of one that is not there or is a number
 abbrev pub text_or : List ℕ → Option Value → List ℕ
 text_or other (Some (values.Int z)) = other
 text_or other (Some (values.Text s)) = s
@@ -48,6 +49,7 @@ int_of d rule (sum_column table part column) = do
   rows ← part_now rule table p
   int_result (total d.number column (entries rows))
 
+-- the value of an expression that gives a text
 abbrev pub text_of : StandIn → AccessRule → TextSyntax → Ran (List ℕ)
 text_of d rule (literal s) = ok s
 text_of d rule (text_variable place) = look (λ st. text_or d.text (slice_get st.variables place))
@@ -82,6 +84,7 @@ bool_of d rule (row_exists table key) = do
   found ← row_now name
   ok (is_some found)
 
+-- the value of an expression that gives a number or a text
 abbrev pub value_of : StandIn → AccessRule → ValueSyntax → Ran Value
 value_of d rule (int_value e) = do
   z ← int_of d rule e
@@ -90,6 +93,7 @@ value_of d rule (text_value e) = do
   s ← text_of d rule e
   ok (values.Text s)
 
+-- the values of expressions, from left to right
 abbrev pub values_of : StandIn → AccessRule → List ValueSyntax → Ran (List Value)
 values_of d rule [] = ok []
 values_of d rule (e ∷ es) = do

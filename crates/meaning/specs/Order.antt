@@ -84,6 +84,7 @@ reply_has_room vs = do
 abbrev pub leading_number : StandIn → List Value → ℤ
 leading_number d vs = number_or d.number (slice_get vs 0)
 
+-- what is tested of the values of the operands
 abbrev pub tests_of : StandIn → AccessRule → StmtSyntax → List Value → Ran (Unit {0})
 tests_of d rule (get place table key column) vs = row_present rule Read table (leading_number d vs)
 tests_of d rule (put table key column e) vs = row_present rule Write table (leading_number d vs)
@@ -111,7 +112,7 @@ abbrev pub GoesOnLike : {A B : Type 0} → Ran A → Ran B → Type 0
 GoesOnLike {A} {B} parts whole = (before left : State) (x : A) → parts before ≡ (Ok x, left)
     → (after : State) × (y : B) × (whole before ≡ (Ok y, after))
 
--- no block stands in the statement, and it is no abort
+-- the statement has no block, and is no abort
 abbrev pub is_plain : StmtSyntax → Bool
 is_plain (choose test first second) = false
 is_plain (for_numbers low high body) = false

@@ -54,9 +54,11 @@ pub record HasGreatestRights (accesses : List Access) (footprint : FootprintOf) 
 abbrev pub accesses_by : StandIn → List TableShape → List StmtSyntax → List Value → Database → List Access
 accesses_by d tables body arguments db = (end_of d (recording tables) body arguments db).1.accesses
 
+-- the same with the stand-in of the meaning
 abbrev pub accesses_of : List TableShape → List StmtSyntax → List Value → Database → List Access
 accesses_of = accesses_by nothing
 
+-- the footprint that reconnaissance finds on a database: the greatest rights of the accesses
 abbrev pub found_footprint : List TableShape → List StmtSyntax → List Value → Database → FootprintOf
 found_footprint tables body arguments db = greatest_rights (accesses_of tables body arguments db)
 
@@ -113,7 +115,7 @@ FindsOfTables tables body arguments db =
     All (λ (access : Access). HasKey access.0) (accesses_of tables body arguments db)
     → IsFootprintOf tables (found_footprint tables body arguments db)
 
--- the accesses are the same whatever stands for a variable or a column that is not there or has another type
+-- the accesses are the same whatever is taken for a variable or a column that is not there or has another type
 abbrev pub StandInNeverFound : List TableShape → List StmtSyntax → List Value → Database → Type 0
 StandInNeverFound tables body arguments db =
     (other : StandIn) → accesses_by other tables body arguments db ≡ accesses_of tables body arguments db

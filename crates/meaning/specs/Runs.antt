@@ -39,6 +39,7 @@ pub record State : Type 0 where
 abbrev pub Ran : Type 0 → Type 0
 Ran A = State → Result A Ending × State
 
+-- the next part, on the state that the first left, unless that ended the run
 abbrev pub continued : {A B : Type 0} → Result A Ending × State → (A → Ran B) → Result B Ending × State
 continued (Ok x, st) next = next x st
 continued (Err e, st) next = (Err e, st)
@@ -51,18 +52,23 @@ infixl 10 ◌>>=◌
 abbrev pub ◌>>=◌ : {A B : Type 0} → Ran A → (A → Ran B) → Ran B
 first >>= next = and_then first next
 
+-- the value, and nothing changes
 abbrev pub ok : {A : Type 0} → A → Ran A
 ok x st = (Ok x, st)
 
+-- the run ends so
 abbrev pub ended : {A : Type 0} → Ending → Ran A
 ended e st = (Err e, st)
 
+-- the run ends with that abort
 abbrev pub abort : {A : Type 0} → AbortCode → Ran A
 abort code = ended (Abort code)
 
+-- what is seen of the state
 abbrev pub look : {A : Type 0} → (State → A) → Ran A
 look f st = (Ok (f st), st)
 
+-- the state is changed
 abbrev pub alter : (State → State) → Ran (Unit {0})
 alter f st = (Ok tt, f st)
 
@@ -78,6 +84,7 @@ pub record AccessRule : Type 0 where
   pub tables : List TableShape
   pub access : Resource → Right → Ran (Unit {0})
 
+-- the run goes on where the test holds, and else ends
 abbrev pub passing : Bool → Ending → Ran (Unit {0})
 passing true uncovered = ok tt
 passing false uncovered = ended uncovered
@@ -100,7 +107,7 @@ recording tables = record { tables = tables; access = recorded }
 
 -- ---- what steps are made of
 
--- one step of 10,000
+-- one step of 10,000, or abort 8
 abbrev pub step : Ran (Unit {0})
 step = do
   taken ← look (λ st. st.steps)
@@ -116,6 +123,7 @@ abbrev pub computed : {A : Type 0} → Result A AbortCode → Ran A
 computed (Ok x) = ok x
 computed (Err code) = abort code
 
+-- a number that is a key, or an abort
 abbrev pub tested_key : ℤ → Ran ℕ
 tested_key (pos n) = ok n
 tested_key (negsuc n) = abort BadKey
@@ -143,20 +151,25 @@ part_accessed rule table z = do
 abbrev pub part_now : AccessRule → ℕ → ℕ → Ran Database
 part_now rule table part = look (λ st. part_rows rule.tables table part st.rows)
 
+-- the row at a name, if one is there
 abbrev pub row_now : RowName → Ran (Option RowOf)
 row_now name = look (λ st. get st.rows name)
 
+-- a row that is there, or an abort
 abbrev pub present : Option RowOf → Ran RowOf
 present None = abort NoRow
 present (Some row) = ok row
 
+-- no row, or an abort
 abbrev pub absent : Option RowOf → Ran (Unit {0})
 absent None = ok tt
 absent (Some row) = abort DuplicateRow
 
+-- a row is put in the place of what was there
 abbrev pub set_row : RowName → RowOf → Ran (Unit {0})
 set_row name row = alter (λ st. record st { rows = insert st.rows name row })
 
+-- no row is left at a name
 abbrev pub remove_row : RowName → Ran (Unit {0})
 remove_row name = alter (λ st. record st { rows = remove st.rows name })
 
@@ -169,6 +182,7 @@ abbrev pub with_variable : List Value → ℕ → Value → List Value
 with_variable variables place value =
     if place == length variables then variables ++ value ∷ [] else slice_set variables place value
 
+-- a variable is declared after the others, or changed
 abbrev pub set_variable : ℕ → Value → Ran (Unit {0})
 set_variable place value = alter (λ st. record st { variables = with_variable st.variables place value })
 

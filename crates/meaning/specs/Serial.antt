@@ -5,12 +5,12 @@ use Rattle.std.specs.Prelude.{List, [], ◌∷◌}
 use Rattle.values.specs.Database.{Database}
 use Rattle.meaning.specs.Entries.{EntryShape, Reply, meaning}
 
--- the database after all of them
+-- the database after all of them, run one by one
 abbrev pub serial_end : List EntryShape → Database → Database
 serial_end [] db = db
 serial_end (entry ∷ entries) db = serial_end entries (meaning entry db).1
 
--- the reply of each
+-- the reply of each, on the database that the ones before it left
 abbrev pub serial_replies : List EntryShape → Database → List Reply
 serial_replies [] db = []
 serial_replies (entry ∷ entries) db = (meaning entry db).0 ∷ serial_replies entries (meaning entry db).1

@@ -24,9 +24,9 @@ pub fn stays_in_footprint()
     ensures { (entry : EntryShape) (one two : Database) → Agree entry one two → StaysInFootprint entry one two }
 {}
 
-/// What stands for a variable or a column that is not there, or has another type, never shows: a call of a procedure
+/// What is taken for a variable or a column that is not there, or has another type, never shows: a call of a procedure
 /// that fits its tables, with arguments of the parameters' types and on rows of the columns' types, has one meaning
-/// whatever stands for it. It leaves rows of the columns' types.
+/// whatever is taken for it. It leaves rows of the columns' types.
 pub fn stand_in_never_shows()
     ensures { (proc : ProcSyntax) (entry : EntryShape) (db : Database) → IsCallOf proc entry →
         HasTypes entry.tables db → StandInNeverShows entry db }
@@ -70,9 +70,9 @@ pub fn found_footprint_is_of_tables()
         ProcFits tables proc → FindsOfTables tables proc.body arguments db }
 {}
 
-/// What stands for a variable or a column that is not there, or has another type, is never found: reconnaissance of a
+/// What is taken for a variable or a column that is not there, or has another type, is never found: reconnaissance of a
 /// procedure that fits its tables, with arguments of the parameters' types and on rows of the columns' types, makes the
-/// same accesses whatever stands for it.
+/// same accesses whatever is taken for it.
 #[tactic(auto, using(crate::proofs::StandIns::never_found))]
 pub fn stand_in_is_never_found()
     ensures { (tables : List TableShape) (proc : ProcSyntax) (arguments : List Value) (db : Database) →

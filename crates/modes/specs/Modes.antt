@@ -14,7 +14,8 @@ own Shared = 1
 own SharedIntentionExclusive = 1
 own Exclusive = 2
 
--- the greatest right in the subtree
+-- the greatest right in the subtree; with `own` it makes a mode: IS none, Read; IX none, Write; S Read, Read; SIX Read,
+-- Write; X Write, Write
 abbrev pub subtree : Mode → ℕ
 subtree IntentionShared = 1
 subtree IntentionExclusive = 2

@@ -4,6 +4,7 @@ use Rattle.std.specs.Prelude.{ℕ, Bool, ◌&&◌, ◌||◌, ◌==◌, nat_lt, O
 use Rattle.proclang_types.specs.declared.right.Right.{Right}
 use Rattle.proclang_types.specs.declared.right.Right.TheVariants.{Read, Write}
 
+-- the rank of a right, where none has rank 0
 abbrev pub rank_of : Right → ℕ
 rank_of Read = 1
 rank_of Write = 2

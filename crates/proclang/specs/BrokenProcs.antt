@@ -1,7 +1,7 @@
 -- Claimed: what contracts promise to a reader rests on these words.
 -- The faults of a document of procedures, each with its path, in the order in which rules are looked at: the first is
 -- the one that is answered, and there is none where no rule is broken. Those after the first may follow from it, and be
--- of rules that the document keeps: a parameter whose type is refused is no variable, so a use of its name stands here
+-- of rules that the document keeps: a parameter whose type is refused is no variable, so a use of its name is here
 -- as that of an unknown one. No rule here depends on what reading gives.
 use Rattle.std.specs.Prelude.{ℕ, ◌+◌, not, List, [], ◌∷◌, ◌++◌, Option, Some, None, option_map, codes}
 use Rattle.std.specs.Option.{option_to_list}
@@ -50,6 +50,7 @@ in_param_form path names (Some f) = in_new_name (path ++ 0 ∷ []) names f.0
 abbrev pub in_param : List ℕ → List (List ℕ) → Data → List ProcFault
 in_param path names d = in_param_form path names (column_form d)
 
+-- the rules that parameters break: at most 16, each with a name of its own
 abbrev pub in_params : List ℕ → List Data → List ProcFault
 in_params path ds = too_many path 16 ds ++ in_named_parts name_of_param in_param path 0 [] ds
 
@@ -80,6 +81,7 @@ in_entry_form tables path scope (Some (part_parts right table part)) =
 in_entry_form tables path scope (Some (table_parts right table)) = not_table (path ++ 2 ∷ []) tables table
 in_entry_form tables path scope (Some (db_parts right)) = []
 
+-- the rules that an entry of a footprint breaks
 abbrev pub in_entry : List TableShape → List Seen → List ℕ → Data → List ProcFault
 in_entry tables scope path d = in_entry_form tables path scope (entry_form d)
 
@@ -89,6 +91,7 @@ in_footprint_form tables path scope (Some (declared_parts ds)) =
     too_many path 256 ds ++ in_parts (in_entry tables scope) path 1 ds
 in_footprint_form tables path scope (Some recon_parts) = []
 
+-- the rules that a footprint breaks
 abbrev pub in_footprint : List TableShape → List ℕ → List Seen → Data → List ProcFault
 in_footprint tables path scope d = in_footprint_form tables path scope (footprint_form d)
 
@@ -105,9 +108,11 @@ in_proc_form tables path names (Some form) =
     ++ (in_footprint tables (path ++ 2 ∷ []) (seen_of (params_said form.params)) form.footprint
     ++ in_block tables deepest (path ++ 3 ∷ []) (seen_of (params_said form.params)) form.body))
 
+-- the rules that a procedure breaks, after procedures of these names
 abbrev pub in_proc : List TableShape → List ℕ → List (List ℕ) → Data → List ProcFault
 in_proc tables path names d = in_proc_form tables path names (proc_form d)
 
+-- the rules that procedures break: at most 256, and those of each
 abbrev pub in_procs_form : List TableShape → Option (List Data) → List ProcFault
 in_procs_form tables None = At Shape [] ∷ []
 in_procs_form tables (Some ds) =

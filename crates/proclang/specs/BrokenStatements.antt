@@ -34,6 +34,7 @@ kinds_said tables table = unwrap_or (option_and_then (column_kinds tables) (tabl
 
 -- ---- statements
 
+-- the rules that a `let` breaks
 abbrev pub in_let : List TableShape → List ℕ → List Seen → LetParts → List ProcFault
 in_let tables path scope form =
     in_target (path ++ 1 ∷ []) form.variable (found_in form.variable scope)
@@ -42,6 +43,7 @@ in_let tables path scope form =
     ++ broken (agree (type_found (found_in form.variable scope)) (kind_said scope form.value))
     (At TypeMismatch (path ++ 2 ∷ []))))
 
+-- the rules that a `get` breaks
 abbrev pub in_get : List TableShape → List ℕ → List Seen → GetParts → List ProcFault
 in_get tables path scope form =
     in_target (path ++ 1 ∷ []) form.variable (found_in form.variable scope)
@@ -52,6 +54,7 @@ in_get tables path scope form =
     ++ broken (agree (type_found (found_in form.variable scope)) (column_type_said tables form.table form.column))
     (At TypeMismatch (path ++ 4 ∷ []))))))
 
+-- the rules that a `put` breaks
 abbrev pub in_put : List TableShape → List ℕ → List Seen → PutParts → List ProcFault
 in_put tables path scope form =
     not_table (path ++ 1 ∷ []) tables form.table
@@ -79,12 +82,14 @@ in_insert tables path scope form =
     ++ in_parts (λ p c. not_stored p scope c.0 c.1) (path ++ 3 ∷ []) 0
     (zip (kinds_said tables form.table) form.values)))))
 
+-- the rules that a `delete` breaks
 abbrev pub in_delete : List TableShape → List ℕ → List Seen → DeleteParts → List ProcFault
 in_delete tables path scope form =
     not_table (path ++ 1 ∷ []) tables form.table
     ++ (in_statement_expr tables (path ++ 2 ∷ []) scope form.key
     ++ not_int (path ++ 2 ∷ []) scope form.key)
 
+-- the code of an abort is 100 to 65535
 abbrev pub is_abort_code : ℤ → Bool
 is_abort_code (pos n) = nat_le 100 n && nat_le n 65535
 is_abort_code (negsuc n) = false
@@ -92,6 +97,7 @@ is_abort_code (negsuc n) = false
 abbrev pub in_abort : List ℕ → ℤ → List ProcFault
 in_abort path code = broken (is_abort_code code) (At AbortCode (path ++ 1 ∷ []))
 
+-- the rules that a `reply` breaks: at most 64 values, and those of each
 abbrev pub in_reply : List TableShape → List ℕ → List Seen → List Data → List ProcFault
 in_reply tables path scope ds =
     too_many path 64 ds
@@ -144,6 +150,7 @@ in_statement_form tables block path scope (Some (each_parts form)) = in_each_loo
 in_statement_form tables block path scope (Some (abort_code code)) = in_abort path code
 in_statement_form tables block path scope (Some (reply_values ds)) = in_reply tables path scope ds
 
+-- the faults of a statement, each with its path: its form, its limits, its parts from left to right, and then its types
 abbrev pub in_statement : List TableShape → BlockRules → List ℕ → List Seen → Data → List ProcFault
 in_statement tables block path scope d = in_statement_form tables block path scope (statement_form d)
 
@@ -156,6 +163,7 @@ seen_after_form tables scope (Some (get_parts form)) =
     seen_with scope form.variable (found_in form.variable scope) (column_type_said tables form.table form.column)
 seen_after_form tables scope form = scope
 
+-- the variables that are seen after a statement
 abbrev pub seen_after : List TableShape → List Seen → Data → List Seen
 seen_after tables scope d = seen_after_form tables scope (statement_form d)
 

@@ -29,6 +29,7 @@ fresh_at name_of path before name = do
   _ ← declared_at path name
   rule (not (is_used name_of name before)) (At DuplicateName path)
 
+-- a parameter, after those before it
 unfoldable pub param_at : List ℕ → List ParamShape → Data → Result ParamShape ProcFault
 param_at path before d = do
   form ← formed (At Shape path) (column_form d)
@@ -38,6 +39,7 @@ param_at path before d = do
 abbrev pub each_param : List ℕ → List Data → Result (List ParamShape) ProcFault
 each_param path ds = each_from (λ p before d. appended before (param_at p before d)) path 0 [] ds
 
+-- at most 16 parameters
 unfoldable pub params_at : List ℕ → List Data → Result (List ParamShape) ProcFault
 params_at path ds = do
   _ ← at_most path 16 ds
@@ -70,6 +72,7 @@ entry_of tables path scope (table_parts right table) = do
   Ok (table_entry right t)
 entry_of tables path scope (db_parts right) = Ok (db_entry right)
 
+-- an entry of a footprint
 unfoldable pub entry_at : List TableShape → List Seen → List ℕ → Data → Result EntrySyntax ProcFault
 entry_at tables scope path d = do
   form ← formed (At Shape path) (entry_form d)
@@ -87,6 +90,7 @@ footprint_from tables path scope (declared_parts ds) = do
   Ok (declared_by entries)
 footprint_from tables path scope recon_parts = Ok found_by_recon
 
+-- a footprint: at most 256 entries, or that reconnaissance finds it
 unfoldable pub footprint_at : List TableShape → List ℕ → List Seen → Data → Result FootprintSyntax ProcFault
 footprint_at tables path scope d = do
   form ← formed (At Shape path) (footprint_form d)
@@ -114,6 +118,7 @@ parts_at tables path form = do
   body ← block_at tables deepest (path ++ 3 ∷ []) (seen_of params) form.body
   Ok (record { params = params; footprint = footprint; body = body })
 
+-- a procedure read from left to right: its typed syntax, or its first fault and the path to it
 unfoldable pub proc_at : List TableShape → List ℕ → List ProcSyntax → Data → Result ProcSyntax ProcFault
 proc_at tables path before d = do
   form ← formed (At Shape path) (proc_form d)

@@ -27,6 +27,7 @@ pub record AreNames (names : List (List ℕ)) : Type 0 where
   pub named : AllByRecursion (λ name. is_name name ≡ true) names
   pub distinct : IsDistinct bytes_eq names
 
+-- at most 16 parameters, each with a name of its own
 pub record SaysParams (ds : List Data) (params : List ParamShape) : Type 0 where
   pub few : length ds ≤ 16
   pub are : Says SaysParam ds params
@@ -43,6 +44,7 @@ SaysEntryForm tables scope (part_parts right table part) e = (t : ℕ) × (p : I
 SaysEntryForm tables scope (table_parts right table) e = (t : ℕ) × NamesTable tables table t × (e ≡ table_entry right t)
 SaysEntryForm tables scope (db_parts right) e = e ≡ db_entry right
 
+-- a document says an entry of a footprint
 abbrev pub SaysEntry : List TableShape → List Seen → Data → EntrySyntax → Type 0
 SaysEntry tables scope d e = (form : EntryDocument) × SpellsEntry d form × SaysEntryForm tables scope form e
 

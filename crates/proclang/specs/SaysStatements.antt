@@ -18,6 +18,7 @@ use Rattle.proclang_expressions.specs.SaysTargets.{Gets, IsNew}
 
 -- ---- statements
 
+-- ["let", x, E]
 pub record SaysLet (tables : List TableShape) (scope : List Seen) (form : LetParts) (s : StmtSyntax)
     (after : List Seen) : Type 0 where
   pub place : ℕ
@@ -26,6 +27,7 @@ pub record SaysLet (tables : List TableShape) (scope : List Seen) (form : LetPar
   pub gets : Gets scope form.variable (kind_of value) place after
   pub is : s ≡ assign place value
 
+-- ["get", x, table, KEY, column]
 pub record SaysGet (tables : List TableShape) (scope : List Seen) (form : GetParts) (s : StmtSyntax)
     (after : List Seen) : Type 0 where
   pub place : ℕ
@@ -39,6 +41,7 @@ pub record SaysGet (tables : List TableShape) (scope : List Seen) (form : GetPar
   pub gets : Gets scope form.variable kind place after
   pub is : s ≡ get place table key column
 
+-- ["put", table, KEY, column, E]
 pub record SaysPut (tables : List TableShape) (scope : List Seen) (form : PutParts) (s : StmtSyntax) : Type 0 where
   pub table : ℕ
   pub key : IntSyntax
@@ -62,6 +65,7 @@ pub record SaysInsert (tables : List TableShape) (scope : List Seen) (form : Ins
   pub kinds : column_kinds tables table ≡ Some (map kind_of values)
   pub is : s ≡ insert_row table key values
 
+-- ["delete", table, KEY]
 pub record SaysDelete (tables : List TableShape) (scope : List Seen) (form : DeleteParts)
     (s : StmtSyntax) : Type 0 where
   pub table : ℕ
@@ -95,6 +99,7 @@ pub record SaysFor (tables : List TableShape) (block : List Seen → Data → Li
   pub is_body : block (seen_in_loop scope form.variable) form.body body
   pub is : s ≡ for_numbers low high (block_of body)
 
+-- ["each", x, table, PART, BLOCK]
 pub record SaysEach (tables : List TableShape) (block : List Seen → Data → List StmtSyntax → Type 0) (scope : List Seen)
     (form : EachParts) (s : StmtSyntax) : Type 0 where
   pub table : ℕ
@@ -122,6 +127,7 @@ SaysStatementForm tables block scope (abort_code z) s after =
 SaysStatementForm tables block scope (reply_values ds) s after =
     (vs : List ValueSyntax) × (length ds ≤ 64) × Says (SaysValue tables scope) ds vs × (s ≡ reply vs) × (after ≡ scope)
 
+-- a document says a statement, which is well typed in a scope and turns it into another
 abbrev pub SaysStatement : List TableShape → (List Seen → Data → List StmtSyntax → Type 0) → List Seen → Data
     → StmtSyntax → List Seen → Type 0
 SaysStatement tables block scope d s after =

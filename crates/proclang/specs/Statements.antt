@@ -23,6 +23,7 @@ use Rattle.proclang_expressions.specs.Values.{of_type, exprs_at, row_values_at, 
 
 -- ---- statements: what is read, and the variables that are seen after it
 
+-- a `let`
 unfoldable pub let_at : List TableShape → List ℕ → List Seen → LetParts → Result (StmtSyntax × List Seen) ProcFault
 let_at tables path scope form = do
   target ← target_at (path ++ 1 ∷ []) scope form.variable
@@ -31,6 +32,7 @@ let_at tables path scope form = do
   variable ← bound (path ++ 2 ∷ []) scope form.variable (kind_of value) target
   Ok (assign variable.0 value, variable.1)
 
+-- a `get`
 unfoldable pub get_at : List TableShape → List ℕ → List Seen → GetParts → Result (StmtSyntax × List Seen) ProcFault
 get_at tables path scope form = do
   target ← target_at (path ++ 1 ∷ []) scope form.variable
@@ -41,6 +43,7 @@ get_at tables path scope form = do
   variable ← bound (path ++ 4 ∷ []) scope form.variable column.1 target
   Ok (get variable.0 table key column.0, variable.1)
 
+-- a `put`
 unfoldable pub put_at : List TableShape → List ℕ → List Seen → PutParts → Result StmtSyntax ProcFault
 put_at tables path scope form = do
   table ← table_called (path ++ 1 ∷ []) tables form.table
@@ -63,6 +66,7 @@ insert_at tables path scope form = do
   values ← row_values_at (path ++ 3 ∷ []) (kinds_in tables table) es
   Ok (insert_row table key values)
 
+-- a `delete`
 unfoldable pub delete_at : List TableShape → List ℕ → List Seen → DeleteParts → Result StmtSyntax ProcFault
 delete_at tables path scope form = do
   table ← table_called (path ++ 1 ∷ []) tables form.table
@@ -70,10 +74,12 @@ delete_at tables path scope form = do
   key ← as_int (path ++ 2 ∷ []) e
   Ok (delete_row table key)
 
+-- an `abort`, whose code is 100 to 65535
 unfoldable pub abort_at : List ℕ → ℤ → Result StmtSyntax ProcFault
 abort_at path (pos n) = if nat_le 100 n && nat_le n 65535 then Ok (abort n) else refuse AbortCode (path ++ 1 ∷ [])
 abort_at path (negsuc n) = refuse AbortCode (path ++ 1 ∷ [])
 
+-- a `reply` of at most 64 values
 unfoldable pub reply_at : List TableShape → List ℕ → List Seen → List Data → Result StmtSyntax ProcFault
 reply_at tables path scope ds = do
   _ ← at_most path 64 ds
@@ -122,6 +128,7 @@ each_loop_at tables block path scope form = do
 abbrev pub in_scope : List Seen → Result StmtSyntax ProcFault → Result (StmtSyntax × List Seen) ProcFault
 in_scope scope read = read >>= λ s. Ok (s, scope)
 
+-- a statement of that form
 unfoldable pub form_at : List TableShape → BlockReader → List ℕ → List Seen → StatementForm
     → Result (StmtSyntax × List Seen) ProcFault
 form_at tables block path scope (let_parts form) = let_at tables path scope form
@@ -135,6 +142,7 @@ form_at tables block path scope (each_parts form) = in_scope scope (each_loop_at
 form_at tables block path scope (abort_code z) = in_scope scope (abort_at path z)
 form_at tables block path scope (reply_values ds) = in_scope scope (reply_at tables path scope ds)
 
+-- a statement read from left to right: its typed syntax, or its first fault and the path to it
 abbrev pub statement_at : List TableShape → BlockReader → List ℕ → List Seen → Data
     → Result (StmtSyntax × List Seen) ProcFault
 statement_at tables block path scope d = do

@@ -1,4 +1,10 @@
 //! Reading procedures: from a JSON document to typed syntax, or the first fault and where it is.
+//!
+//! Proved, by `read_procs`: procedures that are read are what the document says, and what it says is read; the fault,
+//! with its path, is the first rule that the document breaks; a document that is read breaks none, and one that breaks
+//! none is read. Each name obeys the rule for names, and no name comes twice.
+//!
+//! Tested only: fault texts.
 #![tactic(auto)]
 
 pub mod laws;

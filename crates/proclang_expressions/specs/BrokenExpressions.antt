@@ -22,13 +22,15 @@ use Rattle.proclang_expressions.specs.BrokenNames.{not_table, column_type_said, 
 
 -- ---- types
 
--- an expression of another type stands where an Int is asked for
+-- an expression of another type is where an Int is asked for
 abbrev pub not_int : List ℕ → List Seen → Data → List ProcFault
 not_int path scope d = broken (is_int_type (type_said scope d)) (At TypeMismatch path)
 
+-- an expression of another type is where a Bool is asked for
 abbrev pub not_bool : List ℕ → List Seen → Data → List ProcFault
 not_bool path scope d = broken (is_bool_type (type_said scope d)) (At TypeMismatch path)
 
+-- an expression is where a number or a text is asked for, and is neither
 abbrev pub not_value : List ℕ → List Seen → Data → List ProcFault
 not_value path scope d = broken (is_value_type (type_said scope d)) (At TypeMismatch path)
 
@@ -88,6 +90,7 @@ in_form tables part path scope (exists_form table key) = in_table_and_int tables
 in_form tables part path scope (count_form table d) = in_table_and_int tables part path scope table d
 in_form tables part path scope (sum_form table d column) = in_sum tables part path scope table d column
 
+-- an expression that is nested too deep
 abbrev pub in_deep_form : List ℕ → Option Form → List ProcFault
 in_deep_form path None = At Shape path ∷ []
 in_deep_form path (Some f) = At Limit path ∷ []

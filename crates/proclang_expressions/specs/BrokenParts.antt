@@ -11,5 +11,6 @@ abbrev pub in_parts : {D : Type 0} → (List ℕ → D → List ProcFault) → L
 in_parts one path place [] = []
 in_parts one path place (d ∷ ds) = one (path ++ place ∷ []) d ++ in_parts one path (place + 1) ds
 
+-- there are more parts than there may be
 abbrev pub too_many : {D : Type 0} → List ℕ → ℕ → List D → List ProcFault
 too_many path most ds = broken (nat_le (length ds) most) (At Limit path)

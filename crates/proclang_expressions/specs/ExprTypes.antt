@@ -13,10 +13,12 @@ use Rattle.proclang_forms.specs.ExprForms.{Form, number_form, literal_form, vari
 pub data ExprType : Type 0 where
   int_type text_type bool_type : ExprType
 
+-- the type of a variable
 abbrev pub variable_type : ColType → ExprType
 variable_type types.Int = int_type
 variable_type types.Text = text_type
 
+-- the type of what an operator gives
 abbrev pub result_type : Operator → ExprType
 result_type (Arithmetic op) = int_type
 result_type Less = bool_type
@@ -25,6 +27,7 @@ result_type (Same test) = bool_type
 result_type And = bool_type
 result_type Or = bool_type
 
+-- the type of what an expression of that form gives, if it has one
 abbrev pub type_of_form : List Seen → Form → Option ExprType
 type_of_form scope (number_form z) = Some int_type
 type_of_form scope (literal_form s) = Some text_type
@@ -39,12 +42,14 @@ type_of_form scope (sum_form table part column) = Some int_type
 abbrev pub type_said : List Seen → Data → Option ExprType
 type_said scope d = option_and_then (type_of_form scope) (expr_form d)
 
+-- the type is Int
 abbrev pub is_int_type : Option ExprType → Bool
 is_int_type None = false
 is_int_type (Some int_type) = true
 is_int_type (Some text_type) = false
 is_int_type (Some bool_type) = false
 
+-- the type is Bool
 abbrev pub is_bool_type : Option ExprType → Bool
 is_bool_type None = false
 is_bool_type (Some int_type) = false

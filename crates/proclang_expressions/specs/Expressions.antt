@@ -35,6 +35,7 @@ abbrev pub variable_syntax : ColType → ℕ → ExprSyntax
 variable_syntax types.Int place = int (variable place)
 variable_syntax types.Text place = text (text_variable place)
 
+-- the variable of a name, or the fault that there is none
 abbrev pub named : List ℕ → Option Found → Result ExprSyntax ProcFault
 named path None = refuse UnknownName path
 named path (Some v) = Ok (variable_syntax v.kind v.place)
@@ -45,23 +46,28 @@ literal_at path s = rule (nat_le (length s) 64) (At Limit path) >>= λ _. Ok (te
 
 -- ---- operands of the type that is asked for
 
+-- the expression, where it gives a number
 abbrev pub as_int : List ℕ → ExprSyntax → Result IntSyntax ProcFault
 as_int path (int e) = Ok e
 as_int path e = refuse TypeMismatch path
 
+-- the expression, where it gives a text
 abbrev pub as_text : List ℕ → ExprSyntax → Result TextSyntax ProcFault
 as_text path (text e) = Ok e
 as_text path e = refuse TypeMismatch path
 
+-- the expression, where it gives true or false
 abbrev pub as_bool : List ℕ → ExprSyntax → Result BoolSyntax ProcFault
 as_bool path (bool e) = Ok e
 as_bool path e = refuse TypeMismatch path
 
+-- the expression, where it gives a number or a text
 abbrev pub as_value : List ℕ → ExprSyntax → Result ValueSyntax ProcFault
 as_value path (int e) = Ok (int_value e)
 as_value path (text e) = Ok (text_value e)
 as_value path (bool e) = refuse TypeMismatch path
 
+-- an operator on two numbers
 unfoldable pub two_ints : (IntSyntax → IntSyntax → ExprSyntax) → List ℕ → ExprSyntax → List ℕ → ExprSyntax
     → Result ExprSyntax ProcFault
 two_ints make p a q b = do
@@ -69,6 +75,7 @@ two_ints make p a q b = do
   y ← as_int q b
   Ok (make x y)
 
+-- an operator on two tests
 unfoldable pub two_bools : (BoolSyntax → BoolSyntax → ExprSyntax) → List ℕ → ExprSyntax → List ℕ → ExprSyntax
     → Result ExprSyntax ProcFault
 two_bools make p a q b = do
@@ -87,9 +94,11 @@ two_alike test p (int x) q b = as_int q b >>= λ y. Ok (bool (compare_ints (of_i
 two_alike test p (text x) q b = as_text q b >>= λ y. Ok (bool (compare_texts test x y))
 two_alike test p (bool x) q b = refuse TypeMismatch p
 
+-- an arithmetic operation
 unfoldable pub calculate : IntOperator → List ℕ → ExprSyntax → List ℕ → ExprSyntax → Result ExprSyntax ProcFault
 calculate op = two_ints (λ x y. int (binary op x y))
 
+-- a comparison of two numbers
 unfoldable pub comparison_at : Comparison → List ℕ → ExprSyntax → List ℕ → ExprSyntax → Result ExprSyntax ProcFault
 comparison_at test = two_ints (λ x y. bool (compare_ints test x y))
 

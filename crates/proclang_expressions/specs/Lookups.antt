@@ -12,6 +12,7 @@ use Rattle.proclang_expressions.specs.declared.fault.FaultKind.TheVariants.{Shap
 use Rattle.proclang_expressions.specs.declared.fault.ProcFault.{ProcFault}
 use Rattle.proclang_expressions.specs.declared.fault.ProcFault.TheVariants.{At}
 
+-- two types are one
 abbrev pub same_type : ColType → ColType → Bool
 same_type types.Int types.Int = true
 same_type types.Text types.Text = true
@@ -31,5 +32,6 @@ column_in tables table name =
     option_and_then (λ place. option_map (λ kind. (place, kind)) (column_kind tables table place))
     (option_and_then (λ t. column_named t.columns name) (slice_get tables table))
 
+-- the column of that name, or the fault that there is none
 abbrev pub column_called : List ℕ → List TableShape → ℕ → List ℕ → Result (ℕ × ColType) ProcFault
 column_called path tables table name = formed (At UnknownColumn path) (column_in tables table name)

@@ -26,6 +26,7 @@ use Rattle.proclang_forms.specs.Spells.{SpellsExpr}
 abbrev pub NamesTable : List TableShape → List ℕ → ℕ → Type 0
 NamesTable tables name place = table_named tables name ≡ Some place
 
+-- a name is that of the column at a place, which has this type
 abbrev pub NamesColumn : List TableShape → ℕ → List ℕ → ℕ → ColType → Type 0
 NamesColumn tables table name place kind = column_in tables table name ≡ Some (place, kind)
 
@@ -35,9 +36,11 @@ NamesColumn tables table name place kind = column_in tables table name ≡ Some 
 abbrev pub OfInts : (IntSyntax → IntSyntax → ExprSyntax) → ExprSyntax → ExprSyntax → ExprSyntax → Type 0
 OfInts make x y e = (a : IntSyntax) × (b : IntSyntax) × (x ≡ int a) × (y ≡ int b) × (e ≡ make a b)
 
+-- an operator on two texts
 abbrev pub OfTexts : (TextSyntax → TextSyntax → ExprSyntax) → ExprSyntax → ExprSyntax → ExprSyntax → Type 0
 OfTexts make x y e = (a : TextSyntax) × (b : TextSyntax) × (x ≡ text a) × (y ≡ text b) × (e ≡ make a b)
 
+-- an operator on two tests
 abbrev pub OfBools : (BoolSyntax → BoolSyntax → ExprSyntax) → ExprSyntax → ExprSyntax → ExprSyntax → Type 0
 OfBools make x y e = (a : BoolSyntax) × (b : BoolSyntax) × (x ≡ bool a) × (y ≡ bool b) × (e ≡ make a b)
 
@@ -81,6 +84,7 @@ SaysExpr section tables (suc levels) scope d e = (form : Form) × SpellsExpr d f
 abbrev pub SaysInt : List TableShape → List Seen → Data → IntSyntax → Type 0
 SaysInt tables scope d e = SaysExpr sections.Body tables deepest scope d (int e)
 
+-- a document says a test
 abbrev pub SaysBool : List TableShape → List Seen → Data → BoolSyntax → Type 0
 SaysBool tables scope d e = SaysExpr sections.Body tables deepest scope d (bool e)
 
@@ -88,6 +92,7 @@ abbrev pub as_expr : ValueSyntax → ExprSyntax
 as_expr (int_value e) = int e
 as_expr (text_value e) = text e
 
+-- a document says an expression that gives a number or a text
 abbrev pub SaysValue : List TableShape → List Seen → Data → ValueSyntax → Type 0
 SaysValue tables scope d v = SaysExpr sections.Body tables deepest scope d (as_expr v)
 

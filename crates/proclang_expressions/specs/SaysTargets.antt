@@ -15,10 +15,12 @@ pub record Declares (scope : List Seen) (name : List ℕ) (kind : ColType) (plac
   pub next : place ≡ length scope
   pub seen : after ≡ scope ++ record { name = name; kind = kind; declaration = Statement } ∷ []
 
+-- a variable that a statement declared is changed
 pub record Changes (scope : List Seen) (name : List ℕ) (kind : ColType) (place : ℕ) (after : List Seen) : Type 0 where
   pub found : found_in name scope ≡ Some (record { place = place; kind = kind; declaration = Statement })
   pub same : after ≡ scope
 
+-- a variable is declared or changed
 abbrev pub Gets : List Seen → List ℕ → ColType → ℕ → List Seen → Type 0
 Gets scope name kind place after = Declares scope name kind place after ⊎ Changes scope name kind place after
 

@@ -10,6 +10,7 @@ use Rattle.proclang_expressions.specs.declared.scope.Declaration.TheVariants.{Pa
 use Rattle.proclang_expressions.specs.declared.scope.Variable.{Variable}
 use Rattle.proclang_expressions.specs.declared.scope.Found.{Found}
 
+-- a variable that is seen: its name, its type, and what declared it
 pub record Seen : Type 0 where
   pub name : List ℕ
   pub kind : ColType
@@ -19,6 +20,7 @@ pub record Seen : Type 0 where
 abbrev pub seen : Variable → Seen
 seen v = record { name = string_bytes v.name; kind = v.kind; declaration = v.declaration }
 
+-- a parameter, as it is seen
 abbrev pub param_seen : ParamShape → Seen
 param_seen p = record { name = p.name; kind = p.kind; declaration = Parameter }
 

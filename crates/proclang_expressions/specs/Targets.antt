@@ -24,6 +24,7 @@ abbrev pub target_of : List ℕ → List ℕ → Option Found → Result (Option
 target_of path name None = declared_at path name >>= λ _. Ok None
 target_of path name (Some v) = rule (not (is_fixed v.declaration)) (At DuplicateName path) >>= λ _. Ok (Some v)
 
+-- what a `let` or a `get` changes, or nothing where it declares; or the fault
 abbrev pub target_at : List ℕ → List Seen → List ℕ → Result (Option Found) ProcFault
 target_at path scope name = target_of path name (found_in name scope)
 
@@ -39,5 +40,6 @@ abbrev pub loop_name_of : List ℕ → List ℕ → Option Found → Result ⊤ 
 loop_name_of path name None = declared_at path name
 loop_name_of path name (Some v) = refuse DuplicateName path
 
+-- a name that a loop may take, or the fault
 abbrev pub loop_name_at : List ℕ → List Seen → List ℕ → Result ⊤ ProcFault
 loop_name_at path scope name = loop_name_of path name (found_in name scope)

@@ -58,6 +58,7 @@ impl Model for Places {
 }
 
 impl Places {
+    /// The places, from the document inwards; none for the document itself.
     pub fn as_slice(&self) -> &[usize]
         ensures { result.now ≡ self.now }
     {

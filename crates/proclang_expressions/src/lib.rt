@@ -1,5 +1,8 @@
 //! Reading the expressions of procedures, and what statements name: from a JSON document to typed syntax, or the first
 //! fault and where it is.
+//!
+//! Proved: each function gives what the definitions say, or the fault with its path. `read_procs` of `proclang` uses
+//! them.
 #![tactic(auto)]
 
 mod combine;

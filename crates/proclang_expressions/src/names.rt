@@ -22,6 +22,7 @@ pub fn check_name(alloc: Global, path: &Path<'_>, name: &str) -> Result<(), Proc
     Ok(())
 }
 
+/// The table of that name, or the fault `UnknownTable` at the path.
 pub fn read_table(
     alloc: Global,
     path: &Path<'_>,
@@ -46,6 +47,7 @@ fn find_column(catalogue: &Catalogue, table: TableNo, name: &str) -> Option<(usi
     Some((column, kind))
 }
 
+/// The place and the type of the column of that name in a table, or the fault `UnknownColumn` at the path.
 pub fn read_column(
     alloc: Global,
     path: &Path<'_>,

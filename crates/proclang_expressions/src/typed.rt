@@ -12,6 +12,7 @@ use crate::path::Path;
 use proclang_types::{BoolExpr, Expr, IntExpr, TextExpr, ValueExpr};
 use std::alloc::Global;
 
+/// The expression, if it gives a number; else the fault `TypeMismatch` at the path.
 pub fn as_int(alloc: Global, path: &Path<'_>, expr: Expr) -> Result<IntExpr, ProcFault>
     ensures { Reads is_memory int_view result (as_int (places path.now) (expr_view expr)) }
 {
@@ -30,6 +31,7 @@ pub(crate) fn as_text(alloc: Global, path: &Path<'_>, expr: Expr) -> Result<Text
     }
 }
 
+/// The expression, if it gives true or false; else the fault `TypeMismatch` at the path.
 pub fn as_bool(alloc: Global, path: &Path<'_>, expr: Expr) -> Result<BoolExpr, ProcFault>
     ensures { Reads is_memory bool_view result (as_bool (places path.now) (expr_view expr)) }
 {
@@ -39,6 +41,7 @@ pub fn as_bool(alloc: Global, path: &Path<'_>, expr: Expr) -> Result<BoolExpr, P
     }
 }
 
+/// The expression, if it gives a number or a text; else the fault `TypeMismatch` at the path.
 pub fn as_value(alloc: Global, path: &Path<'_>, expr: Expr) -> Result<ValueExpr, ProcFault>
     ensures { Reads is_memory value_view result (as_value (places path.now) (expr_view expr)) }
 {

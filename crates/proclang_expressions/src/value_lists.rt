@@ -75,6 +75,7 @@ pub fn of_type(
     Ok(value)
 }
 
+/// The type of the value that an expression gives.
 pub fn value_kind(value: &ValueExpr) -> ColType
     ensures { result ≡ kind_of (value_view value.now) }
 {

@@ -13,6 +13,7 @@ use Rattle.proclang_forms.specs.declared.expr_forms.Section.{Section}
 use Rattle.proclang_forms.specs.declared.expr_forms.Section.TheVariants as sections
 use Rattle.proclang_forms.specs.Operators.{operator_of}
 
+-- what one level of an expression is, with its parts
 pub data Form : Type 0 where
   number_form : ℤ → Form
   literal_form : List ℕ → Form
@@ -92,11 +93,12 @@ expr_form d = None
 
 -- ---- sections
 
+-- the section is the body
 abbrev pub is_body : Section → Bool
 is_body sections.Footprint = false
 is_body sections.Body = true
 
--- whether an expression of that form may stand in a section: those of a footprint read no rows
+-- whether an expression of that form may be in a section: those of a footprint read no rows
 abbrev pub is_allowed : Section → Form → Bool
 is_allowed section (exists_form table key) = is_body section
 is_allowed section (count_form table part) = is_body section

@@ -7,7 +7,7 @@ use Rattle.proclang_types.specs.declared.operator.Equality.TheVariants.{Equal, U
 use Rattle.proclang_forms.specs.declared.operator.Operator.{Operator}
 use Rattle.proclang_forms.specs.declared.operator.Operator.TheVariants.{Arithmetic, Less, AtMost, Same, And, Or}
 
--- the operator that a word stands for
+-- the operator that a word means
 abbrev pub operator_of : List ℕ → Option Operator
 operator_of word =
     if bytes_eq word (codes "+") then Some (Arithmetic Add) else

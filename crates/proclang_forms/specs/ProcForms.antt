@@ -14,6 +14,7 @@ use Rattle.proclang_forms.specs.declared.proc_forms.FootprintForm.TheVariants as
 use Rattle.proclang_forms.specs.declared.proc_forms.EntryForm.{EntryForm}
 use Rattle.proclang_forms.specs.declared.proc_forms.EntryForm.TheVariants as forms
 
+-- the parts of a procedure, not read yet
 pub record ProcDocument : Type 0 where
   pub name : List ℕ
   pub params : List Data
@@ -40,6 +41,7 @@ proc_form d =
 
 -- ---- footprints
 
+-- the parts of a footprint, not read yet
 pub data FootprintDocument : Type 0 where
   -- entries
   declared_parts : List Data → FootprintDocument
@@ -63,9 +65,11 @@ abbrev pub footprint_words : List Data → Option FootprintDocument
 footprint_words [] = None
 footprint_words (head ∷ parts) = option_and_then (λ word. footprint_word word parts) (as_str head)
 
+-- the form of a footprint: its entries, or that reconnaissance finds it
 unfoldable pub footprint_form : Data → Option FootprintDocument
 footprint_form d = option_and_then footprint_words (elements d)
 
+-- the parts of an entry of a footprint, not read yet
 pub data EntryDocument : Type 0 where
   -- right, table, KEY
   row_parts : Right → List ℕ → Data → EntryDocument
@@ -83,7 +87,7 @@ entry_form_view (forms.Part right table part) = part_parts right table.now (view
 entry_form_view (forms.Table right table) = table_parts right table.now
 entry_form_view (forms.Db right) = db_parts right
 
--- the right that a word stands for
+-- the right that a word means
 abbrev pub right_of : List ℕ → Option Right
 right_of word =
     if bytes_eq word (codes "r") then Some Read else
@@ -134,5 +138,6 @@ abbrev pub entry_words : List Data → Option EntryDocument
 entry_words [] = None
 entry_words (head ∷ parts) = option_and_then (λ word. entry_word word parts) (as_str head)
 
+-- the form of an entry of a footprint, whose expressions read no rows
 unfoldable pub entry_form : Data → Option EntryDocument
 entry_form d = option_and_then entry_words (elements d)

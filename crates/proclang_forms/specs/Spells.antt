@@ -16,6 +16,7 @@ use Rattle.proclang_forms.specs.StmtForms.{StatementForm, let_parts, get_parts, 
 abbrev pub words : List ℕ → List Data → Data
 words word parts = array (items_of (string word ∷ parts))
 
+-- the array of these documents
 abbrev pub list : List Data → Data
 list parts = array (items_of parts)
 
@@ -48,6 +49,7 @@ SpellsStatement d (each_parts f) =
 SpellsStatement d (abort_code z) = (code : Data) × (d ≡ words (codes "abort") (code ∷ [])) × (integer code ≡ Some z)
 SpellsStatement d (reply_values ds) = d ≡ words (codes "reply") ds
 
+-- the word of a right
 abbrev pub right_word : Right → List ℕ
 right_word Read = codes "r"
 right_word Write = codes "w"

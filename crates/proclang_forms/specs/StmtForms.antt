@@ -195,5 +195,6 @@ abbrev pub words_form : List Data → Option StatementForm
 words_form [] = None
 words_form (head ∷ parts) = option_and_then (λ word. word_form word parts) (as_str head)
 
+-- the form of a statement, with its parts as they are in the document
 unfoldable pub statement_form : Data → Option StatementForm
 statement_form d = option_and_then words_form (elements d)

@@ -7,7 +7,7 @@ ghost use Rattle.proclang_forms.specs.ExprForms.{form_view, operands_form, liter
 use crate::operator::{Operator, operator_of};
 use serde_json::Value;
 
-/// The section of a procedure that an expression stands in. A footprint's expressions read no rows.
+/// The section of a procedure that an expression is in. A footprint's expressions read no rows.
 #[derive(Clone, Copy, Debug, PartialEq, Eq)]
 pub enum Section {
     Footprint,
@@ -170,7 +170,7 @@ fn expr_form(value: &Value) -> Option<ExprForm<'_>>
     }
 }
 
-/// Whether an expression of that form may stand in a section.
+/// Whether an expression of that form may be in a section.
 fn is_allowed(section: Section, form: &ExprForm<'_>) -> bool
     ensures { result ≡ is_allowed section (form_view form.now) }
 {

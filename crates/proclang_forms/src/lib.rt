@@ -1,5 +1,8 @@
 //! The forms of the documents of procedures, one level at a time: which expression, statement, procedure or footprint
 //! entry a document is, before its parts are read and before a name in it is known.
+//!
+//! Proved, by `form_in`, `statement_form`, `proc_form`, `footprint_form` and `entry_form`: which form one level of a
+//! document has, or that it has none, exactly.
 #![tactic(auto)]
 
 mod expr_forms;

@@ -22,7 +22,7 @@ pub enum Operator {
     Or,
 }
 
-/// The operator that a word stands for.
+/// The operator that a word means.
 pub(crate) fn operator_of(word: &str) -> Option<Operator>
     ensures { result ≡ operator_of word.now }
 {

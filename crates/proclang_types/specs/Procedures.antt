@@ -9,6 +9,7 @@ use Rattle.proclang_types.specs.declared.statement.ProcFootprint.{ProcFootprint}
 use Rattle.proclang_types.specs.Syntax.{ParamShape, ProcSyntax}
 use Rattle.proclang_types.specs.Views.{stmts_view, footprint_view}
 
+-- a procedure: the tables that it is over, its name, its parameters, its footprint and its body
 pub record ProcParts : Type 0 where
   pub tables : List TableShape
   pub name : List ℕ
@@ -16,6 +17,7 @@ pub record ProcParts : Type 0 where
   pub footprint : ProcFootprint
   pub body : List Stmt
 
+-- a parameter's name and type
 abbrev pub param_shape : Param → ParamShape
 param_shape p = record { name = string_bytes p.name; kind = p.kind }
 
@@ -29,6 +31,7 @@ proc_parts tables parts = record {
   body = parts.body.items;
 }
 
+-- a procedure's typed syntax
 abbrev pub proc_syntax : ProcParts → ProcSyntax
 proc_syntax p =
     record { name = p.name; params = p.params; footprint = footprint_view p.footprint; body = stmts_view p.body }

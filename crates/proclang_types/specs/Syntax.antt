@@ -7,6 +7,7 @@ use Rattle.proclang_types.specs.declared.operator.IntOperator.{IntOperator}
 use Rattle.proclang_types.specs.declared.operator.Comparison.{Comparison}
 use Rattle.proclang_types.specs.declared.operator.Equality.{Equality}
 
+-- an expression that gives a number; a variable is its place in the order of declarations
 pub data IntSyntax : Type 0 where
   number : ℤ → IntSyntax
   variable : ℕ → IntSyntax
@@ -16,10 +17,12 @@ pub data IntSyntax : Type 0 where
   -- the total of a column over the rows of a partition: table, partition, column
   sum_column : ℕ → IntSyntax → ℕ → IntSyntax
 
+-- an expression that gives a text
 pub data TextSyntax : Type 0 where
   literal : List ℕ → TextSyntax
   text_variable : ℕ → TextSyntax
 
+-- an expression that gives true or false
 pub data BoolSyntax : Type 0 where
   compare_ints : Comparison → IntSyntax → IntSyntax → BoolSyntax
   compare_texts : Equality → TextSyntax → TextSyntax → BoolSyntax
@@ -28,16 +31,19 @@ pub data BoolSyntax : Type 0 where
   -- whether a row is there: table, key
   row_exists : ℕ → IntSyntax → BoolSyntax
 
+-- an expression that gives a number or a text
 pub data ValueSyntax : Type 0 where
   int_value : IntSyntax → ValueSyntax
   text_value : TextSyntax → ValueSyntax
 
+-- an expression of any type
 pub data ExprSyntax : Type 0 where
   int : IntSyntax → ExprSyntax
   text : TextSyntax → ExprSyntax
   bool : BoolSyntax → ExprSyntax
 
 mutual
+  -- a statement
   pub data StmtSyntax : Type 0 where
     -- a variable gets a value
     assign : ℕ → ValueSyntax → StmtSyntax
@@ -57,10 +63,12 @@ mutual
     abort : ℕ → StmtSyntax
     reply : List ValueSyntax → StmtSyntax
 
+  -- the statements of a block, in order
   pub data BlockSyntax : Type 0 where
     no_statements : BlockSyntax
     followed : StmtSyntax → BlockSyntax → BlockSyntax
 
+-- the block of these statements
 abbrev pub block_of : List StmtSyntax → BlockSyntax
 block_of [] = no_statements
 block_of (s ∷ ss) = followed s (block_of ss)
@@ -77,13 +85,14 @@ pub data EntrySyntax : Type 0 where
   -- the whole database
   db_entry : Right → EntrySyntax
 
--- how the footprint of a procedure's calls is known
+-- how the footprint of a procedure's calls is known (Calvin, 2012: that of a dependent transaction is found)
 pub data FootprintSyntax : Type 0 where
   -- these entries declare it
   declared_by : List EntrySyntax → FootprintSyntax
   -- reconnaissance finds it
   found_by_recon : FootprintSyntax
 
+-- a parameter's name and type
 pub record ParamShape : Type 0 where
   pub name : List ℕ
   pub kind : ColType
@@ -95,6 +104,7 @@ pub record ProcSyntax : Type 0 where
   pub footprint : FootprintSyntax
   pub body : List StmtSyntax
 
+-- reconnaissance finds the footprint
 abbrev pub is_recon : FootprintSyntax → Bool
 is_recon (declared_by entries) = false
 is_recon found_by_recon = true

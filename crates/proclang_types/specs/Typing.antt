@@ -19,6 +19,7 @@ column_kinds tables table = option_map (λ t. map (λ c. c.kind) t.columns) (sli
 
 -- ---- expressions, where these tables and variables of these types are seen
 
+-- a number expression: its variables are numbers, and its tables and columns are there
 abbrev pub IntFits : List TableShape → List ColType → IntSyntax → Type 0
 IntFits tables kinds (number z) = ⊤
 IntFits tables kinds (variable place) = slice_get kinds place ≡ Some types.Int
@@ -27,10 +28,12 @@ IntFits tables kinds (count_rows table part) = (table < length tables) × IntFit
 IntFits tables kinds (sum_column table part column) =
     IntFits tables kinds part × (column_kind tables table column ≡ Some types.Int)
 
+-- a text expression: its variable is a text
 abbrev pub TextFits : List ColType → TextSyntax → Type 0
 TextFits kinds (literal s) = ⊤
 TextFits kinds (text_variable place) = slice_get kinds place ≡ Some types.Text
 
+-- a test: its operands fit
 abbrev pub BoolFits : List TableShape → List ColType → BoolSyntax → Type 0
 BoolFits tables kinds (compare_ints test a b) = IntFits tables kinds a × IntFits tables kinds b
 BoolFits tables kinds (compare_texts test a b) = TextFits kinds a × TextFits kinds b
@@ -39,15 +42,18 @@ BoolFits tables kinds (either a b) = BoolFits tables kinds a × BoolFits tables 
 BoolFits tables kinds (negated a) = BoolFits tables kinds a
 BoolFits tables kinds (row_exists table key) = (table < length tables) × IntFits tables kinds key
 
+-- an expression of a value fits
 abbrev pub ValueFits : List TableShape → List ColType → ValueSyntax → Type 0
 ValueFits tables kinds (int_value e) = IntFits tables kinds e
 ValueFits tables kinds (text_value e) = TextFits kinds e
 
+-- an expression of any type fits
 abbrev pub ExprFits : List TableShape → List ColType → ExprSyntax → Type 0
 ExprFits tables kinds (int e) = IntFits tables kinds e
 ExprFits tables kinds (text e) = TextFits kinds e
 ExprFits tables kinds (bool e) = BoolFits tables kinds e
 
+-- the type of what an expression gives
 abbrev pub kind_of : ValueSyntax → ColType
 kind_of (int_value e) = types.Int
 kind_of (text_value e) = types.Text
@@ -79,6 +85,7 @@ abbrev pub in_loop : List ColType → List ColType
 in_loop kinds = kinds ++ types.Int ∷ []
 
 abbrev mutual
+  -- a statement fits: its expressions do, and what it changes has their types
   pub StmtFits : List TableShape → List ColType → StmtSyntax → Type 0
   StmtFits tables kinds (assign place value) = ValueFits tables kinds value × Takes kinds place (kind_of value)
   StmtFits tables kinds (get place table key column) =
@@ -97,6 +104,7 @@ abbrev mutual
   StmtFits tables kinds (abort code) = (100 ≤ code) × (code ≤ 65535)
   StmtFits tables kinds (reply values) = AllByRecursion (ValueFits tables kinds) values
 
+  -- each statement fits what is seen after those before it
   pub BlockFits : List TableShape → List ColType → BlockSyntax → Type 0
   BlockFits tables kinds no_statements = ⊤
   BlockFits tables kinds (followed s rest) =
@@ -112,6 +120,7 @@ AsksNoRows (binary op a b) = AsksNoRows a × AsksNoRows b
 AsksNoRows (count_rows table part) = ⊥
 AsksNoRows (sum_column table part column) = ⊥
 
+-- an entry fits: its table is there, and its expressions ask for no rows
 abbrev pub EntryFits : List TableShape → List ColType → EntrySyntax → Type 0
 EntryFits tables kinds (row_entry right table key) = (table < length tables) × IntFits tables kinds key × AsksNoRows key
 EntryFits tables kinds (rows_entry right table low high) =
@@ -121,14 +130,17 @@ EntryFits tables kinds (part_entry right table part) =
 EntryFits tables kinds (table_entry right table) = table < length tables
 EntryFits tables kinds (db_entry right) = ⊤
 
+-- each entry of a declared footprint fits
 abbrev pub FootprintFits : List TableShape → List ColType → FootprintSyntax → Type 0
 FootprintFits tables kinds (declared_by entries) = AllByRecursion (EntryFits tables kinds) entries
 FootprintFits tables kinds found_by_recon = ⊤
 
+-- the types of parameters, in order
 abbrev pub kinds_of : List ParamShape → List ColType
 kinds_of params = map (λ p. p.kind) params
 
--- the footprint and the body fit the parameters
+-- the footprint and the body fit the parameters: each variable, table and column is there, and has the type that is
+-- asked of it
 pub record ProcFits (tables : List TableShape) (proc : ProcSyntax) : Type 0 where
   pub footprint : FootprintFits tables (kinds_of proc.params) proc.footprint
   pub body : BlockFits tables (kinds_of proc.params) (block_of proc.body)

@@ -45,7 +45,7 @@ pub enum BoolExpr {
     Exists { table: TableNo, key: IntExpr },
 }
 
-/// An expression whose value may stand in a row, a variable or a reply.
+/// An expression whose value may be in a row, a variable or a reply.
 #[derive(Debug, Drop)]
 pub enum ValueExpr {
     Int(IntExpr),

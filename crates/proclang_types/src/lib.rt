@@ -1,5 +1,8 @@
 //! The procedure language's typed syntax: an operand cannot have a wrong type, a variable is its place in the scope,
 //! and a table and a column are their places in the catalogue.
+//!
+//! Proved: syntax is well typed by its types, and a `Proc` keeps its variables, tables and columns in scope.
+//! `Proc::over`: what fits tables fits all tables of the same columns, however they are split.
 #![tactic(auto)]
 
 mod expression;

@@ -119,12 +119,14 @@ impl Proc {
         }
     }
 
+    /// The procedure's name.
     pub fn name(&self) -> &str
         ensures { result.now ≡ self.now.name }
     {
         self.parts.name.as_str()
     }
 
+    /// The parameters, in order: they are the first variables of the body.
     pub fn params(&self) -> &[Param]
         ensures { map param_shape result.now ≡ self.now.params }
     {
@@ -146,6 +148,7 @@ impl Proc {
         matches!(self.parts.footprint, ProcFootprint::Recon)
     }
 
+    /// The statements of the body, in order.
     pub fn body(&self) -> &Vec<Stmt>
         ensures same { result.now.items ≡ self.now.body }
         ensures fits { ProcFits self.now.tables (proc_syntax self.now) }

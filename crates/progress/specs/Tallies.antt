@@ -25,5 +25,6 @@ latest [] = zero_tally
 latest (t ∷ []) = t
 latest (t ∷ u ∷ ts) = latest (u ∷ ts)
 
+-- a list begins with another
 abbrev pub StartsWith : List Tally → List Tally → Type 0
 StartsWith list first = (rest : List Tally) × (list ≡ first ++ rest)

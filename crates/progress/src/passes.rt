@@ -7,7 +7,7 @@ use crate::tally::Tally;
 use crate::view::View;
 use crossbeam_utils::atomic::seq_cell::Pass;
 
-// The passes stand apart from the calls, since a struct imports all that its file's ghost members name.
+// The passes are apart from the calls, since a struct imports all that its file's ghost members name.
 /// The right to publish, of which there is one. It knows the whole published list.
 #[derive(Drop)]
 pub struct WriterPass {

@@ -30,6 +30,7 @@ unfoldable pub in_table_text : InTable → List ℕ
 in_table_text WholeTable = []
 in_table_text (Part part below) = (codes "/" ++ decimal part) ++ in_part_text below
 
+-- the name of a resource: `db`, TABLE, TABLE/PART or TABLE/PART/KEY
 unfoldable pub resource_text : List TableShape → Resource → List ℕ
 resource_text tables Db = codes "db"
 resource_text tables (Table table below) = table_name tables table ++ in_table_text below
@@ -39,6 +40,7 @@ unfoldable pub request_line : List TableShape → ℕ → Resource × Mode → L
 request_line tables number request =
     decimal number ++ codes " " ++ mode_word request.1 ++ codes " " ++ resource_text tables request.0 ++ codes "\n"
 
+-- a line for each request
 abbrev pub request_lines : List TableShape → ℕ → List (Resource × Mode) → List ℕ
 request_lines tables number [] = []
 request_lines tables number (request ∷ requests) =

@@ -15,6 +15,7 @@ pub record Transaction : Type 0 where
   pub entry : EntryShape
   pub of : Option ℕ
 
+-- the entries of transactions
 abbrev pub entries_in : List Transaction → List EntryShape
 entries_in transactions = map (λ t. t.entry) transactions
 

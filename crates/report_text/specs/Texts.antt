@@ -6,7 +6,7 @@ use Rattle.footprint.specs.AbortCodes.{number_of}
 use Rattle.meaning.specs.Entries.{Reply, commit, aborted, stale}
 use Rattle.row_text.specs.Texts.{line_end, values_text}
 
--- what stands after a transaction's number: `commit V1 .. Vn`, `abort CODE` or `stale`
+-- what comes after a transaction's number: `commit V1 .. Vn`, `abort CODE` or `stale`
 unfoldable pub reply_words : Reply → List ℕ
 reply_words (commit values) = codes " commit" ++ values_text values
 reply_words (aborted code) = codes " abort " ++ decimal (number_of code)

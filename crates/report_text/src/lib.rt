@@ -1,4 +1,6 @@
 //! The texts of a report: reply lines, batch and end lines; and the lines of a plan.
+//!
+//! Proved: reply, batch and end lines are exact; `push_plan`: the lines of a plan are exact.
 #![tactic(auto)]
 
 mod lines;

@@ -8,7 +8,7 @@ use meaning::Outcome;
 use row_text::push_values;
 use std::alloc::{AllocError, Global};
 
-/// Appends what stands after a transaction's number.
+/// Appends what comes after a transaction's number.
 #[tactic(auto, unfolding(crate::specs::Texts::reply_words))]
 fn push_reply_words(alloc: Global, text: &mut String, outcome: &Outcome) -> Result<(), AllocError>
     ensures { OnOk result (string_bytes text.new ≡ string_bytes text.old ++ reply_words (as_reply outcome.now)) }
@@ -26,7 +26,7 @@ fn push_reply_words(alloc: Global, text: &mut String, outcome: &Outcome) -> Resu
     }
 }
 
-/// Appends what stands after a later attempt's number: the number of the request's first attempt. Nothing for a first
+/// Appends what comes after a later attempt's number: the number of the request's first attempt. Nothing for a first
 /// attempt.
 fn push_of_words(text: &mut String, of: Option<u64>) -> Result<(), AllocError>
     ensures { OnOk result (string_bytes text.new ≡ string_bytes text.old ++ of_words of) }

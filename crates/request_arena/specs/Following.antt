@@ -13,7 +13,7 @@ changed [] i f = []
 changed (x ∷ xs) zero f = f x ∷ xs
 changed (x ∷ xs) (suc i) f = x ∷ changed xs i f
 
--- the live places that one comes through from a on, at most so many
+-- the live places that one comes through from a on, at most n
 abbrev pub follow : (ℕ → ℕ) → (ℕ → Bool) → ℕ → ℕ → List ℕ
 follow onward live zero a = []
 follow onward live (suc most) a = cond (live a) (a ∷ follow onward live most (onward a)) []

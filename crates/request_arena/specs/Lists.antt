@@ -17,11 +17,13 @@ free_nodes [] = 0
 free_nodes (None ∷ held) = suc (free_nodes held)
 free_nodes (Some h ∷ held) = free_nodes held
 
+-- how many nodes hold a request
 abbrev pub live_nodes : List (Option Held) → ℕ
 live_nodes [] = 0
 live_nodes (None ∷ held) = live_nodes held
 live_nodes (Some h ∷ held) = suc (live_nodes held)
 
+-- a node holds a request
 abbrev pub IsLive : Lists → ℕ → Type 0
 IsLive lists a = (h : Held) × (slice_get lists.held a ≡ Some (Some h))
 

@@ -1,5 +1,5 @@
 -- Of the code: invariants and steps; no promise rests on these words.
--- What stands at each place of the block, and the block after one write.
+-- What is at each place of the block, and the block after one write.
 use Rattle.std.specs.Prelude.{ℕ, Bool, false, List, Option, Some, None, is_some, slice_get}
 use Rattle.request_arena.specs.declared.node.Node.{Node}
 use Rattle.request_arena.specs.declared.node.Held.{Held}
@@ -22,7 +22,7 @@ abbrev pub is_live : Option Node → Bool
 is_live None = false
 is_live (Some n) = is_some n.held
 
--- where the links of a place lead, the queue that it notes, and whether a live node stands there
+-- where the links of a place lead, the queue that it notes, and whether a live node is there
 abbrev pub next : List Node → ℕ → ℕ
 next ns a = next_of (slice_get ns a)
 

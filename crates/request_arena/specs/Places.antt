@@ -1,11 +1,11 @@
 -- Of the code: invariants and steps; no promise rests on these words.
--- Where nodes and heads lie in the block, and what stands at a place that nothing was written to.
+-- Where nodes and heads lie in the block, and what is at a place that nothing was written to.
 use Rattle.std.specs.Prelude.{ℕ, zero, suc, ◌+◌, ◌-◌, ◌*◌, ◌/◌, ◌%◌, ◌^◌, ◌<◌, ◌≤◌, nat_lt, if◌then◌else◌, List, [], ◌∷◌, map, None, slice_index_or}
 use Rattle.request_arena.specs.declared.node.Node.{Node}
 use Rattle.request_arena.specs.declared.packed.Packed.{Packed}
 use Rattle.request_arena.specs.Packed.{unpacked}
 
--- what stands at a place that nothing was written to: a free node, which leads to the next
+-- what is at a place that nothing was written to: a free node, which leads to the next
 -- place, or the head of an empty queue
 abbrev pub fresh : ℕ → ℕ → Node
 fresh nodes place =
@@ -25,7 +25,7 @@ abbrev pub tabulated : (ℕ → Node) → ℕ → ℕ → List Node
 tabulated f h zero = []
 tabulated f h (suc k) = f h ∷ tabulated f (suc h) k
 
--- what stands at each place, where this was written
+-- what is at each place, where this was written
 abbrev pub laid : ℕ → ℕ → List Packed → List Node
 laid nodes queues written = tabulated (at_place nodes written) 0 (nodes + queues)
 

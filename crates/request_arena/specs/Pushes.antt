@@ -11,10 +11,12 @@ abbrev pub appended : Option ℕ → ℕ → List ℕ → List ℕ
 appended None y xs = xs
 appended (Some t) y xs = cond (list_any (eqb t) xs) (xs ++ y ∷ []) xs
 
+-- a free node is last in the queue and in each chain that the tail is in, and holds the request; with no tail it is the
+-- first of its chain; all else is as it was
 pub record Pushed (was : Lists) (queue : ℕ) (tail : Option ℕ) (request : Request) (id : ℕ) (now : Lists) : Type 0 where
   -- the node was free
   pub fresh : slice_get was.held id ≡ Some None
-  -- it stands at the back of the queue
+  -- it is at the back of the queue
   pub queues : now.queues ≡ slice_set was.queues queue (slice_index_or was.queues queue [] ++ id ∷ [])
   -- it holds the request, and comes after the tail: no other node holds anything else than before
   pub held : now.held ≡ slice_set (linked tail id was.held) id (Some (record { request = request; successor = None }))

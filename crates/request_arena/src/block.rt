@@ -15,7 +15,7 @@ use values::NoMemory;
 /// The most places that there can be: links are numbers of 32 bits.
 const MOST_PLACES: usize = 1 << 30;
 
-/// One block of memory with a place for each node, and for the head of each queue. Contracts see what stands at each
+/// One block of memory with a place for each node, and for the head of each queue. Contracts see what is at each
 /// place. Nothing is written to a place before it is used, so a large block costs as much as is used of it.
 #[derive(Drop)]
 pub(crate) struct Block {
@@ -65,7 +65,7 @@ fn place_at(nodes: usize, index: usize) -> usize
     }
 }
 
-/// What stands at a place that nothing was written to.
+/// What is at a place that nothing was written to.
 #[inline(always)]
 fn fresh(nodes: usize, place: usize) -> Node
     requires fits { place < 2 ^ 32 }
@@ -82,7 +82,7 @@ fn fresh(nodes: usize, place: usize) -> Node
     }
 }
 
-/// What stands at an index of a row, or what would stand there if nothing was written to it.
+/// What is at an index of a row, or what would be there if nothing was written to it.
 #[inline(always)]
 fn read(row: &Row, index: usize, unwritten: Node) -> Node
     requires { IsSmall unwritten }
@@ -96,7 +96,7 @@ fn read(row: &Row, index: usize, unwritten: Node) -> Node
     }
 }
 
-/// Writes what stands there to the next place.
+/// Writes what is there to the next place.
 fn write_next(written: &mut Row, nodes: usize)
     requires nodes { nodes < 2 ^ 30 }
     requires fits { written.old.room < 2 ^ 31 }
@@ -109,7 +109,7 @@ fn write_next(written: &mut Row, nodes: usize)
     written.push(Packed::of(fresh(nodes, place)));
 }
 
-/// Writes what stands there to all places as far as one.
+/// Writes what is there to all places as far as one.
 #[cold]
 #[inline(never)]
 fn write_up_to(written: &mut Row, nodes: usize, index: usize)
@@ -145,7 +145,7 @@ pub(crate) fn reach(written: &mut Row, nodes: usize, place: usize) -> usize
     index
 }
 
-/// The room that so many nodes, or heads, take with the runs between them.
+/// The room that `count` nodes, or heads, take with the runs between them.
 fn room_for(count: usize) -> usize
     requires { count < 2 ^ 30 }
     ensures { result ≡ (count / 64 + 1) * 128 }
@@ -175,7 +175,7 @@ impl Block {
         })
     }
 
-    /// What stands at a place.
+    /// What is at a place.
     #[inline(always)]
     pub(crate) fn get(&self, place: usize) -> Node
         requires { place < length self.now }
@@ -189,7 +189,7 @@ impl Block {
         )
     }
 
-    /// Writes all that stands at a place.
+    /// Writes all that is at a place.
     #[inline(always)]
     pub(crate) fn set(&mut self, place: usize, node: Node)
         requires there { place < length self.old }

@@ -1,4 +1,4 @@
-//! Blocks of raw memory. Pointers stand here, and nowhere above.
+//! Blocks of raw memory. Pointers are here, and nowhere above.
 
 ghost use Rattle.std.specs.Prelude.{◌≡◌, ◌<◌, ◌*◌, ◌^◌, IfOk};
 ghost use Rattle.core.specs.Mem.{type_size};
@@ -11,7 +11,7 @@ use std::alloc::{AllocError, Allocator};
 use std::marker::PhantomData;
 use std::mem::{align_of, size_of};
 
-/// Takes a block for so many values, of which none is there yet. The value only shows that there is one.
+/// Takes a block for `places` values, of which none is there yet. The value only shows that there is one.
 pub(crate) unsafe fn take<T, A: Allocator>(
     alloc: &A,
     places: usize,

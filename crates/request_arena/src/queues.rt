@@ -45,7 +45,8 @@ impl Model for Queues {
 }
 
 impl Queues {
-    /// So many free nodes, and so many empty queues. No other call takes memory.
+    /// `nodes` free nodes, and `queues` empty queues; either may be 0. The error comes if allocation fails, or if they
+    /// are 2^30 - 64 or more together. No other call takes memory.
     pub fn with_capacity(alloc: Global, nodes: usize, queues: usize) -> Result<Queues, NoMemory>
         ensures { IfOk result (λ q. q ≡ record { queues = replicate queues []; held = replicate nodes None }) }
     {

@@ -41,7 +41,7 @@ impl Model for Row {
 }
 
 impl Row {
-    /// No node, and room for so many.
+    /// No node, and room for `room` nodes.
     pub(crate) fn with_capacity(alloc: Global, room: usize) -> Result<Row, NoMemory>
         ensures { IfOk result (λ row. row ≡ record { items = []; room = room }) }
     {

@@ -46,7 +46,7 @@ proc_of e = e.1
 abbrev pub procs_of : List NamedProc → List ProcParts
 procs_of entries = map proc_of entries
 
--- each stands under its name
+-- each is under its name
 abbrev pub AreKeyed : List NamedProc → Type 0
 AreKeyed entries = AllByRecursion (λ e. string_bytes e.0 ≡ (proc_of e).name) entries
 

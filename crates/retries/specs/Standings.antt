@@ -24,7 +24,7 @@ start_of db = record { next = 0; rows = db; carried = [] }
 
 -- ---- one batch
 
--- the attempts of the next batch, of these calls: the carried requests stand before them
+-- the attempts of the next batch, of these calls: the carried requests come before them
 abbrev pub attempts_at : Standing → List Call → List Attempt
 attempts_at s calls = attempts_of s.carried (items_from 0 calls)
 
@@ -87,7 +87,7 @@ abbrev pub while_carried : List Carried → List (List Call) → List (List Call
 while_carried [] rest = []
 while_carried (c ∷ cs) rest = [] ∷ rest
 
--- batches without calls, one after another while something is carried, so many at most
+-- batches without calls, one after another while something is carried, `most` of them at most
 abbrev pub closing_within : ℕ → ℕ → Standing → List (List Call)
 closing_within retries zero s = []
 closing_within retries (suc most) s = while_carried s.carried (closing_within retries most (after_batch retries s []))

@@ -101,8 +101,8 @@ pub fn numbers_are_few()
         AllByRecursion (λ one. one.tries ≤ retries) s.carried → length s.carried ≤ may_have retries s.carried }
 {}
 
-/// Batches are short: where no batch has more than so many calls, none has more attempts than so many for each time
-/// that a request may be tried, which is once and as often as it is tried again. So a batch of at most 4,096 calls has
+/// Batches are short: where no batch has more than `most` calls, none has more attempts than `most` for each time that
+/// a request may be tried, which is once and as often as it is tried again. So a batch of at most 4,096 calls has
 /// at most 12,288 attempts where a request is tried again at most twice.
 pub fn batches_are_short()
     ensures { (retries most : ℕ) (db : Database) (batches : List (List Call)) (calls : List Call) →
@@ -124,7 +124,7 @@ pub fn nothing_is_tried_again_without_retries()
         ≡ map (prepared (after_batches 0 (start_of db) batches).rows) calls }
 {}
 
-/// Batches and more batches leave what these leave after those, and their transactions stand after one another.
+/// Batches and more batches leave what these leave after those, and their transactions come after one another.
 pub fn batches_follow_one_another()
     ensures after { (retries : ℕ) (s : Standing) (batches more : List (List Call)) →
         after_batches retries s (batches ++ more) ≡ after_batches retries (after_batches retries s batches) more }
@@ -161,7 +161,7 @@ pub fn log_is_closed_after_its_batches()
 {}
 
 /// The serial run over all transactions at once is the same: it ends with the rows that the batches leave, it has as
-/// many transactions as are numbered, and the reply lines of one more batch stand after those of the batches before
+/// many transactions as are numbered, and the reply lines of one more batch come after those of the batches before
 /// it.
 pub fn serial_run_is_one_run()
     ensures rows { (retries : ℕ) (db : Database) (batches : List (List Call)) →

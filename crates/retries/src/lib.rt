@@ -1,5 +1,12 @@
-//! The serial run of batches one after another, where stale requests are tried again. The definitions stand in
+//! The serial run of batches one after another, where stale requests are tried again. The definitions are in
 //! `specs/`; here are the laws that follow from them, each as the contract of a function.
+//!
+//! Proved: `nothing_is_left_at_the_end`, after all batches of a log without a fault nothing is carried;
+//! `attempts_are_few`, a request has at most one attempt more than it may be tried again;
+//! `stale_attempts_are_tried_again`, each stale attempt that may have another one has it in the next batch, and there
+//! is a next batch; `first_attempt_is_never_stale`, of any batch; `numbers_are_few` and `batches_are_short`, how many
+//! transactions a log and a batch have at most; `nothing_is_tried_again_without_retries`; `serial_run_is_one_run`;
+//! `report_grows_batch_by_batch`.
 #![tactic(auto)]
 
 mod laws;

@@ -1,5 +1,5 @@
 -- Of the code: invariants and steps; no promise rests on these words.
--- What forgets the digests that are kept of partitions. The shelf of a partition stands for it.
+-- What forgets the digests that are kept of partitions. The shelf of a partition represents it.
 use Rattle.std.specs.Prelude.{◌≡◌, ℕ, Bool, ◌||◌, if◌then◌else◌, List, Option, None}
 use Rattle.std.specs.List.{list_any}
 use Rattle.values.specs.declared.name.RowName.{RowName}

@@ -48,14 +48,14 @@ locks_shelf requests right at = list_any (λ e. gives right e.1 && holds e.0 at)
 abbrev pub locks_itself : Requests → Right → RowName → Bool
 locks_itself requests right name = list_any (λ e. gives right e.1 && is_of (name_of e.0) name) requests
 
--- the resource is one of the first so many partitions of the table
+-- the resource is one of the first `count` partitions of the table
 abbrev pub is_part_below : ℕ → ℕ → Resource → Bool
 is_part_below table count Db = false
 is_part_below table count (Table t WholeTable) = false
 is_part_below table count (Table t (Part p (Row key))) = false
 is_part_below table count (Table t (Part p WholePart)) = (table == t) && nat_lt p count
 
--- the resource is in one of the first so many tables
+-- the resource is in one of the first `count` tables
 abbrev pub is_table_below : ℕ → Resource → Bool
 is_table_below count Db = false
 is_table_below count (Table t within) = nat_lt t count

@@ -32,7 +32,7 @@ pub record Lent : Type 0 where
   pub plan : Requests
   pub rows : Database
 
--- no plan that is lent locks the row name to write
+-- no plan that is lent locks the row name to write: what a store shows
 abbrev pub is_free : List TableShape → FinMap nat_cmp Requests → RowName → Bool
 is_free tables lent name = not (list_any (λ e. locks_row tables e.1 name Write) (entries lent))
 

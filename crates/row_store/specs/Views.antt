@@ -1,5 +1,5 @@
 -- Of the code: invariants and steps; no promise rests on these words.
--- What the shelves of a store and of a loan stand for, and what holds of them.
+-- What the shelves of a store and of a loan represent, and what holds of them.
 use Rattle.std.specs.Prelude.{◌≡◌, ℕ, true, false, List, map, Option, Some, option_map}
 use Rattle.std.specs.Ordering.{nat_cmp}
 use Rattle.std.specs.BTreeMap.{BTreeMap, get}

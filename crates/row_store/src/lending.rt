@@ -59,7 +59,7 @@ fn share(
     Ok(copies)
 }
 
-/// What a loan of a plan holds on shelves, but for the shelves and the rows that it will write: they still stand in the
+/// What a loan of a plan holds on shelves, but for the shelves and the rows that it will write: they are still in the
 /// store. All that is to be moved has its place in the store and in the loan then.
 fn hold_shelves(
     alloc: Global,
@@ -138,7 +138,7 @@ fn hold_rows(
     Ok(HeldRows { written, read })
 }
 
-/// What a loan of a plan holds, but for what it will write: that still stands in the store, and has its place there.
+/// What a loan of a plan holds, but for what it will write: that is still in the store, and has its place there.
 /// All memory for the loan is taken then.
 pub(crate) fn hold(
     alloc: Global,

@@ -13,5 +13,6 @@ pub record IsCallOver (tables : List TableShape) (entry : EntryShape) : Type 0 w
   pub proc : ProcSyntax
   pub call : IsCallOf proc entry
 
+-- the entries are calls of procedures that fit the tables
 abbrev pub AreCallsOver : List TableShape → List EntryShape → Type 0
 AreCallsOver tables entries = AllByRecursion (IsCallOver tables) entries

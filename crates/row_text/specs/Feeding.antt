@@ -19,6 +19,6 @@ table_lines tables table [] = []
 table_lines tables table (row ∷ rows) =
     row_line tables (record { table = table; key = row.0 }) row.1.now ++ table_lines tables table rows
 
--- what stands in a row line after the table's name
+-- what is in a row line after the table's name
 abbrev pub row_words : ℕ → RowOf → List ℕ
 row_words key row = ((codes " " ++ decimal key) ++ values_text row) ++ line_end

@@ -11,6 +11,7 @@ use Rattle.values.specs.declared.value.Value.TheVariants.{Int, Text}
 use Rattle.catalogue.specs.Shapes.{TableShape}
 use Rattle.values.specs.Database.{Database, RowOf}
 
+-- a newline
 abbrev pub line_end : List ℕ
 line_end = 10 ∷ []
 
@@ -24,6 +25,7 @@ abbrev pub values_text : List Value → List ℕ
 values_text [] = []
 values_text (v ∷ vs) = (codes " " ++ value_text v) ++ values_text vs
 
+-- a table's name, and nothing for a table that is not there
 abbrev pub table_name : List TableShape → ℕ → List ℕ
 table_name tables table = unwrap_or (option_map (λ t. t.name) (slice_get tables table)) []
 
@@ -31,6 +33,7 @@ table_name tables table = unwrap_or (option_map (λ t. t.name) (slice_get tables
 unfoldable pub row_line : List TableShape → RowName → RowOf → List ℕ
 row_line tables name row = table_name tables name.table ++ codes " " ++ decimal name.key ++ values_text row ++ line_end
 
+-- the lines of rows, one after the other
 abbrev pub row_lines : List TableShape → List (RowName × RowOf) → List ℕ
 row_lines tables [] = []
 row_lines tables (e ∷ es) = row_line tables e.0 e.1 ++ row_lines tables es

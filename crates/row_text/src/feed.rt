@@ -12,7 +12,7 @@ use sha2::{Digest, Sha256};
 use std::alloc::{AllocError, Global};
 use values::{Row, RowName};
 
-/// From so many bytes on, text is handed to the hasher.
+/// From 4,096 bytes on, text is handed to the hasher.
 const PIECE: usize = 4096;
 
 /// A hasher, and the end of its text, which it was not given yet: so it is given large pieces.

@@ -1,5 +1,14 @@
-//! The text of rows: values, row lines and partition lines, and their digests; and of a view the row lines of a table or
-//! of all, and the digest of all rows, in either form.
+//! The text of rows: values, row lines and partition lines, and their digests; and of a view the row lines of a table
+//! or of all, and the digest of all rows, in either form.
+//!
+//! Proved: values, row lines, partition lines and SHA-256 digests (FIPS 180-4) are exact. `rows_text`, `table_text`:
+//! the row text of a view, and the row lines of one table. `rows_digest`: from any view that shows every name, the
+//! digest of the row text, in the order of tables and keys, or of the partition text. Laws: the row text of a database
+//! doesn't depend on how keys are split; where each row is of one of the tables, it has a line for each row, and
+//! fitting calls leave such rows; `partition_line_is_of_its_rows`; `partition_text_tells_each_digest`, of two databases
+//! with equal partition texts each partition has rows in both or in neither, and row lines of equal digests.
+//!
+//! Not proved: that the rows of a run are of the catalogue's tables is such a law, and no clause of `run_text`.
 #![tactic(auto)]
 
 mod by_form;

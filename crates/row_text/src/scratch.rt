@@ -12,7 +12,7 @@ use values::{Row, RowName};
 /// Room for one line at a time.
 #[derive(Drop)]
 pub(crate) struct Scratch {
-    // The words of a row of few numbers stand at its end.
+    // The words of a row of few numbers are at its end.
     room: [u8; ROOM],
     // The line of any other row.
     line: String,

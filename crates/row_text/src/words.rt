@@ -1,4 +1,4 @@
-//! What stands in a row line after the table's name, written from its last byte on.
+//! What is in a row line after the table's name, written from its last byte on.
 
 ghost use Rattle.std.specs.Prelude.{◌≡◌, ◌+◌, ◌≤◌, ◌<◌, ◌++◌, IfSome, codes, drop, length};
 ghost use Rattle.std.specs.Fmt.{decimal, signed_decimal};
@@ -14,7 +14,7 @@ pub(crate) const ROOM: usize = 512;
 /// The most that a number takes: a space, its sign and 20 digits.
 const WORD: usize = 22;
 
-/// Writes a number after a space, so that it ends at `end`. Answers where the space stands.
+/// Writes a number after a space, so that it ends at `end`. Answers where the space is.
 fn put_key(room: &mut [u8; ROOM], end: usize, number: u64) -> usize
     requires { (22 ≤ end) × (end ≤ 512) }
     ensures within { result < end }
@@ -39,7 +39,7 @@ fn put_signed(room: &mut [u8; ROOM], end: usize, number: i64) -> usize
     start - 1
 }
 
-/// Writes a number after a space and its sign. Answers where the space stands.
+/// Writes a number after a space and its sign. Answers where the space is.
 fn put_number(room: &mut [u8; ROOM], end: usize, number: i64) -> usize
     requires { (22 ≤ end) × (end ≤ 512) }
     ensures within { result < end }
@@ -50,7 +50,7 @@ fn put_number(room: &mut [u8; ROOM], end: usize, number: i64) -> usize
     start - 1
 }
 
-/// Writes a value after a space, so that it ends at `end`. Answers where the space stands, or
+/// Writes a value after a space, so that it ends at `end`. Answers where the space is, or
 /// `None` for a text.
 #[tactic(auto, unfolding(crate::specs::Texts::value_text))]
 fn put_value(room: &mut [u8; ROOM], end: usize, value: &Value) -> Option<usize>
@@ -64,7 +64,7 @@ fn put_value(room: &mut [u8; ROOM], end: usize, value: &Value) -> Option<usize>
     }
 }
 
-/// Writes values, each after a space, and a newline. Answers where the first space stands, or
+/// Writes values, each after a space, and a newline. Answers where the first space is, or
 /// `None` where a value is a text or there is no room.
 fn put_values(room: &mut [u8; ROOM], values: &[Value]) -> Option<usize>
     ensures { IfSome result (λ start. (start < 512) × (drop start room.new ≡ values_text values.now ++ line_end)) }

@@ -15,6 +15,7 @@ pub record Device : Type 0 where
   pub bytes : Option (List ℕ)
   pub failed : Bool
 
+-- a device with these bytes, if they are known, and with or without a failure
 abbrev pub device_with : Option (List ℕ) → Bool → Device
 device_with bytes failed = record { bytes = bytes; failed = failed }
 

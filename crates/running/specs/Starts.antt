@@ -17,6 +17,7 @@ pub record Start : Type 0 where
   pub rows : Database
   pub digest : DigestForm
 
+-- the start of these parts
 abbrev pub start_at : ProcsParts → ℕ → Database → DigestForm → Start
 start_at procs retries rows digest = record { procs = procs; retries = retries; rows = rows; digest = digest }
 

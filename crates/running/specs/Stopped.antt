@@ -53,7 +53,7 @@ pub data Stage : Type 0 where
   at_end : Stage
 
 -- Which fault can end a run at a stage, and whether a read failed there. Reading ends with a failed read, or where
--- memory is refused; a batch, also one that closes the log, with a failed write, or where memory or a thread is
+-- allocation fails; a batch, also one that closes the log, with a failed write, or where memory or a thread is
 -- refused; the end, with a failed write, or if allocation fails.
 abbrev pub IsEndedBy : Stage → Bool → RunFault → Type 0
 IsEndedBy reading failed fault = (is_of_device fault ≡ failed) × IfOfThread fault ⊥

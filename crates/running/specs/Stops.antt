@@ -41,6 +41,7 @@ abbrev pub is_of_device : RunFault → Bool
 is_of_device (runs.Log fault) = is_io fault.kind
 is_of_device (runs.Spawn line) = false
 
+-- a run ended with the fault of a device
 abbrev pub ends_in_io : {T : Type 0} → Result T RunFault → Bool
 ends_in_io (Ok x) = false
 ends_in_io (Err fault) = is_of_device fault

@@ -53,7 +53,7 @@ pub fn run_closing_batches<
         IsMachineFault line e × IfOfThread e (HasAnswered X.Fn executor.now ExecFault.Spawn)) }
     ensures fails { K.broken sink.new ≡ (K.broken sink.old || ends_in_io result) }
 {
-    // No request is tried again more often, so nothing is carried after so many batches.
+    // No request is tried again more often, so nothing is carried after `retries` batches.
     for _turn in 0..engine.core().retries() {
         if engine.core().carried() == 0 {
             return Ok(());

@@ -216,7 +216,7 @@ impl Transcript {
         Ok(())
     }
 
-    /// Writes the end line, for so many transactions, over the rows that the last batch left, if there was one: their
+    /// Writes the end line, for `count` transactions, over the rows that the last batch left, if there was one: their
     /// digest is then the one in its batch line, and is not made anew.
     pub(crate) fn write_last<K: Sink>(
         self,

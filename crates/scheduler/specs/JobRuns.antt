@@ -44,6 +44,8 @@ ComesOf job (Some outcome) back =
     (back ≡ record job { loan = record (job.loan) { rows = back.loan.rows } })
     × IsRunOf job.loan.tables (transaction_of job) job.loan.rows (as_reply outcome) back.loan.rows
 
+-- what comes of a job: the job as it was lent, or the same job with its outcome, whose loan shows the rows that it
+-- leaves
 abbrev pub IsDoneOf : JobOf → DoneOf → Type 0
 IsDoneOf job done = ComesOf job done.outcome done.job
 

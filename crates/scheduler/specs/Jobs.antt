@@ -40,10 +40,12 @@ pub record LendsJob (old : Schedule) (job : JobOf) (new : Schedule) : Type 0 whe
   pub new_is : new ≡ record old { slots = slice_set old.slots (job.no - old.work.first) Lent }
   pub out : slice_get new.slots (job.no - old.work.first) ≡ Some Lent
 
+-- what lending a job leaves
 abbrev pub LendsTo : Schedule → Option JobOf → Schedule → Type 0
 LendsTo old None new = new ≡ old
 LendsTo old (Some job) new = LendsJob old job new
 
+-- the number of a job, if there is one
 abbrev pub number_of_job : Option JobOf → Option ℕ
 number_of_job None = None
 number_of_job (Some job) = Some job.no

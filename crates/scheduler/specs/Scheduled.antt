@@ -59,8 +59,8 @@ ArePlansFrom plans from made =
     (place : ℕ) (plan : Requests) → from ≤ place → slice_get made (place - from) ≡ Some plan
     → slice_get plans place ≡ Some plan
 
--- where so many are admitted, of which so many leading ones are settled: while one of them is not settled, the plan of
--- each that is not, and of the next one, is made
+-- where `count` are admitted, of which `settled` leading ones are settled: while one of them is not settled, the plan
+-- of each that is not, and of the next one, is made
 pub record AreMade (plans : List Requests) (settled count from : ℕ) (made : List Requests) : Type 0 where
   pub are_plans : ArePlansFrom plans from made
   pub begun : from ≤ settled
@@ -71,7 +71,7 @@ pub record HasPlans (w : Work) (slots : List Slot) (settled from : ℕ) (made : 
   pub some : 0 < w.arena
   pub are_made : AreMade w.plans settled (length slots) from made
 
--- the first so many are settled, and the next is not
+-- the first `settled` are settled, and the next is not
 pub record AreSettledBefore (slots : List Slot) (settled : ℕ) : Type 0 where
   pub before : (place : ℕ) → place < settled → is_settled (slice_get (map phase_in slots) place) ≡ true
   pub next : is_settled (slice_get (map phase_in slots) settled) ≡ false

@@ -31,6 +31,7 @@ pub record Work : Type 0 where
   pub plans : List Requests
   pub start : Database
 
+-- what a scheduler works on, by its parts
 abbrev pub work_of : List TableShape → ℕ → ℕ → List EntryParts → List Requests → Database → Work
 work_of tables arena first entries plans start = record {
   tables = tables;
@@ -58,6 +59,7 @@ phase_in (Held job) = phase.Out
 phase_in (Ran job outcome) = phase.Ran
 phase_in (Settled outcome) = phase.Settled
 
+-- how far each admitted transaction is
 abbrev pub phases_of : Schedule → List Phase
 phases_of s = map phase_in s.slots
 

@@ -107,7 +107,7 @@ impl Scheduler {
         next_step(&self.slots[place], self.first + place as u64)
     }
 
-    /// The enabled events: to admit comes first, then they stand by transaction number.
+    /// The enabled events: to admit comes first, then the others by transaction number.
     fn enabled_events(&self) -> Result<Vec<Event>, NoMemory>
         ensures { IfOk result (λ events. events.items ≡ events_at self.now) }
     {

@@ -110,7 +110,7 @@ impl Done {
 }
 
 /// Runs a job. On every database that agrees with the loan on what its plan locks, the entry has the outcome that comes
-/// back, and leaves the rows that the loan then shows. Where memory is refused the job comes back as it was lent.
+/// back, and leaves the rows that the loan then shows. If allocation fails the job comes back as it was lent.
 pub fn run_job(job: Job) -> Done
     ensures { IsDoneOf job result }
 {

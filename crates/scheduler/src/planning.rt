@@ -59,7 +59,7 @@ impl Plans {
         &self.made[place - self.from]
     }
 
-    /// Begins anew at the place of the next transaction to be admitted, if so many leading ones are all that are
+    /// Begins anew at the place of the next transaction to be admitted, if `settled` leading ones are all that are
     /// admitted, unless its plan is made or the next to be made.
     fn begin_at(&mut self, settled: usize, place: usize)
         requires begun { self.old.from ≤ settled }
@@ -74,7 +74,7 @@ impl Plans {
     }
 
     /// Makes the plans of the next transaction to be admitted, at a place of the log, and of the one after it, if there
-    /// is one, where that was not done before; so many leading ones are settled. Those of others that may be needed
+    /// is one, where that was not done before; `settled` leading ones are settled. Those of others that may be needed
     /// stay, on an error, too.
     pub(crate) fn make_next(
         &mut self,
@@ -105,7 +105,7 @@ impl Plans {
         Ok(())
     }
     /// Makes the plan of the transaction after one that is run and settled at once, at a place of the log, if one that
-    /// is admitted isn't settled; so many leading ones are. Those that may be needed stay, on an error, too.
+    /// is admitted isn't settled; `settled` leading ones are. Those that may be needed stay, on an error, too.
     pub(crate) fn make_beside(
         &mut self,
         alloc: Global,

@@ -48,7 +48,7 @@ pub struct Scheduler {
     pub(crate) store: RowStore,
     pub(crate) locks: LockTree,
     pub(crate) threshold: usize,
-    // Room for so many requests.
+    // Room for `arena` requests.
     pub(crate) arena: usize,
     pub(crate) first: u64,
     pub(crate) entries: Vec<Entry>,
@@ -87,14 +87,14 @@ impl Model for Scheduler {
         s.slots.items s.settled s.plans.from s.plans.made.items };
 }
 
-/// What a scheduler was to be made of, where memory was refused.
+/// What a scheduler was to be made of, where allocation failed.
 pub type Unmade = (Catalogue, RowStore, Vec<Entry>, NoMemory);
 
 impl Scheduler {
     /// A scheduler of these entries on these rows, with nothing admitted. The entries are over the catalogue, nothing
     /// is lent of the rows, and the numbers, from the first one on, are below 2^48. More than `threshold` rows of a
-    /// partition, or partitions of a table, are locked as one; the lock tree has room for `arena` requests. Where
-    /// memory is refused, all comes back.
+    /// partition, or partitions of a table, are locked as one; the lock tree has room for `arena` requests, at least 1.
+    /// `threshold` may be 0, and there may be no entry. If allocation fails, all comes back.
     pub fn new(
         alloc: Global,
         catalogue: Catalogue,
@@ -146,7 +146,9 @@ impl Scheduler {
     }
 
     /// Admits the next transaction: makes its plan, its lock requests, and room for its reply; and the plan of the one
-    /// after it. On an error nothing has changed.
+    /// after it. Transactions are admitted in the order of the log, so locks are granted in that order (Calvin, 2012).
+    /// `AllAdmitted` comes exactly where there is no next one, `Full` exactly where the lock tree has less room than
+    /// its plan has requests; else the error is that allocation failed. On an error nothing has changed.
     pub fn admit(&mut self) -> Result<u64, AdmitFault>
         ensures enabled { OnOk result (can_make self.old AnyEvent.Admit ≡ true) }
         ensures number { IfOk result (λ number. number ≡ self.old.work.first + length self.old.slots) }

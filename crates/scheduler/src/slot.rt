@@ -90,7 +90,7 @@ pub(crate) fn outcome_at(slots: &[Slot], place: usize) -> Option<&Outcome>
     }
 }
 
-/// How many leading transactions are settled, where so many are known to be.
+/// How many leading transactions are settled, where `known` are known to be.
 pub(crate) fn count_settled(slots: &[Slot], known: usize) -> usize
     requires before { (place : ℕ) → place < known → is_settled (slice_get (map phase_in slots.now) place) ≡ true }
     requires within { known ≤ length slots.now }

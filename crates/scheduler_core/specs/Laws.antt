@@ -28,7 +28,7 @@ use Rattle.scheduler_core.specs.Choices.{next_step, next_steps, first_step, enab
 use Rattle.scheduler_core.specs.Sound.{IsSound, IsLent, IsRun, IsRunOf}
 use Rattle.scheduler_core.specs.Machine.{Machine, Move, lent, settled, phases_of, at_start, TakesBack, Does, Runs}
 
--- the serial run by places is the serial run
+-- the serial run by places is the serial run: each transaction is run on the rows that the one before it left
 abbrev pub SerialRunByPlaces : Type 0
 SerialRunByPlaces = (log : List Transaction) (start : Database) → IsByPlaces log start
 
@@ -51,6 +51,8 @@ pub record IsSerial (tables : List TableShape) (log : List Transaction) (start :
   pub all_replies : is_done log (phases_of now.stages) ≡ true
       → now.stages ≡ map settled (serial_replies (entries_of log) start)
 
+-- each reply that is kept is the serial run's, each job shows the rows of the serial run as it is lent, no two plans
+-- that are out are in conflict, and once all are settled rows and replies are the serial run's
 abbrev pub EveryRunIsSerial : Type 0
 EveryRunIsSerial =
     (tables : List TableShape) (arena first : ℕ) (log : List Transaction) (start : Database) (moves : List Move)
@@ -79,7 +81,7 @@ RunOnShownRows =
     → AgreeOnLocked tables t.plan after (meaning t.entry shown).1
     → IsRunOf tables t shown (meaning t.entry shown).0 after
 
--- ---- one event after the other, on rows that stand for others
+-- ---- one event after the other, on rows that represent others
 
 pub record StaysSound (tables : List TableShape) (first : ℕ) (log : List Transaction) (start : Database) : Type 0 where
   pub starts : IsSound tables log start [] start
@@ -130,6 +132,9 @@ pub record StaysSound (tables : List TableShape) (first : ℕ) (log : List Trans
   pub ends : (phases : List Phase) (rows : Database) → IsSound tables log start phases rows → is_done log phases ≡ true
       → rows ≡ serial_end (entries_of log) start
 
+-- what `IsSound` says of the rows is so at the start and stays so, event by event; while it is so, the rows on what the
+-- plan of a ready transaction locks, or of one that is out, are those of the serial run, and no two plans that are out
+-- are in conflict
 abbrev pub RowsAreSerial : Type 0
 RowsAreSerial =
     (tables : List TableShape) (first : ℕ) (log : List Transaction) (start : Database) → ArePlanned tables log
@@ -155,7 +160,7 @@ pub record StaysReady (first : ℕ) (log : List Transaction) : Type 0 where
   pub settles : (phases : List Phase) (place : ℕ) → is_out (slice_get phases place) ≡ true
       → OutAreReady first log phases → OutAreReady first log (slice_set phases place Settled)
 
--- jobs that are given back
+-- a job that is out and not run can be given back, and its transaction can then be lent its rows again
 pub record GivenBackCanBeLent : Type 0 where
   -- a job that is out and not run can be given back
   pub can_be : (tables : List TableShape) (first : ℕ) (log : List Transaction) (now : Machine) (number : ℕ)
@@ -201,6 +206,8 @@ pub record FollowsPhases (first : ℕ) (log : List Transaction) : Type 0 where
   -- what is out stays ready
   pub stays_ready : StaysReady first log
 
+-- the transactions that wait are those that are admitted and unsettled, with their plans; the least that is ready and
+-- has no mark is the least to which rows may be lent; each that is out stays ready
 abbrev pub AdmittedAndUnsettledWait : Type 0
 AdmittedAndUnsettledWait = (first : ℕ) (log : List Transaction) → FollowsPhases first log
 
@@ -247,6 +254,7 @@ pub record AreByPlaces (arena first : ℕ) (log : List Transaction) (phases : Li
   pub none_open : ((i : ℕ) → i < length phases → is_settled (slice_get phases i) ≡ true)
       → next_event first log phases ≡ (if length phases == length log then None else Some Admit)
 
+-- where the events of the transaction at a place of the log are enabled, and what they do to the phases
 abbrev pub EventsByPlaces : Type 0
 EventsByPlaces = (arena first : ℕ) (log : List Transaction) (phases : List Phase) → AreByPlaces arena first log phases
 
@@ -261,11 +269,13 @@ NoStuckState =
     (arena first : ℕ) (log : List Transaction) (phases : List Phase) → length phases ≤ length log → FitIn arena log
     → is_done log phases ≡ false → (event : Event) × (enabled arena first log phases event ≡ true)
 
+-- the next event is enabled, or all is done
 abbrev pub NextEventIsEnabled : Type 0
 NextEventIsEnabled =
     (arena first : ℕ) (log : List Transaction) (phases : List Phase) → length phases ≤ length log → FitIn arena log
     → IsNextEvent arena first log phases (next_event first log phases)
 
+-- the list of the enabled events has each of them and no other, in order
 pub record EnabledEventsAreListed : Type 0 where
   pub exact : (arena first : ℕ) (log : List Transaction) (phases : List Phase)
       → ListsEnabled arena first log phases (enabled_events arena first log phases)
@@ -299,12 +309,14 @@ pub record GoesOn (log : List Transaction) (old new : List Phase) : Type 0 where
   pub within : length old ≤ length log → length new ≤ length log
   pub settled_stays : (place : ℕ) → is_settled (slice_get old place) ≡ true → is_settled (slice_get new place) ≡ true
 
+-- an enabled event brings the state one step further, and what is settled stays settled
 pub record EachStepGoesOn : Type 0 where
   pub goes_on : (arena first : ℕ) (log : List Transaction) (phases : List Phase) (event : Event)
       → enabled arena first log phases event ≡ true → GoesOn log phases (step first phases event)
   -- four steps a transaction are the most
   pub most : (phases : List Phase) → progress phases ≤ 4 * length phases
 
+-- as many events are made as the state gets further: four a transaction from the start to the end
 pub record FourStepsEach : Type 0 where
   -- as many answers are Made as the state got further
   pub counted : (arena first : ℕ) (log : List Transaction) (old new : List Phase) (events : List Event)

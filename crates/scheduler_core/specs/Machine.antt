@@ -25,6 +25,7 @@ pub data Stage : Type 0 where
   ran : Reply → Database → Stage
   settled : Reply → Stage
 
+-- a scheduler as a plain machine of rows and jobs, which knows nothing of a serial run
 pub record Machine : Type 0 where
   pub rows : Database
   pub stages : List Stage

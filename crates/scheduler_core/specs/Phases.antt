@@ -24,11 +24,13 @@ abbrev pub was_run : Option Phase → Bool
 was_run (Some Ran) = true
 was_run _ = false
 
+-- its job is out, run or not
 abbrev pub is_out : Option Phase → Bool
 is_out (Some Out) = true
 is_out (Some Ran) = true
 is_out _ = false
 
+-- it is settled
 abbrev pub is_settled : Option Phase → Bool
 is_settled (Some Settled) = true
 is_settled _ = false
@@ -51,6 +53,7 @@ has_begun _ = false
 abbrev pub at_number : {X : Type 0} → ℕ → List X → ℕ → Option X
 at_number first xs number = if nat_lt number first then None else slice_get xs (number - first)
 
+-- how far the transaction with a number is, if it is admitted
 abbrev pub phase_of : ℕ → List Phase → ℕ → Option Phase
 phase_of first phases number = at_number first phases number
 

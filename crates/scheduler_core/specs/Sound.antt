@@ -13,7 +13,9 @@ use Rattle.scheduler_core.specs.Transactions.{Transaction, AgreeOnLocked, locks_
 use Rattle.scheduler_core.specs.Serial.{serial_rows, serial_reply}
 use Rattle.scheduler_core.specs.Phases.{is_settled, has_begun}
 
--- rows: the rows as they are now, where rows that are lent count as they were lent
+-- what is true of the rows at every moment, where rows that are lent count as they were lent: what is out or settled
+-- began when all before it that are in conflict with it had settled, and a row name is as the serial run has it after
+-- those of its writers that have settled
 pub record IsSound (tables : List TableShape) (log : List Transaction) (start : Database) (phases : List Phase)
     (rows : Database) : Type 0 where
   pub within : length phases ≤ length log

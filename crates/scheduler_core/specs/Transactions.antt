@@ -40,5 +40,6 @@ abbrev pub locks_of : List TableShape → Option Transaction → RowName → Rig
 locks_of tables None name right = false
 locks_of tables (Some t) name right = locks_row tables t.plan name right
 
+-- the transaction at a place of the log locks a row name for a right
 abbrev pub locks_at : List TableShape → List Transaction → ℕ → RowName → Right → Bool
 locks_at tables log place name right = locks_of tables (slice_get log place) name right

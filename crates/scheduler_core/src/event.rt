@@ -20,6 +20,6 @@ pub enum StepAnswer {
     Made,
     /// The event is not enabled. Nothing has changed.
     Refused,
-    /// Memory was refused. Nothing has changed.
+    /// Allocation failed. Nothing has changed.
     NoMemory,
 }

@@ -45,6 +45,7 @@ carried_of attempts = attempts.carried.items
 abbrev pub batch_of : Attempts → Batch
 batch_of attempts = attempts.batch
 
+-- the attempts of a batch of the code: the carried requests, and then its own calls
 abbrev pub attempts_in : Attempts → List Attempt
 attempts_in attempts = attempts_of (carried_of attempts) (items_of (batch_of attempts))
 
@@ -74,6 +75,7 @@ numbered_from first_no [] = []
 numbered_from first_no (attempt ∷ attempts) =
     record { no = first_no; attempt = attempt } ∷ numbered_from (first_no + 1) attempts
 
+-- the reply is that it is stale
 abbrev pub is_stale : Reply → Bool
 is_stale (commit values) = false
 is_stale (aborted code) = false
@@ -93,6 +95,7 @@ first_of own_no (Some earlier) = earlier.first
 abbrev pub goes_on : ℕ → ℕ → Reply → Bool
 goes_on retries tries reply = cond (is_stale reply) (nat_lt tries retries) false
 
+-- the request of this attempt is tried again
 abbrev pub is_left : ℕ → Numbered × Reply → Bool
 is_left retries ended = goes_on retries (tries_of ended.0.attempt.before) ended.1
 

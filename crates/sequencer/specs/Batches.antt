@@ -11,6 +11,7 @@ use Rattle.sequencer.specs.declared.batch.Batch.{Batch}
 abbrev pub RequestItem : Type 0
 RequestItem = Item Call
 
+-- the requests of a batch, each with its client and its number
 abbrev pub items_of : Batch → List RequestItem
 items_of batch = batch.items.items
 

@@ -21,6 +21,7 @@ left_in ending = ending.left.items
 abbrev pub next_no : Ending → ℕ
 next_no ending = ending.no
 
+-- how often a stale request is tried again
 abbrev pub retries_in : Ending → ℕ
 retries_in ending = ending.retries
 

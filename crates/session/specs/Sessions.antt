@@ -51,7 +51,7 @@ FaultsOn old bytes new fault =
     (start : Start) (fed drained more : List ℕ) → HasTaken start fed drained old →
     IsOfLog (IsRunInto start ((fed ++ bytes) ++ more) (drained ++ waiting_of new)) fault
 
--- What was fed is a whole log, of so many transactions. What was drained and what waits are together its report.
+-- What was fed is a whole log, of `count` transactions. What was drained and what waits are together its report.
 abbrev pub EndsWhole : Session → Session → ℕ → Type 0
 EndsWhole old new count =
     (start : Start) (fed drained : List ℕ) → HasTaken start fed drained old →

@@ -73,7 +73,7 @@ abbrev pub Continues : Work → List ℕ → Work → Type 0
 Continues old bytes new =
     (start : Start) (fed drained : List ℕ) → HasRun start fed drained old → HasRun start (fed ++ bytes) drained new
 
--- the number of the transaction that the next call is: those that were run stand before it, then what is carried, then
+-- the number of the transaction that the next call is: those that were run come before it, then what is carried, then
 -- the calls that wait
 abbrev pub next_number : Work → ℕ
 next_number work = work.engine.next + length (attempts_at (standing_of work.engine) (place_of work.feed).calls)

@@ -1,4 +1,17 @@
 //! A run of a log that is fed piece by piece, on the thread that calls it, and whose report is taken piece by piece.
+//!
+//! Proved, by `Session::feed`, `end` and `drain`, whatever the pieces: each batch that ends in what was fed was
+//! executed, and what was drained and what waits are together the texts of these batches and of no others; after `end`
+//! they are the report of the whole log, which has no fault, and its transactions are counted. A fault 31 to 35 is the
+//! first of each log that begins with what was fed, and all was reported before it; else allocation failed (37), and
+//! what was reported is a beginning of the report. After a fault each call answers it again, after the end that the log
+//! is over, and changes nothing; what waits to be drained waits still. `call`: a line is taken exactly where the run
+//! has not stopped, no line is begun, and it is a call that the setup takes and has room for; else the answer is the
+//! first of these that fails, and nothing changes. `test`: what `call` would answer. `cut`: as if the line of a cut
+//! were fed, where no line is begun.
+//!
+//! Tested only, by `scripts/static_library.sh`: the stored cases of a log in pieces of 1, 7 and 4096 bytes, and single
+//! calls. Not proved: the line that 37 names.
 #![tactic(auto)]
 
 mod call;

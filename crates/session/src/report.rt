@@ -9,7 +9,7 @@ use std::alloc::Global;
 #[derive(Drop)]
 pub(crate) struct Report {
     bytes: Vec<u8>,
-    // So many of them were taken.
+    // How many of them were taken.
     taken: usize,
     // A write wanted memory.
     failed: bool,

@@ -45,6 +45,7 @@ table_key_said tables d = option_and_then (table_key_of_form tables) (text_numbe
 abbrev pub values_for : List TableShape → RowForm → Option (List Value)
 values_for tables f = option_and_then (λ (table : ℕ). row_values tables table f.2) (table_named tables f.0)
 
+-- an earlier row has that name
 abbrev pub is_taken : List TableKey → Option TableKey → Bool
 is_taken given None = false
 is_taken given (Some p) = list_any (λ (q : TableKey). (q.0 == p.0) && (q.1 == p.1)) given
@@ -58,6 +59,7 @@ in_row_form tables given (Some f) =
     ++ (broken (is_some (values_for tables f)) RowValue
     ++ broken (not (is_taken given (table_key_of_form tables f))) RowTwice))
 
+-- the rules that a row breaks, after rows of these names
 abbrev pub in_row : List TableShape → List TableKey → Data → List SetupFault
 in_row tables given d = in_row_form tables given (text_number_list d)
 
@@ -65,6 +67,7 @@ abbrev pub in_rows_form : List TableShape → Option (List Data) → List SetupF
 in_rows_form tables None = Shape ∷ []
 in_rows_form tables (Some ds) = in_each (table_key_said tables) (in_row tables) [] ds
 
+-- the faults of a document of rows, in the order in which they are looked for
 abbrev pub rows_faults : List TableShape → Data → List SetupFault
 rows_faults tables d = in_rows_form tables (versioned_list (codes "rows") d)
 
@@ -94,6 +97,7 @@ pub record InRows (form : SetupParts) (fault : SetupFault) : Type 0 where
   pub are_procs : SaysProcs tables form.procs procs
   pub is_first : first (rows_faults tables form.rows) ≡ Some fault
 
+-- the fault of the catalogue, of the procedures or of the rows
 abbrev pub InForm : SetupParts → SetupFault → Type 0
 InForm form fault = InCatalogue form fault ⊎ (InProcs form fault ⊎ InRows form fault)
 

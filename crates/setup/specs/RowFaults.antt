@@ -26,7 +26,7 @@ pub record ComesAfter (tables : List TableShape) (rows : Data) (before : List Ro
   pub are : Says (SaysRow tables) ahead before
   pub distinct : IsDistinct same_name before
 
--- ["acct", 1, [100]], whatever stands in these three places
+-- ["acct", 1, [100]], whatever is in these three places
 pub record SpellsRow (d : Data) (table : List ℕ) (key : ℤ) (list : List Data) : Type 0 where
   pub number : Data
   pub is_form : d ≡ array (items_of (string table ∷ number ∷ array (items_of list) ∷ []))

@@ -24,6 +24,7 @@ taken_by tables table vs =
     option_and_then (λ t. if kinds_match (map (λ c. c.kind) t.columns) vs then Some vs else None)
     (slice_get tables table)
 
+-- the values that documents say, where the table takes them
 abbrev pub row_values : List TableShape → ℕ → List Data → Option (List Value)
 row_values tables table ds = option_and_then (taken_by tables table) (values_said ds)
 

@@ -81,9 +81,11 @@ pub record SpellsThird (d : Data) (form : SetupParts) : Type 0 where
   pub is_number : integer number ≡ Some (pos form.retries)
   pub few : form.retries ≤ 2
 
+-- a document is of one of the three versions
 abbrev pub SpellsSetup : Data → SetupParts → Type 0
 SpellsSetup d form = SpellsFirst d form ⊎ (SpellsSecond d form ⊎ SpellsThird d form)
 
+-- a document says a setup
 pub record SaysDocument (d : Data) (s : SetupShape) : Type 0 where
   pub form : SetupParts
   pub is_form : SpellsSetup d form
@@ -99,9 +101,11 @@ pub record IsJson (text : List ℕ) (d : Data) : Type 0 where
   pub utf8 : is_utf8 text ≡ true
   pub json : read text ≡ Some d
 
+-- a text is not UTF-8, or not JSON
 abbrev pub IsNotJson : List ℕ → Type 0
 IsNotJson text = (is_utf8 text ≡ false) ⊎ (read text ≡ None)
 
+-- a text says a setup
 abbrev pub SaysSetup : List ℕ → SetupShape → Type 0
 SaysSetup text s = (d : Data) × IsJson text d × SaysDocument d s
 

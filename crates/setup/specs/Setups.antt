@@ -116,6 +116,7 @@ pub record SetupShape : Type 0 where
   pub retries : ℕ
   pub digest : DigestForm
 
+-- a setup read from left to right, or its first fault
 unfoldable pub setup_at : Data → Result SetupShape SetupFault
 setup_at d = do
   form ← formed Shape (setup_form d)
@@ -124,6 +125,7 @@ setup_at d = do
   rows ← rows_at tables form.rows
   Ok (record { tables = tables; procs = procs; rows = rows; retries = form.retries; digest = form.digest })
 
+-- the setup that a document says, if there is one, or the first fault
 abbrev pub document_said : Option Data → Result SetupShape SetupFault
 document_said None = Err NotJson
 document_said (Some d) = setup_at d
@@ -132,6 +134,7 @@ document_said (Some d) = setup_at d
 unfoldable pub setup_said : List ℕ → Result SetupShape SetupFault
 setup_said text = if is_utf8 text then document_said (read text) else Err NotJson
 
+-- what a setup document of the code means
 abbrev pub setup_view : SetupDocument → SetupShape
 setup_view document = record {
   tables = document.setup.catalogue;

@@ -33,10 +33,10 @@ pub enum SetupFault {
     /// The system refused memory.
     #[error("fault 47")]
     Memory,
-    /// The catalogue breaks a rule, or memory was refused while it was read.
+    /// The catalogue breaks a rule, or allocation failed while it was read.
     #[error("{0}")]
     Catalogue(CatalogueFault),
-    /// The procedures break a rule, or memory was refused while they were read.
+    /// The procedures break a rule, or allocation failed while they were read.
     #[error("{0}")]
     Procedure(ProcFault),
 }

@@ -1,5 +1,11 @@
 //! Setup documents: catalogue, procedures and starting rows, how often a stale request is tried again, and of which
 //! text of the rows digests are.
+//!
+//! Proved, by `read_setup` and `read_rows`: what is read is what the text says, and what it says is read; the fault is
+//! that of the first rule that is broken, all before it being well formed; a text that is read breaks none, and one
+//! that breaks none is read. `row_faults_are_told_apart`: each fault of a row by what is wrong with the row.
+//!
+//! Tested only: fault texts.
 #![tactic(auto)]
 
 mod document;

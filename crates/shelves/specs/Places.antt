@@ -1,5 +1,5 @@
 -- Claimed: what contracts promise to a reader rests on these words.
--- Places: what stands at row names, and what counts there.
+-- Places: what is at row names, and what counts there.
 use Rattle.std.specs.Prelude.{List, Option, Some, None, option_map, Bool, true, false, is_some}
 use Rattle.std.specs.List.{list_any}
 use Rattle.std.specs.BTreeMap.{BTreeMap, get, is_at}
@@ -17,7 +17,7 @@ use Rattle.shelves.specs.declared.contents.Contents.{Contents}
 use Rattle.shelves.specs.declared.contents.Contents.TheVariants.{Own, Shared}
 use Rattle.shelves.specs.declared.shelf.Shelf.{Shelf}
 
--- the row that stands at a name, and the row that counts there: while a row is lent to be written it is away, and
+-- the row that is at a name, and the row that counts there: while a row is lent to be written it is away, and
 -- counts as it was lent
 pub record PlaceOf : Type 0 where
   pub row : Option RowOf
@@ -30,7 +30,7 @@ shared_row row = option_map arc_value row
 abbrev pub full : Option RowOf → PlaceOf
 full row = record { row = row; counts_as = row }
 
--- a name with the row that stands there, and no other counts
+-- a name with the row that is there, and no other counts
 abbrev pub as_it_stands : PlaceOf → PlaceOf
 as_it_stands place = full place.row
 
@@ -42,7 +42,7 @@ emptied place = record { row = None; counts_as = place.counts_as }
 abbrev pub gone : PlaceOf → PlaceOf
 gone place = record { row = None; counts_as = place.row }
 
--- the row that stands at a place: none while it is lent, or is to come
+-- the row that is at a place: none while it is lent, or is to come
 abbrev pub row_of : Place → Option RowOf
 row_of (Here row) = shared_row row
 row_of (Lent row) = None
@@ -54,7 +54,7 @@ counted (Here row) otherwise = shared_row row
 counted (Lent row) otherwise = shared_row row
 counted Reserved otherwise = otherwise
 
--- the row that stands at a place; none where there is no place
+-- the row that is at a place; none where there is no place
 abbrev pub standing : Option Place → Option RowOf
 standing None = None
 standing (Some place) = row_of place
@@ -116,7 +116,7 @@ abbrev pub is_out_on : Option Shelf → Bool
 is_out_on None = false
 is_out_on (Some shelf) = is_shelf_out shelf
 
--- shelves stand at resources
+-- shelves are at resources
 abbrev pub Shelves : Type 0
 Shelves = BTreeMap Resource Shelf
 

@@ -1,5 +1,5 @@
 -- Claimed: what contracts promise to a reader rests on these words.
--- The rows that shelves stand for.
+-- The rows that shelves represent.
 use Rattle.catalogue.specs.Shapes.{TableShape}
 use Rattle.footprint.specs.declared.resource.Resource.{Resource}
 use Rattle.shelves.specs.Places.{Places, places_of, Shelves, PlaceOf, seen_at}
@@ -14,7 +14,7 @@ use Rattle.values.specs.declared.name.RowName.{RowName}
 use Rattle.values.specs.declared.value.Value.{Value}
 use Rattle.workspace.specs.Overlay.{with_write}
 
--- what stands at a row name
+-- what is at a row name
 abbrev pub found : List TableShape → Shelves → RowName → PlaceOf
 found tables shelves name = seen_at shelves (shelf_of tables name) name
 

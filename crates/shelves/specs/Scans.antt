@@ -15,7 +15,7 @@ abbrev pub scan_start : ℕ → Option ℕ → Bound RowName
 scan_start table None = Unbounded
 scan_start table (Some key) = Excluded (record { table = table; key = key })
 
--- the row that stands at a place, if its name is of the partition
+-- the row that is at a place, if its name is of the partition
 abbrev pub row_on : List TableShape → ℕ → ℕ → RowName × Place → Option RowOf
 row_on tables table part e = if is_ahead tables table part None e.0 then row_of e.1 else None
 
@@ -23,7 +23,7 @@ abbrev pub with_row : ℕ → Option RowOf → List (ℕ × RowOf) → List (ℕ
 with_row key None rows = rows
 with_row key (Some row) rows = (key, row) ∷ rows
 
--- the rows of a partition that stand at places, with their keys
+-- the rows of a partition that are at places, with their keys
 abbrev pub rows_on : List TableShape → ℕ → ℕ → List (RowName × Place) → List (ℕ × RowOf)
 rows_on tables table part [] = []
 rows_on tables table part (e ∷ es) = with_row e.0.key (row_on tables table part e) (rows_on tables table part es)

@@ -1,5 +1,5 @@
 -- Claimed: what contracts promise to a reader rests on these words.
--- Where the place of a row name stands.
+-- Where the place of a row name is.
 use Rattle.std.specs.Prelude.{◌≡◌, ◌⊎◌, ℕ, ◌^◌, Bool, pos, true, false, nat_lt, List, Option, Some, None, unwrap_or, slice_get}
 use Rattle.values.specs.declared.name.RowName.{RowName}
 use Rattle.catalogue.specs.Shapes.{TableShape}
@@ -18,12 +18,12 @@ abbrev pub shelf_in : List TableShape → ℕ → ℕ → Option TableShape → 
 shelf_in tables table part None = Db
 shelf_in tables table part (Some shape) = shelf_numbered table (partition_numbered tables table (pos part))
 
--- the shelf of a partition stands at the partition; what is of no partition of the tables stands at its table, and what
+-- the shelf of a partition is at the partition; what is of no partition of the tables is at its table, and what
 -- is of no table at the database
 unfoldable pub shelf_at : List TableShape → ℕ → ℕ → Resource
 shelf_at tables table part = shelf_in tables table part (slice_get tables table)
 
--- the place of a row name stands on the shelf of its partition
+-- the place of a row name is on the shelf of its partition
 unfoldable pub shelf_of : List TableShape → RowName → Resource
 shelf_of tables name = shelf_at tables name.table (unwrap_or (partition_of tables name.table name.key) 0)
 

@@ -1,5 +1,10 @@
 //! The rows of a database on shelves, one for each partition. A row can go out to a loan and come back, by itself or
 //! with its shelf; while it is away it counts as it was lent.
+//!
+//! Proved, by each function that reads, puts, takes, writes or moves rows: what counts at every name afterwards, which
+//! places and shelves are there, and which shelves are away.
+//!
+//! Not proved: what `add_row` and `push_rows` leave if allocation fails; that places of rows that were taken away go.
 #![tactic(auto)]
 
 mod contents;

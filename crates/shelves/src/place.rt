@@ -1,4 +1,4 @@
-//! Places: what stands at row names.
+//! Places: what is at row names.
 
 ghost use Rattle.std.specs.Prelude.{◌≡◌, true, false, Some, Option, option_map, IfOk};
 ghost use Rattle.std.specs.Arc.{arc_value};
@@ -12,7 +12,7 @@ use values::{NoMemory, Row};
 /// A place: a row name with a row or with none.
 #[derive(Drop)]
 pub(crate) enum Place {
-    /// What stands here counts.
+    /// What is here counts.
     Here(Option<Arc<Row>>),
     /// What stood here is lent to be written, not by its name alone but on a shelf, and counts as it was lent.
     Lent(Option<Arc<Row>>),
@@ -21,7 +21,7 @@ pub(crate) enum Place {
 }
 
 impl Place {
-    /// The row that stands at the place.
+    /// The row that is at the place.
     pub(crate) fn row(&self) -> Option<&Row>
         ensures { option_map (λ r. r.now) result ≡ row_of self.now }
     {
@@ -31,7 +31,7 @@ impl Place {
         }
     }
 
-    /// The row that stands at the place, once more.
+    /// The row that is at the place, once more.
     pub(crate) fn share(&self) -> Result<Option<Arc<Row>>, NoMemory>
         ensures { IfOk result (λ row. shared_row row ≡ row_of self.now) }
     {
@@ -66,7 +66,7 @@ impl Place {
         }
     }
 
-    /// Lends the row that stands at the place. It counts as before.
+    /// Lends the row that is at the place. It counts as before.
     pub(crate) fn empty(&mut self)
         ensures { (otherwise : Option RowOf) →
             seen_over (Some self.new) otherwise ≡ emptied (seen_over (Some self.old) otherwise) }

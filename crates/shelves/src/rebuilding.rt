@@ -37,7 +37,7 @@ fn put_row(
     Ok(())
 }
 
-/// Puts the rows that stand at the names of places on shelves of another catalogue.
+/// Puts the rows that are at the names of places on shelves of another catalogue.
 fn put_rows(
     alloc: Global,
     old_catalogue: &Catalogue,
@@ -60,7 +60,7 @@ fn put_rows(
     Ok(())
 }
 
-/// Shelves of another catalogue with the rows that stand on the old ones.
+/// Shelves of another catalogue with the rows that are on the old ones.
 pub fn rebuilt(
     alloc: Global,
     old_catalogue: &Catalogue,

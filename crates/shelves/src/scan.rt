@@ -39,7 +39,7 @@ fn is_ahead(
     name.table == table && part_of(catalogue, name) == part && is_after(after, name.key)
 }
 
-/// The row that stands at a place whose name is ahead.
+/// The row that is at a place whose name is ahead.
 fn row_ahead<'a>(
     catalogue: &Catalogue,
     table: TableNo,
@@ -69,7 +69,7 @@ fn scan_start(table: TableNo, after: &Option<Key>) -> Bound<RowName>
     }
 }
 
-/// The first row of a partition that stands on a shelf, after a key or from the partition's start. Places without a row
+/// The first row of a partition that is on a shelf, after a key or from the partition's start. Places without a row
 /// are passed over.
 fn next_on<'a>(
     catalogue: &Catalogue,
@@ -93,7 +93,7 @@ fn next_on<'a>(
     None
 }
 
-/// The first row of a partition that stands, after a key or from the partition's start.
+/// The first row of a partition that is there, after a key or from the partition's start.
 pub fn next_row<'a>(
     catalogue: &Catalogue,
     shelves: &'a Shelves,
@@ -111,7 +111,7 @@ pub fn next_row<'a>(
     }
 }
 
-/// Appends the rows of a partition that stand on a shelf, by ascending key. Places without a row are passed over.
+/// Appends the rows of a partition that are on a shelf, by ascending key. Places without a row are passed over.
 fn push_rows_on<'a>(
     catalogue: &Catalogue,
     shelf: &'a Shelf,
@@ -136,7 +136,7 @@ fn push_rows_on<'a>(
     Ok(())
 }
 
-/// Appends the rows of a partition that stand, by ascending key.
+/// Appends the rows of a partition that are there, by ascending key.
 pub fn push_rows<'a>(
     catalogue: &Catalogue,
     shelves: &'a Shelves,

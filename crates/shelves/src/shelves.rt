@@ -158,7 +158,7 @@ pub fn put_row(shelves: &mut Shelves, at: &Resource, name: &RowName, row: Option
     }
 }
 
-/// The row that stands at a name, once more. Sees to it that the name has a place.
+/// The row that is at a name, once more. Sees to it that the name has a place.
 #[tactic(auto, using(crate::proofs::Exact::get_same))]
 pub fn lend_row(
     alloc: Global,
@@ -181,7 +181,7 @@ pub fn lend_row(
     Ok(None)
 }
 
-/// The row that stands at a name, once more.
+/// The row that is at a name, once more.
 pub fn share_row(
     shelves: &Shelves,
     at: &Resource,
@@ -195,7 +195,7 @@ pub fn share_row(
     }
 }
 
-/// The row that stands at a name.
+/// The row that is at a name.
 pub fn row_at<'a>(shelves: &'a Shelves, at: &Resource, name: &RowName) -> Option<&'a Row>
     ensures { option_map (λ r. r.now) result ≡ (seen_at shelves.now at.now name.now).row }
 {
@@ -213,7 +213,7 @@ pub fn count_places(shelves: &Shelves, at: &Resource) -> Option<usize> {
     }
 }
 
-/// Takes a place off its shelf, and gives the row that stands there, if there is a place.
+/// Takes a place off its shelf, and gives the row that is there, if there is a place.
 #[tactic(auto, using(crate::proofs::Exact::get_same))]
 pub fn take_row(shelves: &mut Shelves, at: &Resource, name: &RowName) -> Option<Option<Arc<Row>>>
     ensures row { option_map shared_row result ≡ (if has_place shelves.old at.now name.now

@@ -1,4 +1,4 @@
-//! Where the place of a row name stands.
+//! Where the place of a row name is.
 
 ghost use Rattle.std.specs.Prelude.{◌≡◌, unwrap_or};
 ghost use Rattle.catalogue.specs.Places.{partition_of};
@@ -34,7 +34,7 @@ pub fn has_ends(catalogue: &Catalogue)
     let _tables = catalogue.len();
 }
 
-/// The resource at which the shelf of a partition stands: the partition itself, if the catalogue has it.
+/// The resource at which the shelf of a partition is: the partition itself, if the catalogue has it.
 #[tactic(auto, unfolding(crate::specs::Shelving::shelf_at))]
 pub(crate) fn shelf_at(catalogue: &Catalogue, table: TableNo, part: u32) -> Resource
     ensures { result ≡ shelf_at catalogue.now table part }
@@ -48,7 +48,7 @@ pub(crate) fn shelf_at(catalogue: &Catalogue, table: TableNo, part: u32) -> Reso
     }
 }
 
-/// The resource at which the place of a row name stands: its partition.
+/// The resource at which the place of a row name is: its partition.
 #[tactic(auto, unfolding(crate::specs::Shelving::shelf_of))]
 pub fn shelf_of(catalogue: &Catalogue, name: RowName) -> Resource
     ensures { result ≡ shelf_of catalogue.now name }

@@ -12,6 +12,7 @@ use values::Value;
 /// A call: the procedure's name, and its values.
 pub type Call<'a> = (&'a str, &'a [i64]);
 
+/// Two payments of 30 from account 1 to account 2.
 pub const TWO_PAYS: [Call<'static>; 2] = [("pay", &[1, 2, 30]), ("pay", &[1, 2, 30])];
 
 /// Why calls are no batch of the bank.

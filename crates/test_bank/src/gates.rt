@@ -18,6 +18,7 @@ pub struct CountingGate {
 }
 
 impl CountingGate {
+    /// A gate that no job has passed.
     pub fn new(is_open: bool) -> CountingGate {
         CountingGate {
             is_open,
@@ -49,7 +50,7 @@ impl Gate for CountingGate {
     }
 }
 
-/// Holds one job until another comes, for so many turns at most, and notes whether it came. It counts the jobs, too.
+/// Holds one job until another comes, for `turns` turns at most, and notes whether it came. It counts the jobs, too.
 #[derive(Drop)]
 pub struct Meeting {
     count: CountingGate,

@@ -9,12 +9,12 @@ use test_bank::{Bodies, Call, TWO_PAYS, bank, batch, batch_of, engine, replies};
 /// How many lists of choices are tried with each setting.
 const SEEDS: u32 = 64;
 
-/// The number behind a number, as if drawn at random.
+/// The number after a number, as if drawn at random.
 pub(crate) fn after(number: u32) -> u32 {
     number.wrapping_mul(1_664_525).wrapping_add(1_013_904_223)
 }
 
-/// A list of so many choices, another one for each seed.
+/// A list of `count` choices, another one for each seed.
 pub(crate) fn choices(alloc: Global, seed: u32, count: u32) -> Result<Vec<u64>, Fail> {
     let mut choices = Vec::new(alloc);
     let mut number = seed;

@@ -18,7 +18,7 @@ const FOUR: [Call<'static>; 4] = [PEEK, PEEK, PEEK, PEEK];
 const FOUR_READ: &str = "commit 100;commit 100;commit 100;commit 100;";
 
 /// Readers, and a reader and a writer of other rows, are run at once where there are two workers and two lanes.
-/// Writers, and a reader behind a writer, are run one after the other. Who waits for a lane alone comes once one is
+/// Writers, and a reader after a writer, are run one after the other. Who waits for a lane alone comes once one is
 /// free.
 const MEETINGS: [Met<'static>; 9] = [
     (

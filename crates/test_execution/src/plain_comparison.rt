@@ -42,7 +42,7 @@ enum Way<'a> {
     Workers(&'a CountingGate),
 }
 
-/// The call that a number stands for: mostly a payment between the accounts 1, 2 and 4, of which the last may not be
+/// The call that a number means: mostly a payment between the accounts 1, 2 and 4, of which the last may not be
 /// there yet.
 fn drawn(alloc: Global, procs: &Procs, number: u32) -> Result<Request, CallsFault>
     ensures { IfOk result (λ request. request.proc.tables ≡ procs.now.tables) }

@@ -92,7 +92,7 @@ const OUTCOMES: &str = "commit 100;commit 100;commit 100;commit 70;commit 40;\
 commit 100;commit 100;commit 100;commit 70;commit 40;";
 
 /// A worker is started for the first batch, and another for the third, in which two jobs meet. Both work at all batches
-/// behind it.
+/// after it.
 #[test]
 fn a_pool_works_at_one_batch_after_another(rt: HostRuntime) -> Result<(), Fail> {
     let settings = Settings::new(2, 8, 64, 65_536)?;

@@ -12,7 +12,7 @@ use std::test::Fail;
 pub(crate) enum Step {
     /// The client of this number submits this request.
     Submit(u8, u64),
-    /// The owner draws so many requests at most.
+    /// The owner draws this number of requests at most.
     Draw(usize),
     /// The owner drains what the clients have left.
     Drain,
@@ -114,7 +114,7 @@ fn make<R: Wait + AllocGlobal>(
     }
 }
 
-/// What comes of steps on a new intake of so many clients and of that capacity.
+/// What comes of steps on a new intake of `clients` clients and of that capacity.
 pub(crate) fn run<R: Wait + AllocGlobal>(
     rt: &R,
     clients: u8,

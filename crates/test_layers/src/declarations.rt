@@ -84,7 +84,7 @@ fn calls_declare_rights_or_abort(rt: HostRuntime) -> Result<(), Fail> {
     Ok(())
 }
 
-/// A batch of so many calls: how many it has, or why it is none.
+/// A batch of `count` calls: how many it has, or why it is none.
 fn batch_of(alloc: Global, count: usize) -> Result<Result<usize, BatchFault>, Fail> {
     let entries = entries(alloc, "none", &[])?;
     let entry = entries.first().ok_or("an entry")?;

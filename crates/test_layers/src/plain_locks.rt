@@ -79,7 +79,7 @@ fn used(waiting: &[Waits]) -> usize {
 }
 
 impl Plain {
-    /// No transactions, and room for so many requests.
+    /// No transactions, and room for `arena` requests.
     pub(crate) fn new(alloc: Global, arena: usize) -> Plain {
         Plain {
             arena,
@@ -87,7 +87,7 @@ impl Plain {
         }
     }
 
-    /// Puts a transaction behind all others, if there is room for its requests.
+    /// Puts a transaction after all others, if there is room for its requests.
     pub(crate) fn enqueue(&mut self, alloc: Global, no: u64, plan: &Plan) -> Result<bool, Fail> {
         if used(self.waiting.as_slice()).saturating_add(plan.requests().len()) > self.arena {
             return Ok(false);

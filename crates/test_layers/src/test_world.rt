@@ -13,7 +13,7 @@ use values::Value;
 
 const BANK: &str = r#"["catalogue",1,[["acct",2,[["bal","int"]]],["ref",1,[["to","int"]]]]]"#;
 
-/// Procedures without bodies. Those of one number, which stands for a key or a partition, are for clashes.
+/// Procedures without bodies. Those of one number, which is a key or a partition, are for clashes.
 const PROCS: &str = r#"["procs",1,[
 ["pay",[["a","int"],["b","int"]],["declared",["row","w","acct","a"],["row","w","acct","b"]],[]],
 ["sum",[["a","int"],["b","int"]],["declared",["row","w","acct",["+","a","b"]],["row","w","acct","b"]],[]],
@@ -60,7 +60,7 @@ pub(crate) fn entries(alloc: Global, name: &str, numbers: &[i64]) -> Result<Vec<
     Ok(prepare(alloc, &batch, &catalogue, &procs, &store)?)
 }
 
-/// The plan of a call, with this threshold and so many requests at most.
+/// The plan of a call, with this threshold and `most` requests at most.
 pub(crate) fn plan(
     alloc: Global,
     (name, numbers): (&str, &[i64]),

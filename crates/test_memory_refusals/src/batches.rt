@@ -1,4 +1,4 @@
-//! Logs of several batches, whose setups, texts and reports stand in `data/`: their batches are executed one after
+//! Logs of several batches, whose setups, texts and reports are in `data/`: their batches are executed one after
 //! another, and gone on with, and their reports are written.
 
 ghost use Rattle.std.specs.Prelude.{◌≡◌, IfSome, true};
@@ -20,7 +20,7 @@ use std::{fs, rt};
 use test_bank::CountingGate;
 use test_refusal_steps::{Answer, Refusal, batch_in, batch_of};
 
-/// A log whose files stand in `data/`.
+/// A log whose files are in `data/`.
 #[derive(Clone, Copy)]
 pub(crate) enum StoredLog {
     /// 200 calls in five batches.
@@ -83,7 +83,7 @@ impl Way<'_> {
     }
 }
 
-/// What stands behind each batch but the last.
+/// What comes after each batch but the last.
 const CUT: &str = "[\"cut\"]\n";
 
 /// A file of a log.
@@ -94,7 +94,7 @@ fn text<R: rt::Files + AllocGlobal>(rt: &R, stored: StoredLog, name: &str) -> Op
     fs::read_to_string(rt, path).ok()
 }
 
-/// The settings with so many workers and this threshold.
+/// The settings with `workers` workers and this threshold.
 fn settings(workers: usize, threshold: usize) -> Option<Settings> {
     Settings::new(workers, 8, threshold, 65_536).ok()
 }

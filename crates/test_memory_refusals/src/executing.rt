@@ -12,7 +12,7 @@ use std::thread::Threads;
 use test_bank::CountingGate;
 use test_refusal_steps::{Answer, CALLS, Refusal, bank, batch, is_of_log};
 
-/// An engine on a setup, with so many workers and lanes.
+/// An engine on a setup, with `workers` workers and `lanes` lanes.
 pub(crate) fn engine_over(
     alloc: Global,
     setup: Setup,
@@ -23,7 +23,7 @@ pub(crate) fn engine_over(
     Engine::new(alloc, setup, settings).ok()
 }
 
-/// An engine on a setup, with so many workers.
+/// An engine on a setup, with `workers` workers.
 fn engine_on(alloc: Global, setup: Setup, workers: usize) -> Option<Engine> {
     engine_over(alloc, setup, workers, 8)
 }
@@ -120,7 +120,7 @@ pub(crate) fn gone_on_with<R: Threads + Wait + Sync + AllocGlobal>(
     }
 }
 
-/// So many choices of events, which lie far apart.
+/// Choices of events, which lie far apart.
 fn choices(alloc: Global, count: usize) -> Result<Vec<u64>, AllocError> {
     let mut choices = Vec::new(alloc);
     let mut number: u32 = 7;
@@ -131,7 +131,7 @@ fn choices(alloc: Global, count: usize) -> Result<Vec<u64>, AllocError> {
     Ok(choices)
 }
 
-/// An engine runs the log on one thread, by so many choices of events.
+/// An engine runs the log on one thread, by `count` choices of events.
 fn run_alone<R: Threads + Wait + Sync + AllocGlobal>(
     rt: &R,
     refusal: &mut Refusal,
@@ -149,7 +149,7 @@ fn run_alone<R: Threads + Wait + Sync + AllocGlobal>(
     gone_on_with(rt, engine, ended, then, gate)
 }
 
-/// The log on one thread, by so many choices of events.
+/// The log on one thread, by `count` choices of events.
 pub(crate) fn try_alone<R: Threads + Wait + Sync + AllocGlobal>(
     rt: &R,
     refusal: &mut Refusal,
@@ -179,7 +179,7 @@ fn execute<R: Threads + Wait + Sync + AllocGlobal>(
     Some(if_jobs(answer, gate, CALLS))
 }
 
-/// The log on so many workers, each of its calls as a job.
+/// The log on `workers` workers, each of its calls as a job.
 pub(crate) fn try_workers<R: Threads + Wait + Sync + AllocGlobal>(
     rt: &R,
     refusal: &mut Refusal,

@@ -1,7 +1,7 @@
 //! Tries the calls that may want memory, on a setup with every kind of statement and on a log of 100 calls, on one of
 //! 200 in five batches, and on one whose stale calls are tried again, where the system refuses one allocation.
 //!
-//! Each argument is the name of a step, and may have, behind a colon, how many allocations are made and let go before
+//! Each argument is the name of a step, and may have, after a colon, how many allocations are made and let go before
 //! it: the more they are, the earlier in the step is the one that is refused. For each it prints what came of the step,
 //! how many allocations were made before it, and how many could be made after it until one was refused, or `none` where
 //! none was.
@@ -92,7 +92,7 @@ const RETRIES_ALONE: OnBatches = OnBatches {
     is_open: false,
 };
 
-/// What comes of the step with a name; `None` where there is no such step, or what it stands on could not be made.
+/// What comes of the step with a name; `None` where there is no such step, or what it needs could not be made.
 fn tried<R: Threads + Wait + Sync + rt::Files + AllocGlobal>(
     rt: &R,
     refusal: &mut Refusal,

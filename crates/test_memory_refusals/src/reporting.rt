@@ -10,7 +10,7 @@ use std::thread::Threads;
 use test_bank::CountingGate;
 use test_refusal_steps::{Answer, CALLS, REPORT, Refusal, bank, log_text};
 
-/// A log of so many calls is run on a setup document, through a gate, and its report is written.
+/// A log of `calls` calls is run on a setup document, through a gate, and its report is written.
 pub(crate) fn try_report<R: Threads + Wait + Sync + AllocGlobal>(
     rt: &R,
     refusal: &mut Refusal,

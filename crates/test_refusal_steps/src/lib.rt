@@ -1,5 +1,7 @@
 //! What is tried of the crates below the engine where the system refuses one allocation: a setup with every kind of
 //! statement, a log of 100 calls, and what comes of them.
+//!
+//! `test_memory_refusals` runs the steps; nothing here is claimed.
 #![tactic(auto)]
 
 mod answer;

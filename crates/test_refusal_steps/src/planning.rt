@@ -166,7 +166,7 @@ pub fn try_plan(alloc: Global, refusal: &mut Refusal) -> Option<Answer> {
 /// The place of the call whose footprint is found, between the halves of the log.
 const FOUND: usize = 50;
 
-/// The footprint that reconnaissance finds. Its plan stands among those of the calls.
+/// The footprint that reconnaissance finds. Its plan is among those of the calls.
 pub fn try_recon(alloc: Global, refusal: &mut Refusal) -> Option<Answer> {
     let (answer, footprint) = found_of_bank(alloc, refusal)?;
     let plan = Plan::new(alloc, &footprint, 64, 65_536).ok()?;

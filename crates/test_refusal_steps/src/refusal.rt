@@ -3,10 +3,11 @@
 use std::alloc::Global;
 use std::fmt;
 
-/// More allocations than a step and what it stands on make.
+/// More allocations than a step and what it needs make.
 const MOST: u64 = 20_000;
 
-/// Makes so many allocations, one after another, and lets each go. Says how many were made until one was refused.
+/// Makes `most` allocations at most, one after another, and lets each go. Says how many were made until one was
+/// refused.
 fn allocate(alloc: Global, most: u64) -> u64 {
     for made in 0..most {
         let mut list = Vec::new(alloc);
@@ -32,6 +33,7 @@ pub struct Refusal {
 }
 
 impl Refusal {
+    /// A refusal before which `wanted` allocations are made, and none is made yet.
     pub fn new(alloc: Global, wanted: u64) -> Refusal {
         Refusal {
             alloc,
@@ -63,12 +65,12 @@ impl Refusal {
         self.before = self.near();
     }
 
-    /// Notes that so many allocations came near it within the step.
+    /// Notes that `made` allocations came near it within the step.
     pub fn note_approach(&mut self, made: u64) {
         self.before = made;
     }
 
-    /// Leaves it behind, if the step did not meet it: the step has ended.
+    /// Passes it, if the step did not meet it: the step has ended.
     pub fn pass(&mut self) {
         let made = allocate(self.alloc, self.most);
         if made < self.most {

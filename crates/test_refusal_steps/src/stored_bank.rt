@@ -49,7 +49,7 @@ pub fn bank(alloc: Global) -> Option<Setup> {
     Some(read_setup(alloc, BANK.as_bytes()).ok()?.setup)
 }
 
-/// The requests of the first batch of a log; `None` where it has none, or memory is refused.
+/// The requests of the first batch of a log; `None` where it has none, or allocation fails.
 fn requests_in(alloc: Global, procs: &Procs, log: &str) -> Option<Vec<Request>>
     ensures tables { IfSome result (λ requests.
         AllByRecursion (λ request. request.proc.tables ≡ procs.now.tables) requests.items) }
@@ -71,7 +71,7 @@ pub fn batch_of(alloc: Global, _procs: &Procs, requests: Vec<Request>) -> Option
     }
 }
 
-/// The first batch of a log; `None` where it has none, or memory is refused.
+/// The first batch of a log; `None` where it has none, or allocation fails.
 pub fn batch_in(alloc: Global, procs: &Procs, log: &str) -> Option<Batch>
     ensures { IfSome result (λ batch. AreOver procs.now.tables (items_of batch)) }
 {

@@ -11,7 +11,7 @@ use setup::{Setup, read_setup};
 use std::alloc::Global;
 use values::{Key, Row, TableNo, Value};
 
-/// The key behind the greatest of the table.
+/// The key after the greatest of the table.
 const END: i64 = 4_001;
 
 /// A setup without rows: `sweep` changes each row of the table, and then inserts one that is there.

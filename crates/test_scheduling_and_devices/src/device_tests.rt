@@ -35,7 +35,7 @@ const READINGS: [Reading<'static>; 4] = [
     ("replicas bank.json report.txt", "", true),
 ];
 
-/// Whether a call ends as it must where the read fails that comes behind so many bytes of the log.
+/// Whether a call ends as it must where the read fails that comes after a number of bytes of the log.
 fn ends_at_a_read<R: Threads + Wait + Sync + AllocGlobal>(
     rt: &R,
     tried: Tried,
@@ -77,7 +77,7 @@ fn a_read_that_fails_ends_the_command(rt: HostRuntime) -> Result<(), Fail> {
 }
 
 /// A command, its setup, its log and the other report; what it writes; how many bytes are written before its log is
-/// read on, and the faults of a write that fails among those and behind them.
+/// read on, and the faults of a write that fails among those and after them.
 const COMMANDS: [(&str, [&str; 3], &str, usize, [&str; 2]); 5] = [
     (
         "run --workers 1 bank.json",
@@ -116,7 +116,7 @@ const COMMANDS: [(&str, [&str; 3], &str, usize, [&str; 2]); 5] = [
     ),
 ];
 
-/// Whether a call ends so where the write fails that comes behind so many bytes, or takes none.
+/// Whether a call ends so where the write fails that comes after a number of bytes, or takes none.
 fn ends_at_a_write<R: Threads + Wait + Sync + AllocGlobal>(
     rt: &R,
     tried: Tried,

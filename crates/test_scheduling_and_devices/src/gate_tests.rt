@@ -9,7 +9,7 @@ use test_bank::{Bodies, HANDED_OVER, Meeting, bank};
 
 const READ_AND_INSERT: &str = "[\"call\",\"peek\",[1]]\n[\"call\",\"ins\",[4,7]]\n";
 
-/// The report of the run of a log on so many workers and two lanes, through a gate.
+/// The report of the run of a log on `workers` workers and two lanes, through a gate.
 fn run_through<R: Threads + Wait + Sync + AllocGlobal>(
     rt: &R,
     log: &str,

@@ -1,4 +1,4 @@
-//! A log that is read batch by batch, from a source that fails, and behind a fault.
+//! A log that is read batch by batch, from a source that fails, and after a fault.
 
 use crate::test_world::{BANK, Slow};
 use calvin::{LogReader, Setup, read_setup};
@@ -28,8 +28,8 @@ const CUT_AND_PAY: &str = "[\"cut\"]\n[\"call\",\"pay\",[1,2,30]]\n";
 
 const PEEK_TWICE: &str = "[\"call\",\"peek\",[1]]\n[\"call\",\"peek\",[1]]\n";
 
-/// No byte is taken behind a batch: the line of the cut has 8 bytes with its newline, so the ninth read is of the
-/// second batch. A fault is answered again, and nothing is read behind it.
+/// No byte is taken after a batch: the line of the cut has 8 bytes with its newline, so the ninth read is of the
+/// second batch. A fault is answered again, and nothing is read after it.
 #[test]
 fn reads_fail_in_the_line_that_they_are_of(rt: HostRuntime) -> Result<(), Fail> {
     let alloc = rt.alloc();

@@ -19,7 +19,7 @@ const STEPS: [Event; 9] = [
     Event::Settle(2),
 ];
 
-/// Behind how many of these steps the second transaction is admitted, and the third: each before its own first step.
+/// After how many of these steps the second transaction is admitted, and the third: each before its own first step.
 const ADMITTED_BEHIND: [(usize, usize); 22] = [
     (0, 0),
     (0, 1),
@@ -45,7 +45,7 @@ const ADMITTED_BEHIND: [(usize, usize); 22] = [
     (3, 6),
 ];
 
-/// The events, where the second and the third transaction are admitted behind so many steps.
+/// The events, where the second and the third transaction are admitted after `second` and `third` steps.
 fn events_in_order(alloc: Global, second: usize, third: usize) -> Result<Vec<Event>, Fail> {
     let mut events = vec![in alloc; Event::Admit]?;
     for (place, step) in STEPS.iter().enumerate() {

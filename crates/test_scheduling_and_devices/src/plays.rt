@@ -83,7 +83,7 @@ const PLAYS: [Played<'static>; 4] = [
     ),
 ];
 
-/// What has come of so many calls.
+/// What has come of `count` calls.
 fn replies(alloc: Global, scheduler: &Scheduler, count: usize) -> Result<String, Fail> {
     let mut text = String::new(alloc);
     for number in 0..count {
@@ -111,7 +111,7 @@ fn play(alloc: Global, scheduler: &mut Scheduler, events: &[Event]) -> Result<St
     Ok(text)
 }
 
-/// What comes of events, and then of so many calls.
+/// What comes of events, and then of `count` calls.
 fn play_out(
     alloc: Global,
     scheduler: &mut Scheduler,
@@ -164,7 +164,7 @@ fn chosen(alloc: Global, events: &[Event], number: u64) -> Result<Option<Event>,
     chosen_on(alloc, &mut scheduler, events, number)
 }
 
-/// To admit comes first among the enabled events, and the others stand by the numbers of their transactions.
+/// To admit comes first among the enabled events, and the others come by the numbers of their transactions.
 #[test]
 fn events_are_chosen_by_their_places(rt: HostRuntime) -> Result<(), Fail> {
     let table: [(&[Event], u64, Event); 6] = [

@@ -7,7 +7,7 @@ const ALONE: &str = "run --alone --progress bank.json";
 
 const ON_WORKERS: &str = "run --workers 2 --progress bank.json";
 
-/// A line; how much the error output takes, and whether it is a terminal; how what stands there must begin and end.
+/// A line; how much the error output takes, and whether it is a terminal; how what is there must begin and end.
 const RUNS: [(&str, usize, bool, &str, &str); 6] = [
     (
         ALONE,

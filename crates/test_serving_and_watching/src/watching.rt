@@ -213,7 +213,7 @@ fn watchers_read_while_the_engine_runs(rt: HostRuntime) -> Result<(), Fail> {
     Ok(())
 }
 
-/// Counts the jobs, and those that come before all that stand in front of them are told of.
+/// Counts the jobs, and those that come before all that are in front of them are told of.
 #[derive(Drop)]
 struct Told<'r, R> {
     rt: &'r R,

@@ -15,5 +15,6 @@ name_cmp = order.ghosts.cmp
 abbrev pub RowOf : Type 0
 RowOf = List Value
 
+-- a finite map from row names to rows, in the order of tables and then of keys
 abbrev pub Database : Type 0
 Database = FinMap name_cmp RowOf

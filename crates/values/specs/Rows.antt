@@ -11,6 +11,7 @@ abbrev pub type_of : Value → ColType
 type_of (values.Int n) = types.Int
 type_of (values.Text s) = types.Text
 
+-- two types are one
 abbrev pub is_kind : ColType → ColType → Bool
 is_kind types.Int types.Int = true
 is_kind types.Int types.Text = false

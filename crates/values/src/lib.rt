@@ -1,4 +1,6 @@
 //! Values, rows, and the names that rows have.
+//!
+//! Proved: keys, names, values and rows are exact, by the contract of each function.
 #![tactic(auto)]
 
 mod key;

@@ -47,6 +47,7 @@ pub struct RowName {
 impl RowName {
     ghost use Rattle.std.specs.Prelude.{◌≡◌};
 
+    /// The name of the row of that table with that key.
     pub fn new(table: TableNo, key: Key) -> RowName
         ensures { result ≡ record { table = table; key = key } }
     {

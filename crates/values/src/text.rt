@@ -46,7 +46,7 @@ impl Clone for Text {
 }
 
 impl Text {
-    /// The text with these bytes.
+    /// The text with these bytes. The only error is that allocation failed.
     pub fn new(alloc: Global, text: &str) -> Result<Text, AllocError>
         ensures { IfOk result (λ t. t ≡ text.now) }
     {
@@ -54,6 +54,7 @@ impl Text {
         Ok(Text { text })
     }
 
+    /// The text as a string slice.
     pub fn as_str(&self) -> &str
         ensures { result.now ≡ self.now }
     {

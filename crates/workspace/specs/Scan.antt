@@ -8,6 +8,7 @@ use Rattle.catalogue.specs.Shapes.{TableShape}
 use Rattle.values.specs.Database.{Database, RowOf}
 pub use Rattle.meaning.specs.Partitions.{is_in_part, part_rows}
 
+-- the key comes after that one, if there is one
 abbrev pub is_after : Option ℕ → ℕ → Bool
 is_after None key = true
 is_after (Some k) key = nat_lt k key

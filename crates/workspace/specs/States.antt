@@ -1,5 +1,5 @@
 -- Claimed: what contracts promise to a reader rests on these words.
--- The state that a workspace stands for.
+-- The state that a workspace represents.
 use Rattle.std.specs.Prelude.{ℕ, take}
 use Rattle.values.specs.Database.{Database}
 use Rattle.meaning.specs.Runs.{State}

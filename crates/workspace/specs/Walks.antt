@@ -85,7 +85,7 @@ abbrev pub come_to : Option ℕ → Option ℕ → Option ℕ
 come_to before None = before
 come_to before (Some key) = Some key
 
--- the total of a column over rows by their keys; 0 stands for a value that is not there or is a text
+-- the total of a column over rows by their keys; 0 for a value that is not there or is a text
 abbrev pub total_by_key : ℕ → List (ℕ × RowOf) → ℤ
 total_by_key column [] = pos 0
 total_by_key column (row ∷ rows) = number_or (pos 0) (slice_get row.1 column) +ℤ total_by_key column rows

@@ -1,5 +1,10 @@
 //! What a run reads and what it has of its own: the rows that it is shown, under a permit, and its own writes over
 //! them.
+//!
+//! What is proved of a run is at the head of `interp`.
+//!
+//! Tested only: if allocation fails in a run, rows and entry are as they were, and the next run gives what it would
+//! have given.
 #![tactic(auto)]
 
 mod accesses;

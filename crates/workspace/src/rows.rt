@@ -32,7 +32,8 @@ fn tested_key(number: i64) -> Result<Key, Stop>
     }
 }
 
-/// The name of the row with the key of that number: the key is tested, and then comes the access to the row.
+/// The name of the row with the key of that number. The run ends with abort 5 where the number is negative, and else as
+/// the permit says where it doesn't cover that right to the row. The only other error is that allocation failed.
 #[tactic(auto, unfolding(meaning::specs::Runs::and_then), using(crate::proofs::Covered::permits_read))]
 pub fn access(
     permit: &Permit,
@@ -65,7 +66,8 @@ fn part_numbered(catalogue: &Catalogue, table: TableNo, number: i64) -> Option<u
     }
 }
 
-/// The partition with a number: the number is tested, and then comes the access, to read the partition.
+/// The partition with a number. The run ends with abort 6 where the table has none of that number, and else as the
+/// permit says where it doesn't cover reading the partition. The only other error is that allocation failed.
 pub fn access_part(
     permit: &Permit,
     space: &mut Workspace,
@@ -102,7 +104,7 @@ pub(crate) fn row_seen<'a, V: RowView>(
     }
 }
 
-/// The row with a name, after the own writes, or the end of the run where there is none.
+/// The row with a name, after the own writes. The only error is the end of the run where there is none: abort 1.
 pub fn present_row<'a, V: RowView>(
     shown: &'a Shown<'_, V>,
     space: &'a Workspace,

@@ -74,7 +74,7 @@ pub fn keys_in<V: RowView>(
     keys_of(alloc, &rows)
 }
 
-/// The number in a column of a row; 0 stands for one that is not there or is a text.
+/// The number in a column of a row; 0 for one that is not there or is a text.
 fn number_in(row: &Row, column: usize) -> i64
     ensures { result ≡ number_or (pos 0) (slice_get row.now column) }
 {
@@ -95,7 +95,7 @@ fn added(sum: i128, number: i64) -> i128
     sum + i128::from(number)
 }
 
-/// The exact total of a column over rows; 0 stands for a value that is not there or is a text.
+/// The exact total of a column over rows; 0 for a value that is not there or is a text.
 fn total_of(rows: &[(Key, &Row)], column: usize) -> i128
     ensures { result ≡ total_by_key column (referred rows.now) }
 {
@@ -107,7 +107,7 @@ fn total_of(rows: &[(Key, &Row)], column: usize) -> i128
 }
 
 /// The exact total of a column over the rows of a partition, after the own writes, or the end of the run where it is
-/// outside the signed 64-bit range; 0 stands for a value that is not there or is a text.
+/// outside the signed 64-bit range; 0 for a value that is not there or is a text.
 #[tactic(auto, using(crate::proofs::Scanned::total_is))]
 pub fn total_in<V: RowView>(
     shown: &Shown<'_, V>,

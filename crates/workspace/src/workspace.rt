@@ -62,7 +62,7 @@ impl Workspace {
         })
     }
 
-    /// The number of a variable; 0 stands for one that is not there or is a text.
+    /// The number of a variable; 0 for one that is not there or is a text.
     pub fn number(&self, place: usize) -> i64
         ensures { result ≡ number_or (pos 0) (slice_get self.now.variables.items place) }
     {
@@ -72,7 +72,7 @@ impl Workspace {
         }
     }
 
-    /// The text of a variable; the empty text stands for one that is not there or is a number.
+    /// The text of a variable; the empty text for one that is not there or is a number.
     pub fn text(&self, place: usize) -> &str
         ensures { result.now ≡ text_or [] (slice_get self.now.variables.items place) }
     {
@@ -129,7 +129,7 @@ impl Workspace {
         self.variables.truncate(count);
     }
 
-    /// Takes a step, of which there are 10,000.
+    /// Takes a step, of which there are 10,000. The error comes exactly where all are taken: abort 8.
     pub fn take_step(&mut self) -> Result<(), Stop>
         ensures gives { (db : Database) → Gives (λ _. tt) (state_at db self.new) result (step (state_at db self.old)) }
         ensures writes { OnOk result (self.new.writes ≡ self.old.writes) }
@@ -163,7 +163,8 @@ impl Workspace {
         Ok(())
     }
 
-    /// Appends values to the reply, of which there are at most 64.
+    /// Appends values to the reply, of which there are at most 64. Where they would be more the run ends with abort 7;
+    /// the only other error is that allocation failed.
     pub fn append_reply(&mut self, mut values: Vec<Value>) -> Result<(), Stop>
         ensures gives { (db : Database) →
             Gives (λ _. tt) (state_at db self.new) result (replying values.items (state_at db self.old)) }
