@@ -73,8 +73,8 @@ def parts(source):
     """The headings and the public definitions of a file, in its order."""
     above, in_group = [], False
     for line in head(source)[1]:
-        if line.startswith(HEADING):
-            yield Heading(line.removeprefix(HEADING).strip())
+        if line.lstrip().startswith(HEADING):
+            yield Heading(line.lstrip().removeprefix(HEADING).strip())
             above = []
         elif COMMENT.match(line):
             above.append(line)

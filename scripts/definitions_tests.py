@@ -74,8 +74,8 @@ class Parts(unittest.TestCase):
         self.assertEqual(parts("-- a note", "", "abbrev pub a : ℕ"), [Definition("a", "")])
 
     def test_a_heading_is_kept_and_is_no_comment(self):
-        source = ["-- ---- laws", "", "abbrev pub a : ℕ"]
-        self.assertEqual(parts(*source), [Heading("laws"), Definition("a", "")])
+        source = ["-- ---- laws", "", "abbrev pub a : ℕ", "module _ {Q : Type 0} where", "  -- ---- more"]
+        self.assertEqual(parts(*source), [Heading("laws"), Definition("a", ""), Heading("more")])
 
     def test_what_is_not_public_is_left_out(self):
         self.assertEqual(parts("-- mine", "abbrev a : ℕ", "pub use x.{y}", "record R : Type 0 where"), [])

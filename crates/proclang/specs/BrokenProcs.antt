@@ -1,7 +1,7 @@
 -- Claimed: what contracts promise to a reader rests on these words.
 -- The faults of a document of procedures, each with its path, in the order in which rules are looked at: the first is
 -- the one that is answered, and there is none where no rule is broken. Those after the first may follow from it, and be
--- of rules that the document keeps: a parameter whose type is refused is no variable, so a use of its name is here
+-- of rules that the document keeps: a parameter whose type is refused is no variable, so a use of its name counts here
 -- as that of an unknown one. No rule here depends on what reading gives.
 use Rattle.std.specs.Prelude.{ℕ, ◌+◌, not, List, [], ◌∷◌, ◌++◌, Option, Some, None, option_map, codes}
 use Rattle.std.specs.Option.{option_to_list}

@@ -69,7 +69,7 @@ AreReadShelves tables plan moved shelves loan = (name : RowName)
 
 -- ---- made ready: what is to be moved is still in the store, and has its place there
 
--- the row names that the plan locks have the rows that are at them
+-- the row names that the plan locks have the rows at them
 pub record AreRowsReady (tables : List TableShape) (plan : Requests) (old new : AllShelves) (held : HeldRows)
     : Type 0 where
   pub no_shelf : (name : RowName) → locks_shelf plan Read (shelf_of tables name) ≡ false

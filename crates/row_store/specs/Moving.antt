@@ -14,13 +14,13 @@ AreEmptied tables names old new = (name : RowName) → seen_at new (shelf_of tab
     ≡ (if is_named names name && has_place old (shelf_of tables name) name
     then emptied (seen_at old (shelf_of tables name) name) else seen_at old (shelf_of tables name) name)
 
--- the row that is at one name was added
+-- the row at one name was added
 abbrev pub IsShared : Resource → RowName → Shelves → Shelves → Shelves → Type 0
 IsShared at one shelves old new = (shelf : Resource) (name : RowName) → seen_at new shelf name
     ≡ (if is_same_shelf at shelf && is_same_name one name
     then as_it_stands (seen_at shelves shelf name) else seen_at old shelf name)
 
--- the rows that are at these names were added
+-- the rows at these names were added
 abbrev pub AreShared : List TableShape → List RowName → Shelves → Shelves → Shelves → Type 0
 AreShared tables names shelves old new = (name : RowName) → seen_at new (shelf_of tables name) name
     ≡ (if is_named names name then as_it_stands (seen_at shelves (shelf_of tables name) name)

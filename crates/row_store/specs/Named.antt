@@ -42,7 +42,7 @@ reads_only mode = gives Read mode && not (gives Write mode)
 abbrev pub reads_itself : Requests → RowName → Bool
 reads_itself requests name = list_any (λ e. reads_only e.1 && is_of (name_of e.0) name) requests
 
--- the names that pass a test are listed, each with the row that is at it, and no other
+-- the names that pass a test are listed, each with the row at it, and no other
 abbrev pub AreListed : List TableShape → List NamedRow → (RowName → Bool) → Shelves → Type 0
 AreListed tables rows test shelves = (name : RowName) → listed rows name
     ≡ (if test name then Some (seen_at shelves (shelf_of tables name) name).row else None)

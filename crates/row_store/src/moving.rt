@@ -46,7 +46,7 @@ pub(crate) fn empty_places(catalogue: &Catalogue, shelves: &mut Shelves, names: 
     }
 }
 
-/// Adds the row that is at a name, shared.
+/// Adds the row at a name, shared.
 fn share_one(
     alloc: Global,
     shelves: &Shelves,
@@ -66,7 +66,7 @@ fn share_one(
     Ok(())
 }
 
-/// Adds the rows that are at names, shared.
+/// Adds the rows at names, shared.
 pub(crate) fn share_rows(
     alloc: Global,
     catalogue: &Catalogue,

@@ -17,7 +17,7 @@ use Rattle.shelves.specs.declared.contents.Contents.{Contents}
 use Rattle.shelves.specs.declared.contents.Contents.TheVariants.{Own, Shared}
 use Rattle.shelves.specs.declared.shelf.Shelf.{Shelf}
 
--- the row that is at a name, and the row that counts there: while a row is lent to be written it is away, and
+-- the row at a name, and the row that counts there: while a row is lent to be written it is away, and
 -- counts as it was lent
 pub record PlaceOf : Type 0 where
   pub row : Option RowOf
@@ -42,7 +42,7 @@ emptied place = record { row = None; counts_as = place.counts_as }
 abbrev pub gone : PlaceOf → PlaceOf
 gone place = record { row = None; counts_as = place.row }
 
--- the row that is at a place: none while it is lent, or is to come
+-- the row at a place: none while it is lent, or is to come
 abbrev pub row_of : Place → Option RowOf
 row_of (Here row) = shared_row row
 row_of (Lent row) = None
@@ -54,7 +54,7 @@ counted (Here row) otherwise = shared_row row
 counted (Lent row) otherwise = shared_row row
 counted Reserved otherwise = otherwise
 
--- the row that is at a place; none where there is no place
+-- the row at a place; none where there is no place
 abbrev pub standing : Option Place → Option RowOf
 standing None = None
 standing (Some place) = row_of place

@@ -15,7 +15,7 @@ abbrev pub scan_start : ℕ → Option ℕ → Bound RowName
 scan_start table None = Unbounded
 scan_start table (Some key) = Excluded (record { table = table; key = key })
 
--- the row that is at a place, if its name is of the partition
+-- the row at a place, if its name is of the partition
 abbrev pub row_on : List TableShape → ℕ → ℕ → RowName × Place → Option RowOf
 row_on tables table part e = if is_ahead tables table part None e.0 then row_of e.1 else None
 

@@ -21,7 +21,7 @@ pub(crate) enum Place {
 }
 
 impl Place {
-    /// The row that is at the place.
+    /// The row at the place.
     pub(crate) fn row(&self) -> Option<&Row>
         ensures { option_map (λ r. r.now) result ≡ row_of self.now }
     {
@@ -31,7 +31,7 @@ impl Place {
         }
     }
 
-    /// The row that is at the place, once more.
+    /// The row at the place, once more.
     pub(crate) fn share(&self) -> Result<Option<Arc<Row>>, NoMemory>
         ensures { IfOk result (λ row. shared_row row ≡ row_of self.now) }
     {
@@ -66,7 +66,7 @@ impl Place {
         }
     }
 
-    /// Lends the row that is at the place. It counts as before.
+    /// Lends the row at the place. It counts as before.
     pub(crate) fn empty(&mut self)
         ensures { (otherwise : Option RowOf) →
             seen_over (Some self.new) otherwise ≡ emptied (seen_over (Some self.old) otherwise) }

@@ -37,7 +37,7 @@ fn put_row(
     Ok(())
 }
 
-/// Puts the rows that are at the names of places on shelves of another catalogue.
+/// Puts the rows at the names of places on shelves of another catalogue.
 fn put_rows(
     alloc: Global,
     old_catalogue: &Catalogue,

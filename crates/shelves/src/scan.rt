@@ -39,7 +39,7 @@ fn is_ahead(
     name.table == table && part_of(catalogue, name) == part && is_after(after, name.key)
 }
 
-/// The row that is at a place whose name is ahead.
+/// The row at a place whose name is ahead.
 fn row_ahead<'a>(
     catalogue: &Catalogue,
     table: TableNo,

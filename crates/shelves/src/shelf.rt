@@ -88,7 +88,7 @@ impl Shelf {
         self.contents.reserve(name)
     }
 
-    /// The row that is at a name, once more. Sees to it that the name has a place of the shelf's own.
+    /// The row at a name, once more. Sees to it that the name has a place of the shelf's own.
     #[tactic(auto, using(crate::proofs::Exact::own_same))]
     pub(crate) fn lend_row(
         &mut self,
@@ -192,7 +192,7 @@ impl Shelf {
         Some(place.into_row())
     }
 
-    /// The row that is at a name, once more.
+    /// The row at a name, once more.
     pub(crate) fn share_row(&self, name: &RowName) -> Result<Option<Arc<Row>>, NoMemory>
         ensures { IfOk result (λ row. shared_row row ≡ (seen_in self.now name.now).row) }
     {
@@ -202,7 +202,7 @@ impl Shelf {
         }
     }
 
-    /// The row that is at a name.
+    /// The row at a name.
     pub(crate) fn row_at(&self, name: &RowName) -> Option<&Row>
         ensures { option_map (λ r. r.now) result ≡ (seen_in self.now name.now).row }
     {

@@ -158,7 +158,7 @@ pub fn put_row(shelves: &mut Shelves, at: &Resource, name: &RowName, row: Option
     }
 }
 
-/// The row that is at a name, once more. Sees to it that the name has a place.
+/// The row at a name, once more. Sees to it that the name has a place.
 #[tactic(auto, using(crate::proofs::Exact::get_same))]
 pub fn lend_row(
     alloc: Global,
@@ -181,7 +181,7 @@ pub fn lend_row(
     Ok(None)
 }
 
-/// The row that is at a name, once more.
+/// The row at a name, once more.
 pub fn share_row(
     shelves: &Shelves,
     at: &Resource,
@@ -195,7 +195,7 @@ pub fn share_row(
     }
 }
 
-/// The row that is at a name.
+/// The row at a name.
 pub fn row_at<'a>(shelves: &'a Shelves, at: &Resource, name: &RowName) -> Option<&'a Row>
     ensures { option_map (λ r. r.now) result ≡ (seen_at shelves.now at.now name.now).row }
 {
