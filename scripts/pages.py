@@ -33,7 +33,6 @@ LIMITS = {
 }
 # What a page that is over its limit may have meanwhile. Lower it with the page, and take it out once the limit is met.
 MEANWHILE = {
-    "docs/architecture.md": 4926,
     "docs/trust.md": 9510,
     "docs/embedding.md": 2703,
 }
@@ -49,7 +48,7 @@ WORDS = {
 # How many of these words a page may have meanwhile.
 WORDS_MEANWHILE = {
     "cases/README.md": 2,
-    "docs/architecture.md": 4,
+    "docs/architecture.md": 2,
     "docs/definitions.md": 33,
     "docs/embedding.md": 8,
     "docs/faults.md": 2,
@@ -59,7 +58,7 @@ WORDS_MEANWHILE = {
     "docs/trust.md": 27,
 }
 
-MADE = re.compile(r"<!-- figures -->.*?<!-- end of figures -->", re.DOTALL)
+MADE = re.compile(r"<!-- (figures|crates) -->.*?<!-- end of \1 -->", re.DOTALL)
 FENCE = re.compile(r"^(`{3,}).*?^\1`*$", re.DOTALL | re.MULTILINE)
 SPAN = re.compile(r"(`+)(?!`)(.+?)(?<!`)\1(?!`)", re.DOTALL)
 LINK = re.compile(r"\]\(([^()\s]+)\)")

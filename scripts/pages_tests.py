@@ -39,9 +39,10 @@ class Lengths(unittest.TestCase):
         self.assertEqual(findings({"a.md": "one two three"}, {"a.md": 2}, {"a.md": 3}), [])
         self.assertEqual(len(findings({"a.md": "one two three four"}, {"a.md": 2}, {"a.md": 3})), 1)
 
-    def test_figures_that_a_script_writes_are_not_counted(self):
-        text = "one <!-- figures -->\n| 1 | 2 |\n<!-- end of figures --> two"
-        self.assertEqual(pages.count_words(text), 2)
+    def test_what_a_script_writes_is_not_counted(self):
+        for made in ("figures", "crates"):
+            text = f"one <!-- {made} -->\n| 1 | 2 |\n<!-- end of {made} --> two"
+            self.assertEqual(pages.count_words(text), 2)
 
     def test_a_page_with_a_limit_that_is_not_there_is_told(self):
         self.assertEqual(findings({"b.md": ""}, {"a.md": 2}), ["a.md: there is no such page"])
