@@ -52,7 +52,6 @@ WORDS_MEANWHILE = {
     "docs/faults.md": 2,
     "docs/language.md": 8,
     "docs/notation.md": 5,
-    "docs/replication.md": 3,
     "docs/trust.md": 27,
 }
 
