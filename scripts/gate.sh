@@ -4,7 +4,7 @@
 # - `scripts/examples.py`, `scripts/manual.py --check` and `scripts/crates.py --check`, which compare what comes out, and the crates,
 #   with what the documents say, `scripts/pages.py --check` with its tests, which looks at the documents' lengths, words, links and
 #   names of files, `scripts/figures.py --check` with its tests, which compares the figures with their texts, and
-#   `scripts/unsafe.py`, which refuses words that let a value go without its end,
+#   `scripts/unsafe.py`, which refuses words that let a value go without its end; the tests of `./calvin try` and `scripts/explain.sh`,
 # - `scripts/cases.py`, which runs the stored cases, and `scripts/hostile_documents.py`, which runs 1,000 setups and logs made at
 #   random, each on the program as either compiler makes it,
 # - `tools/notation/tests.py`, which tries the notation of setups, `workloads/cases.py --check`, which compares the stored cases of
@@ -68,6 +68,8 @@ gate() {
     counted scripts/figures.py --check || status=1
     counted scripts/figures_tests.py || status=1
     counted scripts/unsafe.py || status=1
+    counted scripts/calvin_tests.sh || status=1
+    counted scripts/explain_tests.sh || status=1
     counted tools/notation/tests.py || status=1
     counted workloads/cases.py --check || status=1
     counted bench/tests.py || status=1
