@@ -146,7 +146,7 @@ class Repository:
     def listed_words(self, page, text):
         found = []
         for word, plain in WORDS.items():
-            for it in re.finditer(rf"\b{word}\b", without(SPAN, without(FENCE, text)), re.IGNORECASE):
+            for it in re.finditer(rf"\b{word}\b", without(LINK, without(SPAN, without(FENCE, text))), re.IGNORECASE):
                 found.append((line_of(text, it.start()), it[0], plain))
         most = WORDS_MEANWHILE.get(page, 0)
         if len(found) > most and most:

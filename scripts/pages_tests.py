@@ -61,6 +61,7 @@ class Words(unittest.TestCase):
 
     def test_words_in_code_and_longer_words_are_passed_over(self):
         self.assertEqual(findings({"a.md": "`behind`\n```\nstands\n```\nunderstand, a stand-in, outstanding"}), [])
+        self.assertEqual(findings({"a.md": "[after](behind-it)", "behind-it": ""}), [])
 
     def test_a_page_may_have_some_meanwhile_and_no_more(self):
         self.assertEqual(findings({"a.md": "it stands"}, words_meanwhile={"a.md": 1}), [])
