@@ -56,6 +56,7 @@ lifted level k footprint = gathered
     (λ (e : Resource × Right). (place (parent_at level e.0) (children level footprint) k e.0, e.1))
     (entries footprint))
 
+-- rule: lock.coarsened
 -- steps 1 to 4
 abbrev pub coarsened : ℕ → FootprintOf → FootprintOf
 coarsened k footprint = needed (lifted Partitions k (lifted Rows k (needed footprint)))

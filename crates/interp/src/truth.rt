@@ -35,6 +35,7 @@ fn compare_texts(test: Equality, left: &str, right: &str) -> bool
     }
 }
 
+// rule: expression.joined
 /// Whether an expression is true.
 pub(crate) fn evaluate_bool<V: RowView>(
     shown: &Shown<'_, V>,

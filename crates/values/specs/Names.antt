@@ -12,6 +12,7 @@ is_digit b = nat_le 48 b && nat_le b 57
 abbrev pub is_name_byte : ℕ → Bool
 is_name_byte b = is_lower b || (is_digit b || b == 95)
 
+-- rule: name.form
 abbrev pub is_name : List ℕ → Bool
 is_name [] = false
 is_name (b ∷ bs) = is_lower b && (nat_lt (length bs) 32 && list_all is_name_byte bs)

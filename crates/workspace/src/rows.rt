@@ -32,6 +32,7 @@ fn tested_key(number: i64) -> Result<Key, Stop>
     }
 }
 
+// rule: grant.row, order.key
 /// The name of the row with the key of that number: the key is tested, and then comes the access to the row.
 #[tactic(auto, unfolding(meaning::specs::Runs::and_then), using(crate::proofs::Covered::permits_read))]
 pub fn access(
@@ -65,6 +66,7 @@ fn part_numbered(catalogue: &Catalogue, table: TableNo, number: i64) -> Option<u
     }
 }
 
+// rule: grant.part
 /// The partition with a number: the number is tested, and then comes the access, to read the partition.
 pub fn access_part(
     permit: &Permit,
@@ -102,6 +104,7 @@ pub(crate) fn row_seen<'a, V: RowView>(
     }
 }
 
+// rule: order.presence
 /// The row with a name, after the own writes, or the end of the run where there is none.
 pub fn present_row<'a, V: RowView>(
     shown: &'a Shown<'_, V>,
@@ -120,6 +123,7 @@ pub fn present_row<'a, V: RowView>(
     }
 }
 
+// rule: expression.exists
 /// Whether the row with a name is there, after the own writes.
 pub fn is_there<V: RowView>(shown: &Shown<'_, V>, space: &Workspace, name: &RowName) -> bool
     requires covered { permits shown.now.permit name.now Read ≡ true }
