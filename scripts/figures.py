@@ -9,8 +9,9 @@ A line of a text is one of these. Places and lengths are in pixels, from the top
     title WORDS                          what the figure is, for who cannot see it
     area X Y WIDTH HEIGHT: WORDS         a dashed frame with a heading
     box NAME X Y WIDTH KIND: HEADING     a box; each indented line after it is a line of its text
-    arrow A.SIDE -> B.SIDE: WORDS        an arrow from one box to another, by their sides: left, right, top or bottom; `top+20`
-                                         is 20 pixels further down or to the right. Words may be left out
+    arrow A.SIDE -> B.SIDE: WORDS        an arrow from one box to another, by the middles of their sides: left, right, top or
+                                         bottom; `left+20` is 20 pixels below the upper end of the side, `top+20` 20 pixels to the
+                                         right of its left end. Words may be left out
     wake A.SIDE -> B.SIDE: WORDS         the same, dashed
     text X Y: WORDS                      words by themselves
     tree CASE                            the tree of a stored case's setup, with the locks of call 0 that its `stdout` lists
@@ -52,11 +53,11 @@ class Box:
         return 14 + LINE * (1 + len(self.lines))
 
     def side(self, name):
-        """The point in the middle of a side, or so far from it, and which way leads away from the box."""
+        """The point in the middle of a side, or so far from its beginning, and which way leads away from the box."""
         name, _, offset = name.partition("+")
         across, down = AWAY[name]
-        x = self.x + self.width * (1 + across) / 2 + (int(offset or 0) if down else 0)
-        y = self.y + self.height * (1 + down) / 2 + (int(offset or 0) if across else 0)
+        x = self.x + (int(offset) if offset and down else self.width * (1 + across) / 2)
+        y = self.y + (int(offset) if offset and across else self.height * (1 + down) / 2)
         return x, y, (across, down)
 
 

@@ -41,6 +41,12 @@ class Drawing(unittest.TestCase):
     def test_a_box_is_as_high_as_its_lines(self):
         self.assertEqual(figures.Figure(TWO).boxes["a"].height, figures.Figure(TWO).boxes["b"].height + figures.LINE)
 
+    def test_a_side_is_named_by_its_middle_or_by_how_far_from_its_beginning(self):
+        box = figures.Box(10, 20, 80, "plain", "A")
+        self.assertEqual(box.side("right"), (90, 20 + box.height / 2, (1, 0)))
+        self.assertEqual(box.side("right+5"), (90, 25, (1, 0)))
+        self.assertEqual(box.side("bottom+5"), (15, 20 + box.height, (0, 1)))
+
     def test_an_arrow_between_sides_of_one_height_is_straight_and_others_bend(self):
         right, left = (90, 30, (1, 0)), (200, 30, (-1, 0))
         self.assertEqual(len(figures.way_between(right, left)), 2)
