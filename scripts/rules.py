@@ -84,7 +84,8 @@ class Index:
             else:
                 self.faults.append(f"{here}:{number}: no {kind} comes after the name of a rule")
             names = []
-        self.faults += [f"{here}: no {kind} comes after the name of a rule"] if names else []
+        if names:
+            self.faults.append(f"{here}: no {kind} comes after the name of a rule")
 
     def take_edit(self, path):
         here = path.relative_to(self.top)

@@ -167,6 +167,7 @@ pub record AreReplicas (holds holds_other : Holding) (source spent sink filled :
       (IfSome source.bytes (λ log. report ≡ report_of (start_in document) log))
   pub ends : IsCompared result is_full report other sink filled status
 
+-- rule: command.order
 -- The other report is read first, and then the setup. Without either nothing is read of the log, and nothing is
 -- written.
 abbrev pub IsReplicasCommand : Holding → Holding → Device → Device → Device → Device → ℕ → Type 0
