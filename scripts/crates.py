@@ -3,8 +3,9 @@
 
     scripts/crates.py [--check]
 
-A comment line of crates.txt is the name of a layer, and the crates of the lines after it are in that layer. Of the crates that a line
-names the table leaves out those that another of them depends on. What a crate is, is the first paragraph of its head.
+The table is between the marks `<!-- crates -->` and `<!-- end of crates -->`. A comment line of crates.txt is the name of a layer,
+and the crates of the lines after it are in that layer. Of the crates that a line names the table leaves out those that another of
+them depends on. What a crate is, is the first paragraph of its head.
 
 With --check nothing is written; it ends with status 1 where the table is not what it would write, or a crate is in no layer.
 """
@@ -14,8 +15,8 @@ from pathlib import Path
 
 TOP = Path(__file__).resolve().parent.parent
 PAGE = TOP / "docs/architecture.md"
-HEADING = "| crate | stands on | what it is |\n|---|---|---|\n"
-TABLE = re.compile(re.escape(HEADING) + r"(?:\|.*\n)*")
+HEADING = "| crate | depends on | what it is |\n|---|---|---|\n"
+TABLE = re.compile(r"(?<=<!-- crates -->\n\n)(?:\|.*\n)*(?=\n<!-- end of crates -->)")
 
 
 def layers():
@@ -35,7 +36,7 @@ def below(name, named):
     return {it for one in named.get(name, []) for it in {one, *below(one, named)}}
 
 
-def stands_on(name, named):
+def depends_on(name, named):
     """The libraries that a crate names, without those that another of them depends on."""
     hidden = {it for one in named[name] for it in below(one, named)}
     return [it for it in named[name] if it not in hidden]
@@ -60,7 +61,7 @@ def table():
     rows = []
     for layer, crates in found.items():
         rows.append(f"| **{layer}** | | |")
-        rows += [f"| `{it}` | {', '.join(stands_on(it, named))} | {head(it)} |" for it in crates]
+        rows += [f"| `{it}` | {', '.join(depends_on(it, named))} | {head(it)} |" for it in crates]
     return HEADING + "".join(row + "\n" for row in rows)
 
 

@@ -4,8 +4,10 @@
 # - `scripts/examples.py`, `scripts/manual.py --check` and `scripts/crates.py --check`, which compare what comes out, and the crates,
 #   with what the documents say, `scripts/definitions.py --check` with its tests, which compares the list of definitions with the
 #   comments in `specs/`, `scripts/pages.py --check` with its tests, which looks at the documents' lengths, words, links and names
-#   of files, `scripts/unsafe.py`, which refuses words that let a value go without its end, and `scripts/build_tests.py`, which
-#   tries the script of the first build,
+#   of files, `scripts/figures.py --check` with its tests, which compares the figures with their texts, `scripts/rules.py --check`
+#   with its tests, which compares the index of rules with what names them, `scripts/unsafe.py`, which refuses words that let a
+#   value go without its end, `scripts/build_tests.py`, which tries the script of the first build, and the tests of `./calvin try`
+#   and `scripts/explain.sh`,
 # - `scripts/cases.py`, which runs the stored cases, and `scripts/hostile_documents.py`, which runs 1,000 setups and logs made at
 #   random, each on the program as either compiler makes it,
 # - `tools/notation/tests.py`, which tries the notation of setups, `workloads/cases.py --check`, which compares the stored cases of
@@ -68,8 +70,14 @@ gate() {
     counted scripts/definitions_tests.py || status=1
     counted scripts/pages.py --check || status=1
     counted scripts/pages_tests.py || status=1
+    counted scripts/figures.py --check || status=1
+    counted scripts/figures_tests.py || status=1
+    counted scripts/rules.py --check || status=1
+    counted scripts/rules_tests.py || status=1
     counted scripts/unsafe.py || status=1
     counted scripts/build_tests.py || status=1
+    counted scripts/calvin_tests.sh || status=1
+    counted scripts/explain_tests.sh || status=1
     counted tools/notation/tests.py || status=1
     counted workloads/cases.py --check || status=1
     counted bench/tests.py || status=1

@@ -33,11 +33,6 @@ LIMITS = {
     "docs/replication.md": 1200,
     "docs/performance.md": 900,
 }
-# What a page that is over its limit may have meanwhile. Lower it with the page, and take it out once the limit is met.
-MEANWHILE = {
-    "docs/architecture.md": 4926,
-    "docs/embedding.md": 2703,
-}
 # Each word that no page is to have, and what is written in its place.
 WORDS = {
     r"behind": "after",
@@ -46,12 +41,6 @@ WORDS = {
     r"hangs? on": "depends on",
     r"memory (?:is|was) refused": "allocation fails",
     r"shown? to nobody": "not copied",
-}
-# How many of these words a page may have meanwhile.
-WORDS_MEANWHILE = {
-    "docs/architecture.md": 4,
-    "docs/embedding.md": 8,
-    "docs/replication.md": 3,
 }
 # The files whose comments are looked at for these words, and what a comment is, by the end of a file's name.
 SOURCES = re.compile(r"crates/[^/]+/(?:src|specs)/|(?:scripts|bindings|tools|bench|workloads|include)/")
@@ -66,7 +55,7 @@ COMMENTS = {
 }
 MARKS = re.compile(r"^[ \t]*(?://[/!]?|--|#|/?\*+)", re.MULTILINE)
 
-MADE = re.compile(r"<!-- (figures|definitions) -->.*?<!-- end of \1 -->", re.DOTALL)
+MADE = re.compile(r"<!-- (figures|definitions|crates) -->.*?<!-- end of \1 -->", re.DOTALL)
 FENCE = re.compile(r"^(`{3,}).*?^\1`*$", re.DOTALL | re.MULTILINE)
 SPAN = re.compile(r"(`+)(?!`)(.+?)(?<!`)\1(?!`)", re.DOTALL)
 LINK = re.compile(r"\]\(([^()\s]+)\)")
@@ -165,7 +154,7 @@ class Repository:
 
     def too_long(self, page, text):
         words = count_words(text)
-        most = MEANWHILE.get(page, LIMITS.get(page, words))
+        most = LIMITS.get(page, words)
         if words > most:
             yield f"{page}: {words:,} words, and it may have {most:,}"
 
@@ -175,12 +164,8 @@ class Repository:
             pattern = rf"\b{word}\b".replace(" ", r"\s+")
             for it in re.finditer(pattern, text, re.IGNORECASE):
                 found.append((line_of(text, it.start()), " ".join(it[0].split()), plain))
-        most = WORDS_MEANWHILE.get(page, 0)
-        if len(found) > most and most:
-            yield f"{page}: {len(found)} words of the list, and it may have {most}"
-        if len(found) > most:
-            for line, word, plain in sorted(found):
-                yield f"{page}:{line}: `{word}`, where `{plain}` is plainer"
+        for line, word, plain in sorted(found):
+            yield f"{page}:{line}: `{word}`, where `{plain}` is plainer"
 
     def dead_links(self, page, text):
         prose = without(SPAN, without(FENCE, text))

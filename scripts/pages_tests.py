@@ -16,15 +16,14 @@ sys.path.insert(0, str(Path(__file__).resolve().parent))
 import pages  # noqa: E402
 
 
-def findings(files, limits=(), meanwhile=(), words_meanwhile=()):
+def findings(files, limits=()):
     """What is wrong in a repository of these files, a text for each path."""
     with tempfile.TemporaryDirectory() as folder:
         for path, text in files.items():
             file = Path(folder, path)
             file.parent.mkdir(parents=True, exist_ok=True)
             file.write_text(text)
-        tables = {"LIMITS": limits, "MEANWHILE": meanwhile, "WORDS_MEANWHILE": words_meanwhile}
-        with patch.multiple(pages, **{name: dict(table) for name, table in tables.items()}):
+        with patch.object(pages, "LIMITS", dict(limits)):
             return list(pages.Repository(folder).findings())
 
 
@@ -35,13 +34,10 @@ class Lengths(unittest.TestCase):
     def test_one_word_more_is_told(self):
         self.assertEqual(findings({"a.md": "one two three"}, {"a.md": 2}), ["a.md: 3 words, and it may have 2"])
 
-    def test_what_a_page_may_have_meanwhile_goes_before_its_limit(self):
-        self.assertEqual(findings({"a.md": "one two three"}, {"a.md": 2}, {"a.md": 3}), [])
-        self.assertEqual(len(findings({"a.md": "one two three four"}, {"a.md": 2}, {"a.md": 3})), 1)
-
-    def test_figures_that_a_script_writes_are_not_counted(self):
-        text = "one <!-- figures -->\n| 1 | 2 |\n<!-- end of figures --> two"
-        self.assertEqual(pages.count_words(text), 2)
+    def test_what_a_script_writes_is_not_counted(self):
+        for made in ("figures", "crates"):
+            text = f"one <!-- {made} -->\n| 1 | 2 |\n<!-- end of {made} --> two"
+            self.assertEqual(pages.count_words(text), 2)
 
     def test_definitions_that_a_script_writes_are_not_counted(self):
         text = "one <!-- definitions -->\n- `a`: b\n<!-- end of definitions --> two <!-- end of figures -->"
@@ -65,10 +61,6 @@ class Words(unittest.TestCase):
     def test_words_in_code_and_in_links_and_longer_words_are_passed_over(self):
         text = "[it](stands.md) `behind`\n```\nstands\n```\nunderstand, a stand-in, outstanding"
         self.assertEqual(findings({"stands.md": "", "a.md": text}), [])
-
-    def test_a_page_may_have_some_meanwhile_and_no_more(self):
-        self.assertEqual(findings({"a.md": "it stands"}, words_meanwhile={"a.md": 1}), [])
-        self.assertEqual(len(findings({"a.md": "it stands, they stand"}, words_meanwhile={"a.md": 1})), 3)
 
 
 class Comments(unittest.TestCase):

@@ -48,6 +48,7 @@ pub record HasFiltered (procs : List ProcParts) (lines : List (List ℕ)) (after
   pub read : Consumes source spent (concat lines ++ after)
   pub written : Appends sink filled (taken_of procs lines)
 
+-- rule: command.filter
 -- The log that a source has left was filtered into a sink: the source and the sink before and after, and whether each
 -- line says a call or a cut, or a fault.
 pub record IsFilterOf (procs : List ProcParts) (source spent sink filled : Option (List ℕ))

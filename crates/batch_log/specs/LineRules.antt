@@ -36,6 +36,7 @@ abbrev pub SaysForm : List ProcParts → Form → LogLine → Type 0
 SaysForm procs (call_form name ds) said = (call : requests.Call) × SaysCall procs name ds call × (said ≡ Call call)
 SaysForm procs cut_form said = said ≡ Cut
 
+-- rule: log.form
 -- a line is UTF-8 and JSON, and its document says a call or a cut
 pub record SaysLine (procs : List ProcParts) (line : List ℕ) (said : LogLine) : Type 0 where
   pub document : Data

@@ -19,6 +19,7 @@ abbrev pub most_calls : ℕ → ℕ
 most_calls zero = 2 ^ 48
 most_calls (suc retries) = 2 ^ 46
 
+-- rule: batch.limit
 -- a batch has at most 4,096 calls, and a log at most as many as it may where a stale request is tried again so often
 abbrev pub is_room : ℕ → ℕ → ℕ → Bool
 is_room retries calls total = nat_lt calls 4096 && nat_lt total (most_calls retries)
@@ -75,17 +76,20 @@ before_batches (Ok (Call call)) batches = into_first call batches
 before_batches (Ok Cut) batches = [] ∷ batches
 before_batches (Err kind) batches = [] ∷ []
 
+-- rule: batch.cut
 -- the calls up to the first fault, cut apart at each cut: one list more than there are cuts
 abbrev pub cut_apart : Lines → List (List requests.Call)
 cut_apart [] = [] ∷ []
 cut_apart (line ∷ rest) = before_batches line.1 (cut_apart rest)
 
+-- rule: batch.last
 -- The end of a log ends a batch of the calls before it, unless there are none. A fault ends none.
 abbrev pub last_batch : Option LogFault → List requests.Call → List (List requests.Call)
 last_batch (Some fault) calls = []
 last_batch None [] = []
 last_batch None (call ∷ calls) = (call ∷ calls) ∷ []
 
+-- rule: batch.whole
 -- each batch that a cut ends, and perhaps a last one
 abbrev pub whole_batches : Option LogFault → List (List requests.Call) → List (List requests.Call)
 whole_batches fault [] = []

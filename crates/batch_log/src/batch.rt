@@ -75,6 +75,7 @@ fn most_calls(retries: u8) -> u64
     if retries == 0 { 1 << 48 } else { 1 << 46 }
 }
 
+// rule: batch.limit
 /// Whether a call may follow `calls` of its batch and `total` of the log.
 pub(crate) fn is_room(retries: u8, calls: usize, total: u64) -> bool
     ensures { result ≡ is_room retries calls total }
@@ -82,6 +83,7 @@ pub(crate) fn is_room(retries: u8, calls: usize, total: u64) -> bool
     calls < 4096 && total < most_calls(retries)
 }
 
+// rule: batch.cut
 /// The calls of the next batch, or `None` at the end. `total` counts the calls of the log.
 pub(crate) fn read_batch<S: Source>(
     alloc: Global,

@@ -112,6 +112,7 @@ fn filter_lines<R: Wait, S: Source, K: Sink, E: Sink>(
     unreachable!()
 }
 
+// rule: command.filter
 /// Copies the lines of the log that a source gives into a sink, byte for byte: each that says a call or a cut to these
 /// procedures. The fault of each other line (31 to 34) goes to `err`, in a line. Batches don't count: one may be too
 /// long. A line is written before the next is read. The last one may have no newline, and then has none in the sink.

@@ -138,6 +138,7 @@ pub(crate) fn read_line_with(
     }
 }
 
+// rule: log.form
 /// What a line says to these procedures, or the first rule that it breaks. The line comes without its newline.
 pub fn read_log_line(alloc: Global, procs: &Procs, line: &[u8]) -> Result<LogLine, LogFaultKind>
     ensures exact { Reads is_memory (λ said. said) result (line_said procs.now.procs line.now) }

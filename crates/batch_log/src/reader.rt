@@ -67,6 +67,7 @@ impl<'a, S: Source> LogReader<'a, S> {
         self.lines.last_line()
     }
 
+    // rule: batch.last
     /// The calls of the next batch, or `None` at the end. A cut ends a batch, also an empty one.
     /// The end of a log ends a batch of the calls before it, unless there are none. After a fault
     /// each further call answers the same fault.

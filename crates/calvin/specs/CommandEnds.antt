@@ -170,6 +170,7 @@ pub record AreReplicas (holds holds_other : Holding) (source spent sink filled :
       (IfSome source.bytes (λ log. report ≡ report_of (start_in document) log))
   pub ends : IsCompared result is_full report other sink filled status
 
+-- rule: command.order
 -- The other report is read first, and then the setup. Without either nothing is read of the log, and nothing is
 -- written.
 abbrev pub IsReplicasCommand : Holding → Holding → Device → Device → Device → Device → ℕ → Type 0
@@ -186,6 +187,7 @@ unfoldable pub counts_text : ℕ → ℕ → ℕ → List ℕ
 counts_text tables procedures rows = codes "ok " ++ decimal tables ++ codes " tables " ++ decimal procedures
     ++ codes " procedures " ++ decimal rows ++ codes " rows\n"
 
+-- rule: command.check
 -- how many a setup has
 abbrev pub check_text : Setup → List ℕ
 check_text setup = counts_text (length setup.catalogue) (length setup.procs.procs) (length setup.rows.items)
@@ -247,6 +249,7 @@ abbrev pub IfCheck : Command → (List ℕ → Type 0) → Type 0
 IfCheck (Check setup) P = P (string_bytes setup)
 IfCheck command P = ⊤
 
+-- rule: command.status
 -- What comes of a command line, by its command: `run` writes the report of the log on the setup at its path, and
 -- `replicas` compares that report with the text at another; `filter` writes the lines of the log that say a call or a
 -- cut; `locks` writes the plans of the log's first batch; `check` writes how much the setup has, and reads nothing of
@@ -261,6 +264,7 @@ pub record Does (holds : List ℕ → Option (List ℕ) → Type 0) (line : Line
   pub check : IfCheck line.command (λ path. IsCheckCommand (holds path) sink filled status)
   pub unread : IfCheck line.command (λ path. spent ≡ source)
 
+-- rule: command.help
 -- What comes of the words after the program's name: they ask for a line, which is done; or they ask for none, or
 -- allocation failed, and nothing is read of the log, and nothing is written.
 abbrev pub IsProgram : (List ℕ → Option (List ℕ) → Type 0) → List (List ℕ) → Device → Device → Device → Device → ℕ

@@ -11,6 +11,7 @@ bytes_of kept = kept.bytes.items
 abbrev pub is_full : KeptReport → Bool
 is_full kept = kept.is_full
 
+-- rule: command.replicas
 -- the first place, from 0, where two texts differ or one has ended; none where they are the same
 abbrev pub IsFirstDifference : Option ℕ → List ℕ → List ℕ → Type 0
 IsFirstDifference None text other = text ≡ other

@@ -54,6 +54,7 @@ abbrev pub first_batch : ProcsParts → ℕ → Database → List ℕ → Result
 first_batch procs retries db log =
     first_of (map entries_in (batches_in procs retries db log)) (fault_in procs retries log)
 
+-- rule: command.locks
 -- The plans of the first batch of the log that a source has left, on procedures and starting rows: the source before
 -- and after, and the plans' text or a fault.
 pub record IsFirstBatchPlanned (procs : ProcsParts) (retries : ℕ) (db : Database) (settings : Settings)

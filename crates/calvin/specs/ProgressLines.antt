@@ -23,6 +23,7 @@ line_ending Over false = []
 line_ending Over true = codes "\n"
 line_ending Below is_last = codes "\n"
 
+-- rule: command.progress
 -- the line that says how many calls are settled and how they ended, over the last line or below it
 abbrev pub line_text : Lines → Bool → Tally → List ℕ
 line_text lines is_last tally = before lines ++ tally_text tally ++ line_ending lines is_last

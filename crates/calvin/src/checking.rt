@@ -54,6 +54,7 @@ fn count<K: Sink, E: Sink>(alloc: Global, setup: &Setup, out: &mut K, err: &mut 
     }
 }
 
+// rule: command.check
 /// Reads the setup at a path, and prints how much it has.
 pub(crate) fn check<F: Files, K: Sink, E: Sink>(
     alloc: Global,

@@ -80,6 +80,7 @@ fn locks<F: Files, S: Source, K: Sink, E: Sink>(
     }
 }
 
+// rule: command.status
 /// Does what a command line asks for, and gives the exit status: 0; 1 where the setup, the log or a line that `filter`
 /// looks at is refused; 3 where allocation failed; 4 where a device failed, a file can't be read, or a thread was
 /// refused, as none is to `run --alone`, `filter` and `locks`; 5 where reports differ. A fault goes to `err` in a line.

@@ -118,6 +118,7 @@ fn first_plans<S: Source>(
     }
 }
 
+// rule: command.locks
 /// The lines of the plans of a log's first batch on a setup: nothing where there is no batch. Nothing is run, and no
 /// line after that batch is looked at.
 pub(crate) fn plans_of<S: Source>(

@@ -13,6 +13,7 @@ use std::alloc::Global;
 use std::sync::Wait;
 use std::thread::Threads;
 
+// rule: command.help
 /// Reads a command line from the words after the program's name, does what it asks for, and gives the exit status:
 /// those of `command`; 2 where the words are no command line that is served, with a text for the user on `err`; 3 where
 /// allocation failed meanwhile.

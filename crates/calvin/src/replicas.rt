@@ -60,6 +60,7 @@ fn answer<K: Sink, E: Sink>(
     }
 }
 
+// rule: command.replicas, command.order
 /// Compares the report of the log on the setup at a path with the file at another, which is read first.
 pub(crate) fn replicas<R: Threads + Wait + Sync, F: Files, S: Source, K: Sink, E: Sink + Send>(
     rt: &R,

@@ -85,6 +85,7 @@ fn line_text(alloc: Global, lines: Lines, tally: Tally, is_last: bool) -> Result
     Ok(text)
 }
 
+// rule: command.progress
 /// Writes the line of a tally. A write that fails is passed over, and so is want of memory for the line.
 pub(crate) fn tell<E: Sink>(alloc: Global, lines: Lines, tally: Tally, is_last: bool, err: &mut E)
     ensures { AppendsFront (E.taken err.old) (E.taken err.new) (line_text lines is_last tally) }

@@ -4,6 +4,7 @@ use Rattle.std.specs.Prelude.{ℕ, ℤ, pos, negsuc, Bool, nat_lt, List, Option,
 use Rattle.std.specs.Str.{bytes_eq}
 use Rattle.catalogue.specs.Shapes.{ColumnShape, TableShape, partitions, part_with, is_end_with}
 
+-- rule: split.remainder, split.bounds
 -- a key falls in the partition in which its table's split has it: by the remainder in partition k mod P, and at bounds
 -- in the one whose number is how many bounds are at most the key
 abbrev pub partition_of : List TableShape → ℕ → ℕ → Option ℕ

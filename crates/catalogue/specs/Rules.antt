@@ -40,6 +40,7 @@ pub record IsTable (t : TableShape) : Type 0 where
   pub split : IsSplit t.split
   pub columns : AreNamed (λ (c : ColumnShape). c.name) 16 t.columns
 
+-- rule: catalogue.form
 -- 1 to 64 tables
 pub record IsCatalogue (ts : List TableShape) : Type 0 where
   pub named : AreNamed (λ (t : TableShape). t.name) 64 ts

@@ -57,6 +57,7 @@ impl Catalogue {
     ghost use Rattle.catalogue.specs.Broken.{catalogue_faults};
     ghost use Rattle.catalogue.specs.declared.fault.CatalogueFault.TheVariants.{Memory};
 
+    // rule: catalogue.form
     /// The catalogue that a document says, or the first rule that the document breaks.
     pub fn read(alloc: Global, document: &Value) -> Result<Catalogue, CatalogueFault>
         // What is read is a catalogue, and the document says it.
@@ -152,6 +153,7 @@ impl Catalogue {
         split_at(&self.tables, table).partitions()
     }
 
+    // rule: split.remainder
     /// The partition of a table that has a key: of a table of P partitions by the remainder, key k is in partition k
     /// mod P; of a table that is split at bounds, the number of the partition is how many bounds are at most the key.
     /// It takes no memory.

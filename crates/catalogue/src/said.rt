@@ -17,6 +17,7 @@ fn read_text(alloc: Global, text: &str) -> Result<Option<Value>, NoMemory>
     Ok(Some(Value::Text(Text::new(alloc, text)?)))
 }
 
+// rule: json.number
 /// The value that a document says: a number in the signed 64-bit range an Int, a text of at most 64 bytes a Text.
 /// `None` of any other document.
 pub fn read_value(alloc: Global, document: &Json) -> Result<Option<Value>, NoMemory>
@@ -32,6 +33,7 @@ pub fn read_value(alloc: Global, document: &Json) -> Result<Option<Value>, NoMem
     }
 }
 
+// rule: row.values
 /// The values that documents say, in order; `None` where one says no value.
 pub fn read_values(alloc: Global, documents: &[Json]) -> Result<Option<Vec<Value>>, NoMemory>
     ensures { IfOk result (λ values. option_map (λ v. v.items) values ≡ values_said (map view documents.now)) }

@@ -28,6 +28,7 @@ impl Split {
         }
     }
 
+    // rule: split.bounds
     /// The partition with a key.
     pub(crate) fn part_of(&self, key: Key) -> u32
         requires { IsSplit (split_shape self.now) }

@@ -60,6 +60,7 @@ lifted level k footprint = gathered
     (λ (e : Resource × Right). (place (parent_at level e.0) (children level footprint) k e.0, e.1))
     (entries footprint))
 
+-- rule: lock.coarsened
 -- steps 1 to 4: covered entries go; more than k rows of a partition become one entry, and then more than k partitions
 -- of a table; covered entries go again
 abbrev pub coarsened : ℕ → FootprintOf → FootprintOf

@@ -77,6 +77,7 @@ requests_for (e ∷ es) = request_up e.0 (whole e.1) (requests_for es)
 abbrev pub plan_of : FootprintOf → Requests
 plan_of footprint = requests_for (entries footprint)
 
+-- rule: lock.arena
 -- the plan for a footprint, with threshold k and at most c requests: its entries one after the other, each with its
 -- mode on the resource and its intention on the ancestors
 abbrev pub plan_for : ℕ → ℕ → FootprintOf → Requests

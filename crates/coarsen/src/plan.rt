@@ -38,6 +38,7 @@ impl Model for Plan {
 }
 
 impl Plan {
+    // rule: lock.coarsened, lock.arena
     /// The plan for a footprint. The footprint is coarsened first: entries that an ancestor's entry covers are dropped,
     /// more than `threshold` rows of a partition become one entry on the partition, more than `threshold` partitions of
     /// a table one entry on the table, and if the plan has more than `arena` requests it becomes one on the database.

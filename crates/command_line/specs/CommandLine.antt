@@ -23,6 +23,7 @@ pub record IsFlag (rows : List Row) (id : Text) (flag : Bool) : Type 0 where
   pub set : one_of id rows ≡ Some (codes "true") → flag ≡ true
   pub unset : one_of id rows ≡ Some (codes "false") → flag ≡ false
 
+-- rule: option.range
 -- each option is a setting
 pub record AreSettings (rows : List Row) (settings : Settings) : Type 0 where
   pub workers : IsNumber rows (codes "workers") settings.workers

@@ -214,6 +214,7 @@ fn line_of(alloc: Global, matches: &ArgMatches<'_>) -> Result<Option<Line>, Allo
     Ok(Some(Line { command, settings }))
 }
 
+// rule: option.range
 /// Reads a command line, the words after the program's name. Where an option is left out, there
 /// are 4 workers, 8 lanes, 64 entries before coarsening and room for 65,536 requests.
 ///

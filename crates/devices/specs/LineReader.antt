@@ -63,6 +63,7 @@ position_after p (b ∷ rest) = record {
 abbrev pub Takes : Option (List ℕ) → Option (List ℕ) → Position → Position → List ℕ → Type 0
 Takes old new from to taken = Consumes old new taken × (to ≡ position_after from taken)
 
+-- rule: log.lines
 -- what is taken for a line: the line and its newline, or the last line, which isn't empty and is bare: it has none
 abbrev pub TakesLine : Option (List ℕ) → Option (List ℕ) → Position → Position → Bool → List ℕ → Type 0
 TakesLine old new from to bare line = (has_newline line ≡ false) ×

@@ -220,6 +220,7 @@ impl<'a, S: Source> LineReader<'a, S> {
         }
     }
 
+    // rule: log.lines
     /// The next line without its newline, or `None` at the end. After a fault each further call
     /// answers the same fault.
     pub fn next_line(&mut self, alloc: Global) -> Result<Option<Vec<u8>>, LineReadFault>

@@ -14,6 +14,7 @@ list_of (item d ds) = d ∷ list_of ds
 abbrev pub elements : Data → Option (List Data)
 elements d = option_map list_of (as_array d)
 
+-- rule: json.number
 -- a number that is whole and in the signed 64-bit range
 abbrev pub integer : Data → Option ℤ
 integer d = option_and_then as_i64 (as_number d)

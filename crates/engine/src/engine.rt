@@ -48,6 +48,7 @@ impl Model for Engine {
 }
 
 impl Engine {
+    // rule: log.numbers
     /// An engine on the starting rows of a setup.
     pub fn new(alloc: Global, setup: Setup, settings: Settings) -> Result<Engine, NoMemory>
         ensures { IfOk result (λ engine.
@@ -130,6 +131,7 @@ impl Engine {
         self.core.retries()
     }
 
+    // rule: call.serial
     /// Runs a batch on worker threads and on the calling one. Where the gate is open the calling thread runs brief
     /// calls itself, whatever jobs are out, and none of these passes the gate; every other call is a job that goes over
     /// lanes, and the calling thread may run it where it is the only one out. Who claims a job passes the gate once for

@@ -123,7 +123,12 @@ fn serve_left<R: Threads + Wait + Sync>(
 /// After `Ok` the first part is all of the list, the engine holds no batch, and nothing is carried. Where something is
 /// refused, the clients still come to the end of their logs, and their further calls are dropped. A batch that the
 /// engine then holds has what was carried, and after it requests of the calls that come next in the list, if any are
-/// left; `resume` runs it. An engine that holds none carries what the answered batches have left.
+/// left; `resume` runs it. Why other calls of it are no requests is not kept. An engine that holds none carries what
+/// the answered batches have left.
+///
+/// Nothing is promised of an order between clients, of how the list is cut, or of time. How it is cut matters only
+/// where reconnaissance finds a footprint. Where the system refuses threads, the clients and the owner run one after
+/// another, and a client then waits for ever at a full intake: a capacity of all calls rules that out.
 pub fn serve<R: Threads + Wait + Sync>(
     rt: &R,
     alloc: Global,

@@ -13,14 +13,17 @@ abbrev pub is_int : ℤ → Bool
 is_int (pos n) = nat_lt n (2 ^ 63)
 is_int (negsuc n) = nat_lt n (2 ^ 63)
 
+-- rule: abort.range
 -- an exact result, or an abort where it is outside the range
 abbrev pub in_range : ℤ → Result ℤ AbortCode
 in_range z = if is_int z then Ok z else Err Overflow
 
+-- rule: expression.quotient, abort.zero
 -- what a divisor other than 0 gives
 abbrev pub divided : ℤ → Result ℤ AbortCode → Result ℤ AbortCode
 divided divisor result = if int_eq divisor (pos 0) then Err DivisionByZero else result
 
+-- rule: expression.sum_of_two
 -- The result of an operator. A quotient is rounded towards 0, and a remainder is there where its quotient is.
 abbrev pub result_of : IntOperator → ℤ → ℤ → Result ℤ AbortCode
 result_of Add x y = in_range (x +ℤ y)

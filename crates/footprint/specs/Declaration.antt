@@ -48,6 +48,7 @@ abbrev pub keys_up_to : ℕ → ℤ → ℕ
 keys_up_to low (pos high) = suc high - low
 keys_up_to low (negsuc high) = 0
 
+-- rule: footprint.rows, footprint.high
 -- the keys from one to a number, both included (KeysGoFromLowToHigh)
 abbrev pub keys_between : ℕ → ℤ → List ℕ
 keys_between low high = keys_from (keys_up_to low high) low
@@ -57,6 +58,7 @@ abbrev pub on_rows : List TableShape → Right → ℕ → List ℕ → List (Re
 on_rows tables right table keys =
     map {B = Resource × Right} (λ key. (row_resource tables (record { table = table; key = key }), right)) keys
 
+-- rule: footprint.row, footprint.part, footprint.table, footprint.db, footprint.numbers
 -- What an entry adds: resources, and a right on each. All its expressions are evaluated before a key or a partition's
 -- number is tested. A negative key, or least key, is a bad key, and a number that is no partition of the table a bad
 -- partition.
@@ -87,6 +89,7 @@ with_entries other tables arguments count footprint (entry ∷ entries) = do
   _ ← rule (nat_le (count + length grants) 65536) TooLong
   with_entries other tables arguments (count + length grants) (with_rights footprint grants) entries
 
+-- rule: footprint.order
 -- the footprint that entries declare, where another number is taken for a parameter that is not there or is a text, for
 -- a count and for a sum
 abbrev pub declared_with : ℤ → List TableShape → List Value → List EntrySyntax → Result FootprintOf AbortCode

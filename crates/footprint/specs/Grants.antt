@@ -15,6 +15,7 @@ abbrev pub granted : List TableShape → Grant → List (Resource × Right)
 granted tables (grants.OnOne right resource) = (resource, right) ∷ []
 granted tables (grants.OnRows right table first count) = on_rows tables right table (keys_from count first)
 
+-- rule: footprint.limit
 -- how many they are
 abbrev pub size_of : Grant → ℕ
 size_of (grants.OnOne right resource) = 1

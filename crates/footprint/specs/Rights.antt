@@ -17,6 +17,7 @@ is_at_least Read (Some right) = true
 is_at_least Write (Some Read) = false
 is_at_least Write (Some Write) = true
 
+-- rule: footprint.greatest
 -- the greater of a right that may be there and another
 abbrev pub greater : Option Right → Right → Right
 greater None right = right
@@ -27,6 +28,7 @@ greater (Some Read) right = right
 abbrev pub FootprintOf : Type 0
 FootprintOf = FinMap resource_cmp Right
 
+-- rule: grant.row
 -- the footprint covers a right on a resource if the resource or an ancestor of it has at least that right
 abbrev pub covers : FootprintOf → Resource → Right → Bool
 covers footprint resource right = list_any (λ r. is_at_least right (get footprint r)) (resource ∷ ancestors_of resource)

@@ -6,6 +6,7 @@ ghost use Rattle.footprint.specs.Arithmetic.{result_of};
 use crate::abort_code::AbortCode;
 use proclang_types::IntOperator;
 
+// rule: expression.sum_of_two, abort.zero
 /// The result of an operator. Outside the signed 64-bit range it is an overflow; a divisor of 0 is a division by zero.
 /// A quotient is rounded towards 0, and a remainder has the sign of the first operand; it overflows where its quotient
 /// does.

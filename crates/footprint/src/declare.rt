@@ -144,6 +144,7 @@ fn with_entries(
     Ok(footprint)
 }
 
+// rule: footprint.row, footprint.table, footprint.db, footprint.order, footprint.numbers
 /// The footprint that a procedure declares for these arguments, or the abort of the first fault: entries are evaluated
 /// in order, a result outside the signed 64-bit range is an overflow, a negative key a bad key, a number that is no
 /// partition of its table a bad partition, and more than 65,536 resources, repeats included, are too long. How many an

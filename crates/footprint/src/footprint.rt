@@ -47,6 +47,7 @@ impl Footprint {
         self.rights.get(resource).copied()
     }
 
+    // rule: footprint.greatest
     /// Adds a right on a resource. Of two rights on one resource the greater counts.
     pub fn add(&mut self, resource: Resource, right: Right) -> Result<(), NoMemory>
         ensures added { OnOk result (self.new ≡ with_right self.old resource right) }

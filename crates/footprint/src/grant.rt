@@ -29,6 +29,7 @@ pub(crate) enum Grant {
 }
 
 impl Grant {
+    // rule: footprint.part
     /// The right on one resource.
     pub(crate) fn on_one(right: Right, resource: Resource) -> Grant
         ensures { result ≡ Grant.OnOne right resource }
@@ -36,6 +37,7 @@ impl Grant {
         Grant::OnOne { right, resource }
     }
 
+    // rule: footprint.rows, footprint.high
     /// The right on the name of the row with each key from the first to a number, both included.
     pub(crate) fn on_rows(right: Right, table: TableNo, first: Key, last: i64) -> Grant
         ensures exact { result ≡ Grant.OnRows right table first (keys_up_to first last) }
@@ -50,6 +52,7 @@ impl Grant {
         }
     }
 
+    // rule: footprint.limit
     /// On how many resources the right is.
     pub(crate) fn size(&self) -> u64
         ensures { result ≡ size_of self.now }

@@ -28,6 +28,7 @@ pub fn keys_go_from_low_to_high()
         (if int_le (pos (low + place)) high then Some (low + place) else None) }
 {}
 
+// rule: expression.quotient
 /// A quotient is rounded towards 0, and a remainder is what it leaves: it is less than the divisor, signs aside, and is
 /// 0 or has the sign of the first operand.
 #[tactic(auto, using(crate::proofs::Divisions::division))]

@@ -24,6 +24,7 @@ use std::alloc::Global;
 use values::{Key, Value};
 use workspace::{RowView, Shown, Stop, Workspace, access_part, keys_in};
 
+// rule: statement.if, statement.abort
 /// What a statement does after its step.
 #[cycle(run)]
 fn effect<V: RowView>(
@@ -104,6 +105,7 @@ fn scoped_block<V: RowView>(
     Ok(())
 }
 
+// rule: statement.for
 /// A turn for each number from one to another, both included.
 #[cycle(run)]
 #[tactic(auto, using(crate::proofs::LeftNumbers::first_left, crate::proofs::LeftNumbers::next_left, crate::proofs::LeftNumbers::fewer_left))]
@@ -128,6 +130,7 @@ fn for_each_number<V: RowView>(
     Ok(())
 }
 
+// rule: statement.each
 /// A turn for each key.
 #[cycle(run)]
 fn for_each_key<V: RowView>(
@@ -170,6 +173,7 @@ fn turn<V: RowView>(
     Ok(())
 }
 
+// rule: step.count
 /// The statements of a block, each after one step.
 #[cycle(run)]
 pub(crate) fn block<V: RowView>(

@@ -17,6 +17,7 @@ use std::alloc::Global;
 use values::{Row, TableNo};
 use workspace::{RowView, Shown, Stop, Workspace, access, is_there};
 
+// rule: statement.insert
 /// A new row with a key: one value a column.
 pub(crate) fn insert_values<V: RowView>(
     alloc: Global,
@@ -42,6 +43,7 @@ pub(crate) fn insert_values<V: RowView>(
     Ok(())
 }
 
+// rule: statement.delete
 /// The row with a key is no more.
 pub(crate) fn delete_key<V: RowView>(
     shown: &Shown<'_, V>,

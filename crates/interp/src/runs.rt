@@ -56,6 +56,7 @@ fn run_here<V: RowView>(
     run_body(alloc, &shown, request.args(), request.proc().body())
 }
 
+// rule: call.end
 /// Runs an entry over a view of the entry's catalogue that shows each name that the entry may read, and is asked for no
 /// other name. The only error is that allocation failed.
 pub fn run<V: RowView>(

@@ -27,6 +27,7 @@ fn column_value(row: &Row, column: usize) -> Result<Value, NoMemory>
     }
 }
 
+// rule: statement.let
 /// A variable gets a value.
 pub(crate) fn assign_value<V: RowView>(
     alloc: Global,
@@ -53,6 +54,7 @@ pub(crate) fn assign_value<V: RowView>(
     }
 }
 
+// rule: statement.get
 /// A variable gets a column of the row with a key.
 pub(crate) fn get_column<V: RowView>(
     shown: &Shown<'_, V>,
@@ -76,6 +78,7 @@ pub(crate) fn get_column<V: RowView>(
     Ok(())
 }
 
+// rule: statement.put
 /// A column of the row with a key gets a value.
 pub(crate) fn put_column<V: RowView>(
     alloc: Global,
@@ -101,6 +104,7 @@ pub(crate) fn put_column<V: RowView>(
     Ok(())
 }
 
+// rule: statement.reply
 /// Appends values to the reply.
 pub(crate) fn reply_with<V: RowView>(
     alloc: Global,

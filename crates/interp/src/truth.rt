@@ -35,6 +35,7 @@ fn compare_texts(test: Equality, left: &str, right: &str) -> bool
     }
 }
 
+// rule: expression.joined
 /// Whether an expression is true, or how the run ends: as a number expression, a step or an access in it does. The
 /// second operand of `and` and of `or` is evaluated only where it counts.
 pub(crate) fn evaluate_bool<V: RowView>(

@@ -8,6 +8,7 @@ use Rattle.proclang_types.specs.declared.operator.Comparison.TheVariants as ints
 use Rattle.proclang_types.specs.declared.operator.Equality.{Equality}
 use Rattle.proclang_types.specs.declared.operator.Equality.TheVariants as texts
 
+-- rule: expression.less
 -- the tests of two numbers
 abbrev pub compare : Comparison → ℤ → ℤ → Bool
 compare ints.Equal x y = int_eq x y
@@ -15,6 +16,7 @@ compare ints.Unequal x y = not (int_eq x y)
 compare ints.Less x y = int_lt x y
 compare ints.AtMost x y = int_le x y
 
+-- rule: expression.equal
 -- texts are compared byte by byte
 abbrev pub compare_bytes : Equality → List ℕ → List ℕ → Bool
 compare_bytes texts.Equal s t = bytes_eq s t

@@ -48,6 +48,7 @@ abbrev pub reply_of : Ending → Reply
 reply_of (endings.Abort code) = aborted code
 reply_of endings.Stale = stale
 
+-- rule: call.end
 -- every outcome but commit gives the database back
 abbrev pub finished : Database → Result (Unit {0}) Ending × State → Reply × Database
 finished db (Ok u, st) = (commit st.reply, st.rows)
@@ -61,6 +62,7 @@ end_of d rule body arguments db = in_order d rule (block_of body) (start argumen
 abbrev pub run_of : StandIn → AccessRule → List StmtSyntax → List Value → Database → Reply × Database
 run_of d rule body arguments db = finished db (end_of d rule body arguments db)
 
+-- rule: footprint.first
 -- an uncovered access aborts a declared entry, and makes a found one stale
 abbrev pub meaning_by : StandIn → List TableShape → List StmtSyntax → List Value → Footing → Database → Reply × Database
 meaning_by d tables body arguments (declares footprint) db =

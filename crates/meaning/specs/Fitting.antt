@@ -11,6 +11,7 @@ use Rattle.proclang_types.specs.Typing.{kinds_of, ProcFits}
 use Rattle.meaning.specs.Meaning.{StandIn}
 use Rattle.meaning.specs.Entries.{EntryShape, meaning_by, meaning}
 
+-- rule: row.values
 -- one value for each column of the table, of the column's type
 abbrev pub IsRowOf : List TableShape → ℕ → RowOf → Type 0
 IsRowOf tables table row =

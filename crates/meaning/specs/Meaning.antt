@@ -58,6 +58,7 @@ abbrev pub chosen : {A : Type 0} → Bool → A → A → A
 chosen true x y = x
 chosen false x y = y
 
+-- rule: expression.joined, expression.exists
 -- the second part of an "and" or an "or" is evaluated only where the first does not decide
 abbrev pub bool_of : StandIn → AccessRule → BoolSyntax → Ran Bool
 bool_of d rule (compare_ints test a b) = do
@@ -104,12 +105,14 @@ values_of d rule (e ∷ es) = do
 -- ---- what each statement does. In which order its parts are looked at, and so which of them fails first, is said once
 -- for all statements in the law OperandsComeFirst: its operands come first, from left to right
 
+-- rule: statement.let
 -- a variable gets a value: operands first, in order (OperandsComeFirst)
 abbrev pub assign_value : StandIn → AccessRule → ℕ → ValueSyntax → Ran (Unit {0})
 assign_value d rule place value = do
   v ← value_of d rule value
   set_variable place v
 
+-- rule: statement.get
 -- a variable gets a column of a row: operands first, in order (OperandsComeFirst)
 abbrev pub get_column : StandIn → AccessRule → ℕ → ℕ → IntSyntax → ℕ → Ran (Unit {0})
 get_column d rule place table key column = do
@@ -119,6 +122,7 @@ get_column d rule place table key column = do
   row ← present found
   set_variable place (unwrap_or (slice_get row column) (values.Int d.number))
 
+-- rule: statement.put
 -- a column of a row gets a value: operands first, in order (OperandsComeFirst)
 abbrev pub put_column : StandIn → AccessRule → ℕ → IntSyntax → ℕ → ValueSyntax → Ran (Unit {0})
 put_column d rule table key column value = do
@@ -129,6 +133,7 @@ put_column d rule table key column value = do
   row ← present found
   set_row name (slice_set row column v)
 
+-- rule: statement.insert
 -- a new row: operands first, in order (OperandsComeFirst)
 abbrev pub insert_values : StandIn → AccessRule → ℕ → IntSyntax → List ValueSyntax → Ran (Unit {0})
 insert_values d rule table key es = do
@@ -139,6 +144,7 @@ insert_values d rule table key es = do
   u ← absent found
   set_row name vs
 
+-- rule: statement.delete
 -- a row is no more: operands first, in order (OperandsComeFirst)
 abbrev pub delete_key : StandIn → AccessRule → ℕ → IntSyntax → Ran (Unit {0})
 delete_key d rule table key = do
@@ -148,12 +154,14 @@ delete_key d rule table key = do
   row ← present found
   remove_row name
 
+-- rule: statement.reply
 -- more values of the reply: operands first, in order (OperandsComeFirst)
 abbrev pub reply_with : StandIn → AccessRule → List ValueSyntax → Ran (Unit {0})
 reply_with d rule es = do
   vs ← values_of d rule es
   replying vs
 
+-- rule: statement.if
 -- one of two blocks: operands first, in order (OperandsComeFirst)
 abbrev pub if_of : StandIn → AccessRule → BoolSyntax → Ran (Unit {0}) → Ran (Unit {0}) → Ran (Unit {0})
 if_of d rule test first second = do
@@ -181,6 +189,7 @@ turns block (z ∷ zs) = do
   u ← turn_of block z
   turns block zs
 
+-- rule: statement.for
 -- a block for each number from one to another: operands first, in order (OperandsComeFirst)
 abbrev pub for_of : StandIn → AccessRule → IntSyntax → IntSyntax → Ran (Unit {0}) → Ran (Unit {0})
 for_of d rule low high block = do
@@ -188,6 +197,7 @@ for_of d rule low high block = do
   last ← int_of d rule high
   turns block (numbers_between first last)
 
+-- rule: statement.each
 -- a block for each key that a partition holds when the statement begins, ascending: operands first, in order
 -- (OperandsComeFirst)
 abbrev pub each_of : StandIn → AccessRule → ℕ → IntSyntax → Ran (Unit {0}) → Ran (Unit {0})
@@ -200,6 +210,7 @@ each_of d rule table part block = do
 -- ---- statements and blocks
 
 abbrev mutual
+  -- rule: statement.abort
   -- what a statement does after its step
   pub effect : StandIn → AccessRule → StmtSyntax → Ran (Unit {0})
   effect d rule (assign place value) = assign_value d rule place value
@@ -213,6 +224,7 @@ abbrev mutual
   effect d rule (syntax.abort code) = abort (Own code)
   effect d rule (reply es) = reply_with d rule es
 
+  -- rule: step.count
   -- the statements of a block, each after one step
   pub in_order : StandIn → AccessRule → BlockSyntax → Ran (Unit {0})
   in_order d rule no_statements = ok tt

@@ -74,6 +74,7 @@ part_reached rule table z = do
   part ← part_accessed rule table z
   ok tt
 
+-- rule: order.reply
 -- whether the reply has room for more values
 abbrev pub reply_has_room : List Value → Ran (Unit {0})
 reply_has_room vs = do
@@ -120,6 +121,7 @@ is_plain (for_keys table part body) = false
 is_plain (abort code) = false
 is_plain s = true
 
+-- rule: order.operands
 -- Each statement looks at its parts in this order, and the first that fails ends the run. A plain statement fails in no
 -- other way. Counts, sums and tests of a row go the same way, and operators and comparisons evaluate their operands
 -- from left to right.

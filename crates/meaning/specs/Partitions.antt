@@ -20,6 +20,7 @@ part_rows tables table part db = retain_keys db (is_in_part tables table part)
 abbrev pub keys_of : List (RowName × RowOf) → List ℕ
 keys_of rows = map (λ (row : RowName × RowOf). row.0.key) rows
 
+-- rule: expression.sum
 -- the exact total of a column, where another number is taken for a value that is not there or is a text
 abbrev pub total : ℤ → ℕ → List (RowName × RowOf) → ℤ
 total other column [] = pos 0

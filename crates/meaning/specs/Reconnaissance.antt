@@ -58,6 +58,7 @@ accesses_by d tables body arguments db = (end_of d (recording tables) body argum
 abbrev pub accesses_of : List TableShape → List StmtSyntax → List Value → Database → List Access
 accesses_of = accesses_by nothing
 
+-- rule: footprint.found
 -- the footprint that reconnaissance finds on a database: the greatest rights of the accesses
 abbrev pub found_footprint : List TableShape → List StmtSyntax → List Value → Database → FootprintOf
 found_footprint tables body arguments db = greatest_rights (accesses_of tables body arguments db)
@@ -78,6 +79,7 @@ found_entry tables body arguments read =
 
 -- ---- laws
 
+-- rule: stale.when
 -- on the second database the entry found on the first has the outcome of the reconnaissance run, and is not stale
 pub record HoldsAsFound (tables : List TableShape) (body : List StmtSyntax) (arguments : List Value)
     (read db : Database) : Type 0 where

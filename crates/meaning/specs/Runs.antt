@@ -93,6 +93,7 @@ passing false uncovered = ended uncovered
 abbrev pub tested : FootprintOf → Ending → Resource → Right → Ran (Unit {0})
 tested footprint uncovered resource right = passing (covers footprint resource right) uncovered
 
+-- rule: order.grant
 -- each access is tested against the footprint
 abbrev pub covered : List TableShape → FootprintOf → Ending → AccessRule
 covered tables footprint uncovered = record { tables = tables; access = tested footprint uncovered }
@@ -107,6 +108,7 @@ recording tables = record { tables = tables; access = recorded }
 
 -- ---- what steps are made of
 
+-- rule: step.limit
 -- one step of 10,000, or abort 8
 abbrev pub step : Ran (Unit {0})
 step = do
@@ -123,6 +125,7 @@ abbrev pub computed : {A : Type 0} → Result A AbortCode → Ran A
 computed (Ok x) = ok x
 computed (Err code) = abort code
 
+-- rule: order.key
 -- a number that is a key, or an abort
 abbrev pub tested_key : ℤ → Ran ℕ
 tested_key (pos n) = ok n
@@ -140,6 +143,7 @@ abbrev pub part_there : Option ℕ → Ran ℕ
 part_there None = abort BadPart
 part_there (Some part) = ok part
 
+-- rule: grant.part
 -- a partition, once its number was tested and then the right to read it
 abbrev pub part_accessed : AccessRule → ℕ → ℤ → Ran ℕ
 part_accessed rule table z = do
@@ -147,6 +151,7 @@ part_accessed rule table z = do
   u ← rule.access (Table table (Part part WholePart)) Read
   ok part
 
+-- rule: expression.count
 -- the rows of a partition
 abbrev pub part_now : AccessRule → ℕ → ℕ → Ran Database
 part_now rule table part = look (λ st. part_rows rule.tables table part st.rows)
@@ -155,6 +160,7 @@ part_now rule table part = look (λ st. part_rows rule.tables table part st.rows
 abbrev pub row_now : RowName → Ran (Option RowOf)
 row_now name = look (λ st. get st.rows name)
 
+-- rule: order.presence
 -- a row that is there, or an abort
 abbrev pub present : Option RowOf → Ran RowOf
 present None = abort NoRow
@@ -186,6 +192,7 @@ with_variable variables place value =
 abbrev pub set_variable : ℕ → Value → Ran (Unit {0})
 set_variable place value = alter (λ st. record st { variables = with_variable st.variables place value })
 
+-- rule: variable.ended
 -- the variables that a block declares end with it
 abbrev pub scoped : Ran (Unit {0}) → Ran (Unit {0})
 scoped block = do

@@ -10,6 +10,7 @@ abbrev pub serial_end : List EntryShape → Database → Database
 serial_end [] db = db
 serial_end (entry ∷ entries) db = serial_end entries (meaning entry db).1
 
+-- rule: call.serial
 -- the reply of each, on the database that the ones before it left
 abbrev pub serial_replies : List EntryShape → Database → List Reply
 serial_replies [] db = []

@@ -46,6 +46,7 @@ pub fn access_adds_its_right()
         with_right (greatest_rights accesses) access.0 access.1 }
 {}
 
+// rule: stale.when
 /// On each database that agrees with the one read on the found footprint, the found entry has the outcome that the
 /// reconnaissance run had. So it is not stale there.
 #[tactic(auto, using(crate::proofs::Found::holds_as_found))]
@@ -80,6 +81,7 @@ pub fn stand_in_is_never_found()
         → StandInNeverFound tables proc.body arguments db }
 {}
 
+// rule: order.operands
 /// The order in which the parts of a statement fail, the same for all statements: its step, its operands from left to
 /// right as they are written, and then what is tested of them: whether the first is a key or a partition's number,
 /// whether the footprint covers the access, and whether the row is there. The first that fails ends the run.

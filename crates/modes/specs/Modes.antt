@@ -23,6 +23,7 @@ subtree Shared = 1
 subtree SharedIntentionExclusive = 2
 subtree Exclusive = 2
 
+-- rule: lock.compatible
 -- neither's own right clashes with the other's right in the subtree
 abbrev pub are_compatible : Mode → Mode → Bool
 are_compatible first second =

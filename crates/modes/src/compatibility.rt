@@ -5,6 +5,7 @@ ghost use Rattle.modes.specs.Modes.{own, subtree, are_compatible};
 
 use crate::mode::Mode;
 
+// rule: lock.compatible
 /// Whether two requests on one resource may be granted together: neither's own right clashes with the other's right in
 /// the subtree. (The table of Gray and others, 1975 and 1976.)
 pub fn compatible(first: Mode, second: Mode) -> bool

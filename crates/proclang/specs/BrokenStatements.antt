@@ -176,6 +176,7 @@ in_statements tables block path place scope (d ∷ ds) =
     in_statement tables block (path ++ place ∷ []) scope d
     ++ in_statements tables block path (place + 1) (seen_after tables scope d) ds
 
+-- rule: nesting.depth
 abbrev pub in_deep_block : List ℕ → Option (List Data) → List ProcFault
 in_deep_block path None = At Shape path ∷ []
 in_deep_block path (Some ds) = At Limit path ∷ []

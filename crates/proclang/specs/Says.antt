@@ -63,6 +63,7 @@ pub record SaysProc (tables : List TableShape) (d : Data) (p : ProcSyntax) : Typ
   pub footprint : SaysFootprint tables (seen_of p.params) form.footprint p.footprint
   pub body : SaysBlock tables deepest (seen_of p.params) form.body p.body
 
+-- rule: procedure.form
 -- ["procs", 1, [PROC ..]]
 pub record SaysProcs (tables : List TableShape) (d : Data) (ps : List ProcSyntax) : Type 0 where
   pub version : Data

@@ -57,6 +57,7 @@ fn read_document(alloc: Global, document: &Value, catalogue: &Catalogue) -> Resu
     Ok(procs)
 }
 
+// rule: procedure.form
 /// The procedures of a document `["procs", 1, [PROC ..]]` over the tables of a catalogue, or the first rule that the
 /// document breaks, with the path to where it does.
 pub fn read_procs(

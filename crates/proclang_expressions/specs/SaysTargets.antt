@@ -15,6 +15,7 @@ pub record Declares (scope : List Seen) (name : List ℕ) (kind : ColType) (plac
   pub next : place ≡ length scope
   pub seen : after ≡ scope ++ record { name = name; kind = kind; declaration = Statement } ∷ []
 
+-- rule: variable.changed
 -- a variable that a statement declared is changed
 pub record Changes (scope : List Seen) (name : List ℕ) (kind : ColType) (place : ℕ) (after : List Seen) : Type 0 where
   pub found : found_in name scope ≡ Some (record { place = place; kind = kind; declaration = Statement })

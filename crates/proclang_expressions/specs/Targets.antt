@@ -13,6 +13,7 @@ use Rattle.proclang_expressions.specs.Faults.{refuse}
 use Rattle.proclang_expressions.specs.Seen.{Seen, found_in}
 use Rattle.proclang_expressions.specs.Lookups.{same_type, declared_at}
 
+-- rule: variable.fixed
 -- no statement changes a parameter or the variable of a loop
 abbrev pub is_fixed : Declaration → Bool
 is_fixed Parameter = true
@@ -40,6 +41,7 @@ abbrev pub loop_name_of : List ℕ → List ℕ → Option Found → Result ⊤ 
 loop_name_of path name None = declared_at path name
 loop_name_of path name (Some v) = refuse DuplicateName path
 
+-- rule: variable.loop
 -- a name that a loop may take, or the fault
 abbrev pub loop_name_at : List ℕ → List Seen → List ℕ → Result ⊤ ProcFault
 loop_name_at path scope name = loop_name_of path name (found_in name scope)

@@ -200,6 +200,7 @@ pub fn read_expr(
     }
 }
 
+// rule: nesting.depth
 /// An outermost expression in a statement.
 pub fn read_statement_expr(
     alloc: Global,

@@ -86,6 +86,7 @@ impl Scope {
         self.variables.len()
     }
 
+    // rule: variable.declared
     /// Declares a variable after the others.
     pub fn declare(
         &mut self,

@@ -13,6 +13,7 @@ use crate::scope::{Declaration, Found, Scope};
 use std::alloc::Global;
 use values::ColType;
 
+// rule: variable.fixed
 /// The variable that is to get a value, `None` where it is a new one.
 pub fn read_target(
     alloc: Global,
@@ -32,6 +33,7 @@ pub fn read_target(
     Ok(Some(variable))
 }
 
+// rule: variable.changed
 /// The place of the variable that gets a value of that type, which is declared where it is a new one.
 pub fn bind(
     alloc: Global,
@@ -56,6 +58,7 @@ pub fn bind(
     Ok(variable.place)
 }
 
+// rule: variable.loop
 /// The name of a loop's variable is a new one.
 pub fn read_loop_name(
     alloc: Global,

@@ -180,6 +180,7 @@ fn is_allowed(section: Section, form: &ExprForm<'_>) -> bool
     }
 }
 
+// rule: footprint.parameters
 /// The form of an expression in a section, `None` of a document that has none there.
 #[tactic(auto, unfolding(crate::specs::ExprForms::form_in))]
 pub fn form_in(section: Section, value: &Value) -> Option<ExprForm<'_>>

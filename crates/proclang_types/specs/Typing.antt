@@ -68,6 +68,7 @@ Takes kinds place kind = (place ≡ length kinds) ⊎ (slice_get kinds place ≡
 abbrev pub declared : List ColType → ℕ → ColType → List ColType
 declared kinds place kind = if place == length kinds then kinds ++ kind ∷ [] else kinds
 
+-- rule: variable.declared
 -- the types of the variables that are seen after a statement
 abbrev pub scope_after : List TableShape → List ColType → StmtSyntax → List ColType
 scope_after tables kinds (assign place value) = declared kinds place (kind_of value)
@@ -112,6 +113,7 @@ abbrev mutual
 
 -- ---- procedures
 
+-- rule: footprint.parameters
 -- an expression that asks for no rows: its value depends on the variables alone
 abbrev pub AsksNoRows : IntSyntax → Type 0
 AsksNoRows (number z) = ⊤

@@ -34,6 +34,7 @@ all_transactions (batch ∷ batches) = batch ++ all_transactions batches
 abbrev pub next_batch : ℕ → ℕ
 next_batch batch = min (batch + 1) (2 ^ 64 - 1)
 
+-- rule: report.replies
 -- the text of a batch that runs on a database: its reply lines, and its batch line with the digests of the rows after
 -- it, in this form, and of those lines
 unfoldable pub batch_text : DigestForm → List TableShape → ℕ → ℕ → Database → List Transaction → List ℕ

@@ -17,15 +17,18 @@ abbrev pub of_words : Option ℕ → List ℕ
 of_words None = []
 of_words (Some first) = codes " of " ++ decimal first
 
+-- rule: report.reply, report.later
 -- NO, for a later attempt `of FIRST`, and its reply
 unfoldable pub reply_line : ℕ → Option ℕ → Reply → List ℕ
 reply_line number of reply = decimal number ++ of_words of ++ reply_words reply ++ line_end
 
+-- rule: report.batch
 -- batch B rows R replies Q
 unfoldable pub batch_line : ℕ → List ℕ → List ℕ → List ℕ
 batch_line batch rows replies =
     codes "batch " ++ decimal batch ++ codes " rows " ++ rows ++ codes " replies " ++ replies ++ line_end
 
+-- rule: report.end
 -- end N rows R replies A
 unfoldable pub end_line : ℕ → List ℕ → List ℕ → List ℕ
 end_line count rows replies =

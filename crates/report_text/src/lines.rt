@@ -37,6 +37,7 @@ fn push_of_words(text: &mut String, of: Option<u64>) -> Result<(), AllocError>
     }
 }
 
+// rule: report.reply, report.later
 /// Appends a reply line: the transaction's number, for a later attempt of a request the number of its first attempt,
 /// the outcome, and a newline.
 #[tactic(auto, unfolding(crate::specs::Texts::reply_line))]
@@ -55,6 +56,7 @@ pub fn push_reply_line(
     text.push_str("\n")
 }
 
+// rule: report.batch
 /// Appends a batch line, from the digests of the rows after the batch and of its reply lines.
 #[tactic(auto, unfolding(crate::specs::Texts::batch_line))]
 pub fn push_batch_line(
@@ -68,6 +70,7 @@ pub fn push_batch_line(
     writeln!(text, "batch {batch} rows {rows} replies {replies}")
 }
 
+// rule: report.end
 /// Appends the end line, from the number of transactions and the digests of the rows at the end and of all reply lines.
 #[tactic(auto, unfolding(crate::specs::Texts::end_line))]
 pub fn push_end_line(

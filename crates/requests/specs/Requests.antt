@@ -22,6 +22,7 @@ abbrev pub IsShort : Value → Type 0
 IsShort (values.Int z) = ⊤
 IsShort (values.Text s) = length s ≤ 64
 
+-- rule: log.values
 -- one value a parameter, of the parameter's type
 pub record AreArgs (params : List ParamShape) (args : List Value) : Type 0 where
   pub kinds : map type_of args ≡ kinds_of params

@@ -82,6 +82,7 @@ impl Model for Request {
 impl Request {
     ghost use Rattle.requests.specs.ProcLists.{proc_named};
 
+    // rule: log.values
     /// The call of the procedure of that name with these values.
     pub fn new(procs: &Procs, name: &str, args: Vec<Value>) -> Result<Request, RequestFault>
         ensures ok { IfOk result (λ r. (proc_named procs.now.procs name.now ≡ Some r.proc) × (r.args ≡ args.items)) }

@@ -24,6 +24,7 @@ start_of db = record { next = 0; rows = db; carried = [] }
 
 -- ---- one batch
 
+-- rule: retry.first
 -- the attempts of the next batch, of these calls: the carried requests come before them
 abbrev pub attempts_at : Standing → List Call → List Attempt
 attempts_at s calls = attempts_of s.carried (items_from 0 calls)
@@ -92,6 +93,7 @@ abbrev pub closing_within : ℕ → ℕ → Standing → List (List Call)
 closing_within retries zero s = []
 closing_within retries (suc most) s = while_carried s.carried (closing_within retries most (after_batch retries s []))
 
+-- rule: retry.end
 -- the batches without calls after a log's last one: no request is tried again more often than the setup says, so they
 -- are no more than that
 abbrev pub closing : ℕ → Standing → List (List Call)

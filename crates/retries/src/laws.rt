@@ -66,6 +66,7 @@ pub fn stale_attempts_are_tried_again()
         tries_of attempt.before < retries → ¬ (after ≡ []) }
 {}
 
+// rule: retry.first
 /// The first attempt of a batch is never stale: at the start of its batch the entry of each call has another outcome.
 pub fn first_attempt_is_never_stale()
     ensures first { (s : Standing) (calls : List Call) → ¬ (slice_get (replies_at s calls) 0 ≡ Some stale) }

@@ -40,6 +40,7 @@ abbrev pub partition_lines : List TableShape → Database → ℕ → List ℕ
 partition_lines tables db table =
     concat (map (line_of_partition tables table db) (range_with_len 0 (partition_count tables table)))
 
+-- rule: report.partitions
 -- the lines of all partitions, tables in declared order
 abbrev pub partition_text : List TableShape → Database → List ℕ
 partition_text tables db = concat (map (partition_lines tables db) (range_with_len 0 (length tables)))

@@ -15,6 +15,7 @@ use Rattle.values.specs.Database.{Database, RowOf}
 abbrev pub line_end : List ℕ
 line_end = 10 ∷ []
 
+-- rule: report.values
 -- an Int in decimal, a Text as `x` and the lower-case hexadecimal of its bytes
 unfoldable pub value_text : Value → List ℕ
 value_text (Int z) = signed_decimal z
@@ -42,6 +43,7 @@ row_lines tables (e ∷ es) = row_line tables e.0 e.1 ++ row_lines tables es
 abbrev pub rows_in_order : List TableShape → Database → List (RowName × RowOf)
 rows_in_order tables db = filter (λ e. nat_lt e.0.table (length tables)) (entries db)
 
+-- rule: report.rows
 -- the row lines of a database
 abbrev pub row_text : List TableShape → Database → List ℕ
 row_text tables db = row_lines tables (rows_in_order tables db)

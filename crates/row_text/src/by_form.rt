@@ -14,6 +14,7 @@ use catalogue::Catalogue;
 use std::alloc::{AllocError, Global};
 use workspace::RowView;
 
+// rule: report.rows
 /// The digest of the rows of a view that shows every name: of their row text, or of their partition text.
 pub fn rows_digest<V: RowView>(
     alloc: Global,

@@ -130,6 +130,7 @@ fn push_partitions<V: RowView>(
     Ok(())
 }
 
+// rule: report.partitions
 /// The digest of the partition text of a view that shows every name: tables in declared order, partitions ascending.
 /// Only the rows of partitions without a kept digest are looked at.
 pub(crate) fn partition_text_digest<V: RowView>(

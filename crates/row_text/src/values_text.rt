@@ -7,6 +7,7 @@ use itoa::Buffer;
 use std::alloc::{AllocError, Global};
 use values::Value;
 
+// rule: report.values
 /// Appends a value: an Int in decimal, a Text as `x` and the lower-case hexadecimal of its bytes.
 #[tactic(auto, unfolding(crate::specs::Texts::value_text))]
 pub fn push_value(alloc: Global, text: &mut String, value: &Value) -> Result<(), AllocError>

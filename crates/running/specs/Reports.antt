@@ -30,6 +30,7 @@ calls_in_turn procs retries db log =
 abbrev pub batches_in : ProcsParts → ℕ → Database → List ℕ → List (List Transaction)
 batches_in procs retries db log = in_turn retries (start_of db) (calls_in_turn procs retries db log)
 
+-- rule: option.report
 -- what is written for a log from a start: the texts of its batches, and the end line if it has no
 -- fault
 abbrev pub report_of : Start → List ℕ → List ℕ

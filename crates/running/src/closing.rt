@@ -98,6 +98,7 @@ pub fn finish<E: BatchEngine, K: Sink>(
     }
 }
 
+// rule: retry.end
 /// Closes a log after its last batch: runs batches without calls while requests are carried, and writes their reports
 /// and then the end line. The line is the last one read.
 pub(crate) fn close<E: BatchEngine, X: Fn(&mut E, Batch) -> Result<BatchDone, ExecFault>, K: Sink>(

@@ -79,6 +79,7 @@ fn run_batches<
     unreachable!()
 }
 
+// rule: option.report
 /// Runs the log that a source gives on an engine that has run none, as `run_log` does on a new one, with digests of
 /// rows in that form.
 pub fn run_log_on<
@@ -112,6 +113,7 @@ pub fn run_log_on<
     ended
 }
 
+// rule: batch.whole
 /// Runs the log that a source gives on a setup document, and writes its report into a sink: for each batch a reply line
 /// for each request that it tries and a batch line, and then the end line. Each batch is executed by `executor`, which
 /// decides on how many threads. The answer is the number of transactions.

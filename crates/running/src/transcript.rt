@@ -173,6 +173,7 @@ impl Transcript {
         self.form
     }
 
+    // rule: report.replies
     /// Writes the report of a batch, over the rows that it has left. Where no call of it has committed, they are those
     /// that the batch before has left, if there was one: their digest is then the one in its batch line, and is not
     /// made anew. After an error no digest is kept.

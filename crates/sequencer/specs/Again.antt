@@ -5,6 +5,7 @@ use Rattle.meaning.specs.Entries.{Reply, stale}
 use Rattle.sequencer.specs.Attempts.{Attempt, tries_of, first_of}
 use Rattle.sequencer.specs.declared.attempts.Carried.{Carried}
 
+-- rule: retry.limit
 -- a request that was tried at some place and was stale there, with fewer attempts before that one than are tried again:
 -- it is the same request, its first attempt is what it was, or this one if none was before, and it had one more attempt
 pub record IsTriedAgain (retries first_no : ℕ) (attempts : List Attempt) (replies : List Reply)

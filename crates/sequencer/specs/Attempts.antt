@@ -35,6 +35,7 @@ again carried = record {
 abbrev pub own : RequestItem → Attempt
 own item = record { client = item.client; number = item.number; request = item.request; before = None }
 
+-- rule: retry.head
 -- the attempts of a batch: the carried ones come first
 abbrev pub attempts_of : List Carried → List RequestItem → List Attempt
 attempts_of carried items = map again carried ++ map own items
@@ -69,6 +70,7 @@ pub record Numbered : Type 0 where
   pub no : ℕ
   pub attempt : Attempt
 
+-- rule: log.numbers
 -- each attempt has a transaction's number of its own: they go up by one from a first one
 abbrev pub numbered_from : ℕ → List Attempt → List Numbered
 numbered_from first_no [] = []

@@ -111,6 +111,7 @@ impl Ending {
         }
     }
 
+    // rule: retry.limit
     /// Ends the next attempt, in the order of the attempts: its request is left to be tried again, if its outcome is
     /// stale and it had fewer attempts before than are tried again. It takes no memory.
     pub fn end_next(&mut self, outcome: &Outcome) -> Tried

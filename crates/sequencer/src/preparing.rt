@@ -93,6 +93,7 @@ fn entries_of<V: RowView>(
     Ok(entries)
 }
 
+// rule: footprint.first
 /// The entries of a batch's requests, in order: each request with the footprint that its procedure declares for its
 /// values, or with the abort of the first fault, or with the footprint that reconnaissance finds on the view, which
 /// shows every name. The procedures are those that the requests are of. They aren't read, since each request has its
@@ -118,6 +119,7 @@ pub fn prepare<V: RowView>(
     entries_of(alloc, &[], batch.items(), catalogue, view)
 }
 
+// rule: retry.head
 /// The entries of all attempts of a batch, in order: the carried requests, and after them the batch's own, each
 /// prepared on the view, which shows every name. The procedures aren't read here, either.
 pub fn prepare_attempts<V: RowView>(

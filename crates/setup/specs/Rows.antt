@@ -28,6 +28,7 @@ taken_by tables table vs =
 abbrev pub row_values : List TableShape → ℕ → List Data → Option (List Value)
 row_values tables table ds = option_and_then (taken_by tables table) (values_said ds)
 
+-- rule: row.name
 -- whether one of the rows has that table and key
 abbrev pub is_given : ℕ → ℕ → List RowAt → Bool
 is_given table key rows = list_any (λ (r : RowAt). (r.0 == table) && (r.1 == key)) rows

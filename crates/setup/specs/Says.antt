@@ -101,6 +101,7 @@ pub record IsJson (text : List ℕ) (d : Data) : Type 0 where
   pub utf8 : is_utf8 text ≡ true
   pub json : read text ≡ Some d
 
+-- rule: json.text
 -- a text is not UTF-8, or not JSON
 abbrev pub IsNotJson : List ℕ → Type 0
 IsNotJson text = (is_utf8 text ≡ false) ⊎ (read text ≡ None)

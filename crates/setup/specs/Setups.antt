@@ -47,6 +47,7 @@ abbrev pub is_three : ℤ → Bool
 is_three (pos n) = n == 3
 is_three (negsuc n) = false
 
+-- rule: setup.retries
 -- how often a stale request is tried again: 0 to 2
 abbrev pub retries_of : ℤ → Option ℕ
 retries_of (pos n) = if nat_le n 2 then Some n else None
@@ -70,6 +71,7 @@ abbrev pub seven : List Data → Option (Data × Data × Data × Data × Data ×
 seven (a ∷ b ∷ c ∷ d ∷ e ∷ f ∷ g ∷ []) = Some (a, b, c, d, e, f, g)
 seven ds = None
 
+-- rule: setup.digest
 -- the text of which the digests of rows are, by its name
 abbrev pub form_named : List ℕ → Option DigestForm
 form_named name =
@@ -95,6 +97,7 @@ third_parts p =
     (integer p.1))
     (as_str p.0)
 
+-- rule: setup.form
 -- version 1 is of five elements, version 2 of six, and version 3 of seven
 unfoldable pub setup_form : Data → Option SetupParts
 setup_form d =

@@ -36,6 +36,7 @@ fn first_parts<'a>(document: &'a Value) -> Option<Parts<'a>>
     }
 }
 
+// rule: setup.retries
 /// How often a stale request is tried again, `None` of a number that isn't 0, 1 or 2.
 fn retries_of(number: i64) -> Option<u8>
     ensures exact { result ≡ retries_of number }
@@ -88,6 +89,7 @@ fn seven(document: &Value) -> Option<(&Value, &Value, &Value, &Value, &Value, &V
     }
 }
 
+// rule: setup.digest
 /// The text of the rows that has that name, `None` where none has it.
 fn form_named(name: &str) -> Option<DigestForm>
     ensures { result ≡ form_named name.now }
@@ -127,6 +129,7 @@ fn third_parts<'a>(document: &'a Value) -> Option<Parts<'a>>
     }
 }
 
+// rule: setup.form
 /// The parts of a setup's document, of version 1, 2 or 3.
 #[tactic(auto, unfolding(crate::specs::Setups::setup_form))]
 pub(crate) fn setup_form<'a>(document: &'a Value) -> Option<Parts<'a>>

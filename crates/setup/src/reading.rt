@@ -61,6 +61,7 @@ fn read_text(alloc: Global, text: &[u8]) -> Result<SetupDocument, SetupFault>
     }
 }
 
+// rule: json.text
 /// What a JSON text says as a setup document, or the first rule that it breaks: of the text, of the document's outer
 /// form, of the catalogue, of the procedures, and of the rows, in this order.
 pub fn read_setup(alloc: Global, text: &[u8]) -> Result<SetupDocument, SetupFault>

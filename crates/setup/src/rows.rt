@@ -74,6 +74,7 @@ fn read_document(
     Ok(rows)
 }
 
+// rule: row.name
 /// The starting rows of a document `["rows", 1, [ROW ..]]`, in its order, or the first rule that the document breaks.
 pub fn read_rows(
     alloc: Global,

@@ -15,6 +15,7 @@ is_digit b = nat_le 48 b && nat_le b 57
 abbrev pub is_name_byte : ℕ → Bool
 is_name_byte b = is_lower b || (is_digit b || b == 95)
 
+-- rule: name.form
 -- a lower-case letter, then lower-case letters, digits and `_`: 1 to 32 bytes in all
 abbrev pub is_name : List ℕ → Bool
 is_name [] = false

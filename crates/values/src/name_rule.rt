@@ -4,6 +4,7 @@ ghost use Rattle.std.specs.Prelude.{◌≡◌, length};
 ghost use Rattle.std.specs.List.{list_all};
 ghost use Rattle.values.specs.Names.{is_name, is_lower, is_name_byte};
 
+// rule: name.form
 /// Whether the text is a name: 1 to 32 bytes, a lower-case letter, then such letters, digits and `_`.
 pub fn is_name(text: &str) -> bool
     ensures { result ≡ is_name text.now }

@@ -56,6 +56,7 @@ pub(crate) fn row_resource(catalogue: &Catalogue, name: &RowName) -> Resource
 }
 
 impl Permit<'_> {
+    // rule: order.grant
     /// An access is tested or recorded, as the passage says.
     #[tactic(auto, unfolding(meaning::specs::Runs::and_then))]
     pub(crate) fn pass(

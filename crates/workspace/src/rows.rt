@@ -32,6 +32,7 @@ fn tested_key(number: i64) -> Result<Key, Stop>
     }
 }
 
+// rule: grant.row, order.key
 /// The name of the row with the key of that number. The run ends with abort 5 where the number is negative, and else as
 /// the permit says where it doesn't cover that right to the row. The only other error is that allocation failed.
 #[tactic(auto, unfolding(meaning::specs::Runs::and_then), using(crate::proofs::Covered::permits_read))]
@@ -66,6 +67,7 @@ fn part_numbered(catalogue: &Catalogue, table: TableNo, number: i64) -> Option<u
     }
 }
 
+// rule: grant.part
 /// The partition with a number. The run ends with abort 6 where the table has none of that number, and else as the
 /// permit says where it doesn't cover reading the partition. The only other error is that allocation failed.
 pub fn access_part(
@@ -104,6 +106,7 @@ pub(crate) fn row_seen<'a, V: RowView>(
     }
 }
 
+// rule: order.presence
 /// The row with a name, after the own writes. The only error is the end of the run where there is none: abort 1.
 pub fn present_row<'a, V: RowView>(
     shown: &'a Shown<'_, V>,
@@ -122,6 +125,7 @@ pub fn present_row<'a, V: RowView>(
     }
 }
 
+// rule: expression.exists
 /// Whether the row with a name is there, after the own writes.
 pub fn is_there<V: RowView>(shown: &Shown<'_, V>, space: &Workspace, name: &RowName) -> bool
     requires covered { permits shown.now.permit name.now Read ≡ true }

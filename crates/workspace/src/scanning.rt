@@ -22,6 +22,7 @@ use meaning::Ending;
 use std::alloc::Global;
 use values::{Key, NoMemory, Row, TableNo, Value};
 
+// rule: expression.count
 /// How many rows a partition has, after the own writes, or the end of the run where they are more than 2^63 - 1.
 #[tactic(auto, using(crate::proofs::Scanned::count_by_key))]
 pub fn count_in<V: RowView>(
@@ -106,6 +107,7 @@ fn total_of(rows: &[(Key, &Row)], column: usize) -> i128
     sum
 }
 
+// rule: expression.sum
 /// The exact total of a column over the rows of a partition, after the own writes, or the end of the run where it is
 /// outside the signed 64-bit range; 0 for a value that is not there or is a text.
 #[tactic(auto, using(crate::proofs::Scanned::total_is))]

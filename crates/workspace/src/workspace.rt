@@ -121,6 +121,7 @@ impl Workspace {
         }
     }
 
+    // rule: variable.ended
     /// Ends a block: the variables after the first `count` are no more.
     pub fn leave_block(&mut self, count: usize)
         ensures gives { (db : Database) → state_at db self.new ≡ with_first count (state_at db self.old) }
@@ -129,6 +130,7 @@ impl Workspace {
         self.variables.truncate(count);
     }
 
+    // rule: step.limit
     /// Takes a step, of which there are 10,000. The error comes exactly where all are taken: abort 8.
     pub fn take_step(&mut self) -> Result<(), Stop>
         ensures gives { (db : Database) → Gives (λ _. tt) (state_at db self.new) result (step (state_at db self.old)) }
@@ -163,6 +165,7 @@ impl Workspace {
         Ok(())
     }
 
+    // rule: order.reply
     /// Appends values to the reply, of which there are at most 64. Where they would be more the run ends with abort 7;
     /// the only other error is that allocation failed.
     pub fn append_reply(&mut self, mut values: Vec<Value>) -> Result<(), Stop>
