@@ -1,6 +1,6 @@
 //! The calls of a batch, from the lines of a log.
 
-ghost use Rattle.std.specs.Prelude.{◌≡◌, ℕ, ◌+◌, ◌≤◌, ◌^◌, ◌||◌, List, length, true, None, Ok, Err, [], ◌∷◌, IfOk, IfErr, OnOk, IfSome, IsNone};
+ghost use Rattle.std.specs.Prelude.{◌≡◌, ℕ, ◌+◌, ◌≤◌, ◌^◌, List, length, None, Ok, Err, [], ◌∷◌, IfOk, IfErr, OnOk, IfSome, IsNone};
 ghost use Rattle.std.specs.List.{AllByRecursion};
 ghost use Rattle.devices.specs.Devices.{Passes};
 ghost use Rattle.devices.specs.LineReader.{fault_of, line_begun, newlines_taken, position_of, source_name, unread};

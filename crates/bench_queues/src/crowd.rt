@@ -1,7 +1,5 @@
 //! Transactions that all ask for one resource.
 
-ghost use Rattle.std.specs.Prelude.{◌≡◌, length};
-
 use coarsen::Plan;
 use lock_tree::{EnqueueFault, LockTree};
 use std::alloc::Global;

@@ -1,6 +1,6 @@
 //! What a command reads, what it prints, and how it says why it stops.
 
-ghost use Rattle.std.specs.Prelude.{◌≡◌, ◌⊎◌, true, Some, None, IfOk, OnOk, IfErr, string_bytes};
+ghost use Rattle.std.specs.Prelude.{◌≡◌, ◌⊎◌, true, Some, None, IfOk, OnOk, IfErr};
 ghost use Rattle.std.specs.Io.KnownBytes.{Appends};
 ghost use Rattle.devices.specs.Devices.{AppendsFront};
 ghost use Rattle.calvin.specs.CommandEnds.{fault_status, IsSetupAt, IsWithoutSetup};

@@ -1,7 +1,7 @@
 //! The catalogue: tables in declared order, each with its partitions and columns.
 
-ghost use Rattle.std.specs.Prelude.{◌≡◌, ◌⊎◌, ◌<◌, ◌≤◌, ◌↔◌, [], false, IfErr, OnOk, IsOkUnless, ℕ, length, option_map, IfOk, Ok, List, slice_get, Some, IfSome, IsTrue, map};
-ghost use Rattle.catalogue.specs.Shapes.{tables_shape, columns_shape, table_shape, split_shape, partitions, TableShape};
+ghost use Rattle.std.specs.Prelude.{◌≡◌, ◌⊎◌, ◌<◌, ◌≤◌, ◌↔◌, [], false, IfErr, OnOk, IsOkUnless, length, option_map, IfOk, Ok, List, slice_get, Some, IsTrue, map};
+ghost use Rattle.catalogue.specs.Shapes.{tables_shape, columns_shape, split_shape, partitions, TableShape};
 ghost use Rattle.catalogue.specs.Places.{table_named, column_named, partition_of, partition_numbered, is_end_of};
 ghost use Rattle.catalogue.specs.Rules.{IsCatalogue as IsSound, IsSplit};
 ghost use Rattle.catalogue.specs.Schemas.{HaveSameSchema};

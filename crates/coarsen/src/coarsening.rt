@@ -1,6 +1,6 @@
 //! The coarsening of a footprint.
 
-ghost use Rattle.std.specs.Prelude.{◌≡◌, IfOk, not, true, unwrap_or};
+ghost use Rattle.std.specs.Prelude.{◌≡◌, IfOk, true, unwrap_or};
 ghost use Rattle.std.specs.BTreeMap.{get as count_at};
 ghost use Rattle.footprint.specs.Tree.{resource_cmp};
 ghost use Rattle.footprint.specs.declared.resource.Resource.{Resource as AnyResource};

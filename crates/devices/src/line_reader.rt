@@ -1,8 +1,8 @@
 //! The reader of a source's lines.
 
-ghost use Rattle.std.specs.Prelude.{◌≡◌, ◌≤◌, ◌<◌, ◌||◌, if◌then◌else◌, [], ◌∷◌, ◌++◌, length, take, slice_index, slice_range, true, false, None, Err, IfOk, IfErr, OnOk, OnErr, IfSome, IsNone, IsOk, IsOkAnd, option_to_list};
+ghost use Rattle.std.specs.Prelude.{◌≡◌, ◌≤◌, ◌<◌, ◌||◌, if◌then◌else◌, [], ◌∷◌, ◌++◌, length, take, slice_index, slice_range, true, false, None, Err, IfOk, OnOk, OnErr, IfSome, IsNone, IsOk};
 ghost use Rattle.std.specs.Result.{is_err};
-ghost use Rattle.std.specs.Io.KnownBytes.{Consumes, Keeps, IsAtEnd};
+ghost use Rattle.std.specs.Io.KnownBytes.{Keeps, IsAtEnd};
 ghost use Rattle.devices.specs.Devices.{Passes};
 ghost use Rattle.devices.specs.Lines.{has_newline, newline, numbered_lines};
 ghost use Rattle.devices.specs.Pieces.{LosesPiece, says_end, TakesPiece};
@@ -76,7 +76,7 @@ fn push_piece(line: &mut Vec<u8>, piece: &[u8]) -> Result<(), AllocError>
 }
 
 impl<'a, S: Source> LineReader<'a, S> {
-    ghost use Rattle.devices.specs.LineReader.{came, ends_bare, fault_in, fault_of, IsFaultAt, is_io, line_begun, LosesLine, newlines_taken, position_of, source_name, source_of, Takes, TakesLine, TellsFault, unread};
+    ghost use Rattle.devices.specs.LineReader.{came, ends_bare, fault_in, fault_of, line_begun, LosesLine, newlines_taken, position_of, source_name, source_of, Takes, TakesLine, TellsFault, unread};
 
     /// A reader that has read nothing.
     pub fn new(source: &'a mut S) -> LineReader<'a, S>

@@ -1,6 +1,6 @@
 //! Who is told of what is settled.
 
-ghost use Rattle.std.specs.Prelude.{◌≡◌, ◌≤◌, Option};
+ghost use Rattle.std.specs.Prelude.{◌≤◌, Option};
 ghost use Rattle.meaning.specs.Outcomes.{as_reply};
 ghost use Rattle.progress.specs.Accounts.{Account};
 ghost use Rattle.dispatcher.specs.Listeners.{AreCounted, AreOthersCounted, HasRoomForOne, Hears, HearsOn};

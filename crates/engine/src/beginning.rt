@@ -1,7 +1,6 @@
 //! Beginning a batch.
 
 ghost use Rattle.std.specs.Prelude.{◌≡◌, [], map, IfOk, IfErr};
-ghost use Rattle.row_store.specs.Stock.{Stock};
 ghost use Rattle.interp.specs.Entries.{entry_shape};
 ghost use Rattle.scheduler.specs.Logs.{ArePlansOf};
 ghost use Rattle.engine.specs.Stages.{IsFree, IsBatchFrom, IsScheduleOf};

@@ -1,6 +1,6 @@
 //! The owner of the intake: it draws, executes and answers.
 
-ghost use Rattle.std.specs.Prelude.{◌≡◌, [], false, OnOk};
+ghost use Rattle.std.specs.Prelude.{◌≡◌, [], false};
 ghost use Rattle.intake.specs.Passes.{IsDrawerOf, held_by};
 ghost use Rattle.engine.specs.Engines.{is_busy};
 ghost use Rattle.example_serving.specs.Services.{AnswersFirstPart, calls_of_batches};

@@ -1,6 +1,6 @@
 //! Footprints.
 
-ghost use Rattle.std.specs.Prelude.{◌≡◌, OnOk, OnErr, option_copied};
+ghost use Rattle.std.specs.Prelude.{◌≡◌, OnOk, OnErr};
 ghost use Rattle.std.specs.FinMap as map;
 ghost use Rattle.footprint.specs.Rights.{covers, with_right, is_at_least, greater};
 

@@ -1,12 +1,12 @@
 //! The making of lanes and of seats, and the calls at one lane. Each try is one compare-
 //! exchange, and each hand-over one store.
 
-ghost use Rattle.std.specs.Prelude.{◌≡◌, ◌≢◌, ℕ, ◌<◌, [], ◌∷◌, IfOk, IfErr, IfSome, IfNone, None, Some, slice_index_or, true};
+ghost use Rattle.std.specs.Prelude.{◌≡◌, ◌≢◌, ℕ, ◌<◌, [], ◌∷◌, IfOk, IfErr, IfSome, IfNone, None, Some, slice_index_or};
 ghost use Rattle.atomic_table.specs.Table.{rest};
 ghost use Rattle.hand_off.specs.declared.state.LaneState.{LaneState};
 ghost use Rattle.hand_off.specs.declared.state.LaneState.TheVariants.{Waiting, Finished};
 ghost use Rattle.hand_off.specs.declared.view.Known.TheVariants as known;
-ghost use Rattle.hand_off.specs.Views.{with_note, putting, collecting, claiming, delivering, knowing, opened, newcomer};
+ghost use Rattle.hand_off.specs.Views.{with_note, putting, collecting, claiming, delivering, opened, newcomer};
 ghost use Rattle.hand_off.specs.Seats.{IsPut, Schedules, Works};
 ghost use Rattle.hand_off.specs.Stands.{ShownAt, Stands};
 

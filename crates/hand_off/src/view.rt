@@ -1,6 +1,6 @@
 //! What lies in a lane, what a seat knows, and the rule that ties the two.
 
-ghost use Rattle.std.specs.Prelude.{◌≡◌, List};
+ghost use Rattle.std.specs.Prelude.{◌≡◌};
 
 use crate::state::Note;
 use atomic_table::{Seat, Table, TableRule};

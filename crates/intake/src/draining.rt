@@ -1,6 +1,6 @@
 //! Draining: all that the clients have submitted is drawn.
 
-ghost use Rattle.std.specs.Prelude.{◌≡◌, ◌<◌, ◌≤◌, ◌++◌, ◌∷◌, [], List, map, vec_len, vec_capacity, OnOk};
+ghost use Rattle.std.specs.Prelude.{◌≡◌, ◌<◌, ◌≤◌, ◌++◌, ◌∷◌, List, map, vec_len, vec_capacity, OnOk};
 ghost use Rattle.crossbeam_queue.specs.Passes.{IsPassOf};
 ghost use Rattle.crossbeam_queue.specs.Passes.{view as known};
 ghost use Rattle.intake.specs.Histories.{HasAll, without_first, only_first, joined, first_of, rest_of};

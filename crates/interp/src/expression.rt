@@ -1,7 +1,7 @@
 //! The values of expressions.
 #![tactic(auto, unfolding(meaning::specs::Runs::and_then))]
 
-ghost use Rattle.std.specs.Prelude.{◌≡◌, map, IfOk, IfSome, OnOk};
+ghost use Rattle.std.specs.Prelude.{◌≡◌, map, IfSome, OnOk};
 ghost use Rattle.values.specs.Database.{Database};
 ghost use Rattle.proclang_types.specs.Syntax.{count_rows, sum_column};
 ghost use Rattle.proclang_types.specs.Views.{int_view, text_view, value_view};

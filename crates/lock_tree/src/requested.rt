@@ -28,7 +28,7 @@ pub(crate) struct Requested {
 
 impl Model for Requested {
     ghost use Rattle.std.specs.Prelude.{◌≡◌, ◌+◌};
-    ghost use Rattle.lock_tree.specs.Locks.{Locks, used, IsRising};
+    ghost use Rattle.lock_tree.specs.Locks.{Locks, used};
 
     ghost Value = { Locks };
 

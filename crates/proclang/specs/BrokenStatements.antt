@@ -1,28 +1,23 @@
 -- Claimed: what contracts promise to a reader rests on these words.
 -- The faults of a statement and of a block, each with its path, in the order in which rules are looked at; and the
 -- variables that are seen after a statement. No rule here depends on what reading gives.
-use Rattle.std.specs.Prelude.{ℕ, zero, suc, ℤ, pos, negsuc, ◌+◌, ◌==◌, Bool, true, false, ◌&&◌, not, nat_le, List, [], ◌∷◌, ◌++◌, length, Option, Some, None, option_map, option_and_then, unwrap_or}
+use Rattle.std.specs.Prelude.{ℕ, zero, suc, ℤ, pos, negsuc, ◌+◌, ◌==◌, Bool, false, ◌&&◌, nat_le, List, [], ◌∷◌, ◌++◌, length, Option, Some, None, option_and_then, unwrap_or}
 use Rattle.std.specs.List.{zip}
 use Rattle.serde_json.specs.Data.{Data}
 use Rattle.documents.specs.FirstFault.{broken}
 use Rattle.documents.specs.Json.{elements}
 use Rattle.values.specs.declared.value.ColType.{ColType}
 use Rattle.catalogue.specs.Places.{table_named}
-use Rattle.values.specs.Names.{is_name}
 use Rattle.catalogue.specs.Shapes.{TableShape}
 use Rattle.proclang_types.specs.Typing.{column_kinds}
-use Rattle.proclang_expressions.specs.declared.fault.FaultKind.TheVariants.{Shape, TypeMismatch, DuplicateName, AbortCode, Limit}
+use Rattle.proclang_expressions.specs.declared.fault.FaultKind.TheVariants.{Shape, TypeMismatch, AbortCode, Limit}
 use Rattle.proclang_expressions.specs.declared.fault.ProcFault.{ProcFault}
 use Rattle.proclang_expressions.specs.declared.fault.ProcFault.TheVariants.{At}
-use Rattle.proclang_expressions.specs.declared.scope.Declaration.TheVariants.{Statement}
-use Rattle.proclang_expressions.specs.declared.scope.Found.{Found}
 use Rattle.proclang_expressions.specs.BrokenNames.{not_table, column_type_said, not_column}
 use Rattle.proclang_expressions.specs.BrokenExpressions.{not_int, not_bool, not_value, in_statement_expr}
 use Rattle.proclang_expressions.specs.ExprTypes.{kind_said}
-use Rattle.proclang_expressions.specs.Lookups.{same_type}
 use Rattle.proclang_expressions.specs.Seen.{Seen, found_in, seen_in_loop}
 use Rattle.proclang_forms.specs.StmtForms.{LetParts, GetParts, PutParts, InsertParts, DeleteParts, IfParts, ForParts, EachParts, StatementForm, let_parts, get_parts, put_parts, insert_parts, delete_parts, if_parts, for_parts, each_parts, abort_code, reply_values, statement_form}
-use Rattle.proclang_expressions.specs.Targets.{is_fixed}
 use Rattle.proclang_expressions.specs.BrokenTargets.{in_target, in_loop_name, type_found, agree, seen_with}
 use Rattle.proclang_expressions.specs.BrokenParts.{in_parts, too_many}
 

@@ -1,16 +1,14 @@
 -- Claimed: what contracts promise to a reader rests on these words.
 -- Which documents say a statement and a block: a relation between documents and typed syntax, apart from paths, faults
 -- and the order in which a document is read.
-use Rattle.std.specs.Prelude.{◌≡◌, ◌⊎◌, ◌≤◌, ℕ, zero, suc, pos, List, [], ◌∷◌, ◌++◌, length, map, Some, None, true, ⊤}
+use Rattle.std.specs.Prelude.{◌≡◌, ◌≤◌, ℕ, zero, suc, pos, List, [], ◌∷◌, length, map, Some, ⊤}
 use Rattle.serde_json.specs.Data.{Data}
 use Rattle.values.specs.declared.value.ColType.{ColType}
-use Rattle.values.specs.Names.{is_name}
 use Rattle.catalogue.specs.Rules.{Says}
 use Rattle.catalogue.specs.Shapes.{TableShape}
 use Rattle.proclang_types.specs.Syntax.{IntSyntax, BoolSyntax, ValueSyntax, StmtSyntax, assign, get, put, insert_row, delete_row, choose, for_numbers, for_keys, abort, reply, block_of}
 use Rattle.proclang_types.specs.Typing.{kind_of, column_kinds}
-use Rattle.proclang_expressions.specs.declared.scope.Declaration.TheVariants.{Statement}
-use Rattle.proclang_expressions.specs.Seen.{Seen, found_in, seen_in_loop}
+use Rattle.proclang_expressions.specs.Seen.{Seen, seen_in_loop}
 use Rattle.proclang_forms.specs.Spells.{list, SpellsStatement}
 use Rattle.proclang_forms.specs.StmtForms.{LetParts, GetParts, PutParts, InsertParts, DeleteParts, IfParts, ForParts, EachParts, StatementForm, let_parts, get_parts, put_parts, insert_parts, delete_parts, if_parts, for_parts, each_parts, abort_code, reply_values}
 use Rattle.proclang_expressions.specs.SaysExpressions.{NamesTable, NamesColumn, SaysInt, SaysBool, SaysValue}

@@ -1,21 +1,19 @@
 -- Claimed: what contracts promise to a reader rests on these words.
 -- Reading statements and blocks into typed syntax, with the first fault that is met and its path.
-use Rattle.std.specs.Prelude.{ℕ, zero, suc, ℤ, pos, negsuc, ◌&&◌, ◌==◌, nat_le, List, [], ◌∷◌, ◌++◌, length, unwrap_or, Result, Ok, if◌then◌else◌}
-use Rattle.std.specs.List.{zip}
+use Rattle.std.specs.Prelude.{ℕ, zero, suc, ℤ, pos, negsuc, ◌&&◌, ◌==◌, nat_le, List, [], ◌∷◌, ◌++◌, length, Result, Ok, if◌then◌else◌}
 use Rattle.serde_json.specs.Data.{Data}
 use Rattle.documents.specs.Json.{elements}
 use Rattle.documents.specs.Reading.{◌>>=◌, formed, rule}
-use Rattle.values.specs.declared.value.ColType.{ColType}
 use Rattle.catalogue.specs.Shapes.{TableShape}
-use Rattle.proclang_types.specs.Syntax.{ExprSyntax, ValueSyntax, StmtSyntax, assign, get, put, insert_row, delete_row, choose, for_numbers, for_keys, abort, reply, block_of}
-use Rattle.proclang_types.specs.Typing.{kind_of, column_kinds}
-use Rattle.proclang_expressions.specs.declared.fault.FaultKind.TheVariants.{Shape, TypeMismatch, AbortCode, Limit}
+use Rattle.proclang_types.specs.Syntax.{StmtSyntax, assign, get, put, insert_row, delete_row, choose, for_numbers, for_keys, abort, reply, block_of}
+use Rattle.proclang_types.specs.Typing.{kind_of}
+use Rattle.proclang_expressions.specs.declared.fault.FaultKind.TheVariants.{Shape, AbortCode, Limit}
 use Rattle.proclang_expressions.specs.declared.fault.ProcFault.{ProcFault}
 use Rattle.proclang_expressions.specs.declared.fault.ProcFault.TheVariants.{At}
 use Rattle.proclang_expressions.specs.Faults.{refuse}
 use Rattle.proclang_expressions.specs.Seen.{Seen, seen_in_loop}
-use Rattle.proclang_expressions.specs.Walk.{each_from, appended, at_most}
-use Rattle.proclang_expressions.specs.Lookups.{same_type, table_called, column_called}
+use Rattle.proclang_expressions.specs.Walk.{each_from, at_most}
+use Rattle.proclang_expressions.specs.Lookups.{table_called, column_called}
 use Rattle.proclang_expressions.specs.Targets.{target_at, bound, loop_name_at}
 use Rattle.proclang_expressions.specs.Expressions.{as_int, as_bool, as_value, statement_expr}
 use Rattle.proclang_forms.specs.StmtForms.{LetParts, GetParts, PutParts, InsertParts, DeleteParts, IfParts, ForParts, EachParts, StatementForm, let_parts, get_parts, put_parts, insert_parts, delete_parts, if_parts, for_parts, each_parts, abort_code, reply_values, statement_form}

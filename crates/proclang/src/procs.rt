@@ -1,6 +1,6 @@
 //! The procedures of a setup.
 
-ghost use Rattle.std.specs.Prelude.{◌≡◌, ◌⊎◌, List, Some, Ok, map, IfOk, IfErr, OnOk, IsOkUnless, [], ◌∷◌};
+ghost use Rattle.std.specs.Prelude.{◌≡◌, ◌⊎◌, List, Some, Ok, map, IfOk, IfErr, OnOk, IsOkUnless, []};
 ghost use Rattle.serde_json.specs.View.{view};
 ghost use Rattle.documents.specs.FirstFault.{first};
 ghost use Rattle.documents.specs.Reading.{Reads};

@@ -1,6 +1,6 @@
 //! Expressions over smaller ones, which get memory of their own.
 
-ghost use Rattle.std.specs.Prelude.{◌≡◌, Ok};
+ghost use Rattle.std.specs.Prelude.{Ok};
 ghost use Rattle.documents.specs.Reading.{Reads};
 ghost use Rattle.proclang_types.specs.Syntax.{binary, count_rows, sum_column, both, either, negated, int, bool};
 ghost use Rattle.proclang_types.specs.Views.{int_view, bool_view, expr_view};

@@ -1,6 +1,5 @@
 //! Variables that get a value, and the variables of loops.
 
-ghost use Rattle.std.specs.Prelude.{◌≡◌, OnOk};
 ghost use Rattle.documents.specs.Reading.{Reads};
 ghost use Rattle.proclang_expressions.specs.Paths.{places};
 ghost use Rattle.proclang_expressions.specs.Faults.{is_memory};

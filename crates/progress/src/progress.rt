@@ -1,6 +1,6 @@
 //! The published tally.
 
-ghost use Rattle.std.specs.Prelude.{◌≡◌, [], ◌∷◌, ◌++◌, IfOk, IsOk};
+ghost use Rattle.std.specs.Prelude.{◌≡◌, [], ◌∷◌, ◌++◌, IfOk};
 ghost use Rattle.progress.specs.Tallies.{zero_tally, AddsUp, NoneBelow, latest, StartsWith};
 ghost use Rattle.progress.specs.Passes.{published, seen, IsWriterOf, IsWatchOf, IsSameWriter, IsSameWatch};
 

@@ -1,6 +1,6 @@
 //! Moves the rows of names between the shelves of a store and those of a loan.
 
-ghost use Rattle.std.specs.Prelude.{◌≡◌, true, false, ◌&&◌, ◌||◌, OnOk};
+ghost use Rattle.std.specs.Prelude.{◌≡◌, true, false, ◌&&◌, OnOk};
 ghost use Rattle.values.specs.declared.name.RowName.{RowName as AnyName};
 ghost use Rattle.footprint.specs.declared.resource.Resource.{Resource as AnyResource};
 ghost use Rattle.shelves.specs.Places.{has_shelf, is_away, has_place, seen_at, is_same_shelf, is_same_name, is_named};

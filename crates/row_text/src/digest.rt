@@ -1,9 +1,7 @@
 //! Digests.
 
-ghost use Rattle.std.specs.Prelude.{◌≡◌, ◌++◌, [], List, ℕ, IfOk, OnOk, string_bytes};
+ghost use Rattle.std.specs.Prelude.{◌≡◌, ◌++◌, List, ℕ, IfOk, OnOk, string_bytes};
 ghost use Rattle.sha2.specs.Hashers.{Holds256};
-ghost use Rattle.hex.specs.Hex.{encode_lower};
-ghost use Rattle.sha2.specs.Sha256.{sha256};
 ghost use Rattle.row_text.specs.Texts.{digest, row_line, table_name, values_text};
 
 use crate::values_text::push_values;

@@ -1,7 +1,7 @@
 //! The rows of a table by ascending key, although a view gives them partition by partition.
 
 ghost use Rattle.std.specs.Prelude.{◌≡◌, ◌<◌, IfOk, IsPermutation, length};
-ghost use Rattle.workspace.specs.Scan.{ShowsPart, by_key, referred};
+ghost use Rattle.workspace.specs.Scan.{by_key, referred};
 ghost use Rattle.row_text.specs.Merge.{rows_of, ShowsAll};
 
 use catalogue::Catalogue;

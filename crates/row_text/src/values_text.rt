@@ -1,6 +1,6 @@
 //! Values as words.
 
-ghost use Rattle.std.specs.Prelude.{◌≡◌, ◌++◌, [], OnOk, string_bytes};
+ghost use Rattle.std.specs.Prelude.{◌≡◌, ◌++◌, OnOk, string_bytes};
 ghost use Rattle.row_text.specs.Texts.{value_text, values_text};
 
 use itoa::Buffer;

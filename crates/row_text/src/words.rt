@@ -1,6 +1,6 @@
 //! What is in a row line after the table's name, written from its last byte on.
 
-ghost use Rattle.std.specs.Prelude.{◌≡◌, ◌+◌, ◌≤◌, ◌<◌, ◌++◌, IfSome, codes, drop, length};
+ghost use Rattle.std.specs.Prelude.{◌≡◌, ◌+◌, ◌≤◌, ◌<◌, ◌++◌, IfSome, codes, drop};
 ghost use Rattle.std.specs.Fmt.{decimal, signed_decimal};
 ghost use Rattle.row_text.specs.Feeding.{row_words};
 ghost use Rattle.row_text.specs.Texts.{line_end, value_text, values_text};

@@ -1,6 +1,6 @@
 //! The report of a run, as it is written.
 
-ghost use Rattle.std.specs.Prelude.{◌≡◌, ◌++◌, ◌||◌, List, ℕ, [], Some, None, IfOk, IfErr, IfSome, OnErr, OnOk, string_bytes, false};
+ghost use Rattle.std.specs.Prelude.{◌≡◌, ◌||◌, List, ℕ, [], Some, None, IfOk, IfErr, IfSome, OnErr, OnOk, string_bytes, false};
 ghost use Rattle.std.specs.FinMap as map_of;
 ghost use Rattle.std.specs.Io.KnownBytes.{Appends};
 ghost use Rattle.sha2.specs.Hashers.{Holds256};

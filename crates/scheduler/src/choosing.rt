@@ -1,6 +1,6 @@
 //! Which event comes next.
 
-ghost use Rattle.std.specs.Prelude.{◌≡◌, [], ◌++◌, ◌<◌, ◌+◌, ◌&&◌, not, IfOk, OnOk, length, filter, slice_get};
+ghost use Rattle.std.specs.Prelude.{◌≡◌, ◌++◌, ◌<◌, ◌+◌, ◌&&◌, not, IfOk, OnOk, length, filter, slice_get};
 ghost use Rattle.scheduler_core.specs.declared.event.Event.{Event as AnyEvent};
 ghost use Rattle.lock_tree.specs.Ready.{ready};
 ghost use Rattle.scheduler_core.specs.Phases.{is_idle};

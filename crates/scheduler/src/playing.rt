@@ -4,7 +4,7 @@ ghost use Rattle.std.specs.Prelude.{◌≡◌, ◌≢◌, ◌<◌, ◌+◌, ℕ,
 ghost use Rattle.scheduler_core.specs.declared.event.Event.{Event as AnyEvent};
 ghost use Rattle.scheduler_core.specs.declared.event.StepAnswer.{StepAnswer as AnyAnswer};
 ghost use Rattle.scheduler_core.specs.Phases.{phase_of};
-ghost use Rattle.scheduler.specs.Schedules.{log_of, phases_of, KeepsItsJobs};
+ghost use Rattle.scheduler.specs.Schedules.{phases_of, KeepsItsJobs};
 ghost use Rattle.scheduler.specs.Moments.{AnswersAt, PlaysAt, SettlesTakeNoMemory};
 
 use crate::job::run_job;

@@ -6,7 +6,7 @@ ghost use Rattle.scheduler_core.specs.declared.event.Event.{Event as AnyEvent};
 ghost use Rattle.interp.specs.Entries.{entry_shape};
 ghost use Rattle.interp.specs.Over.{AreEntriesOver};
 ghost use Rattle.scheduler.specs.Logs.{ArePlansOf};
-ghost use Rattle.scheduler.specs.Schedules.{log_of, phases_of, work_of};
+ghost use Rattle.scheduler.specs.Schedules.{work_of};
 ghost use Rattle.scheduler.specs.Moments.{can_make, LacksRoom, IsLeastLendAt};
 ghost use Rattle.scheduler.specs.Jobs.{LendsTo, ComesBack, number_of_job};
 

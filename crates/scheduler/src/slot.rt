@@ -1,7 +1,7 @@
 //! What there is of an admitted transaction.
 
 ghost use Rattle.std.specs.Prelude.{◌≡◌, ◌<◌, ◌≤◌, ℕ, true, false, length, map, Some, None, IfSome, is_some, slice_get, slice_set};
-ghost use Rattle.scheduler_core.specs.Phases.{is_idle, is_lent, was_run, is_settled};
+ghost use Rattle.scheduler_core.specs.Phases.{is_idle, was_run, is_settled};
 ghost use Rattle.scheduler.specs.JobRuns.{JobOf};
 ghost use Rattle.scheduler.specs.Schedules.{phase_in};
 

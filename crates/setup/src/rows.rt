@@ -7,7 +7,7 @@ ghost use Rattle.documents.specs.Reading.{Reads};
 ghost use Rattle.setup.specs.Faults.{is_memory};
 ghost use Rattle.setup.specs.FirstFault.{rows_faults};
 ghost use Rattle.setup.specs.Names.{HoldsNames};
-ghost use Rattle.setup.specs.Rows.{RowAt, row_at, rows_at, row_values, is_given};
+ghost use Rattle.setup.specs.Rows.{RowAt, row_at, rows_at, row_values};
 ghost use Rattle.setup.specs.Says.{SaysRows};
 
 use crate::fault::SetupFault;

@@ -1,10 +1,10 @@
 //! The shelves of a new store.
 
-ghost use Rattle.std.specs.Prelude.{◌≡◌, Some, false, ◌&&◌, if◌then◌else◌, IfOk, OnOk};
+ghost use Rattle.std.specs.Prelude.{◌≡◌, Some, false, IfOk, OnOk};
 ghost use Rattle.std.specs.FinMap as map;
 ghost use Rattle.values.specs.declared.name.RowName.{RowName as AnyName};
 ghost use Rattle.footprint.specs.declared.resource.Resource.{Resource as AnyResource};
-ghost use Rattle.shelves.specs.Places.{seen_at, is_away, full, is_same_name, is_same_shelf};
+ghost use Rattle.shelves.specs.Places.{is_away};
 ghost use Rattle.shelves.specs.Shelving.{shelf_of};
 ghost use Rattle.shelves.specs.Rows.{with_rows, rows_of, found};
 

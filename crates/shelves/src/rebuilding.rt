@@ -3,7 +3,6 @@
 ghost use Rattle.std.specs.Prelude.{◌≡◌, ◌++◌, false, if◌then◌else◌, List, Option, IfOk, OnOk};
 ghost use Rattle.std.specs.BTreeMap.{keys};
 ghost use Rattle.values.specs.declared.name.RowName.{RowName as AnyName};
-ghost use Rattle.values.specs.Database.{RowOf};
 ghost use Rattle.footprint.specs.declared.resource.Resource.{Resource as AnyResource};
 ghost use Rattle.shelves.specs.Places.{is_away, full, shared_row, is_same_name};
 ghost use Rattle.shelves.specs.Rebuilding.{put, AreBack};

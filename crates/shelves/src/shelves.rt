@@ -1,6 +1,6 @@
 //! All shelves, each at its resource.
 
-ghost use Rattle.std.specs.Prelude.{◌≡◌, Some, None, true, false, not, ◌&&◌, ◌||◌, if◌then◌else◌, option_map, IfOk, OnOk, OnErr};
+ghost use Rattle.std.specs.Prelude.{◌≡◌, Some, None, true, false, ◌&&◌, if◌then◌else◌, option_map, IfOk, OnOk, OnErr};
 ghost use Rattle.values.specs.declared.name.RowName.{RowName as AnyName};
 ghost use Rattle.footprint.specs.declared.resource.Resource.{Resource as AnyResource};
 ghost use Rattle.shelves.specs.Places.{has_shelf, is_away, has_place, seen_at, seen_in, has_in, is_shelf_out, full, emptied, shared_row, is_same_name, is_same_shelf};

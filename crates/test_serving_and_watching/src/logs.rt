@@ -1,6 +1,6 @@
 //! The logs of clients: calls of the bank's procedures by their names.
 
-ghost use Rattle.std.specs.Prelude.{◌≡◌, IfOk};
+ghost use Rattle.std.specs.Prelude.{IfOk};
 ghost use Rattle.std.specs.List.{AllByRecursion};
 ghost use Rattle.example_serving.specs.Logs.{IsShortLog};
 

@@ -1,8 +1,8 @@
 //! The rule of names.
 
-ghost use Rattle.std.specs.Prelude.{◌≡◌, length};
+ghost use Rattle.std.specs.Prelude.{◌≡◌};
 ghost use Rattle.std.specs.List.{list_all};
-ghost use Rattle.values.specs.Names.{is_name, is_lower, is_name_byte};
+ghost use Rattle.values.specs.Names.{is_name, is_name_byte};
 
 // rule: name.form
 /// Whether the text is a name: 1 to 32 bytes, a lower-case letter, then such letters, digits and `_`.

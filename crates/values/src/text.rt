@@ -1,6 +1,6 @@
 //! Texts.
 
-ghost use Rattle.std.specs.Prelude.{◌≡◌, string_bytes, IfOk, length};
+ghost use Rattle.std.specs.Prelude.{◌≡◌, string_bytes, IfOk};
 ghost use Rattle.std.specs.Str.{bytes_eq};
 ghost use Rattle.std.specs.Cmp.Rules.{comparing};
 ghost use Rattle.std.proofs.Common.{rules};

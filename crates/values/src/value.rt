@@ -1,7 +1,7 @@
 //! Values and their types.
 
 ghost use Rattle.std.specs.Prelude.{◌≡◌};
-ghost use Rattle.values.specs.Rows.{type_of, is_kind};
+ghost use Rattle.values.specs.Rows.{type_of};
 
 use crate::text::Text;
 use std::alloc::AllocError;

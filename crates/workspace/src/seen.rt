@@ -1,6 +1,6 @@
 //! The rows of a partition, after the own writes.
 
-ghost use Rattle.std.specs.Prelude.{◌≡◌, [], true, IfOk};
+ghost use Rattle.std.specs.Prelude.{◌≡◌, true, IfOk};
 ghost use Rattle.workspace.specs.Overlay.{applied};
 ghost use Rattle.workspace.specs.Coverage.{permits_part};
 ghost use Rattle.workspace.specs.Scan.{referred, rows_in_part};

@@ -1,6 +1,6 @@
 //! Going through the rows of a partition, after the own writes.
 
-ghost use Rattle.std.specs.Prelude.{◌≡◌, true, Some, OnSome};
+ghost use Rattle.std.specs.Prelude.{◌≡◌, true, Some};
 ghost use Rattle.workspace.specs.Overlay.{applied};
 ghost use Rattle.workspace.specs.Coverage.{permits_part};
 ghost use Rattle.workspace.specs.Walks.{IsNextKey, IsWalk, untouched, lesser, is_second, come_to};
