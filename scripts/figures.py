@@ -29,7 +29,7 @@ from xml.sax.saxutils import escape
 TOP = Path(__file__).resolve().parent.parent
 FIGURES = TOP / "docs/figures"
 FILLS = {"plain": "#e4e4e4", "scheduler": "#cfe2f3", "worker": "#fbdcb8", "locked": "#cfe2f3", "free": "none"}
-GREY, INK = "#7a7a7a", "#1c1c1c"
+GREY, INK = "#767676", "#1c1c1c"
 LINE = 17  # from one line of a text to the next
 FILE = re.compile(r"\b[a-z_]+/src/[a-z_]+\.rt\b")
 AWAY = {"left": (-1, 0), "right": (1, 0), "top": (0, -1), "bottom": (0, 1)}
@@ -138,8 +138,8 @@ def draw_tree(case):
             below = [middle[it] for it in tree.get(resource, [])]
             middle.setdefault(resource, sum(below) / max(len(below), 1))
             kind = "locked" if resource in modes else "free"
-            heading = f"{resource}   {modes.get(resource, '')}".strip()
-            boxes[resource] = Box(round(middle[resource] - 60), 40 + 80 * depth, 120, kind, heading)
+            heading = f"{resource}: {modes[resource]}" if resource in modes else resource
+            boxes[resource] = Box(round(middle[resource] - 60), 60 + 80 * depth, 120, kind, heading)
     for resource, below in tree.items():
         for it in below:
             (x, y, _), (to_x, to_y, _) = boxes[resource].side("bottom"), boxes[it].side("top")

@@ -66,7 +66,7 @@ class Trees(unittest.TestCase):
             setup = ["setup", 1, tables, ["procs", 1, []], ["rows", 1, [["t", 3, [0]]]]]
             Path(folder, "setup.json").write_text(json.dumps(setup))
             Path(folder, "stdout").write_text("0 IX db\n0 IX t\n0 IX t/1\n0 X t/1/3\n1 S db\n")
-            self.assertEqual(set(words(f"tree {folder}\n")), {"db   IX", "t   IX", "t/0", "t/1   IX", "t/1/3   X"})
+            self.assertEqual(set(words(f"tree {folder}\n")), {"db: IX", "t: IX", "t/0", "t/1: IX", "t/1/3: X"})
 
 
 class Checks(unittest.TestCase):
