@@ -12,6 +12,7 @@ mod publishing;
 mod quiet;
 mod repartition;
 mod replies;
+mod side_by_side;
 mod stage;
 mod threadless;
 mod working;

@@ -10,6 +10,7 @@ mod loan;
 mod locked;
 mod moving;
 mod named;
+mod side_by_side;
 mod store;
 mod view;
 
