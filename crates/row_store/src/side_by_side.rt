@@ -1,8 +1,8 @@
 //! Digests of partitions, made side by side.
 
-ghost use Rattle.std.specs.Prelude.{◌≡◌, ◌<◌, All, OnOk, length};
+ghost use Rattle.std.specs.Prelude.{◌≡◌, ◌<◌, ◌++◌, ◌∷◌, [], All, IfOk, OnOk, length};
 ghost use Rattle.std.specs.FinMap as map;
-ghost use Rattle.row_text.specs.Kept.{IsPartitionOf};
+ghost use Rattle.row_text.specs.Kept.{AreKept, IsPartitionOf};
 
 use crate::laws::all_is_free_with_nothing_lent;
 use crate::store::RowStore;
@@ -26,6 +26,17 @@ struct Unkept {
     rows: usize,
 }
 
+impl Unkept {
+    /// Adds a partition with about n rows.
+    fn push(&mut self, part: (TableNo, u32), rows: usize) -> Result<(), AllocError>
+        ensures { OnOk result (self.new.parts.items ≡ self.old.parts.items ++ part ∷ []) }
+    {
+        self.parts.push(part)?;
+        self.rows = self.rows.saturating_add(rows);
+        Ok(())
+    }
+}
+
 /// Adds the partitions of a table that keep no digest and have rows.
 fn push_unkept(
     catalogue: &Catalogue,
@@ -42,8 +53,7 @@ fn push_unkept(
         let shelf = Resource::Table(table, InTable::Part(part, InPart::WholePart));
         let rows = count_places(shelves, &shelf).unwrap_or(0);
         if rows > 0 && !kept.has(table, part) {
-            unkept.parts.push((table, part))?;
-            unkept.rows = unkept.rows.saturating_add(rows);
+            unkept.push((table, part), rows)?;
         }
     }
     Ok(())
@@ -69,6 +79,25 @@ fn unkept_of(
 }
 
 impl RowStore {
+    /// Makes the digests of partitions, as many as memory can be had for.
+    fn make_digests<R: Threads + Sync>(
+        &self,
+        rt: &R,
+        parts: &[(TableNo, u32)],
+        threads: usize,
+        kept: &mut KeptDigests,
+    )
+        requires unlent { self.now.lent ≡ map.empty }
+        requires parts { All (IsPartitionOf self.now.tables) parts.now }
+        requires threads { 0 < threads }
+        requires kept { AreKept self.now.tables self.now.rows kept.old }
+        ensures kept { AreKept self.now.tables self.now.rows kept.new }
+    {
+        // proof: with nothing lent each row is shown.
+        all_is_free_with_nothing_lent();
+        let _ = keep_digests(rt, self.alloc, &self.catalogue, self, parts, threads, kept);
+    }
+
     /// Makes the digests of the partitions that keep none, on at most n threads side by side, and keeps them: so the
     /// next digest of the partition text finds them. Where these have few rows, or if allocation fails, some or all are
     /// left to `rows_digest`.
@@ -77,8 +106,6 @@ impl RowStore {
         requires threads { 0 < threads }
         ensures same { self.new ≡ self.old }
     {
-        // proof: with nothing lent each row is shown.
-        all_is_free_with_nothing_lent();
         let Ok(unkept) = unkept_of(self.alloc, &self.catalogue, &self.shelves, &self.kept) else {
             return;
         };
@@ -86,15 +113,7 @@ impl RowStore {
             return;
         }
         let mut kept = mem::replace(&mut self.kept, KeptDigests::new(self.alloc));
-        let _ = keep_digests(
-            rt,
-            self.alloc,
-            &self.catalogue,
-            &*self,
-            &unkept.parts,
-            threads,
-            &mut kept,
-        );
+        self.make_digests(rt, unkept.parts.as_slice(), threads, &mut kept);
         self.kept = kept;
     }
 }

@@ -1,6 +1,6 @@
 //! Digests of partitions, made side by side on several threads.
 
-ghost use Rattle.std.specs.Prelude.{◌≡◌, ◌<◌, All, IfOk, OnOk, map};
+ghost use Rattle.std.specs.Prelude.{◌≡◌, ◌<◌, ℕ, All, IfOk, OnOk, map};
 ghost use Rattle.row_text.specs.Kept.{AreKept, IsKept, IsPartitionOf};
 ghost use Rattle.row_text.specs.Merge.{ShowsAll};
 ghost use Rattle.row_text.specs.SideBySide.{IsMade, partition_of};
@@ -73,24 +73,43 @@ fn make_all<R: Threads + Sync, V: RowView + Sync>(
     thread::for_each_mut(rt, hashings, threads, &make);
 }
 
-/// Keeps the hashes of partitions, in order, up to the first that allocation failed for.
+/// Keeps the hash that was made of a partition, if it has rows.
+fn keep_made<V: RowView>(
+    catalogue: &Catalogue,
+    view: &V,
+    hashing: &Hashing,
+    kept: &mut KeptDigests,
+) -> Result<(), AllocError>
+    requires part { IsPartitionOf catalogue.now (partition_of hashing.now) }
+    requires made { IsMade catalogue.now (V.rows view.now) hashing.now }
+    requires kept { AreKept catalogue.now (V.rows view.now) kept.old }
+    ensures kept { AreKept catalogue.now (V.rows view.now) kept.new }
+    ensures made { OnOk result (IsKept catalogue.now (V.rows view.now) kept.new (partition_of hashing.now)) }
+    ensures still { (part : ℕ × ℕ) → IsKept catalogue.now (V.rows view.now) kept.old part →
+        IsKept catalogue.now (V.rows view.now) kept.new part }
+{
+    match hashing.made? {
+        Some(hash) => kept.keep(hashing.table, hashing.part, hash),
+        None => Ok(()),
+    }
+}
+
+/// Keeps the hashes of partitions, in order, up to the first for which allocation fails.
 fn keep_all<V: RowView>(
     catalogue: &Catalogue,
     view: &V,
     hashings: &[Hashing],
     kept: &mut KeptDigests,
 ) -> Result<(), AllocError>
-    requires over { All (IsPartitionOf catalogue.now) (map partition_of hashings.now) }
+    requires parts { All (λ hashing. IsPartitionOf catalogue.now (partition_of hashing)) hashings.now }
     requires made { All (IsMade catalogue.now (V.rows view.now)) hashings.now }
     requires kept { AreKept catalogue.now (V.rows view.now) kept.old }
     ensures kept { AreKept catalogue.now (V.rows view.now) kept.new }
-    ensures all { OnOk result (All (IsKept catalogue.now (V.rows view.now) kept.new)
-        (map partition_of hashings.now)) }
+    ensures all { OnOk result (All (λ hashing. IsKept catalogue.now (V.rows view.now) kept.new (partition_of hashing))
+        hashings.now) }
 {
     for hashing in hashings {
-        if let Some(hash) = hashing.made? {
-            kept.keep(hashing.table, hashing.part, hash)?;
-        }
+        keep_made(catalogue, view, hashing, kept)?;
     }
     Ok(())
 }
@@ -115,6 +134,6 @@ pub fn keep_digests<R: Threads + Sync, V: RowView + Sync>(
     ensures all { OnOk result (All (IsKept catalogue.now (V.rows view.now) kept.new) parts.now) }
 {
     let mut hashings = hashings_of(alloc, parts)?;
-    make_all(rt, alloc, catalogue, view, &mut hashings, threads);
-    keep_all(catalogue, view, &hashings, kept)
+    make_all(rt, alloc, catalogue, view, hashings.as_mut_slice(), threads);
+    keep_all(catalogue, view, hashings.as_slice(), kept)
 }
