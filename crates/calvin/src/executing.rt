@@ -57,7 +57,11 @@ fn run_log_at<'a, R: Threads + Wait + Sync, G: Gate, S: Source, K: Sink>(
             let executor = |engine: &mut Engine, batch: Batch| -> Result<BatchDone, ExecFault>
                 requires { AreOver (tables_of engine.old.core) (items_of batch) }
                 ensures { IsExecution engine.old.core batch result engine.new.core }
-            { engine.execute_in(alloc, batch, &mut pool.lock(rt)) };
+            {
+                let done = engine.execute_in(alloc, batch, &mut pool.lock(rt));
+                engine.keep_digests(rt, form);
+                done
+            };
             let ended = run_log_on(rt, alloc, &executor, engine, form, source, sink);
             (ended, engine, source, sink)
         },

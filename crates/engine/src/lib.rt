@@ -32,6 +32,7 @@ mod publishing;
 mod quiet;
 mod repartition;
 mod replies;
+mod side_by_side;
 mod stage;
 mod threadless;
 mod working;

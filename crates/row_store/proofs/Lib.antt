@@ -16,3 +16,5 @@ pub mod Shelved
 pub mod Shown
 pub mod Free
 pub mod Forgotten
+pub mod Shared
+pub mod Unkept

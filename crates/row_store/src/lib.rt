@@ -22,6 +22,7 @@ mod loan;
 mod locked;
 mod moving;
 mod named;
+mod side_by_side;
 mod store;
 mod view;
 

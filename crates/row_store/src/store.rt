@@ -38,7 +38,7 @@ pub struct RowStore {
     pub(crate) alloc: Global,
     pub(crate) catalogue: Catalogue,
     pub(crate) shelves: Shelves,
-    kept: KeptDigests,
+    pub(crate) kept: KeptDigests,
     lent: BTreeMap<u64, Snapshot<Plan>>,
 }
 

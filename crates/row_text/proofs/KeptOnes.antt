@@ -1,5 +1,5 @@
 -- Digests that are kept.
-use Rattle.std.proofs.Common.{◌≡◌, ◌<◌, ◌&&◌, ◌==◌, ℕ, Bool, true, false, cond, if◌then◌else◌, List, Option, Some, None, option_map, refl, sym, ap, ◌∙◌, [], ◌∷◌, length, arith, Ordering, Less, Equal, Greater}
+use Rattle.std.proofs.Common.{◌≡◌, ◌&&◌, ◌==◌, ℕ, Bool, true, false, cond, if◌then◌else◌, List, Option, Some, None, option_map, refl, sym, ap, ◌∙◌, [], ◌∷◌, length, arith, Ordering, Less, Equal, Greater}
 use Rattle.std.proofs.lemmas.Bool.Decides.{nat_tests}
 use Rattle.std.specs.Bool.{OnTrue}
 use Rattle.std.specs.BTreeMap.{BTreeMap, get, is_at}

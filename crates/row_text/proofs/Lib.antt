@@ -9,3 +9,4 @@ pub mod PartitionLines
 pub mod Breaks
 pub mod PartitionTexts
 pub mod KeptOnes
+pub mod SideBySide

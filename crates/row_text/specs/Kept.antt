@@ -24,3 +24,11 @@ pub record AreKept (tables : List TableShape) (db : Database) (kept : KeptDigest
       → part < partition_count tables table
   pub digests : (table part : ℕ) (digest : List ℕ) → kept_at kept table part ≡ Some digest
       → partition_digest tables table part db ≡ Some digest
+
+-- a partition that a table of these has
+abbrev pub IsPartitionOf : List TableShape → ℕ × ℕ → Type 0
+IsPartitionOf tables part = part.1 < partition_count tables part.0
+
+-- the digest of a partition's row lines is kept, and none without rows
+abbrev pub IsKept : List TableShape → Database → KeptDigests → ℕ × ℕ → Type 0
+IsKept tables db kept part = kept_at kept part.0 part.1 ≡ partition_digest tables part.0 part.1 db

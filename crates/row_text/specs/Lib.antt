@@ -4,3 +4,4 @@ pub mod Merge
 pub mod Feeding
 pub mod Partitions
 pub mod Kept
+pub mod SideBySide

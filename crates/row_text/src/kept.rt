@@ -1,6 +1,6 @@
 //! Digests of partitions that are kept.
 
-ghost use Rattle.std.specs.Prelude.{◌≡◌, ◌&&◌, ◌==◌, ℕ, None, Some, if◌then◌else◌, OnErr, OnOk, option_map};
+ghost use Rattle.std.specs.Prelude.{◌≡◌, ◌&&◌, ◌==◌, ℕ, None, Some, if◌then◌else◌, is_some, OnErr, OnOk, option_map};
 ghost use Rattle.std.specs.Bool.{OnTrue};
 ghost use Rattle.hex.specs.Hex.{encode_lower};
 ghost use Rattle.row_text.specs.Kept.{kept_at};
@@ -31,6 +31,13 @@ impl KeptDigests {
         ensures { OnTrue result ((table part : ℕ) → kept_at self.now table part ≡ None) }
     {
         self.hashes.is_empty()
+    }
+
+    /// Whether the digest of a partition is kept.
+    pub fn has(&self, table: TableNo, part: u32) -> bool
+        ensures { result ≡ is_some (kept_at self.now table part) }
+    {
+        self.hash(table, part).is_some()
     }
 
     /// What is kept of a partition.

@@ -22,6 +22,7 @@ mod listing;
 mod partitions;
 mod rows_in_order;
 mod scratch;
+mod side_by_side;
 mod values_text;
 mod words;
 
@@ -34,4 +35,5 @@ pub use laws::{
     partition_text_tells_each_digest, row_text_hangs_on_no_split,
 };
 pub use listing::{rows_text, table_text};
+pub use side_by_side::keep_digests;
 pub use values_text::{push_value, push_values};

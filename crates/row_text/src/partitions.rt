@@ -17,7 +17,7 @@ use values::TableNo;
 use workspace::RowView;
 
 /// The hash of the row lines of a partition, `None` without rows.
-fn hash_of_rows<V: RowView>(
+pub(crate) fn hash_of_rows<V: RowView>(
     alloc: Global,
     catalogue: &Catalogue,
     view: &V,

@@ -12,4 +12,6 @@ mod plain_comparison;
 #[cfg(test)]
 mod pools;
 #[cfg(test)]
+mod sessions;
+#[cfg(test)]
 mod splits;

@@ -1,6 +1,6 @@
 use Rattle.std.proofs.Common.{◌≡◌, ◌∙◌, ◌++◌, ap, arith, length, subst, sym}
 use Rattle.row_text.specs.Merge.{rows_of}
-use Rattle.row_text.specs.Texts.{row_lines, row_text}
+use Rattle.row_text.specs.Texts.{row_lines}
 use Rattle.row_text.proofs.MergedRows.{first_tables, no_tables, table_more}
 use Rattle.row_text.proofs.listing.rows_text.Goals as goal
 

@@ -1,5 +1,3 @@
-use Rattle.std.proofs.Common.{◌≡◌, Bool, true}
-use Rattle.std.specs.Bool.{OnTrue}
 use Rattle.row_text.proofs.KeptOnes.{on_true, nothing_kept}
 use Rattle.row_text.proofs.kept.KeptDigests.is_empty.Goals as goal
 
