@@ -15,8 +15,8 @@ use std::mem;
 use std::thread::Threads;
 use values::TableNo;
 
-/// From how many rows on partitions are hashed on several threads: hashing them takes about 1 ms then, and starting four
-/// threads 0.1.
+/// From how many rows on partitions are hashed on several threads: hashing them takes about 1 ms then, and starting
+/// four threads 0.1.
 const MANY_ROWS: usize = 4096;
 
 /// Partitions that keep no digest, and about how many rows they have.

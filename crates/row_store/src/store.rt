@@ -168,8 +168,8 @@ impl RowStore {
         Ok(())
     }
 
-    /// The digest of the rows, with nothing lent: of their row text, or of their partition text. For the latter only the
-    /// rows of partitions that keep no digest are looked at.
+    /// The digest of the rows, with nothing lent: of their row text, or of their partition text. For the latter only
+    /// the rows of partitions that keep no digest are looked at.
     pub fn rows_digest(&mut self, form: DigestForm) -> Result<String, AllocError>
         requires unlent { self.old.lent ≡ map.empty }
         ensures digest { IfOk result (λ t.

@@ -45,7 +45,7 @@ pub each_of : (P : ℕ × ℕ → Type 0) (hashings : List Hashing) (parts : Lis
 each_of P hashings parts same all = λ k e h.
     let inside : k < length parts = subst (λ n. k < n) (sym (many hashings parts same)) h in
     let at : slice_index_or parts k (partition_of e) ≡ partition_of (slice_index_or hashings k e) =
-        ap (λ ps. slice_index_or ps k (partition_of e)) (sym same) ∙ get_or-map partition_of hashings k e (partition_of e) h in
+    ap (λ ps. slice_index_or ps k (partition_of e)) (sym same) ∙ get_or-map partition_of hashings k e (partition_of e) h in
     subst P at (all k (partition_of e) inside)
 
 -- what holds of each hashing's partition holds of each of the partitions
@@ -55,7 +55,7 @@ all_of P hashings parts same each = λ k d h.
     let e : Hashing = record { table = d.0; part = d.1; made = Ok None } in
     let inside : k < length hashings = subst (λ n. k < n) (many hashings parts same) h in
     let at : slice_index_or parts k d ≡ partition_of (slice_index_or hashings k e) =
-        ap (λ ps. slice_index_or ps k d) (sym same) ∙ get_or-map partition_of hashings k e d inside in
+    ap (λ ps. slice_index_or ps k d) (sym same) ∙ get_or-map partition_of hashings k e d inside in
     subst P (sym at) (each k e inside)
 
 -- lists of hashings whose partitions are the same one by one
@@ -65,10 +65,10 @@ pub same_partitions : (xs ys : List Hashing) → length ys ≡ length xs
 same_partitions xs ys long each = ext_get_or (0, 0) (map partition_of ys) (map partition_of xs)
     (length-map ys partition_of ∙ long ∙ sym (length-map xs partition_of))
     (λ i h.
-      let e : Hashing = record { table = 0; part = 0; made = Ok None } in
-      let there : i < length ys = subst (λ n. i < n) (length-map ys partition_of) h in
-      let here : i < length xs = subst (λ n. i < n) long there in
-      get_or-map partition_of ys i e (0, 0) there ∙ each i e here ∙ sym (get_or-map partition_of xs i e (0, 0) here))
+    let e : Hashing = record { table = 0; part = 0; made = Ok None } in
+    let there : i < length ys = subst (λ n. i < n) (length-map ys partition_of) h in
+    let here : i < length xs = subst (λ n. i < n) long there in
+    get_or-map partition_of ys i e (0, 0) there ∙ each i e here ∙ sym (get_or-map partition_of xs i e (0, 0) here))
 
 -- what holds of the hashings before a place, and of the one there, after a step that keeps it
 pub one_more : (P Q : Hashing → Type 0) (xs : List Hashing) (i : ℕ) (item : Hashing) → item ≡ slice_index_or xs i item

@@ -4,7 +4,8 @@
 //! Proved, by `Batch::of`: numbered requests, refused exactly where there are more than 4,096. `prepare`: each request
 //! with its declared footprint, or the abort of the first fault, or the footprint that reconnaissance finds on the
 //! view. `found_request_holds_in_its_batch`: a request whose footprint was found is stale only if an earlier one of
-//! its batch changed a row that it may read. `prepare_attempts`: the entries of carried requests, in front, and of the calls of a batch.
+//! its batch changed a row that it may read. `prepare_attempts`: the entries of carried requests, in front, and of the
+//! calls of a batch.
 //!
 //! `Ending`: ends the attempts of a batch one by one, in order, each with its number, its client and the number of its
 //! first attempt; a request is left exactly where it was stale and had fewer earlier attempts than allowed, with one
