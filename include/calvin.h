@@ -61,8 +61,8 @@ void calvin_c_close(calvin_c_session session);
 
 /* Opens a session on the setup whose JSON text has this length, and gives its pointer out by `session`. Otherwise `session` gets
  * null. Where the setup breaks a rule, the line of its first fault, as `fault 11 at /2/0`, goes to `message` without a null byte
- * at its end, as far as it fits into `message_room` bytes; `message_length` gets how many bytes were written. `message` may be
- * null where the room is 0. */
+ * at its end, as far as it fits into `message_room` bytes; `message_length` gets how many bytes were written, 0 if there is
+ * no fault to tell; where a pointer is null it is left alone. `message` may be null where the room is 0. */
 static inline int calvin_open(const uint8_t *setup, size_t setup_length, size_t coarsen, size_t arena, calvin **session,
                               uint8_t *message, size_t message_room, size_t *message_length) {
     uint8_t none = 0;
