@@ -64,6 +64,7 @@ gate() {
     counted scripts/examples.py || status=1
     counted scripts/manual.py --check || status=1
     counted scripts/crates.py --check || status=1
+    counted scripts/crates_tests.py || status=1
     counted scripts/pages.py --check || status=1
     counted scripts/pages_tests.py || status=1
     counted scripts/figures.py --check || status=1
