@@ -27,6 +27,7 @@ text_or other (Some (values.Int z)) = other
 text_or other (Some (values.Text s)) = s
 text_or other None = other
 
+-- rule: expression.count
 -- the operands of an expression are evaluated from left to right (OperandsComeFirst)
 abbrev pub int_of : StandIn → AccessRule → IntSyntax → Ran ℤ
 int_of d rule (number z) = ok z

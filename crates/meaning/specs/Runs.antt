@@ -143,7 +143,6 @@ part_accessed rule table z = do
   u ← rule.access (Table table (Part part WholePart)) Read
   ok part
 
--- rule: expression.count
 -- the rows of a partition
 abbrev pub part_now : AccessRule → ℕ → ℕ → Ran Database
 part_now rule table part = look (λ st. part_rows rule.tables table part st.rows)
