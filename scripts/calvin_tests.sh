@@ -59,7 +59,8 @@ check 'it says that nothing is proved' says 'a try, which proves nothing'
 cp "$top/examples/two-pays.log" "$work/here/report"
 try replicas bank.json report
 check 'two files are two copies' printed cli \
-    '<try><--seconds><400><--data><file-1=..><--data><file-2=..><--><replicas><file-1><file-2>' '["setup",' '["call","' 'the log'
+    '<try><--seconds><400><--data><file-1=..><--data><file-2=..><--><replicas><file-1><file-2>' \
+    '["setup",' '["call","' 'the log'
 
 touch "$work/here/run" "$work/here/2"
 try run --lanes 2 bank.json

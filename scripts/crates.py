@@ -3,9 +3,9 @@
 
     scripts/crates.py [--check]
 
-The table is between the marks `<!-- crates -->` and `<!-- end of crates -->`. A comment line of crates.txt is the name of a layer,
-and the crates of the lines after it are in that layer. Of the crates that a line names the table leaves out those that another of
-them depends on. What a crate is, is the first paragraph of its head.
+The table is between the marks `<!-- crates -->` and `<!-- end of crates -->`. A comment line of crates.txt is the name of a
+layer, and the crates of the lines after it are in that layer. Of the crates that a line names the table leaves out those
+that another of them depends on. What a crate is, is the first paragraph of its head.
 
 With --check nothing is written; it ends with status 1 where the table is not what it would write, or a crate is in no layer.
 """

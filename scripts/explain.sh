@@ -42,7 +42,7 @@ elif [[ $line =~ $reply_line ]]; then
     text=$(abort "${BASH_REMATCH[3]}")
 fi
 if [[ -z $text ]]; then
-    echo "usage: scripts/explain.sh NUMBER, scripts/explain.sh abort CODE, or a line with one; docs/faults.md lists the faults" >&2
+    echo "usage: scripts/explain.sh NUMBER, or abort CODE, or a line with one; docs/faults.md lists the faults" >&2
     exit 2
 fi
 printf '%s\n' "$text"

@@ -9,15 +9,16 @@ A line of a text is one of these. Places and lengths are in pixels, from the top
     title WORDS                          what the figure is, for who cannot see it
     area X Y WIDTH HEIGHT: WORDS         a dashed frame with a heading
     box NAME X Y WIDTH KIND: HEADING     a box; each indented line after it is a line of its text
-    arrow A.SIDE -> B.SIDE: WORDS        an arrow from one box to another, by the middles of their sides: left, right, top or
-                                         bottom; `left+20` is 20 pixels below the upper end of the side, `top+20` 20 pixels to the
-                                         right of its left end. Words may be left out
+    arrow A.SIDE -> B.SIDE: WORDS        an arrow from one box to another, by the middles of their sides: left, right,
+                                         top or bottom; `left+20` is 20 pixels below the upper end of the side,
+                                         `top+20` 20 pixels to the right of its left end. Words may be left out
     wake A.SIDE -> B.SIDE: WORDS         the same, dashed
     text X Y: WORDS                      words by themselves
-    tree CASE                            the tree of a stored case's setup, with the locks of call 0 that its `stdout` lists
+    tree CASE                            the tree of a stored case's setup, with the locks of call 0 in its `stdout`
 
-Boxes have fills of their own, and lines and words outside of them a grey that shows on white and on black. With --check nothing
-is written: the status is 1 where a figure isn't what it would write, or a box names a file `crate/src/NAME.rt` that is not there.
+Boxes have fills of their own, and lines and words outside of them a grey that shows on white and on black. With --check
+nothing is written: the status is 1 where a figure isn't what it would write, or a box names a file `crate/src/NAME.rt`
+that is not there.
 """
 import json
 import re
@@ -99,7 +100,8 @@ def arrow_text(start, end, words, dashed):
     way = way_between(start, end)
     points = " ".join(f"{number(x)},{number(y)}" for x, y in way)
     dashes = ' stroke-dasharray="5 4"' if dashed else ""
-    yield f'<polyline points="{points}" fill="none" stroke="{GREY}" stroke-width="1.5"{dashes} marker-end="url(#head)"/>'
+    style = f'fill="none" stroke="{GREY}" stroke-width="1.5"{dashes}'
+    yield f'<polyline points="{points}" {style} marker-end="url(#head)"/>'
     (x, y), (to_x, to_y) = max(zip(way, way[1:]), key=lambda it: abs(it[0][0] - it[1][0]) + abs(it[0][1] - it[1][1]))
     for place, line in enumerate(words.split(" / ") if words else []):
         if y == to_y:
@@ -212,11 +214,11 @@ class Figure:
 
     def svg(self):
         width, height = self.size
-        yield (f'<svg xmlns="http://www.w3.org/2000/svg" width="{width}" height="{height}" viewBox="0 0 {width} {height}" '
-               'font-family="sans-serif" font-size="13" role="img">')
+        yield (f'<svg xmlns="http://www.w3.org/2000/svg" width="{width}" height="{height}" '
+               f'viewBox="0 0 {width} {height}" font-family="sans-serif" font-size="13" role="img">')
         yield f"<title>{escape(self.title)}</title>"
-        yield ('<defs><marker id="head" viewBox="0 0 8 8" refX="7" refY="4" markerWidth="7" markerHeight="7" orient="auto">'
-               f'<path d="M0,0 L8,4 L0,8 Z" fill="{GREY}"/></marker></defs>')
+        yield ('<defs><marker id="head" viewBox="0 0 8 8" refX="7" refY="4" markerWidth="7" markerHeight="7" '
+               f'orient="auto"><path d="M0,0 L8,4 L0,8 Z" fill="{GREY}"/></marker></defs>')
         for part in self.parts:
             yield from self.part_text(part)
         for box in self.boxes.values():

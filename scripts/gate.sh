@@ -68,6 +68,7 @@ gate() {
     counted scripts/crates.py --check || status=1
     counted scripts/definitions.py --check || status=1
     counted scripts/definitions_tests.py || status=1
+    counted scripts/crates_tests.py || status=1
     counted scripts/pages.py --check || status=1
     counted scripts/pages_tests.py || status=1
     counted scripts/figures.py --check || status=1

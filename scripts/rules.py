@@ -10,9 +10,9 @@ A rule is an anchor of that page whose name has a dot, as `<a id="step.limit"></
 - a line `rule: NAME` in an edit of a crate's must-fail/,
 - a line `NAME: SET/CASE` of cases/rules.txt, for a stored case.
 
-Several names, and several cases, have commas between them. With --check nothing is written. The
-status is 1 where the page isn't what it would write, where a name is of no rule, where no definition or function comes after
-it, and where a case isn't there.
+Several names, and several cases, have commas between them. With --check nothing is written. The status is 1 where the page
+isn't what it would write, where a name is of no rule, where no definition or function comes after it, and where a case
+isn't there.
 """
 import re
 import sys
@@ -29,8 +29,8 @@ BETWEEN = re.compile(r"^ *(?:--|//|#\[)")  # what may be between a name and what
 INTRODUCTION = """\
 # Rules
 
-Each rule of [the language](language.md), by its name: the definition that says it, a function whose contract promises it, an edit
-that breaks it and that the prover refuses, and a stored case that shows it. `scripts/rules.py` writes this page.
+Each rule of [the language](language.md), by its name: the definition that says it, a function whose contract promises it,
+an edit that breaks it and that the prover refuses, and a stored case that shows it. `scripts/rules.py` writes this page.
 
 """
 
@@ -50,7 +50,8 @@ class Index:
         self.faults = []
         names = ANCHOR.findall((self.top / "docs/language.md").read_text())
         self.rules = {name: Rule() for name in names}
-        self.faults += [f"docs/language.md: {name} is there twice" for name in sorted({it for it in names if names.count(it) > 1})]
+        twice = sorted({name for name in names if names.count(name) > 1})
+        self.faults += [f"docs/language.md: {name} is there twice" for name in twice]
         for path in sorted(self.top.glob("crates/*/specs/*.antt")):
             self.take_source("definition", path, DEFINITION)
         for path in sorted(self.top.glob("crates/*/src/*.rt")):
@@ -131,7 +132,8 @@ def main(*words):
         faults.append("docs/rules.md is not what scripts/rules.py writes")
     for it in faults:
         print(it)
-    print(f"{len(faults)} findings: each line above names one" if faults else f"{len(index.rules)} rules are listed as they are named")
+    listed = f"{len(index.rules)} rules are listed as they are named"
+    print(f"{len(faults)} findings: each line above names one" if faults else listed)
     return 1 if faults else 0
 
 

@@ -55,12 +55,13 @@ class Indexes(unittest.TestCase):
 
     def test_several_rules_are_named_in_one_line(self):
         page = '<a id="step.limit"></a> <a id="step.count"></a>'
-        index = index_of({**WHOLE, "docs/language.md": page, "crates/x/src/runs.rt": "// rule: step.limit, step.count\nfn f() {}"})
+        source = "// rule: step.limit, step.count\nfn f() {}"
+        index = index_of({**WHOLE, "docs/language.md": page, "crates/x/src/runs.rt": source})
         self.assertEqual([len(rule.links["contract"]) for rule in index.rules.values()], [1, 1])
 
     def test_a_name_of_no_rule_a_name_before_nothing_and_a_case_that_is_not_there_are_told(self):
-        files = {**WHOLE, "crates/x/src/runs.rt": "// rule: step.gone\nfn f() {}\n// rule: step.limit\nstruct S;\n// rule: step.limit"}
-        index = index_of({**files, "cases/rules.txt": "step.limit: bank/c"})
+        source = "// rule: step.gone\nfn f() {}\n// rule: step.limit\nstruct S;\n// rule: step.limit"
+        index = index_of({**WHOLE, "crates/x/src/runs.rt": source, "cases/rules.txt": "step.limit: bank/c"})
         self.assertEqual(len(index.faults), 4)
 
     def test_a_rule_that_is_there_twice_is_told(self):

@@ -115,17 +115,40 @@ fn rows_are_put_and_taken_away(rt: HostRuntime) -> Result<(), Fail> {
 }
 
 /// Rows with the keys 7,919 n modulo 20,011 for n below 10,000, and ten times the key as their values.
-#[test]
-fn ten_thousand_rows_are_put_in_order(rt: HostRuntime) -> Result<(), Fail> {
-    let alloc = rt.alloc();
+fn ten_thousand(alloc: Global) -> Result<Vec<Given>, Fail> {
     let mut rows = Vec::new(alloc);
     for place in 0..10_000u32 {
         let number = place * 7_919 % 20_011;
         rows.push((1, i64::from(number), i64::from(number * 10)))?;
     }
+    Ok(rows)
+}
+
+#[test]
+fn ten_thousand_rows_are_put_in_order(rt: HostRuntime) -> Result<(), Fail> {
+    let alloc = rt.alloc();
     assert_eq!(rt;
-        digest(alloc, rows.as_slice(), &[])?.as_str(),
+        digest(alloc, ten_thousand(alloc)?.as_slice(), &[])?.as_str(),
         "963ba357fa50019a692cf8d59cb402f3788f8b17209a571bc0f8cf25e33d1c81"
+    );
+    Ok(())
+}
+
+/// All partitions are hashed on several threads at first; after a write the one that has few rows is hashed alone.
+#[test]
+fn partitions_of_many_rows_are_hashed_side_by_side(rt: HostRuntime) -> Result<(), Fail> {
+    let alloc = rt.alloc();
+    let mut store = store_of(alloc, ten_thousand(alloc)?.as_slice())?;
+    store.keep_digests(&rt, 4);
+    assert_eq!(rt;
+        store.rows_digest(DigestForm::Partitions)?.as_str(),
+        "0aa7f61affbccb6bf9c61ca2d6a6a4cf9510e3793c21d60cce94cd7c309767ef"
+    );
+    store.apply(writes_of(alloc, &[(1, 7_919, Some(1))])?)?;
+    store.keep_digests(&rt, 4);
+    assert_eq!(rt;
+        store.rows_digest(DigestForm::Partitions)?.as_str(),
+        "0fcb48b3746fdafea95dcf2544f08fc1d288b9f38ddf01db2a08173ae5c149d9"
     );
     Ok(())
 }
