@@ -37,8 +37,15 @@ SETTINGS = (
     ("run --workers 2 setup.json", 1),
 )
 PIECES = (1, 7, 4096)
-# The words of the commands whose outputs a case stores in files that begin with these names.
-COMMANDS = {"filter": "filter setup.json"}
+# The commands whose outputs a case stores in files that begin with their names, and the words that each is run with.
+COMMANDS = {
+    "filter": ("filter setup.json",),
+    "rows": (
+        "rows setup.json",
+        "rows --alone setup.json",
+        "rows --workers 16 --lanes 1 --coarsen 0 --arena 1 setup.json",
+    ),
+}
 # A case of `locks` whose log goes on after its first batch, and the line that ends a batch.
 GOES_ON, CUT = CASES / "plans/nothing-read-behind-the-first-batch", b'["cut"]\n'
 FAULT_OF_SETUP = re.compile(rb"fault (?:[1-9]|1[1-9]|4[1-7])(?: at .*)?\n")
@@ -61,7 +68,7 @@ class Run:
     def runs_a_log(self):
         """Whether its log is run on the setup of its case."""
         takes = self.status != 2 and not FAULT_OF_SETUP.fullmatch(self.err)
-        return takes and self.words[:1] in (["run"], ["replicas"]) and "setup.json" in self.words
+        return takes and self.words[:1] in (["run"], ["rows"], ["replicas"]) and "setup.json" in self.words
 
     @property
     def starts_threads(self):
@@ -138,11 +145,11 @@ class Case:
 
     def runs_of_commands(self):
         """Those of commands whose outputs are each stored in files that begin with the command's name."""
-        for name, words in COMMANDS.items():
-            out, err = self.bytes_of(f"{name}.stdout"), self.bytes_of(f"{name}.stderr")
-            status = int(self.bytes_of(f"{name}.status", b"0"))
-            for most in (None, 1):
-                yield Run(words.split(), self.bytes_of("log"), out, err, status, most)
+        for name, ways in COMMANDS.items():
+            if self.has(f"{name}.status"):
+                out, err = self.bytes_of(f"{name}.stdout"), self.bytes_of(f"{name}.stderr")
+                for words, most in [(way, None) for way in ways] + [(ways[0], 1)]:
+                    yield Run(words.split(), self.bytes_of("log"), out, err, int(self.bytes_of(f"{name}.status")), most)
 
     @property
     def names_commands(self):

@@ -1,11 +1,16 @@
 -- Claimed: what contracts promise to a reader rests on these words.
 -- How a command ends: its exit status, and what it wrote.
-use Rattle.std.specs.Prelude.{◌≡◌, ℕ, ◌⊎◌, List, [], ◌++◌, length, Bool, true, false, ◌&&◌, ◌||◌, Option, Some, None, IfSome, OnOk, Result, Ok, Err, codes, if◌then◌else◌, String, string_bytes, ⊤}
+use Rattle.std.specs.Prelude.{◌≡◌, ℕ, ◌⊎◌, List, [], ◌++◌, length, Bool, true, false, ◌&&◌, ◌||◌, Option, Some, None, option_map, IfSome, OnOk, Result, Ok, Err, codes, if◌then◌else◌, String, string_bytes, ⊤}
 use Rattle.std.specs.Fmt.{decimal}
 use Rattle.std.specs.FinMap as map_of
 use Rattle.std.specs.declared.alloc.Global.{Global}
 use Rattle.std.specs.Io.KnownBytes.{Appends}
 use Rattle.devices.specs.Devices.{AppendsFront}
+use Rattle.catalogue.specs.Places.{table_named}
+use Rattle.catalogue.specs.Shapes.{TableShape}
+use Rattle.values.specs.Database.{Database}
+use Rattle.row_text.specs.Merge.{rows_of}
+use Rattle.row_text.specs.Texts.{row_lines, row_text}
 use Rattle.row_store.specs.Stock.{with_rows}
 use Rattle.setup.specs.declared.fault.SetupFault.{SetupFault}
 use Rattle.setup.specs.declared.document.SetupDocument.{SetupDocument}
@@ -22,14 +27,14 @@ use Rattle.batch_log.specs.declared.fault.LogFaultKind.{LogFaultKind}
 use Rattle.batch_log.specs.declared.fault.LogFaultKind.TheVariants.{Io, Memory}
 use Rattle.command_line.specs.CommandLine.{IsAskedFor}
 use Rattle.command_line.specs.declared.line.Command.{Command}
-use Rattle.command_line.specs.declared.line.Command.TheVariants.{Run, Filter, Locks, Replicas, Check}
+use Rattle.command_line.specs.declared.line.Command.TheVariants.{Run, Rows, Filter, Locks, Replicas, Check}
 use Rattle.command_line.specs.declared.line.Line.{Line}
 use Rattle.dispatcher.specs.declared.settings.Settings.{Settings}
 use Rattle.running.specs.declared.run_fault.RunFault.{RunFault}
 use Rattle.running.specs.declared.run_fault.RunFault.TheVariants as runs
 use Rattle.calvin.specs.Comparisons.{IsFirstDifference}
 use Rattle.calvin.specs.FirstBatches.{IsFirstBatchPlanned}
-use Rattle.running.specs.Reports.{report_of}
+use Rattle.running.specs.Reports.{report_of, rows_after}
 use Rattle.running.specs.Runs.{Device, IsRunOfLog}
 use Rattle.running.specs.Starts.{start_in}
 use Rattle.running.specs.Stops.{is_of_device, IsNotOfThread}
@@ -180,6 +185,47 @@ IsReplicasCommand holds holds_other source spent sink filled status =
     × (filled ≡ sink))
     ⊎ AreReplicas holds holds_other source spent sink filled status
 
+-- ---- the command `rows`
+
+-- a device of which nothing is known
+abbrev pub unknown : Device
+unknown = record { bytes = None; failed = false }
+
+-- the row lines of all tables, or of the one with a name; none where no table has that name
+abbrev pub rows_listed : Option (List ℕ) → List TableShape → Database → Option (List ℕ)
+rows_listed None tables db = Some (row_text tables db)
+rows_listed (Some name) tables db = option_map (λ table. row_lines tables (rows_of table db)) (table_named tables name)
+
+-- after a fault of the run nothing is written; else the row lines of what it leaves are
+abbrev pub AreListed : Option (List ℕ) → SetupDocument → Device → Result ℕ RunFault → Device → Device → ℕ → Type 0
+AreListed table document source (Err fault) sink filled status = (status ≡ fault_status fault) × (filled ≡ sink)
+AreListed table document source (Ok count) sink filled status =
+    (rows : Database) × (text : List ℕ) × IfSome source.bytes (λ log. rows ≡ rows_after (start_in document) log)
+    × (rows_listed table document.setup.catalogue rows ≡ Some text) × IsWritten text sink filled 0 status
+
+-- The log was run on the setup, alone on one thread or on several, and the row lines of what it leaves were written.
+pub record AreRowsOf (table : Option (List ℕ)) (alone : Bool) (document : SetupDocument)
+    (source spent sink filled : Device) (status : ℕ) : Type 0 where
+  pub result : Result ℕ RunFault
+  -- the report goes where nothing is known of it
+  pub run : IsRunOfLog (start_in document) source spent unknown unknown result
+  -- Alone on one thread, no thread is refused.
+  pub threadless : alone ≡ true → IsNotOfThread result
+  pub ends : AreListed table document source result sink filled status
+
+-- the setup has no table with the name that is asked for
+abbrev pub IsWithoutTable : Option (List ℕ) → SetupDocument → ℕ → Type 0
+IsWithoutTable table document status =
+    (status ≡ 1) × (name : List ℕ) × (table ≡ Some name) × (table_named document.setup.catalogue name ≡ None)
+
+-- Without a setup, and without the table that is asked for, nothing is read of the log, and nothing is written.
+abbrev pub IsRowsCommand : Option (List ℕ) → Bool → Holding → Device → Device → Device → Device → ℕ → Type 0
+IsRowsCommand table alone holds source spent sink filled status =
+    (IsWithoutSetup holds status × (spent ≡ source) × (filled ≡ sink))
+    ⊎ ((document : SetupDocument) × IsSetupAt holds document
+    × ((IsWithoutTable table document status × (spent ≡ source) × (filled ≡ sink))
+    ⊎ AreRowsOf table alone document source spent sink filled status))
+
 -- ---- the command `check`
 
 -- the line that says how many tables, procedures and rows there are
@@ -229,6 +275,11 @@ abbrev pub IfRun : Command → (Bool → List ℕ → Type 0) → Type 0
 IfRun (Run alone progress setup) P = P alone (string_bytes setup)
 IfRun command P = ⊤
 
+-- what holds of the flag `--alone`, the setup's path and the table's name of `rows`
+abbrev pub IfRows : Command → (Bool → List ℕ → Option (List ℕ) → Type 0) → Type 0
+IfRows (Rows alone progress setup table) P = P alone (string_bytes setup) (option_map string_bytes table)
+IfRows command P = ⊤
+
 -- what holds of the setup's path of `filter`
 abbrev pub IfFilter : Command → (List ℕ → Type 0) → Type 0
 IfFilter (Filter setup) P = P (string_bytes setup)
@@ -250,13 +301,16 @@ IfCheck (Check setup) P = P (string_bytes setup)
 IfCheck command P = ⊤
 
 -- rule: command.status
--- What comes of a command line, by its command: `run` writes the report of the log on the setup at its path, and
--- `replicas` compares that report with the text at another; `filter` writes the lines of the log that say a call or a
--- cut; `locks` writes the plans of the log's first batch; `check` writes how much the setup has, and reads nothing of
+-- What comes of a command line, by its command: `run` writes the report of the log on the setup at its path, `rows` the
+-- rows that the log leaves, and `replicas` compares that report with the text at another; `filter` writes the lines of
+-- the log that say a call or a cut; `locks` writes the plans of the log's first batch; `check` writes how much the setup
+-- has, and reads nothing of
 -- the log.
 pub record Does (holds : List ℕ → Option (List ℕ) → Type 0) (line : Line) (source spent sink filled : Device)
     (status : ℕ) : Type 0 where
   pub run : IfRun line.command (λ alone path. IsRunCommand alone (holds path) source spent sink filled status)
+  pub rows : IfRows line.command
+      (λ alone path table. IsRowsCommand table alone (holds path) source spent sink filled status)
   pub filter : IfFilter line.command (λ path. IsFilterCommand (holds path) source spent sink filled status)
   pub locks : IfLocks line.command (λ path. IsLocksCommand (holds path) line.settings source spent sink filled status)
   pub replicas : IfReplicas line.command

@@ -1,4 +1,6 @@
 pub mod Comparisons
 pub mod ProgressLines
 pub mod FirstBatches
+pub mod EngineRuns
 pub mod CommandEnds
+pub mod Listings

@@ -1,8 +1,9 @@
 //! Running a log on worker threads.
 
-ghost use Rattle.std.specs.Prelude.{◌≡◌, false};
+ghost use Rattle.std.specs.Prelude.{◌≡◌, IfErr, IfOk, false};
 ghost use Rattle.sequencer.specs.Batches.{items_of, AreOver};
 ghost use Rattle.engine.specs.Engines.{is_busy, tables_of};
+ghost use Rattle.calvin.specs.EngineRuns.{LeavesEngine, engine_on};
 ghost use Rattle.running.specs.Executors.{IsExecution};
 ghost use Rattle.running.specs.Runs.{RunsLog};
 ghost use Rattle.running.specs.Starts.{start_in, start_of};
@@ -12,11 +13,23 @@ use engine::{
     Batch, BatchDone, Engine, ExecFault, Gate, HeadSeat, Settings, WorkerPool, Workplace,
 };
 use running::{RunFault, run_log_on};
-use setup::{DigestForm, SetupDocument};
+use setup::{DigestForm, Setup, SetupDocument};
 use std::alloc::Global;
 use std::sync::{Mutex, Wait};
 use std::thread;
 use std::thread::Threads;
+
+/// An engine on the starting rows of a setup.
+pub(crate) fn engine_on(alloc: Global, setup: Setup, settings: Settings) -> Result<Engine, RunFault>
+    ensures made { IfOk result (λ engine. engine.core ≡ engine_on setup settings) }
+    ensures refused { IfErr result (λ fault.
+        fault ≡ RunFault.Log (record { kind = LogFaultKind.Memory; line = 0 })) }
+{
+    match Engine::new(alloc, setup, settings) {
+        Ok(engine) => Ok(engine),
+        Err(_) => Err(RunFault::at(LogFaultKind::Memory, 0)),
+    }
+}
 
 /// Does nothing. That a reference is used which a scope has given back ties it to the one that the scope took.
 fn take_back<T>(reference: &mut T)
@@ -39,8 +52,9 @@ fn run_log_at<'a, R: Threads + Wait + Sync, G: Gate, S: Source, K: Sink>(
     requires place { head ≡ place.now }
     requires idle { is_busy engine.old.core ≡ false }
     requires unused { engine.old.core.next ≡ 0 }
-    ensures { RunsLog S.left S.failed K.taken K.broken (start_of engine.old.core form)
+    ensures run { RunsLog S.left S.failed K.taken K.broken (start_of engine.old.core form)
         source.old source.new sink.old sink.new result }
+    ensures leaves { LeavesEngine form (S.left source.old) engine.old.core engine.new.core result }
 {
     let (ended, engine, source, sink) = thread::scope(
         thread::scope_env(),
@@ -52,6 +66,8 @@ fn run_log_at<'a, R: Threads + Wait + Sync, G: Gate, S: Source, K: Sink>(
             ensures sink { result.3.ghost_name ≡ sink.entry.ghost_name }
             ensures run { RunsLog S.left S.failed K.taken K.broken (start_of engine.entry.now.core form)
                 source.entry.now result.2.now sink.entry.now result.3.now result.0 }
+            ensures leaves { LeavesEngine form (S.left source.entry.now) engine.entry.now.core result.1.now.core
+                result.0 }
         {
             let pool = Mutex::new(WorkerPool::new(rt, scope, gate, place, head));
             let executor = |engine: &mut Engine, batch: Batch| -> Result<BatchDone, ExecFault>
@@ -85,8 +101,9 @@ pub(crate) fn run_log_in_pool<R: Threads + Wait + Sync, G: Gate, S: Source, K: S
 ) -> Result<u64, RunFault>
     requires idle { is_busy engine.old.core ≡ false }
     requires unused { engine.old.core.next ≡ 0 }
-    ensures { RunsLog S.left S.failed K.taken K.broken (start_of engine.old.core form)
+    ensures run { RunsLog S.left S.failed K.taken K.broken (start_of engine.old.core form)
         source.old source.new sink.old sink.new result }
+    ensures leaves { LeavesEngine form (S.left source.old) engine.old.core engine.new.core result }
 {
     match Workplace::new(alloc, engine.settings()) {
         Ok((place, head)) => run_log_at(rt, alloc, engine, form, &place, head, gate, source, sink),
@@ -113,8 +130,8 @@ pub fn run_text<R: Threads + Wait + Sync, G: Gate, S: Source, K: Sink>(
         source.old source.new sink.old sink.new result }
 {
     let SetupDocument { setup, digest } = document;
-    match Engine::new(alloc, setup, settings) {
+    match engine_on(alloc, setup, settings) {
         Ok(mut engine) => run_log_in_pool(rt, alloc, &mut engine, digest, gate, source, sink),
-        Err(_) => Err(RunFault::at(LogFaultKind::Memory, 0)),
+        Err(fault) => Err(fault),
     }
 }

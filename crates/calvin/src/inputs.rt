@@ -63,6 +63,23 @@ pub(crate) fn setup_at<F: Files, E: Sink>(
     }
 }
 
+/// Writes the bytes of an answer, or says why not and gives the exit status.
+pub(crate) fn print_bytes<K: Sink, E: Sink>(
+    alloc: Global,
+    out: &mut K,
+    err: &mut E,
+    bytes: &[u8],
+) -> Result<(), u8>
+    ensures text { OnOk result (Appends (K.taken out.old) (K.taken out.new) bytes.now) }
+    ensures front { AppendsFront (K.taken out.old) (K.taken out.new) bytes.now }
+    ensures status { IfErr result (λ status. (status ≡ 4) × (K.broken out.new ≡ true)) }
+{
+    match write_all(out, bytes) {
+        Ok(()) => Ok(()),
+        Err(_) => Err(refused(alloc, err, RunFault::at(LogFaultKind::Io, 0))),
+    }
+}
+
 /// Writes an answer, or says why not and gives the exit status.
 pub(crate) fn print<K: Sink, E: Sink>(
     alloc: Global,
@@ -74,8 +91,5 @@ pub(crate) fn print<K: Sink, E: Sink>(
     ensures front { AppendsFront (K.taken out.old) (K.taken out.new) text.now }
     ensures status { IfErr result (λ status. (status ≡ 4) × (K.broken out.new ≡ true)) }
 {
-    match write_all(out, text.as_bytes()) {
-        Ok(()) => Ok(()),
-        Err(_) => Err(refused(alloc, err, RunFault::at(LogFaultKind::Io, 0))),
-    }
+    print_bytes(alloc, out, err, text.as_bytes())
 }

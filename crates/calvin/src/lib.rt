@@ -25,6 +25,7 @@ mod files;
 mod filtering;
 mod inputs;
 mod laws;
+mod listing;
 mod locks;
 mod programs;
 mod replicas;

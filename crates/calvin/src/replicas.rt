@@ -7,11 +7,9 @@ ghost use Rattle.running.specs.Runs.{device_with};
 use crate::comparison::{KeptReport, first_difference};
 use crate::files::Files;
 use crate::inputs::{file_at, print, refused, setup_at};
-use crate::setup_runs::run_setup;
+use crate::setup_runs::{RunOptions, run_setup};
 use crate::status::{DIFFERENT, DONE};
-use crate::telling::Lines;
 use batch_log::{LogFaultKind, Sink, Source};
-use engine::Settings;
 use running::RunFault;
 use std::alloc::{AllocError, Global};
 use std::sync::Wait;
@@ -65,8 +63,7 @@ fn answer<K: Sink, E: Sink>(
 pub(crate) fn replicas<R: Threads + Wait + Sync, F: Files, S: Source, K: Sink, E: Sink + Send>(
     rt: &R,
     alloc: Global,
-    lines: Option<Lines>,
-    settings: Settings,
+    options: &RunOptions,
     path: &str,
     report: &str,
     files: &F,
@@ -89,9 +86,7 @@ pub(crate) fn replicas<R: Threads + Wait + Sync, F: Files, S: Source, K: Sink, E
         Err(status) => return status,
     };
     let mut kept = KeptReport::new(alloc);
-    match run_setup(
-        rt, alloc, false, lines, document, settings, source, &mut kept, err,
-    ) {
+    match run_setup(rt, alloc, options, document, source, &mut kept, err) {
         Ok(_) => answer(alloc, kept.bytes(), &other, out, err),
         Err(fault) => refused(alloc, err, kept.fault_of(fault)),
     }

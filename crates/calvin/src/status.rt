@@ -11,8 +11,8 @@ use setup::SetupFault;
 
 /// The command was done.
 pub(crate) const DONE: u8 = 0;
-/// The setup or the log breaks a rule.
-const REFUSED_INPUT: u8 = 1;
+/// The setup or the log breaks a rule, or a table that is asked for isn't there.
+pub(crate) const REFUSED_INPUT: u8 = 1;
 /// The words are no command line that is served.
 pub(crate) const COMMAND_LINE: u8 = 2;
 /// The system refused memory.

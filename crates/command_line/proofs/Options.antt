@@ -10,7 +10,7 @@ use Rattle.clap.proofs.WalkLemmas.{first_value-rows, one_text-rows}
 use Rattle.command_line.specs.CommandLine.{AreSettings, IsCommand, IsFlag, IsNumber}
 use Rattle.dispatcher.specs.Ranges.{AreInRange}
 use Rattle.command_line.specs.declared.line.Command.{Command}
-use Rattle.command_line.specs.declared.line.Command.TheVariants.{Check, Filter, Locks, Replicas, Run}
+use Rattle.command_line.specs.declared.line.Command.TheVariants.{Check, Filter, Locks, Replicas, Rows, Run}
 use Rattle.dispatcher.specs.declared.settings.Settings.{Settings}
 
 -- what reading a number from a text gives
@@ -122,9 +122,14 @@ pub no_text : (f : Found) (id path : Text) → None ≡ first_value f id → fir
 no_text f id path none is =
     let bad : None ≡ Some path = none ∙ first_value-rows f id ∙ is in absurd cc
 
+-- where no text was read, the rows say none
+pub none_read : (f : Found) (id : Text) → None ≡ first_value f id → first_of id (rows_of f) ≡ None
+none_read f id none = sym (first_value-rows f id) ∙ sym none
+
 -- where no setup was read, the rows give no command
 pub no_setup : (f : Found) (word : Text) (command : Command) → None ≡ first_value f (codes "setup") → IsCommand word (rows_of f) command → ⊥
 no_setup f word (Run alone progress setup) none asks = no_text f (codes "setup") (string_bytes setup) none asks.setup_is
+no_setup f word (Rows alone progress setup table) none asks = no_text f (codes "setup") (string_bytes setup) none asks.setup_is
 no_setup f word (Filter setup) none asks = no_text f (codes "setup") (string_bytes setup) none asks.setup_is
 no_setup f word (Locks setup) none asks = no_text f (codes "setup") (string_bytes setup) none asks.setup_is
 no_setup f word (Check setup) none asks = no_text f (codes "setup") (string_bytes setup) none asks.setup_is
@@ -132,6 +137,9 @@ no_setup f word (Replicas progress setup report) none asks = no_text f (codes "s
 
 run_for_replicas : codes "replicas" ≡ codes "run" → ⊥
 run_for_replicas e = cc
+
+rows_for_replicas : codes "replicas" ≡ codes "rows" → ⊥
+rows_for_replicas e = cc
 
 filter_for_replicas : codes "replicas" ≡ codes "filter" → ⊥
 filter_for_replicas e = cc
@@ -145,15 +153,17 @@ check_for_replicas e = cc
 -- where no report was read, the rows give no comparison
 pub no_report : (f : Found) (command : Command) → None ≡ first_value f (codes "report") → IsCommand (codes "replicas") (rows_of f) command → ⊥
 no_report f (Run alone progress setup) none asks = run_for_replicas asks.name
+no_report f (Rows alone progress setup table) none asks = rows_for_replicas asks.name
 no_report f (Filter setup) none asks = filter_for_replicas asks.name
 no_report f (Locks setup) none asks = locks_for_replicas asks.name
 no_report f (Check setup) none asks = check_for_replicas asks.name
 no_report f (Replicas progress setup report) none asks = no_text f (codes "report") (string_bytes report) none asks.report_is
 
 -- a word that is no command's name
-pub no_command : (rows : List Row) (word : Text) (command : Command) → (word ≡ codes "run" → ⊥) → (word ≡ codes "filter" → ⊥) → (word ≡ codes "replicas" → ⊥) → (word ≡ codes "locks" → ⊥) → (word ≡ codes "check" → ⊥) → IsCommand word rows command → ⊥
-no_command rows word (Run alone progress setup) run filter replicas locks check asks = run asks.name
-no_command rows word (Filter setup) run filter replicas locks check asks = filter asks.name
-no_command rows word (Replicas progress setup report) run filter replicas locks check asks = replicas asks.name
-no_command rows word (Locks setup) run filter replicas locks check asks = locks asks.name
-no_command rows word (Check setup) run filter replicas locks check asks = check asks.name
+pub no_command : (rows : List Row) (word : Text) (command : Command) → (word ≡ codes "run" → ⊥) → (word ≡ codes "rows" → ⊥) → (word ≡ codes "filter" → ⊥) → (word ≡ codes "replicas" → ⊥) → (word ≡ codes "locks" → ⊥) → (word ≡ codes "check" → ⊥) → IsCommand word rows command → ⊥
+no_command rows word (Run alone progress setup) run listing filter replicas locks check asks = run asks.name
+no_command rows word (Rows alone progress setup table) run listing filter replicas locks check asks = listing asks.name
+no_command rows word (Filter setup) run listing filter replicas locks check asks = filter asks.name
+no_command rows word (Replicas progress setup report) run listing filter replicas locks check asks = replicas asks.name
+no_command rows word (Locks setup) run listing filter replicas locks check asks = locks asks.name
+no_command rows word (Check setup) run listing filter replicas locks check asks = check asks.name

@@ -1,10 +1,10 @@
 -- Claimed: what contracts promise to a reader rests on these words.
 -- What a command line asks for.
-use Rattle.std.specs.Prelude.{◌≡◌, ℕ, List, [], Bool, true, false, Option, Some, None, codes, string_bytes, ⊤}
+use Rattle.std.specs.Prelude.{◌≡◌, ℕ, List, [], Bool, true, false, Option, Some, None, option_map, codes, string_bytes, ⊤}
 use Rattle.std.specs.Str.Parse.{IsNumeral, digits_value, without_leading_plus}
 use Rattle.clap.specs.Words.{Row, Text, fault_of, first_of, one_of, subcommand_of}
 use Rattle.command_line.specs.declared.line.Command.{Command}
-use Rattle.command_line.specs.declared.line.Command.TheVariants.{Check, Filter, Locks, Replicas, Run}
+use Rattle.command_line.specs.declared.line.Command.TheVariants.{Check, Filter, Locks, Replicas, Rows, Run}
 use Rattle.command_line.specs.declared.line.Line.{Line}
 use Rattle.command_line.specs.declared.line.LineFault.{LineFault}
 use Rattle.command_line.specs.declared.line.LineFault.TheVariants.{NoMemory, Refused}
@@ -38,6 +38,15 @@ pub record IsRun (word : Text) (rows : List Row) (alone progress : Bool) (setup 
   pub progress_is : IsFlag rows (codes "progress") progress
   pub setup_is : first_of (codes "setup") rows ≡ Some setup
 
+-- `rows [--alone] [--progress] [--table NAME] SETUP`
+pub record IsRows (word : Text) (rows : List Row) (alone progress : Bool) (setup : Text) (table : Option Text)
+    : Type 0 where
+  pub name : word ≡ codes "rows"
+  pub alone_is : IsFlag rows (codes "alone") alone
+  pub progress_is : IsFlag rows (codes "progress") progress
+  pub setup_is : first_of (codes "setup") rows ≡ Some setup
+  pub table_is : first_of (codes "table") rows ≡ table
+
 -- `filter SETUP`
 pub record IsFilter (word : Text) (rows : List Row) (setup : Text) : Type 0 where
   pub name : word ≡ codes "filter"
@@ -63,6 +72,8 @@ pub record IsReplicas (word : Text) (rows : List Row) (progress : Bool) (setup r
 -- the words ask for this command
 abbrev pub IsCommand : Text → List Row → Command → Type 0
 IsCommand name rows (Run alone progress setup) = IsRun name rows alone progress (string_bytes setup)
+IsCommand name rows (Rows alone progress setup table) =
+    IsRows name rows alone progress (string_bytes setup) (option_map string_bytes table)
 IsCommand name rows (Filter setup) = IsFilter name rows (string_bytes setup)
 IsCommand name rows (Locks setup) = IsLocks name rows (string_bytes setup)
 IsCommand name rows (Check setup) = IsCheck name rows (string_bytes setup)

@@ -20,6 +20,10 @@ number_rule name least most default = record (new_rule name) {
 abbrev pub flag_rule : Text → Rule
 flag_rule name = record (new_rule name) { long = Some name; action = Some SetTrue }
 
+-- `--NAME TEXT`
+abbrev pub text_rule : Text → Rule
+text_rule name = record (new_rule name) { long = Some name; action = Some Set; value_names = 1 }
+
 -- a word that must be there
 abbrev pub word_rule : Text → Rule
 word_rule name = record (new_rule name) { action = Some Set; value_names = 1; required = true }
@@ -39,6 +43,14 @@ run_app = with_settings (with_rule (with_rule (with_rule (new_app (codes "run"))
     (word_rule (codes "setup")))
     (flag_rule (codes "alone")))
     (flag_rule (codes "progress")))
+
+-- `rows [--alone] [--progress] [--table NAME] SETUP`, with settings
+unfoldable pub rows_app : App
+rows_app = with_settings (with_rule (with_rule (with_rule (with_rule (new_app (codes "rows"))
+    (word_rule (codes "setup")))
+    (flag_rule (codes "alone")))
+    (flag_rule (codes "progress")))
+    (text_rule (codes "table")))
 
 -- `filter SETUP`, with settings
 unfoldable pub filter_app : App
@@ -64,10 +76,11 @@ check_app = with_settings (with_rule (new_app (codes "check"))
 
 -- the commands, of which one must be named; the words begin after the program's name
 unfoldable pub calvin_app : App
-calvin_app = with_subcommand (with_subcommand (with_subcommand (with_subcommand (with_subcommand
+calvin_app = with_subcommand (with_subcommand (with_subcommand (with_subcommand (with_subcommand (with_subcommand
     (on_top (λ s. record s {
       no_binary_name = true;
       subcommand_required = true;
       arg_required_else_help = true;
       has_version = true;
-    }) (new_app (codes "calvin"))) run_app.top) filter_app.top) replicas_app.top) locks_app.top) check_app.top
+    }) (new_app (codes "calvin"))) run_app.top) rows_app.top) filter_app.top) replicas_app.top) locks_app.top)
+    check_app.top

@@ -1,7 +1,7 @@
 //! Reading a command line.
 
-ghost use Rattle.std.specs.Prelude.{◌≡◌, codes, map, IfErr, IfOk, IfSome, IsNone, string_bytes};
-ghost use Rattle.clap.specs.Words.{found_of, kind_of, rows_of, subcommand_rows_of};
+ghost use Rattle.std.specs.Prelude.{◌≡◌, codes, map, option_map, IfErr, IfOk, IfSome, IsNone, string_bytes};
+ghost use Rattle.clap.specs.Words.{first_of, found_of, kind_of, rows_of, subcommand_rows_of};
 ghost use Rattle.command_line.specs.CommandLine.{AreSettings, AsksFor, IsAskedFor, IsCommand, IsRefused};
 ghost use Rattle.command_line.specs.declared.line.Command.{Command};
 ghost use Rattle.command_line.specs.declared.line.Line.{Line};
@@ -23,6 +23,14 @@ pub enum Command {
         alone: bool,
         progress: bool,
         setup: String,
+    },
+    /// Run the log on the setup at this path as `Run` does, and print the rows that it leaves, of all tables or of the
+    /// one with a name.
+    Rows {
+        alone: bool,
+        progress: bool,
+        setup: String,
+        table: Option<String>,
     },
     /// Copy the lines of the log that a run on the setup at this path would take.
     Filter {
@@ -116,6 +124,38 @@ fn run_of(alloc: Global, matches: &ArgMatches<'_>) -> Result<Option<Command>, Al
     }))
 }
 
+// The name of a table, where one is given.
+fn table_of(alloc: Global, matches: &ArgMatches<'_>) -> Result<Option<String>, AllocError>
+    ensures { IfOk result (λ table.
+        first_of (codes "table") (rows_of (found_of matches.now)) ≡ option_map string_bytes table) }
+{
+    match matches.get_str("table") {
+        Some(name) => Ok(Some(String::from_str(alloc, name)?)),
+        None => Ok(None),
+    }
+}
+
+// The command `rows`, by its arguments.
+fn listing_of(alloc: Global, matches: &ArgMatches<'_>) -> Result<Option<Command>, AllocError>
+    ensures some { IfOk result (λ o. IfSome o (IsCommand (codes "rows") (rows_of (found_of matches.now)))) }
+    ensures none { IfOk result (λ o. IsNone o → (command : Command) →
+        ¬ IsCommand (codes "rows") (rows_of (found_of matches.now)) command) }
+{
+    let Some(setup) = matches.get_str("setup") else {
+        return Ok(None);
+    };
+    let setup = String::from_str(alloc, setup)?;
+    let table = table_of(alloc, matches)?;
+    let alone = matches.get_flag("alone");
+    let progress = matches.get_flag("progress");
+    Ok(Some(Command::Rows {
+        alone,
+        progress,
+        setup,
+        table,
+    }))
+}
+
 // The command `filter`, by its arguments.
 fn filter_of(alloc: Global, matches: &ArgMatches<'_>) -> Result<Option<Command>, AllocError>
     ensures some { IfOk result (λ o. IfSome o (IsCommand (codes "filter") (rows_of (found_of matches.now)))) }
@@ -189,6 +229,7 @@ fn command_of(
 {
     match name {
         "run" => run_of(alloc, matches),
+        "rows" => listing_of(alloc, matches),
         "filter" => filter_of(alloc, matches),
         "locks" => locks_of(alloc, matches),
         "check" => check_of(alloc, matches),

@@ -4,7 +4,7 @@ ghost use Rattle.std.specs.Prelude.{◌≡◌, codes, IfOk, false, true};
 ghost use Rattle.clap.specs.Simple.{on_top};
 ghost use Rattle.clap.specs.Words.{app_of, new_app, rule_of};
 ghost use Rattle.clap.specs.declared.builder.command.Command.TheViews.{out-Command as fields_of};
-ghost use Rattle.command_line.specs.Words.{calvin_app, check_app, filter_app, flag_rule, locks_app, number_rule, replicas_app, run_app, with_settings, word_rule};
+ghost use Rattle.command_line.specs.Words.{calvin_app, check_app, filter_app, flag_rule, locks_app, number_rule, replicas_app, rows_app, run_app, text_rule, with_settings, word_rule};
 
 use clap::builder::ValueParser;
 use clap::{Arg, ArgAction, Command};
@@ -43,6 +43,24 @@ The options change the speed of a run and what standard error tells of it, and n
 Exit status:
   0  the report is whole
   1  the setup or the log was refused; standard error has the fault
+  2  the command line was refused, or help was asked for
+  3  no memory
+  4  reading or writing failed, or a thread was refused";
+
+const ROWS_ABOUT: &str = "Runs the log on standard input and prints the rows that it leaves";
+
+const ROWS_EXAMPLE: &str = "Examples:
+  calvin rows bank.json < calls.log
+  calvin rows bank.json < calls.log | sha256sum
+  calvin rows --table acct bank.json < calls.log
+
+prints a line `TABLE KEY V1 .. Vn` for each row, tables in declared order and keys ascending, and no report.
+The digest of all lines is that of the rows in the report's end line, if the setup has no digests by partition.
+The options but `--table` change the speed of a run and what standard error tells of it, and never the rows.
+
+Exit status:
+  0  the rows are printed
+  1  the setup or the log was refused, or no table has the name; standard error says so
   2  the command line was refused, or help was asked for
   3  no memory
   4  reading or writing failed, or a thread was refused";
@@ -113,6 +131,8 @@ const SETUP_HELP: &str = "The file of tables, procedures and rows, in JSON";
 
 const PROGRESS_HELP: &str = "Tell on standard error how many calls are settled, and how they ended";
 
+const TABLE_HELP: &str = "Print the rows of this table alone";
+
 const WORKERS_HELP: &str = "Worker threads, 1 to 16";
 
 const LANES_HELP: &str = "Jobs that may be out to workers at a time, 1 to 64";
@@ -160,6 +180,29 @@ fn progress_option<'a>(alloc: Global) -> Arg<'a>
     ensures local { result.global ≡ false }
 {
     flag_option(alloc, "progress", PROGRESS_HELP)
+}
+
+/// An option whose value is a text, which help calls by its `value_name`.
+fn text_option<'a>(alloc: Global, name: &'a str, value_name: &'a str, help: &'a str) -> Arg<'a>
+    ensures rule { rule_of result ≡ text_rule name.entry.now }
+    ensures local { result.global ≡ false }
+{
+    Arg::new(alloc, name)
+        .long(name)
+        .value_name(value_name)
+        .action(ArgAction::Set)
+        .help(help)
+}
+
+fn alone_option<'a>(alloc: Global) -> Arg<'a>
+    ensures rule { rule_of result ≡ flag_rule (codes "alone") }
+    ensures local { result.global ≡ false }
+{
+    flag_option(
+        alloc,
+        "alone",
+        "Run on one thread, without workers and lanes",
+    )
 }
 
 /// A word that must be there, which help calls by its `value_name`.
@@ -221,11 +264,7 @@ fn run_command<'a>(alloc: Global) -> Result<Command<'a>, AllocError>
     ensures local { IfOk result (λ r. (fields_of r).has_globals ≡ false) }
 {
     let setup = required_word(alloc, "setup", "SETUP", SETUP_HELP);
-    let alone = flag_option(
-        alloc,
-        "alone",
-        "Run on one thread, without workers and lanes",
-    );
+    let alone = alone_option(alloc);
     let progress = progress_option(alloc);
     let command = Command::new(alloc, "run")
         .about(RUN_ABOUT)
@@ -233,6 +272,25 @@ fn run_command<'a>(alloc: Global) -> Result<Command<'a>, AllocError>
         .arg(setup)?
         .arg(alone)?
         .arg(progress)?;
+    with_settings(alloc, command)
+}
+
+/// The command `rows`.
+fn rows_command<'a>(alloc: Global) -> Result<Command<'a>, AllocError>
+    ensures app { IfOk result (λ r. app_of r ≡ rows_app) }
+    ensures local { IfOk result (λ r. (fields_of r).has_globals ≡ false) }
+{
+    let setup = required_word(alloc, "setup", "SETUP", SETUP_HELP);
+    let alone = alone_option(alloc);
+    let progress = progress_option(alloc);
+    let table = text_option(alloc, "table", "NAME", TABLE_HELP);
+    let command = Command::new(alloc, "rows")
+        .about(ROWS_ABOUT)
+        .after_help(ROWS_EXAMPLE)
+        .arg(setup)?
+        .arg(alone)?
+        .arg(progress)?
+        .arg(table)?;
     with_settings(alloc, command)
 }
 
@@ -307,6 +365,7 @@ pub(crate) fn calvin_command<'a>(alloc: Global) -> Result<Command<'a>, AllocErro
     ensures { IfOk result (λ r. app_of r ≡ calvin_app) }
 {
     let run = run_command(alloc)?;
+    let rows = rows_command(alloc)?;
     let filter = filter_command(alloc)?;
     let replicas = replicas_command(alloc)?;
     let locks = locks_command(alloc)?;
@@ -316,6 +375,7 @@ pub(crate) fn calvin_command<'a>(alloc: Global) -> Result<Command<'a>, AllocErro
         .subcommand_required(true)
         .arg_required_else_help(true)
         .subcommand(run)?
+        .subcommand(rows)?
         .subcommand(filter)?
         .subcommand(replicas)?
         .subcommand(locks)?

@@ -1,5 +1,5 @@
 -- A log is closed batch by batch.
-use Rattle.std.proofs.Common.{◌≡◌, ℕ, zero, suc, ◌+◌, List, [], ◌∷◌, ◌++◌, append_assoc, append-nil, length, false, Option, Some, None, Result, Ok, Err, IfOk, OnOk, refl, sym, ◌∙◌, ap, subst, arith}
+use Rattle.std.proofs.Common.{◌≡◌, ℕ, zero, suc, ◌+◌, List, [], ◌∷◌, ◌++◌, append_assoc, append-nil, length, false, Option, Some, None, Result, Ok, Err, IfOk, IfErr, OnOk, refl, sym, ◌∙◌, ap, subst, arith}
 use Rattle.std.specs.Io.KnownBytes.{Appends}
 use Rattle.std.proofs.KnownBytes.{Appends-trans}
 use Rattle.sha2.specs.Hashers.{Holds256}
@@ -17,13 +17,14 @@ use Rattle.retries.specs.Standings.{after_batch, closing, closing_within, transa
 use Rattle.retries.proofs.Reported.{end_is}
 use Rattle.engine.specs.Engines.{EngineParts, tables_of}
 use Rattle.running.specs.declared.run_fault.RunFault.{RunFault}
+use Rattle.running.specs.declared.run_fault.RunFault.TheVariants as runs
 use Rattle.running.specs.declared.transcript.Transcript.{Transcript}
 use Rattle.running.specs.Batches.{due_text, IsReported}
 use Rattle.running.specs.Hashers.{form_of, said_of}
 use Rattle.running.specs.Reported.{lines_of, with_closing, with_drained, HasClosed, HasReported, IsClosing, IsCutAt}
 use Rattle.running.specs.Standings.{standing_of}
 use Rattle.running.specs.Starts.{Start}
-use Rattle.running.specs.Stops.{IsNotOfThread}
+use Rattle.running.specs.Stops.{IfOfThread, IsMachineFault, IsNotOfThread}
 use Rattle.running.specs.Stopped.{at_end, in_closing, standing_after}
 use Rattle.running.proofs.Reported.{next_text_is, standing_next, HasReported-next}
 
@@ -218,3 +219,14 @@ IsClosing-cut start ran sink gave fault cut = record {
     cut = subst (λ (o : Option (List ℕ)). IsCutAt in_closing start ran sink o fault) (none_drained gave) cut;
   };
 }
+
+-- ---- however the end line was written
+
+pub where_ok : {T E P : Type 0} (r : Result T E) → P → OnOk r P
+where_ok (Ok x) p = p
+where_ok (Err e) p = tt
+
+pub stops_unthreaded : (r : Result ℕ RunFault) (line : ℕ) (P : Type 0) → IfErr r (IsMachineFault line) → IsNotOfThread r → IfErr r (λ e. IsMachineFault line e × IfOfThread e P)
+stops_unthreaded (Ok n) line P stops threadless = tt
+stops_unthreaded (Err (runs.Log fault)) line P stops threadless = (stops, tt)
+stops_unthreaded (Err (runs.Spawn at)) line P stops threadless = absurd threadless

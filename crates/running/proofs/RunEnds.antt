@@ -1,5 +1,5 @@
 -- How a run ends, and what came of it.
-use Rattle.std.proofs.Common.{◌≡◌, ℕ, ◌+◌, ◌||◌, List, [], length, Bool, true, false, Option, Some, None, Result, Ok, Err, IfErr, refl, sym, ◌∙◌, ap}
+use Rattle.std.proofs.Common.{◌≡◌, ℕ, ◌+◌, ◌||◌, List, [], length, Bool, true, false, Option, Some, None, Result, Ok, Err, IfErr, OnOk, refl, sym, ◌∙◌, ap}
 use Rattle.std.specs.Option.{IfSome}
 use Rattle.std.specs.Io.KnownBytes.{prepend_known, Appends}
 use Rattle.std.proofs.lemmas.List.{append-nil}
@@ -22,11 +22,11 @@ use Rattle.running.specs.declared.run_fault.RunFault.{RunFault}
 use Rattle.running.specs.declared.run_fault.RunFault.TheVariants as runs
 use Rattle.running.specs.declared.transcript.Transcript.{Transcript}
 use Rattle.running.specs.Reported.{with_closing, IsClosing}
-use Rattle.running.specs.Reports.{batches_in, fault_in, report_of}
+use Rattle.running.specs.Reports.{batches_in, fault_in, report_of, rows_after}
 use Rattle.running.specs.Runs.{device_with, Device, IsRunOfLog}
 use Rattle.running.specs.Stops.{ends_in_io, is_of_device, IsMachineFault}
 use Rattle.running.specs.Starts.{Start}
-use Rattle.running.specs.Stopped.{IsEndedBy, IsStoppedAt, reading, Stage}
+use Rattle.running.specs.Stopped.{standing_after, IsEndedBy, IsStoppedAt, reading, Stage}
 use Rattle.running.proofs.Fronts.{front_of_stopped}
 use Rattle.running.proofs.SoFar.{calls_at_end, report_at_end, report_at_fault, SoFar}
 use Rattle.running.proofs.Stopped.{none_at_end, nothing_stopped, reads_end, stop_of_machine, SoFar-stopped}
@@ -152,6 +152,18 @@ run_closes (Err e) start m total next total2 line engine transcript left now las
     (none_at_end stage total total2 read ec) takes
     (Passes-weaken _ _ now (prepend_known came last) end (λ xs ys e. reads_end stage start.procs start.retries m total next total2 xs ys read e))
     cut.closed cut.written begun)
+
+-- the rows are then those that the log leaves
+pub rows_at_end : (r : Result ℕ RunFault) (start : Start) (m total : ℕ) (engine after : EngineParts) (transcript : Transcript) (left now last taken gave : Option (List ℕ)) →
+    (s : SoFar start m total engine transcript left now taken gave) →
+    OnOk r (after.rows ≡ (standing_after start.retries start.rows (with_closing start.retries start.rows s.ran)).rows) →
+    Passes (λ xs ys. IsEnd (log_said start.retries start.procs.procs m total xs) × (ys ≡ [])) now last → OnOk r (IfSome left (λ log. after.rows ≡ rows_after start log))
+rows_at_end (Ok n) start m total engine after transcript left now last taken gave s h end =
+    let P : List ℕ → List ℕ → Type 0 = λ x y. after.rows ≡ rows_after start x in
+    let known : Passes P left last = Passes-trans _ _ _ left now last s.after end
+    (λ x y z g e. h ∙ ap (λ (bs : List (List Call)). (standing_after start.retries start.rows bs).rows) (sym (calls_at_end start m total s.ran x y g e.0))) in
+    Passes-first P _ left last known (λ x y g. g)
+rows_at_end (Err e) start m total engine after transcript left now last taken gave s h end = tt
 
 -- ---- the source of a reader
 

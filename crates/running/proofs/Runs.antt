@@ -1,5 +1,5 @@
 -- Batches that an engine takes, and what its refusals are told as.
-use Rattle.std.proofs.Common.{◌≡◌, ℕ, ◌+◌, ◌≤◌, ◌^◌, length, true, false, Result, Ok, Err, IfErr, sym, arith, ◌∙◌}
+use Rattle.std.proofs.Common.{◌≡◌, ℕ, ◌+◌, ◌≤◌, ◌^◌, length, true, false, Result, Ok, Err, IfErr, refl, sym, arith, ◌∙◌}
 use denote.Ref.{MutBor}
 use denote.Param.Members.{Shared}
 use Rattle.sequencer.specs.declared.batch.Batch.{Batch}
@@ -8,7 +8,7 @@ use Rattle.engine.specs.declared.fault.ExecFault.TheVariants.{Busy, LogFull, Spa
 use Rattle.engine.specs.declared.replies.BatchDone.{BatchDone}
 use Rattle.engine.specs.Batches.{next_attempts}
 use Rattle.engine.specs.Engines.{EngineParts, is_busy}
-use Rattle.engine.specs.Executions.{IsRefusal}
+use Rattle.engine.specs.Executions.{IsRefusal, KeepsSetting}
 use Rattle.running.specs.declared.run_fault.RunFault.{RunFault}
 use Rattle.running.specs.Executors.{HasAnswered}
 use Rattle.running.specs.Stops.{IfOfThread, IsHeld, IsRefusedBy}
@@ -33,3 +33,14 @@ told_of_thread (Busy back) told line P h p = absurd h
 told_of_thread (LogFull back) told line P h p = absurd h
 told_of_thread Spawn told line P h p = rw h p
 told_of_thread NoMemory told line P h p = rw h tt
+
+-- an engine's setting is kept by two calls that each keep it, and where nothing is done
+pub keeps_on : (old between new : EngineParts) → KeepsSetting old between → KeepsSetting between new → KeepsSetting old new
+keeps_on old between new first second = record {
+  procs = second.procs ∙ first.procs;
+  settings = second.settings ∙ first.settings;
+  retries = second.retries ∙ first.retries;
+}
+
+pub keeps_still : (engine : EngineParts) → KeepsSetting engine engine
+keeps_still engine = record { procs = refl; settings = refl; retries = refl }

@@ -9,7 +9,7 @@ use Rattle.batch_log.specs.Lines.{Lines}
 use Rattle.batch_log.specs.Log.{batches_of, first_fault, log_said}
 use Rattle.report_text.specs.Report.{Transaction}
 use Rattle.report_text.specs.Report as texts
-use Rattle.retries.specs.Standings.{closed, in_turn, start_of}
+use Rattle.retries.specs.Standings.{after_batches, closed, in_turn, start_of}
 use Rattle.running.specs.Starts.{Start}
 
 -- what a whole log says to these procedures, where stale requests are tried again so often
@@ -29,6 +29,12 @@ calls_in_turn procs retries db log =
 -- the transactions of these batches: what is carried to a batch, and after it the batch's calls
 abbrev pub batches_in : ProcsParts → ℕ → Database → List ℕ → List (List Transaction)
 batches_in procs retries db log = in_turn retries (start_of db) (calls_in_turn procs retries db log)
+
+-- the rows that a log leaves, from a start: those after the last batch of its run
+abbrev pub rows_after : Start → List ℕ → Database
+rows_after start log =
+    (after_batches start.retries (start_of start.rows)
+    (calls_in_turn start.procs start.retries start.rows log)).rows
 
 -- rule: option.report
 -- what is written for a log from a start: the texts of its batches, and the end line if it has no

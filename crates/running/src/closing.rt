@@ -13,8 +13,9 @@ ghost use Rattle.engine.specs.Executions.{KeepsSetting};
 ghost use Rattle.running.specs.Batches.{KeepsDigest};
 ghost use Rattle.running.specs.Executors.{Executes, HasAnswered};
 ghost use Rattle.running.specs.Hashers.{form_of, said_of};
-ghost use Rattle.running.specs.Reported.{with_drained, HasReported, IsBetweenBatches, IsClosing, ReportsClosing};
+ghost use Rattle.running.specs.Reported.{with_closing, with_drained, HasReported, IsBetweenBatches, IsClosing, ReportsClosing};
 ghost use Rattle.running.specs.Starts.{Start};
+ghost use Rattle.running.specs.Stopped.{standing_after};
 ghost use Rattle.running.specs.Stops.{ends_in_io, IfOfThread, IsMachineFault, IsNotOfThread};
 
 use crate::batch::run_batch;
@@ -111,11 +112,17 @@ pub(crate) fn close<E: BatchEngine, X: Fn(&mut E, Batch) -> Result<BatchDone, Ex
 ) -> Result<u64, RunFault>
     requires executes { Executes E.parts X.Fn executor.now }
     requires between { IsBetweenBatches (E.parts engine.old) transcript }
+    ensures same { KeepsSetting (E.parts engine.old) (E.parts engine.new) }
     ensures closed { (start : Start) (ran : List (List Call)) (before : Option (List ℕ)) →
         HasReported start ran (E.parts engine.old) transcript before (K.taken sink.old) →
         IsClosing start ran before (K.taken sink.new) result }
-    ensures stops { IfErr result (IsMachineFault line) }
-    ensures threads { IfErr result (λ e. IfOfThread e (HasAnswered X.Fn executor.now ExecFault.Spawn)) }
+    ensures rows { (start : Start) (ran : List (List Call)) (before : Option (List ℕ)) →
+        HasReported start ran (E.parts engine.old) transcript before (K.taken sink.old) →
+        OnOk result ((E.parts engine.new).rows
+        ≡ (standing_after start.retries start.rows (with_closing start.retries start.rows ran)).rows) }
+    ensures idle { OnOk result (is_busy (E.parts engine.new) ≡ false) }
+    ensures stops { IfErr result (λ e.
+        IsMachineFault line e × IfOfThread e (HasAnswered X.Fn executor.now ExecFault.Spawn)) }
     ensures fails { K.broken sink.new ≡ (K.broken sink.old || ends_in_io result) }
 {
     let mut transcript = transcript;

@@ -1,10 +1,13 @@
 //! Running a log: from its bytes to the bytes of its report.
 
-ghost use Rattle.std.specs.Prelude.{◌≡◌, ◌≤◌, [], None, IfErr, false};
+ghost use Rattle.std.specs.Prelude.{◌≡◌, None, IfErr, IfSome, OnOk, false};
 ghost use Rattle.batch_log.specs.Reader.{calls_read, fault_of, position_of, retries_of, source_name, source_of, unread};
 ghost use Rattle.engine.specs.Engines.{is_busy};
+ghost use Rattle.engine.specs.Executions.{KeepsSetting};
 ghost use Rattle.running.specs.Executors.{core_of, Executes, HasAnswered};
+ghost use Rattle.running.specs.Reports.{rows_after};
 ghost use Rattle.running.specs.Runs.{IsRunOfLog, RunsLog, device_with};
+ghost use Rattle.running.specs.Standings.{IsUnused};
 ghost use Rattle.running.specs.Starts.{start_in, start_of};
 ghost use Rattle.running.specs.Stops.{IfOfThread};
 
@@ -37,20 +40,20 @@ fn run_batches<
     sink: &mut K,
 ) -> Result<u64, RunFault>
     requires executes { Executes core_of X.Fn executor.now }
-    requires idle { is_busy engine.old.core ≡ false }
-    requires unused { engine.old.core.next ≡ 0 }
-    requires none_carried { engine.old.core.carried ≡ [] }
-    requires few { engine.old.core.retries ≤ 2 }
-    requires retries { retries_of reader.old ≡ engine.old.core.retries }
+    requires unused { IsUnused engine.old.core }
     requires unread { (position_of reader.old ≡ record { newlines = 0; begun = 0 }) × (calls_read reader.old ≡ 0) ×
-        (fault_of reader.old ≡ None) }
-    ensures same { source_name reader.new ≡ source_name reader.old }
+        (fault_of reader.old ≡ None) × (retries_of reader.old ≡ engine.old.core.retries) }
+    ensures same { (source_name reader.new ≡ source_name reader.old) ×
+        KeepsSetting engine.old.core engine.new.core }
     ensures run { IsRunOfLog (start_of engine.old.core form)
         (device_with (unread S.left reader.old) (S.failed (source_of reader.old)))
         (device_with (S.left (source_of reader.new)) (S.failed (source_of reader.new)))
         (device_with (K.taken sink.old) (K.broken sink.old))
         (device_with (K.taken sink.new) (K.broken sink.new)) result }
     ensures threads { IfErr result (λ e. IfOfThread e (HasAnswered X.Fn executor.now ExecFault.Spawn)) }
+    ensures idle { OnOk result (is_busy engine.new.core ≡ false) }
+    ensures rows { OnOk result (IfSome (unread S.left reader.old) (λ log.
+        engine.new.core.rows ≡ rows_after (start_of engine.old.core form) log)) }
 {
     let mut transcript = Transcript::new(form);
     'batches: for _ in rt.forever() {
@@ -103,6 +106,11 @@ pub fn run_log_on<
         source.old source.new sink.old sink.new result }
     // It ends with a refused thread only where the executor has answered so.
     ensures threads { IfErr result (λ e. IfOfThread e (HasAnswered X.Fn executor.now ExecFault.Spawn)) }
+    ensures same { KeepsSetting engine.old.core engine.new.core }
+    // After a whole run the engine holds no batch, and its rows are those that the log leaves.
+    ensures ended { OnOk result (is_busy engine.new.core ≡ false) }
+    ensures rows { OnOk result (IfSome (S.left source.old) (λ log.
+        engine.new.core.rows ≡ rows_after (start_of engine.old.core form) log)) }
 {
     // An engine that has run no transaction carries no request.
     let carried = engine.carried();

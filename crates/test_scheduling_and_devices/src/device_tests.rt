@@ -28,9 +28,10 @@ fn newlines(text: &[u8]) -> u64 {
 /// A command that reads the log; what it has written when the first batch is read; and whether it reads on then.
 type Reading<'a> = (&'a str, &'a str, bool);
 
-const READINGS: [Reading<'static>; 4] = [
+const READINGS: [Reading<'static>; 5] = [
     ("run bank.json", ONE_BATCH, true),
     ("run --alone bank.json", ONE_BATCH, true),
+    ("rows bank.json", "", true),
     ("locks --coarsen 0 bank.json", "0 IX db\n0 X acct\n", false),
     ("replicas bank.json report.txt", "", true),
 ];
@@ -78,13 +79,27 @@ fn a_read_that_fails_ends_the_command(rt: HostRuntime) -> Result<(), Fail> {
 
 /// A command, its setup, its log and the other report; what it writes; how many bytes are written before its log is
 /// read on, and the faults of a write that fails among those and after them.
-const COMMANDS: [(&str, [&str; 3], &str, usize, [&str; 2]); 5] = [
+const COMMANDS: [(&str, [&str; 3], &str, usize, [&str; 2]); 7] = [
     (
         "run --workers 1 bank.json",
         [BANK, TWO_BATCHES, ""],
         TWO_BATCH_REPORT,
         ONE_BATCH.len(),
         ["fault 36 line 2\n", "fault 36 line 3\n"],
+    ),
+    (
+        "rows bank.json",
+        [BANK, TWO_BATCHES, ""],
+        "acct 1 40\nacct 2 160\nref 1 2\n",
+        0,
+        [NO_LOG, NO_LOG],
+    ),
+    (
+        "rows --alone --table ref bank.json",
+        [BANK, TWO_BATCHES, ""],
+        "ref 1 2\n",
+        0,
+        [NO_LOG, NO_LOG],
     ),
     (
         "check bank.json",

@@ -5,17 +5,17 @@ use Rattle.clap.specs.declared.error.Error.{Error}
 use Rattle.clap.specs.declared.error.kind.ErrorKind.TheVariants.{OutOfMemory}
 use Rattle.clap.proofs.OnLiterals.{clap_on_literals}
 use Rattle.command_line.specs.CommandLine.{AsksFor, IsRefused}
-use Rattle.command_line.specs.Words.{calvin_app, check_app, filter_app, locks_app, replicas_app, run_app}
+use Rattle.command_line.specs.Words.{calvin_app, check_app, filter_app, locks_app, replicas_app, rows_app, run_app}
 use Rattle.command_line.specs.declared.line.LineFault.{LineFault}
 use Rattle.command_line.specs.declared.line.LineFault.TheVariants.{NoMemory}
 use Rattle.command_line.proofs.line.read_line.Goals as goal
 
 is_plain : is_simple calvin_app ≡ true
-unfolding calvin_app run_app filter_app replicas_app locks_app check_app clap_on_literals
+unfolding calvin_app run_app rows_app filter_app replicas_app locks_app check_app clap_on_literals
 is_plain = refl
 
 is_free : is_simple_and_free calvin_app ≡ true
-unfolding calvin_app run_app filter_app replicas_app locks_app check_app clap_on_literals
+unfolding calvin_app run_app rows_app filter_app replicas_app locks_app check_app clap_on_literals
 is_free = refl
 
 only_memory : (kinds : Kinds) (e : Error) (fault : LineFault) → HasKind kinds e → kinds ≡ [] → (kind_of e ≡ OutOfMemory → fault ≡ NoMemory) → IsRefused fault → ⊥

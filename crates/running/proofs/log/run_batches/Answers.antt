@@ -1,4 +1,5 @@
 use Rattle.std.proofs.Common.{◌≡◌, ◌∙◌, ◌+◌, rules, refl, sym, ap, arith}
+use Rattle.std.proofs.lemmas.Result.{IfErr-weaker}
 use Rattle.devices.specs.LineReader.{Position}
 use Rattle.requests.specs.ProcLists.{ProcsParts}
 use Rattle.batch_log.specs.Faults.{is_io}
@@ -11,20 +12,22 @@ use Rattle.running.proofs.Reported.{log_after, room_in_log}
 use Rattle.running.proofs.SoFar.{SoFar-start, SoFar-next}
 use Rattle.running.proofs.Stopped.{SoFar-stopped_in_batch, SoFar-stopped_reading}
 use Rattle.running.proofs.Stopping.{nothing_taken}
-use Rattle.running.proofs.RunEnds.{or_nothing, run_closes, run_faults, run_stops}
+use Rattle.running.proofs.RunEnds.{or_nothing, rows_at_end, run_closes, run_faults, run_stops}
+use Rattle.running.proofs.Runs.{keeps_on, keeps_still}
 use Rattle.running.proofs.log.run_batches.Goals as goal
 
 pub batches-init : goal.batches-init
 batches-init g c = record {
-  idle = c.requires.idle;
+  idle = c.requires.unused.0;
   same = refl;
-  retries = c.requires.retries;
+  setting = keeps_still _;
+  retries = c.requires.unread.3;
   no_fault = c.requires.unread.2;
   moves = rw c.requires.unread.0 (Moves-none _ nothing_taken);
   source_works = refl;
   sink_works = refl;
   digest = search rules;
-  so_far = SoFar-start _ _ _ _ _ _ _ _ (ap (λ (p : Position). p.newlines) c.requires.unread.0) c.requires.unread.1 refl c.requires.unused c.requires.none_carried c.new-transcript.ensures.batch c.new-transcript.ensures.said c.new-transcript.ensures.form;
+  so_far = SoFar-start _ _ _ _ _ _ _ _ (ap (λ (p : Position). p.newlines) c.requires.unread.0) c.requires.unread.1 refl c.requires.unused.1 c.requires.unused.2 c.new-transcript.ensures.batch c.new-transcript.ensures.said c.new-transcript.ensures.form;
 }
 
 pub close-requires-clause-between : goal.close-requires-clause-between
@@ -46,8 +49,27 @@ returns-in-Ok-None-clause-run g c =
     (position_of c.batches.reader) (position_of c.next_batch.new.self) _ _ _ _ _ s (c.close.ensures.closed _ s.ran _ s.reported)
     (rw (pe, c.batches.invariant.retries) at ((rw c.in-Ok-None.field-0-is at c.in-Ok-None.ensures.end) refl)) (rw (pe, c.batches.invariant.retries) at c.in-Ok-None.ensures.taken.0)
     refl refl (rw c.in-Ok-None.field-0-is at c.in-Ok-None.ensures.counted.0) c.batches.invariant.moves c.next_batch.ensures.taken.1 (Moves-trans _ _ _ _ _ _ c.batches.invariant.moves c.next_batch.ensures.taken.1)
-    c.close.ensures.stops ((c.in-Ok-None.ensures.tells c.batches.invariant.no_fault).fails ∙ sym (or_nothing _) ∙ c.batches.invariant.source_works) c.batches.invariant.sink_works c.close.ensures.fails
+    (IfErr-weaker c.close.result _ _ (λ e h. h.0) c.close.ensures.stops) ((c.in-Ok-None.ensures.tells c.batches.invariant.no_fault).fails ∙ sym (or_nothing _) ∙ c.batches.invariant.source_works) c.batches.invariant.sink_works c.close.ensures.fails
     c.last_line-last.ensures
+
+pub returns-in-Ok-None-clause-same : goal.returns-in-Ok-None-clause-same
+returns-in-Ok-None-clause-same g c = (c.next_batch.ensures.same.0 ∙ c.batches.invariant.same, keeps_on _ _ _ c.batches.invariant.setting c.close.ensures.same)
+
+pub returns-in-Ok-None-clause-threads : goal.returns-in-Ok-None-clause-threads
+returns-in-Ok-None-clause-threads g c = IfErr-weaker c.close.result _ _ (λ e h. h.1) c.close.ensures.stops
+
+pub returns-in-Ok-None-clause-rows : goal.returns-in-Ok-None-clause-rows
+returns-in-Ok-None-clause-rows g c =
+    let s = c.batches.invariant.so_far in
+    let pe : c.procs.result.now ≡ c.args.engine.now.core.procs = c.procs.ensures ∙ s.reported.procs_are in
+    rows_at_end c.close.result _ _ _ c.batches.engine.core c.close.new.engine.core _ _ _ _ _ _ s (c.close.ensures.rows _ s.ran _ s.reported)
+    (rw (pe, c.batches.invariant.retries) at ((rw c.in-Ok-None.field-0-is at c.in-Ok-None.ensures.end) refl))
+
+pub returns-in-Err-clause-same : goal.returns-in-Err-clause-same
+returns-in-Err-clause-same g c = (c.next_batch.ensures.same.0 ∙ c.batches.invariant.same, c.batches.invariant.setting)
+
+pub returns-in-Err-run_batch-clause-same : goal.returns-in-Err-run_batch-clause-same
+returns-in-Err-run_batch-clause-same g c = (c.next_batch.ensures.same.0 ∙ c.batches.invariant.same, keeps_on _ _ _ c.batches.invariant.setting c.run_batch.ensures.same)
 
 pub returns-in-Err-clause-run : goal.returns-in-Err-clause-run
 returns-in-Err-clause-run g c =
@@ -67,7 +89,7 @@ run_batch-requires-clause-due g c =
       over = rw (ap (λ (p : ProcsParts). p.tables) c.procs.ensures) at (rw c.in-Ok-Some.field-0-is at c.in-Ok-Some.ensures.batch).1;
       few = (rw c.in-Ok-Some.field-0-is at c.in-Ok-Some.ensures.batch).2;
       idle = c.batches.invariant.idle;
-      room = room_in_log c.args.engine.now.core.retries (calls_read c.batches.reader) (calls_read c.next_batch.new.self) _ (standing_of c.batches.engine.core) _ s.ran c.in-Ok-Some.requests.items s.reported.standing_is c.requires.few s.total_is
+      room = room_in_log c.args.engine.now.core.retries (calls_read c.batches.reader) (calls_read c.next_batch.new.self) _ (standing_of c.batches.engine.core) _ s.ran c.in-Ok-Some.requests.items s.reported.standing_is c.requires.unused.3 s.total_is
           (rw c.in-Ok-Some.field-0-is at c.in-Ok-Some.ensures.counted.0) c.next_batch.ensures.counted.1 most;
       digest_kept = c.batches.invariant.digest;
     }
@@ -79,6 +101,7 @@ batches-preserved g c =
     record {
       idle = c.in-Ok.ensures.reported.idle;
       same = search rules;
+      setting = keeps_on _ _ _ c.batches.invariant.setting c.in-Ok.ensures.same;
       retries = c.next_batch.ensures.same.1 ∙ c.batches.invariant.retries;
       no_fault = search rules;
       moves = Moves-trans _ _ _ _ _ _ c.batches.invariant.moves c.next_batch.ensures.taken.1;

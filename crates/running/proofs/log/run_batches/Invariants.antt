@@ -2,6 +2,7 @@ use Rattle.std.proofs.Common.{◌≡◌, None, false}
 use Rattle.batch_log.specs.Reader.{calls_read, fault_of, newlines_taken, position_of, retries_of, source_name, source_of, unread}
 use Rattle.batch_log.specs.Moves.{Moves}
 use Rattle.engine.specs.Engines.{is_busy}
+use Rattle.engine.specs.Executions.{KeepsSetting}
 use Rattle.running.specs.Batches.{KeepsDigest}
 use Rattle.running.specs.Starts.{start_of}
 use Rattle.running.proofs.SoFar.{SoFar}
@@ -13,6 +14,7 @@ abbrev pub invariant-batches : goal.invariant-batches
 invariant-batches g l = record {
   idle : is_busy l.engine.core ≡ false;
   same : source_name l.reader ≡ source_name l.fn.reader;
+  setting : KeepsSetting l.fn.engine.core l.engine.core;
   retries : retries_of l.reader ≡ l.fn.engine.core.retries;
   no_fault : fault_of l.reader ≡ None;
   moves : Moves (unread g.S.Source.left l.fn.reader) (unread g.S.Source.left l.reader) nothing_taken (position_of l.reader);
