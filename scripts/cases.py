@@ -40,6 +40,11 @@ PIECES = (1, 7, 4096)
 # The commands whose outputs a case stores in files that begin with their names, and the words that each is run with.
 COMMANDS = {
     "filter": ("filter setup.json",),
+    "follow": (
+        "run --follow setup.json",
+        "run --follow --alone setup.json",
+        "run --follow --workers 16 --lanes 1 --coarsen 0 --arena 1 setup.json",
+    ),
     "rows": (
         "rows setup.json",
         "rows --alone setup.json",

@@ -33,6 +33,7 @@ use Rattle.dispatcher.specs.declared.settings.Settings.{Settings}
 use Rattle.running.specs.declared.run_fault.RunFault.{RunFault}
 use Rattle.running.specs.declared.run_fault.RunFault.TheVariants as runs
 use Rattle.calvin.specs.Comparisons.{IsFirstDifference}
+use Rattle.calvin.specs.Feeds.{awaited}
 use Rattle.calvin.specs.FirstBatches.{IsFirstBatchPlanned}
 use Rattle.running.specs.Reports.{report_of, rows_after}
 use Rattle.running.specs.Runs.{Device, IsRunOfLog}
@@ -98,6 +99,37 @@ abbrev pub IsRunCommand : Bool → Holding → Device → Device → Device → 
 IsRunCommand alone holds source spent sink filled status =
     (IsWithoutSetup holds status × (spent ≡ source) × (filled ≡ sink))
     ⊎ IsRunAt alone holds source spent sink filled status
+
+-- ---- the command `run --follow`
+
+-- a log of which more is to come, and whether nothing more had come when it was read
+abbrev pub feed_with : Bool → Device → Device
+feed_with ended source = record { bytes = awaited source.bytes; failed = source.failed || ended }
+
+-- 6 where the feed ended
+abbrev pub feed_status : Bool → Result ℕ RunFault → ℕ
+feed_status true result = 6
+feed_status false result = run_status result
+
+-- The log was run on the setup at a path as one of which more is to come, alone on one thread or on several. Where
+-- nothing more had come, that is a failed read, so what was written are the reports of the batches that a cut ends.
+pub record IsFollowedAt (alone : Bool) (holds : Holding) (source spent sink filled : Device) (status : ℕ) : Type 0 where
+  pub document : SetupDocument
+  pub is_setup : IsSetupAt holds document
+  pub result : Result ℕ RunFault
+  pub ended : Bool
+  pub run : IsRunOfLog (start_in document) (feed_with false source) (feed_with ended spent) sink filled result
+  -- All that had come was read then.
+  pub whole : ended ≡ true → IfSome spent.bytes (λ rest. rest ≡ [])
+  -- Alone on one thread, no thread is refused.
+  pub threadless : alone ≡ true → IsNotOfThread result
+  pub ends : status ≡ feed_status ended result
+
+-- Without a setup nothing is read of the log, and nothing is written.
+abbrev pub IsFollowCommand : Bool → Holding → Device → Device → Device → Device → ℕ → Type 0
+IsFollowCommand alone holds source spent sink filled status =
+    (IsWithoutSetup holds status × (spent ≡ source) × (filled ≡ sink))
+    ⊎ IsFollowedAt alone holds source spent sink filled status
 
 -- ---- the command `filter`
 
@@ -270,10 +302,15 @@ IsLocksCommand holds settings source spent sink filled status =
 
 -- ---- which command
 
--- what holds of the flag `--alone` and the setup's path of `run`
+-- what holds of the flag `--alone` and the setup's path of `run` without `--follow`
 abbrev pub IfRun : Command → (Bool → List ℕ → Type 0) → Type 0
-IfRun (Run alone progress setup) P = P alone (string_bytes setup)
+IfRun (Run alone progress false setup) P = P alone (string_bytes setup)
 IfRun command P = ⊤
+
+-- what holds of the flag `--alone` and the setup's path of `run --follow`
+abbrev pub IfFollow : Command → (Bool → List ℕ → Type 0) → Type 0
+IfFollow (Run alone progress true setup) P = P alone (string_bytes setup)
+IfFollow command P = ⊤
 
 -- what holds of the flag `--alone`, the setup's path and the table's name of `rows`
 abbrev pub IfRows : Command → (Bool → List ℕ → Option (List ℕ) → Type 0) → Type 0
@@ -301,14 +338,15 @@ IfCheck (Check setup) P = P (string_bytes setup)
 IfCheck command P = ⊤
 
 -- rule: command.status
--- What comes of a command line, by its command: `run` writes the report of the log on the setup at its path, `rows` the
--- rows that the log leaves, and `replicas` compares that report with the text at another; `filter` writes the lines of
--- the log that say a call or a cut; `locks` writes the plans of the log's first batch; `check` writes how much the setup
--- has, and reads nothing of
--- the log.
+-- What comes of a command line, by its command: `run` writes the report of the log on the setup at its path, and with
+-- `--follow` that of what a feed had given up to a cut; `rows` writes the rows that the log leaves, and `replicas`
+-- compares that report with the text at another; `filter` writes the lines of the log that say a call or a cut; `locks`
+-- writes the plans of the log's first batch; `check` writes how much the setup has, and reads nothing of the log.
 pub record Does (holds : List ℕ → Option (List ℕ) → Type 0) (line : Line) (source spent sink filled : Device)
     (status : ℕ) : Type 0 where
   pub run : IfRun line.command (λ alone path. IsRunCommand alone (holds path) source spent sink filled status)
+  pub follow : IfFollow line.command
+      (λ alone path. IsFollowCommand alone (holds path) source spent sink filled status)
   pub rows : IfRows line.command
       (λ alone path table. IsRowsCommand table alone (holds path) source spent sink filled status)
   pub filter : IfFilter line.command (λ path. IsFilterCommand (holds path) source spent sink filled status)

@@ -24,8 +24,8 @@ engine_on setup settings = record {
   unfinished = None;
 }
 
--- Procedures and settings are as they were. Where the run ended well no batch is unfinished, and the rows are those that
--- the log leaves.
+-- Procedures and settings are as they were. Where the run ended well no batch is unfinished, and the rows are those
+-- that the log leaves.
 abbrev pub LeavesEngine : DigestForm → Option (List ℕ) → EngineParts → EngineParts → Result ℕ RunFault → Type 0
 LeavesEngine form left old new result =
     KeepsSetting old new × OnOk result (is_busy new ≡ false)

@@ -1,3 +1,4 @@
+pub mod Feeds
 pub mod Comparisons
 pub mod ProgressLines
 pub mod FirstBatches

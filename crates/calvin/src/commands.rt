@@ -7,6 +7,7 @@ ghost use Rattle.calvin.specs.CommandEnds.{Does, IsLocksCommand, IsRunCommand};
 use crate::checking::check;
 use crate::files::Files;
 use crate::filtering::filter;
+use crate::following::follow;
 use crate::inputs::{print, refused, setup_at};
 use crate::listing::rows;
 use crate::locks::plans_of;
@@ -92,10 +93,10 @@ fn options_of(line: &Line, alone: bool, progress: bool, err_is_terminal: bool) -
 // rule: command.status
 /// Does what a command line asks for, and gives the exit status: 0; 1 where the setup, the log or a line that `filter`
 /// looks at is refused, or the table that `rows` is asked for isn't there; 3 where allocation failed; 4 where a device
-/// failed, a file can't be read, or a thread was refused, as none is with `--alone` nor to `filter` and `locks`; 5 where
-/// reports differ. A fault goes to `err` in a line. After a fault of the setup or the log `rows`, `locks` and `replicas`
-/// write nothing to `out`. What is asked for of a run's progress goes to `err`, line over line where that is a terminal,
-/// and changes nothing else.
+/// failed, a file can't be read, or a thread was refused, as none is with `--alone` nor to `filter` and `locks`; 5
+/// where reports differ; 6 where a feed that was followed has ended. A fault goes to `err` in a line. After a fault of
+/// the setup or the log `rows`, `locks` and `replicas` write nothing to `out`. What is asked for of a run's progress
+/// goes to `err`, line over line where that is a terminal, and changes nothing else.
 pub fn command<R: Threads + Wait + Sync, F: Files, S: Source, K: Sink, E: Sink + Send>(
     rt: &R,
     alloc: Global,
@@ -116,10 +117,15 @@ pub fn command<R: Threads + Wait + Sync, F: Files, S: Source, K: Sink, E: Sink +
         Command::Run {
             alone,
             progress,
+            follow: is_followed,
             setup,
         } => {
             let options = options_of(line, *alone, *progress, err_is_terminal);
-            run(rt, alloc, &options, setup, files, source, out, err)
+            if *is_followed {
+                follow(rt, alloc, &options, setup, files, source, out, err)
+            } else {
+                run(rt, alloc, &options, setup, files, source, out, err)
+            }
         }
         Command::Rows {
             alone,

@@ -21,6 +21,8 @@ pub(crate) const MEMORY: u8 = 3;
 pub(crate) const DEVICE: u8 = 4;
 /// The reports differ.
 pub(crate) const DIFFERENT: u8 = 5;
+/// A feed that was followed has ended.
+pub(crate) const FEED_ENDED: u8 = 6;
 
 /// The status of a setup that was not read.
 pub(crate) fn setup_status(fault: &SetupFault) -> u8

@@ -128,7 +128,7 @@ none_read f id none = sym (first_value-rows f id) ∙ sym none
 
 -- where no setup was read, the rows give no command
 pub no_setup : (f : Found) (word : Text) (command : Command) → None ≡ first_value f (codes "setup") → IsCommand word (rows_of f) command → ⊥
-no_setup f word (Run alone progress setup) none asks = no_text f (codes "setup") (string_bytes setup) none asks.setup_is
+no_setup f word (Run alone progress follow setup) none asks = no_text f (codes "setup") (string_bytes setup) none asks.setup_is
 no_setup f word (Rows alone progress setup table) none asks = no_text f (codes "setup") (string_bytes setup) none asks.setup_is
 no_setup f word (Filter setup) none asks = no_text f (codes "setup") (string_bytes setup) none asks.setup_is
 no_setup f word (Locks setup) none asks = no_text f (codes "setup") (string_bytes setup) none asks.setup_is
@@ -152,7 +152,7 @@ check_for_replicas e = cc
 
 -- where no report was read, the rows give no comparison
 pub no_report : (f : Found) (command : Command) → None ≡ first_value f (codes "report") → IsCommand (codes "replicas") (rows_of f) command → ⊥
-no_report f (Run alone progress setup) none asks = run_for_replicas asks.name
+no_report f (Run alone progress follow setup) none asks = run_for_replicas asks.name
 no_report f (Rows alone progress setup table) none asks = rows_for_replicas asks.name
 no_report f (Filter setup) none asks = filter_for_replicas asks.name
 no_report f (Locks setup) none asks = locks_for_replicas asks.name
@@ -161,7 +161,7 @@ no_report f (Replicas progress setup report) none asks = no_text f (codes "repor
 
 -- a word that is no command's name
 pub no_command : (rows : List Row) (word : Text) (command : Command) → (word ≡ codes "run" → ⊥) → (word ≡ codes "rows" → ⊥) → (word ≡ codes "filter" → ⊥) → (word ≡ codes "replicas" → ⊥) → (word ≡ codes "locks" → ⊥) → (word ≡ codes "check" → ⊥) → IsCommand word rows command → ⊥
-no_command rows word (Run alone progress setup) run listing filter replicas locks check asks = run asks.name
+no_command rows word (Run alone progress follow setup) run listing filter replicas locks check asks = run asks.name
 no_command rows word (Rows alone progress setup table) run listing filter replicas locks check asks = listing asks.name
 no_command rows word (Filter setup) run listing filter replicas locks check asks = filter asks.name
 no_command rows word (Replicas progress setup report) run listing filter replicas locks check asks = replicas asks.name

@@ -32,10 +32,11 @@ pub record AreSettings (rows : List Row) (settings : Settings) : Type 0 where
   pub arena : IsNumber rows (codes "arena") settings.arena
 
 -- the command, by its name and its arguments
-pub record IsRun (word : Text) (rows : List Row) (alone progress : Bool) (setup : Text) : Type 0 where
+pub record IsRun (word : Text) (rows : List Row) (alone progress follow : Bool) (setup : Text) : Type 0 where
   pub name : word ≡ codes "run"
   pub alone_is : IsFlag rows (codes "alone") alone
   pub progress_is : IsFlag rows (codes "progress") progress
+  pub follow_is : IsFlag rows (codes "follow") follow
   pub setup_is : first_of (codes "setup") rows ≡ Some setup
 
 -- `rows [--alone] [--progress] [--table NAME] SETUP`
@@ -71,7 +72,7 @@ pub record IsReplicas (word : Text) (rows : List Row) (progress : Bool) (setup r
 
 -- the words ask for this command
 abbrev pub IsCommand : Text → List Row → Command → Type 0
-IsCommand name rows (Run alone progress setup) = IsRun name rows alone progress (string_bytes setup)
+IsCommand name rows (Run alone progress follow setup) = IsRun name rows alone progress follow (string_bytes setup)
 IsCommand name rows (Rows alone progress setup table) =
     IsRows name rows alone progress (string_bytes setup) (option_map string_bytes table)
 IsCommand name rows (Filter setup) = IsFilter name rows (string_bytes setup)

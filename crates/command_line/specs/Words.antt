@@ -37,12 +37,13 @@ with_settings app =
     (number_rule (codes "coarsen") 0 65535 (codes "64")))
     (number_rule (codes "arena") 1 1048576 (codes "65536"))
 
--- `run [--alone] [--progress] SETUP`, with settings
+-- `run [--alone] [--progress] [--follow] SETUP`, with settings
 unfoldable pub run_app : App
-run_app = with_settings (with_rule (with_rule (with_rule (new_app (codes "run"))
+run_app = with_settings (with_rule (with_rule (with_rule (with_rule (new_app (codes "run"))
     (word_rule (codes "setup")))
     (flag_rule (codes "alone")))
     (flag_rule (codes "progress")))
+    (flag_rule (codes "follow")))
 
 -- `rows [--alone] [--progress] [--table NAME] SETUP`, with settings
 unfoldable pub rows_app : App

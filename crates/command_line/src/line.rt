@@ -18,10 +18,11 @@ use std::alloc::{AllocError, Global};
 #[derive(Debug, Drop, PartialEq, Eq)]
 pub enum Command {
     /// Run the log on the setup at this path, with `alone` on one thread. With `progress` standard error tells how far
-    /// it is.
+    /// it is. With `follow` the log is a feed, which has no end.
     Run {
         alone: bool,
         progress: bool,
+        follow: bool,
         setup: String,
     },
     /// Run the log on the setup at this path as `Run` does, and print the rows that it leaves, of all tables or of the
@@ -117,9 +118,11 @@ fn run_of(alloc: Global, matches: &ArgMatches<'_>) -> Result<Option<Command>, Al
     let setup = String::from_str(alloc, setup)?;
     let alone = matches.get_flag("alone");
     let progress = matches.get_flag("progress");
+    let follow = matches.get_flag("follow");
     Ok(Some(Command::Run {
         alone,
         progress,
+        follow,
         setup,
     }))
 }

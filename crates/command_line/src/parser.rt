@@ -27,7 +27,8 @@ Exit status:
   2  the command line was refused, or help or the version was asked for
   3  no memory
   4  reading or writing failed, or a thread was refused
-  5  the reports differ";
+  5  the reports differ
+  6  a feed that was followed has ended";
 
 /// The version of the program. Setups, logs and reports have forms of version 1, catalogues of versions 1 and 2.
 const VERSION: &str = "1.0.0";
@@ -37,15 +38,18 @@ const RUN_EXAMPLE: &str = "Examples:
   calvin run --workers 8 --coarsen 0 bank.json < calls.log
   calvin run --alone bank.json < calls.log
   calvin run --progress bank.json < calls.log
+  tail -f calls.log | calvin run --follow bank.json
 
-The options change the speed of a run and what standard error tells of it, and never its report.
+The options but `--follow` change the speed of a run and what standard error tells of it, and never its report.
+With `--follow`, where nothing more comes, calls after the last cut are not run and no end line is written.
 
 Exit status:
   0  the report is whole
   1  the setup or the log was refused; standard error has the fault
   2  the command line was refused, or help was asked for
   3  no memory
-  4  reading or writing failed, or a thread was refused";
+  4  reading or writing failed, or a thread was refused
+  6  the feed that was followed has ended; standard error says at which line";
 
 const ROWS_ABOUT: &str = "Runs the log on standard input and prints the rows that it leaves";
 
@@ -130,6 +134,8 @@ const REPORT_HELP: &str = "The file of the other replica's report";
 const SETUP_HELP: &str = "The file of tables, procedures and rows, in JSON";
 
 const PROGRESS_HELP: &str = "Tell on standard error how many calls are settled, and how they ended";
+
+const FOLLOW_HELP: &str = "Take the log for a feed without an end: run nothing after its last cut";
 
 const TABLE_HELP: &str = "Print the rows of this table alone";
 
@@ -266,12 +272,14 @@ fn run_command<'a>(alloc: Global) -> Result<Command<'a>, AllocError>
     let setup = required_word(alloc, "setup", "SETUP", SETUP_HELP);
     let alone = alone_option(alloc);
     let progress = progress_option(alloc);
+    let follow = flag_option(alloc, "follow", FOLLOW_HELP);
     let command = Command::new(alloc, "run")
         .about(RUN_ABOUT)
         .after_help(RUN_EXAMPLE)
         .arg(setup)?
         .arg(alone)?
-        .arg(progress)?;
+        .arg(progress)?
+        .arg(follow)?;
     with_settings(alloc, command)
 }
 

@@ -15,5 +15,6 @@ returns-clause-some c =
       name = refl;
       alone_is = flag_read found (codes "alone") _ c.get_flag-alone.ensures.value c.get_flag-alone.ensures.other;
       progress_is = flag_read found (codes "progress") _ c.get_flag-progress.ensures.value c.get_flag-progress.ensures.other;
+      follow_is = flag_read found (codes "follow") _ c.get_flag-follow.ensures.value c.get_flag-follow.ensures.other;
       setup_is = text_read found (codes "setup") _ c.in-Some.setup.now c.in-Some.ensures c.in_ok-setup.ensures.ok;
     }
