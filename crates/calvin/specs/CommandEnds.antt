@@ -125,6 +125,7 @@ pub record IsFollowedAt (alone : Bool) (holds : Holding) (source spent sink fill
   pub threadless : alone ≡ true → IsNotOfThread result
   pub ends : status ≡ feed_status ended result
 
+-- rule: command.follow
 -- Without a setup nothing is read of the log, and nothing is written.
 abbrev pub IsFollowCommand : Bool → Holding → Device → Device → Device → Device → ℕ → Type 0
 IsFollowCommand alone holds source spent sink filled status =
@@ -250,6 +251,7 @@ abbrev pub IsWithoutTable : Option (List ℕ) → SetupDocument → ℕ → Type
 IsWithoutTable table document status =
     (status ≡ 1) × (name : List ℕ) × (table ≡ Some name) × (table_named document.setup.catalogue name ≡ None)
 
+-- rule: command.rows
 -- Without a setup, and without the table that is asked for, nothing is read of the log, and nothing is written.
 abbrev pub IsRowsCommand : Option (List ℕ) → Bool → Holding → Device → Device → Device → Device → ℕ → Type 0
 IsRowsCommand table alone holds source spent sink filled status =

@@ -45,6 +45,7 @@ fn end<S: Source, E: Sink>(
     }
 }
 
+// rule: command.follow
 /// Prints the report of the log on the setup at a path up to its last cut. Where nothing more comes, the run ends.
 pub(crate) fn follow<R: Threads + Wait + Sync, F: Files, S: Source, K: Sink, E: Sink + Send>(
     rt: &R,

@@ -139,6 +139,7 @@ fn list<R: Threads + Wait + Sync, S: Source, K: Sink, E: Sink + Send>(
     }
 }
 
+// rule: command.rows
 /// Prints the rows that the log leaves on the setup at a path, of all tables or of the one with a name. Where there is
 /// no such table nothing is run.
 pub(crate) fn rows<R: Threads + Wait + Sync, F: Files, S: Source, K: Sink, E: Sink + Send>(
