@@ -113,14 +113,16 @@ feed_status false result = run_status result
 
 -- The log was run on the setup at a path as one of which more is to come, alone on one thread or on several. Where
 -- nothing more had come, that is a failed read, so what was written are the reports of the batches that a cut ends.
-pub record IsFollowedAt (alone : Bool) (holds : Holding) (source spent sink filled : Device) (status : ℕ) : Type 0 where
+pub record IsFollowedAt (alone : Bool) (holds : Holding) (source sink filled : Device) (status : ℕ) : Type 0 where
   pub document : SetupDocument
   pub is_setup : IsSetupAt holds document
   pub result : Result ℕ RunFault
+  -- whether nothing more had come, and what was not read
   pub ended : Bool
-  pub run : IsRunOfLog (start_in document) (feed_with false source) (feed_with ended spent) sink filled result
+  pub rest : Device
+  pub run : IsRunOfLog (start_in document) (feed_with false source) (feed_with ended rest) sink filled result
   -- All that had come was read then.
-  pub whole : ended ≡ true → IfSome spent.bytes (λ rest. rest ≡ [])
+  pub whole : ended ≡ true → IfSome rest.bytes (λ bytes. bytes ≡ [])
   -- Alone on one thread, no thread is refused.
   pub threadless : alone ≡ true → IsNotOfThread result
   pub ends : status ≡ feed_status ended result
@@ -130,7 +132,7 @@ pub record IsFollowedAt (alone : Bool) (holds : Holding) (source spent sink fill
 abbrev pub IsFollowCommand : Bool → Holding → Device → Device → Device → Device → ℕ → Type 0
 IsFollowCommand alone holds source spent sink filled status =
     (IsWithoutSetup holds status × (spent ≡ source) × (filled ≡ sink))
-    ⊎ IsFollowedAt alone holds source spent sink filled status
+    ⊎ IsFollowedAt alone holds source sink filled status
 
 -- ---- the command `filter`
 

@@ -1,7 +1,6 @@
 -- Claimed: what contracts promise to a reader rests on these words.
 -- A log that is a feed: more of it is to come at any time, and where nothing comes a read fails.
 use Rattle.std.specs.Prelude.{ℕ, List, [], ◌∷◌, Option, Bool}
-use Rattle.std.specs.Borrow.{GName}
 use Rattle.std.specs.Io.KnownBytes.{append_known}
 use Rattle.devices.specs.Lines.{newline}
 use Rattle.devices.specs.declared.device.Source.{Ghosts}
@@ -10,10 +9,6 @@ use Rattle.calvin.specs.declared.feed.Feed.{Feed}
 -- the source as it is now
 abbrev pub source_of : {S : Type 0} {g : Ghosts S} → Feed S g → S
 source_of feed = feed.source.now
-
--- the ghost name of the reference to the source
-abbrev pub source_name : {S : Type 0} {g : Ghosts S} → Feed S g → GName
-source_name feed = feed.source.ghost_name
 
 -- whether a read has found nothing more
 abbrev pub has_ended : {S : Type 0} {g : Ghosts S} → Feed S g → Bool

@@ -16,11 +16,10 @@ pub(crate) struct Feed<'a, S: Source> {
 }
 
 impl<'a, S: Source> Feed<'a, S> {
-    ghost use Rattle.calvin.specs.Feeds.{has_ended, source_name, source_of};
+    ghost use Rattle.calvin.specs.Feeds.{has_ended, source_of};
 
     /// A feed of which nothing was read.
     pub(crate) fn new(source: &'a mut S) -> Feed<'a, S>
-        ensures same { source_name result ≡ source.entry.ghost_name }
         ensures source { source_of result ≡ source.old }
         ensures more { has_ended result ≡ false }
     {
@@ -29,14 +28,6 @@ impl<'a, S: Source> Feed<'a, S> {
             has_ended: false,
             is_in_line: false,
         }
-    }
-
-    /// Gives the source back.
-    pub(crate) fn into_source(self) -> &'a mut S
-        ensures same { result.ghost_name ≡ source_name self.entry }
-        ensures source { result.now ≡ source_of self.entry }
-    {
-        self.source
     }
 
     /// Whether nothing more had come when it was read last.

@@ -69,7 +69,5 @@ pub(crate) fn follow<R: Threads + Wait + Sync, F: Files, S: Source, K: Sink, E: 
     };
     let mut feed = Feed::new(source);
     let ended = run_setup(rt, alloc, options, document, &mut feed, out, err);
-    let status = end(alloc, &feed, ended, err);
-    let _source = feed.into_source();
-    status
+    end(alloc, &feed, ended, err)
 }
