@@ -10,6 +10,8 @@
 - A file or folder that a code span names is there: from the top, the page's folder, `crates/` or a crate's folder, or
   anywhere by its name alone. So is each file that a command in a code block begins with. What a build leaves in `out/`
   or `target/` is passed over, and so is a name with a placeholder, as NAME, N or `*`.
+- A name of code that a code span has, as `crate::item` or `Type::method`, is there: each of its parts is a word of that
+  crate's sources, or of any source.
 
 Without `--check` it also prints how many words each page with a limit has. A last line says what came of it. The status
 is 1 where something is wrong.
@@ -53,6 +55,7 @@ COMMENTS = {
     ".c": r"//.*|/\*[\s\S]*?\*/",
     ".h": r"//.*|/\*[\s\S]*?\*/",
 }
+SOURCE_ENDS = (".rt", ".antt", ".rs", ".py", ".c", ".h")
 MARKS = re.compile(r"^[ \t]*(?://[/!]?|--|#|/?\*+)", re.MULTILINE)
 
 MADE = re.compile(r"<!-- (figures|definitions|crates) -->.*?<!-- end of \1 -->", re.DOTALL)
@@ -64,6 +67,8 @@ ANCHOR = re.compile(r"<a id=\"([^\"]+)\"")
 ELSEWHERE = re.compile(r"[a-z][a-z+.-]*:")
 KINDS = "md|py|sh|rt|rs|antt|c|h|calvin|json|log|report|svg|txt|toml|bash|1|edit"
 FILE = re.compile(rf"(?:\./)?[\w.-]+(?:/[\w.-]+)*(?:/|\.(?:{KINDS}))")
+CODE = re.compile(r"([A-Za-z_]\w*)((?:::[A-Za-z_]\w*)+)")
+WORD = re.compile(r"[A-Za-z_]\w*")
 PLACEHOLDER = re.compile(r"(?<![A-Za-z])(?:NAME|N|X|SET|FOLDER|PREFIX|PROGRAM|VERSION)(?![A-Za-z])|\.\.|[*<>{}$]")
 PASSED_OVER = {"out", "target", ".git", "__pycache__"}
 
@@ -108,7 +113,7 @@ class Repository:
     """The files below a folder, and what its pages say of them."""
 
     def __init__(self, top):
-        self.top = Path(top)
+        self.top, self.words = Path(top), {}
 
     @cached_property
     def files(self):
@@ -191,6 +196,22 @@ class Repository:
                 if FILE.fullmatch(name) and not PLACEHOLDER.search(name) and not self.is_there(page, name):
                     yield f"{page}:{line_of(text, place)}: `{name}` is not there"
 
+    def words_of(self, start):
+        """The words of the sources whose paths begin so."""
+        if start not in self.words:
+            files = [it for it in self.files if it.startswith(start) and it.endswith(SOURCE_ENDS)]
+            self.words[start] = {word for it in files for word in WORD.findall((self.top / it).read_text())}
+        return self.words[start]
+
+    def names_that_are_not_there(self, page, text):
+        for it in SPAN.finditer(without(FENCE, text)):
+            for first, rest in CODE.findall(it[2]):
+                is_crate = f"crates/{first}" in self.files
+                words = self.words_of(f"crates/{first}/" if is_crate else "")
+                wrong = [part for part in rest.split("::")[1:] if part not in words]
+                if wrong and (is_crate or first in words):
+                    yield f"{page}:{line_of(text, it.start())}: `{first}{rest}`: no source has the word `{wrong[0]}`"
+
     def findings(self):
         """What is wrong, page by page."""
         for page, text in self.pages.items():
@@ -198,6 +219,7 @@ class Repository:
             yield from self.listed_words(page, without(LINK, without(SPAN, without(FENCE, text))))
             yield from self.dead_links(page, text)
             yield from self.files_that_are_not_there(page, text)
+            yield from self.names_that_are_not_there(page, text)
         for path, text in self.sources.items():
             yield from self.listed_words(path, text)
         for page in sorted(LIMITS.keys() - self.pages.keys()):
@@ -220,7 +242,7 @@ def main(*words):
     if found:
         print(f"{len(found)} findings in {len(files)} files, of {looked_at}: each line above names one")
     else:
-        print(f"{looked_at} are in order: no page is too long, no link and no file name is dead")
+        print(f"{looked_at} are in order: no page is too long, and no link and no name is dead")
     return 1 if found else 0
 
 

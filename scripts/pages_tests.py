@@ -138,6 +138,23 @@ class Commands(unittest.TestCase):
             self.assertEqual(pages.main("--other"), 2)
 
 
+class NamesOfCode(unittest.TestCase):
+    SOURCES = {"crates/one/src/lib.rt": "pub struct Engine; impl Engine { fn execute() {} }"}
+
+    def found(self, text):
+        return findings({**self.SOURCES, "a.md": text})
+
+    def test_names_of_code_that_are_there_are_not_told(self):
+        self.assertEqual(self.found("`one::Engine::execute`, `Engine::execute`, `std::thread`"), [])
+
+    def test_a_name_that_is_in_no_source_is_told(self):
+        self.assertEqual(self.found("`one::resume`"), ["a.md:1: `one::resume`: no source has the word `resume`"])
+        self.assertEqual(len(self.found("`Engine::resume`")), 1)
+
+    def test_names_in_blocks_are_passed_over(self):
+        self.assertEqual(self.found("```\none::resume\n```"), [])
+
+
 if __name__ == "__main__":
     result = unittest.main(exit=False, verbosity=0).result
     failed = len(result.failures) + len(result.errors)
