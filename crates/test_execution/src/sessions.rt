@@ -5,6 +5,7 @@ use engine::Settings;
 use session::{CallFault, Session};
 use setup::{DigestForm, SetupDocument};
 use std::alloc::Global;
+use std::process::Abort;
 use std::test::Fail;
 use test_bank::{Bodies, bank};
 
