@@ -46,6 +46,9 @@ def broken(tables):
 
 def main():
     tables = read(sys.stdin)
+    if not tables["district"]:
+        print("standard input has no row of a district: is it what `calvin rows` prints?")
+        return 1
     found = sorted(broken(tables))
     for condition, place in found:
         print(f"condition {condition} is broken at {place}")
