@@ -13,7 +13,7 @@ from collections import Counter, defaultdict
 def read(lines):
     tables = defaultdict(dict)
     for line in lines:
-        table, key, *values = line.split()
+        table, key, *values = line.split() or sys.exit("standard input has a line that is no row line")
         tables[table][int(key)] = values
     return tables
 
