@@ -2,7 +2,7 @@
 _calvin() {
     local word=${COMP_WORDS[COMP_CWORD]} options=
     case ${COMP_WORDS[1]-} in
-        run) options='--alone --progress --workers --lanes --coarsen --arena -h --help' ;;
+        run) options='--alone --progress --follow --workers --lanes --coarsen --arena -h --help' ;;
         rows) options='--alone --progress --table --workers --lanes --coarsen --arena -h --help' ;;
         filter) options='--workers --lanes --coarsen --arena -h --help' ;;
         replicas) options='--progress --workers --lanes --coarsen --arena -h --help' ;;
