@@ -22,6 +22,7 @@ import tempfile
 import unittest
 import xml.etree.ElementTree as ElementTree
 from pathlib import Path
+from unittest.mock import patch
 
 HERE = Path(__file__).resolve().parent
 TOP = HERE.parent
@@ -237,7 +238,10 @@ def answer_of(workload):
     path = TOP / "workloads" / workload / "model.py"
     spec = importlib.util.spec_from_file_location(f"{workload}_model", path)
     module = importlib.util.module_from_spec(spec)
-    spec.loader.exec_module(module)
+    # (scripts/ has a module of that name, too)
+    with patch.dict(sys.modules):
+        sys.modules.pop("loads", None)
+        spec.loader.exec_module(module)
     return module.answer
 
 

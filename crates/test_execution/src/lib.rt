@@ -12,6 +12,4 @@ mod plain_comparison;
 #[cfg(test)]
 mod pools;
 #[cfg(test)]
-mod sessions;
-#[cfg(test)]
 mod splits;
