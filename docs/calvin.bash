@@ -2,12 +2,12 @@
 _calvin() {
     local word=${COMP_WORDS[COMP_CWORD]} options=
     case ${COMP_WORDS[1]-} in
-        run) options='--alone --progress --follow --workers --lanes --coarsen --arena -h --help' ;;
-        rows) options='--alone --progress --table --workers --lanes --coarsen --arena -h --help' ;;
+        run) options='--rows --alone --progress --follow --workers --lanes --coarsen --arena -h --help' ;;
+        rows) options='--rows --alone --progress --follow --table --document --workers --lanes --coarsen --arena -h --help' ;;
         filter) options='--workers --lanes --coarsen --arena -h --help' ;;
-        replicas) options='--progress --workers --lanes --coarsen --arena -h --help' ;;
-        locks) options='--workers --lanes --coarsen --arena -h --help' ;;
-        check) options='--workers --lanes --coarsen --arena -h --help' ;;
+        replicas) options='--rows --progress --workers --lanes --coarsen --arena -h --help' ;;
+        locks) options='--rows --workers --lanes --coarsen --arena -h --help' ;;
+        check) options='--rows --workers --lanes --coarsen --arena -h --help' ;;
     esac
     if ((COMP_CWORD == 1)); then
         mapfile -t COMPREPLY < <(compgen -W 'run rows filter replicas locks check help -h --help -V --version' -- "$word")

@@ -8,6 +8,7 @@ cases/README.md says what a case is. A case that names no words of its own is ru
 and with the greatest of all settings, with `--alone`, and with `--workers 2` where each read and write moves one byte.
 Each run of a log is made a second time, on the same setup with a loop of one turn before each body that has none: a
 call that is brief, and run in place by the scheduler's thread, is handed over to workers then. The same must come out.
+The first run of each case is also made on the setup without its rows, with `--rows` and a file that has them.
 Runs with `--alone` must start no thread, and those whose calls are handed over some, where two calls of a batch commit.
 On a log that stays open after its first batch `locks` must end: it takes no more of it.
 
@@ -15,6 +16,7 @@ With --sessions each log that is run in these ways is fed in pieces of 1, 7 and 
 
 It ends with how many cases agree, and with status 1 where one doesn't or none was run.
 """
+import json
 import os
 import re
 import subprocess
@@ -37,8 +39,14 @@ SETTINGS = (
     ("run --workers 2 setup.json", 1),
 )
 PIECES = (1, 7, 4096)
+ROWS = "rows-in-a-file.json"
 # The commands whose outputs a case stores in files that begin with their names, and the words that each is run with.
 COMMANDS = {
+    "document": (
+        "rows --document setup.json",
+        "rows --document --alone setup.json",
+        "rows --document --workers 16 --lanes 1 --coarsen 0 --arena 1 setup.json",
+    ),
     "filter": ("filter setup.json",),
     "follow": (
         "run --follow setup.json",
@@ -68,6 +76,7 @@ class Run:
     most: int = None
     ends_so: bool = False
     setup: bytes = None
+    rows: bytes = None
 
     @property
     def runs_a_log(self):
@@ -184,12 +193,29 @@ def left_by(program, case, run, folder):
         if path.name != "setup.json" and not (folder / path.name).exists():
             (folder / path.name).symlink_to(path)
     (folder / "setup.json").write_bytes(run.setup)
+    if run.rows is not None:
+        (folder / ROWS).write_bytes(run.rows)
     return program.run(run.words, folder, run.log, run.most)
 
 
 def handed_over(case, run):
     """The same run on the second setup of its case."""
     return Run(**{**vars(run), "setup": with_loops(case.bytes_of("setup.json"))})
+
+
+def with_moved_rows(case, run):
+    """The same run, if its setup has rows, on the setup without them and with a file that has them."""
+    takes = run.words[:1] in (["check"], ["locks"], ["replicas"], ["rows"], ["run"])
+    takes = takes and "setup.json" in run.words and "--rows" not in run.words
+    try:
+        document = json.loads(case.bytes_of("setup.json")) if takes and run.setup is None and run.status != 2 else None
+    except ValueError:
+        return []
+    if not isinstance(document, list) or len(document) < 5:
+        return []
+    rows, document[4] = document[4], None
+    texts = {"setup": json.dumps(document).encode(), "rows": json.dumps(rows).encode()}
+    return [Run(**{**vars(run), "words": [*run.words, "--rows", ROWS], **texts})]
 
 
 def is_at_work(run, left, is_handed):
@@ -217,7 +243,9 @@ def tried(program, folder):
     with tempfile.TemporaryDirectory() as room:
         wrong = [what for run in runs for what in wrong_in(program, case, run, Path(room))]
         wrong += [what for run in again for what in wrong_in(program, case, run, Path(room), is_handed=True)]
-    return len(runs), len(again), wrong
+        moved = [way for run in runs[:1] for way in with_moved_rows(case, run)]
+        wrong += [what for run in moved for what in wrong_in(program, case, run, Path(room))]
+    return len(runs) + len(moved), len(again), wrong
 
 
 def fed(program, folder):

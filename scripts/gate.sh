@@ -5,18 +5,18 @@
 #   with what the documents say, `scripts/definitions.py --check` with its tests, which compares the list of definitions with the
 #   comments in `specs/`, `scripts/pages.py --check` with its tests, which looks at the documents' lengths, words, links and names
 #   of files, `scripts/figures.py --check` with its tests, which compares the figures with their texts, `scripts/rules.py --check`
-#   with its tests, which compares the index of rules with what names them, `scripts/unsafe.py`, which refuses words that let a
-#   value go without its end, `scripts/build_tests.py`, which tries the script of the first build, and the tests of `./calvin try`
-#   and `scripts/explain.sh`,
-# - `scripts/cases.py`, which runs the stored cases, and `scripts/hostile_documents.py`, which runs 1,000 setups and logs made at
-#   random, each on the program as either compiler makes it,
+#   with its tests, which compares the index of rules with what names them, `scripts/unsafe.py` with its tests, which refuses
+#   words that let a value go without its end, `scripts/build_tests.py`, which tries the script of the first build, and the
+#   tests of `./calvin try` and `scripts/explain.sh`,
+# - `scripts/cases.py`, which runs the stored cases, `scripts/moved_rows.py`, which goes on from their rows at each cut, and
+#   `scripts/hostile_documents.py`, which runs 1,000 setups and logs made at random, each on the program as either compiler makes it,
 # - `tools/notation/tests.py`, which tries the notation of setups, `workloads/cases.py --check`, which compares the stored cases of
 #   the workloads with what their models say, and `bench/tests.py`, which tries the benchmarks that are built,
 # - `scripts/refuse_memory.sh`, which refuses each 40th allocation;
 #
 # and then `scripts/edits.py together`, which tries the edits that must be refused, many in one check. It says before its last line how much of a
 # processor's time it took, and what each crate took of it. The last line counts what `rt ci` and the edits passed, and each other
-# run of a script as one more.
+# run of a script as one more; the lines before it name the scripts that failed and the edits that were not refused.
 #
 # One check runs on each processor; each takes less than 5 GB of memory. The time of the whole is exact. The shares of the crates,
 # for their own proof, for their tests and for their edits, are read off the checks every two seconds, so that each lacks the
@@ -49,11 +49,12 @@ while sleep 2; do
 done > "$notes" &
 sampler=$!
 
-# Runs a script, and counts it.
+# Runs a script, and counts it. One that fails is named at the end, too.
 counted() {
     if "$@"; then
         echo '1 passed, 0 failed'
     else
+        echo "gate: $* failed"
         echo '0 passed, 1 failed'
         return 1
     fi
@@ -76,6 +77,7 @@ gate() {
     counted scripts/rules.py --check || status=1
     counted scripts/rules_tests.py || status=1
     counted scripts/unsafe.py || status=1
+    counted scripts/unsafe_tests.py || status=1
     counted scripts/build_tests.py || status=1
     counted scripts/calvin_tests.sh || status=1
     counted scripts/explain_tests.sh || status=1
@@ -88,6 +90,7 @@ gate() {
             continue
         fi
         counted scripts/cases.py "$program" || status=1
+        counted scripts/moved_rows.py "$program" || status=1
         counted scripts/hostile_documents.py 1000 1 "$program" || status=1
     done
     EVERY=40 counted scripts/refuse_memory.sh --left || status=1
@@ -121,6 +124,8 @@ awk -v minutes="$((SECONDS / 60))" -v taken="$(awk '{ print ($1 + $2) / 60 }' "$
     }' "$notes"
 last=$(awk '/^[0-9]+ (passed, [0-9]+ failed|edits refused, [0-9]+ not)$/ { passed += $1; failed += $(NF - 1) }
     END { printf "%d passed, %d failed\n", passed, failed }' "$output")
+
+grep -E '^gate: .* failed$|: NOT REFUSED$|: cannot be made$' -- "$output"
 
 # scripts/release.sh packs a commit on which the gate has passed.
 if ((status == 0)) && [[ -z $(git status --porcelain) ]]; then

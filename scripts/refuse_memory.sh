@@ -2,6 +2,7 @@
 # Refuses each allocation of each step of crates/test_memory_refusals in turn, and counts what the steps answer:
 #
 #     scripts/refuse_memory.sh [--built | --left] [STEP ..]
+#     scripts/refuse_memory.sh --library
 #
 # The steps are the words in crates/test_memory_refusals/args; without any named here, all of them. For each step it prints how many
 # refusals were met, one a run: how many of these runs answered so, how many were right all the same, and how many were wrong.
@@ -19,7 +20,11 @@
 # tried so alone; and of the steps on several batches each thread is refused in turn, too. With --left it is the program that an
 # earlier run of the toolchain left built.
 #
-# Without either, the refusals are those of the toolchain's `try`, which also looks for bad accesses. A run takes a second or so,
+# With --library it is the static library that `rt lib` in crates/calvin_c left: `scripts/refuse_memory.c` runs a log through it
+# once for each of its allocations, which fails, and the last lines say in how many runs one failed in each function of the
+# header.
+#
+# Without any of them, the refusals are those of the toolchain's `try`, which also looks for bad accesses. A run takes a second or so,
 # and the steps have some thousands of allocations.
 set -euo pipefail
 cd -- "$(dirname -- "$0")/../crates/test_memory_refusals"
@@ -33,6 +38,14 @@ every=${EVERY:-1}
 folder=$(mktemp -d)
 trap 'rm -rf -- "$folder"' EXIT
 : > "$folder/said"
+
+if [ "${1:-}" = --library ]; then
+    cd ../..
+    cc -std=c99 -O2 -Wall -Wextra -Werror -Iinclude -Wl,--wrap=malloc,--wrap=realloc,--wrap=free scripts/refuse_memory.c \
+        crates/calvin_c/out/libcalvin_c.a "$(dirname -- "$(rt doc)")/c/liblibc_c.a" -o "$folder/refuse_memory"
+    "$folder/refuse_memory" examples/inventory.{json,log,report} item
+    exit 0
+fi
 
 built=false
 left=false

@@ -3,13 +3,15 @@
 #
 #     scripts/static_library.sh [PROGRAM]      PROGRAM is crates/cli/out/cli where none is named
 #
-# Each setup in examples/ that has a log and a report is run by each of them, fed at once and in pieces of 1 and of 7 bytes, and so
-# are a log with a fault and a setup with one: standard output, standard error and the exit status are the program's. These logs are
-# run by single calls, too (`scripts/session_calls.c`). The example in C is fed the logs of the stored cases in pieces of 1, 7 and
-# 4096 bytes, and leaves what is stored with them. Then `scripts/refuse_memory.c` runs a log once for each of its allocations, and
-# refuses it memory from there on. The archive is proved and built first, over what is built already. All in C needs `cc`, and the
-# example in Rust `cargo` and `cc`, which links it; where one of these isn't there, the script says what it leaves out. It ends with
-# how many runs agree, and with status 1 where one doesn't. The tests of the bindings for Python and for Rust are run, too.
+# Each setup in examples/ that has a log and a report is run by each of them, fed at once and in pieces of 1 and of 7 bytes, and
+# so are a log with a fault and a setup with one: standard output, standard error and the exit status are the program's. These
+# logs are run by single calls, too (`scripts/session_calls.c`). The example in C is fed the logs of the stored cases in pieces of
+# 1, 7 and 4096 bytes, and leaves what is stored with them. Then `scripts/refuse_memory.sh --library` runs a log once for each of
+# its allocations, which fails, alone or with all that follow. The archive is proved and built first, over what is built already.
+# All in C needs `cc`, and the example in Rust `cargo` and `cc`, which links it; where one of these isn't there, the script says
+# what it leaves out. It ends with how many runs agree, and with status 1 where one doesn't. `scripts/session_rows.c` prints the
+# replies and rows of each example as values, which are the report's and those of `calvin rows`. The tests of the bindings for
+# Python and for Rust are run, too, and those of examples/store.
 set -euo pipefail
 cd -- "$(dirname -- "$0")/.."
 program=$(readlink -f -- "${1-crates/cli/out/cli}")
@@ -24,9 +26,10 @@ trap 'rm -rf -- "$work"' EXIT
 languages=()
 if command -v cc > /dev/null; then
     cc -std=c99 -O2 -Wall -Wextra -Werror -Iinclude examples/c/replay.c "$archive" "$heap" -o "$work/replay-c"
-    cc -std=c99 -O2 -Wall -Wextra -Werror -Iinclude -Wl,--wrap=malloc,--wrap=realloc,--wrap=free scripts/refuse_memory.c \
-        "$archive" "$heap" -o "$work/refuse_memory"
-    cc -std=c99 -O2 -Wall -Wextra -Werror -Iinclude scripts/session_calls.c "$archive" "$heap" -o "$work/session_calls"
+    for tool in session_calls session_rows; do
+        cc -std=c99 -O2 -Wall -Wextra -Werror -Iinclude "scripts/$tool.c" "$archive" "$heap" -o "$work/$tool"
+        ! command -v clang > /dev/null || clang -std=c99 -Wall -Wextra -Werror -fsyntax-only -Iinclude "scripts/$tool.c"
+    done
     languages+=(c)
 else
     echo "there is no cc here: the example in C is left out, and so are refusals of memory" >&2
@@ -78,6 +81,7 @@ done
 mkdir -p "$work/lib"
 if scripts/library.sh "$work/lib"; then
     CALVIN_LIBRARY=$work/lib/libcalvin.so bindings/python/tests.py || differ=$((differ + 1))
+    CALVIN_LIBRARY=$work/lib/libcalvin.so examples/store/tests.py || differ=$((differ + 1))
     if command -v cargo > /dev/null; then
         CALVIN_LIB=$work/lib CARGO_TARGET_DIR=$work/target cargo test --quiet --offline --manifest-path bindings/rust/Cargo.toml ||
             differ=$((differ + 1))
@@ -105,11 +109,30 @@ if [[ -x $work/session_calls ]]; then
         fi
     done
 fi
+
+# Replies and rows as values: the reply lines of the report, the row text that `calvin rows` prints, and its digest.
+if [[ -x $work/session_rows ]]; then
+    for report in examples/*.report; do
+        setup=${report%.report}.json log=${report%.report}.log
+        tables=$(python3 -c 'import json, sys; print(",".join(table[0] for table in json.load(open(sys.argv[1]))[2][2]))' "$setup")
+        {
+            grep '^[0-9]' "$report"
+            printf '\n'
+            "$program" rows "$setup" < "$log"
+            printf '\n%s\n' "$(tail -n 1 "$report" | cut -d ' ' -f 4)"
+            "$program" rows --document "$setup" < "$log"
+        } > "$work/wanted.rows"
+        if "$work/session_rows" "$setup" "$tables" < "$log" > "$work/given.rows" && cmp "$work/wanted.rows" "$work/given.rows"; then
+            agree=$((agree + 1))
+        else
+            differ=$((differ + 1))
+            echo "as values $setup and $log have other replies or rows"
+        fi
+    done
+fi
 if [[ -x $work/replay-c ]]; then
     scripts/cases.py --sessions "$work/replay-c" || differ=$((differ + 1))
-fi
-if [[ -x $work/refuse_memory ]]; then
-    "$work/refuse_memory" examples/inventory.{json,log,report} || differ=$((differ + 1))
+    scripts/refuse_memory.sh --library || differ=$((differ + 1))
 fi
 echo "$agree runs of the examples over the static library agree, $differ comparisons don't"
 ((differ == 0))

@@ -4,23 +4,25 @@
     scripts/unsafe.py
 
 `unsafe` and raw pointers may be used in the files below alone, and a word by which a value is let go without its end
-nowhere. A proof knows neither: a `drop` that keeps its block in a `ManuallyDrop` would meet its contract. It ends with
-how many files were looked at, and with status 1 where it finds one of these words elsewhere.
+nowhere. A proof knows neither: a `drop` that keeps its block in a `ManuallyDrop` would meet its contract. The attribute
+by which a function keeps its name for C, `#[unsafe(no_mangle)]`, may be used in the crate of the C library alone. It
+ends with how many files were looked at, and with status 1 where it finds one of these words elsewhere.
 """
 import re
 import sys
 from pathlib import Path
 
 TOP = Path(__file__).resolve().parent.parent
-# The block of nodes of a lock tree is taken and given back in the first two; what C hands over is read in the others.
+# The block of nodes of a lock tree is taken and given back in the first two, a session that C owns in the others.
 MAY_BE_UNSAFE = {
     "request_arena/src/memory.rt",
     "request_arena/src/row.rt",
     "calvin_c/src/handle.rt",
-    "calvin_c/src/lib.rt",
     "calvin_c/src/loose.rt",
     "calvin_c/src/opening.rt",
 }
+EXPORTS = "calvin_c/src/"
+EXPORT = "#[unsafe(no_mangle)]"
 UNSAFE = re.compile(
     r"\b(?:unsafe|into_raw|from_raw|into_raw_parts|from_raw_parts|transmute|NonNull)\b"
     r"|\.(?:de)?allocate\(|\*\s*(?:mut|const)\b|&raw\b"
@@ -39,6 +41,7 @@ def code(text):
 
 def findings(name, text):
     """Each line that has a word which the file may not have."""
+    text = text.replace(EXPORT, "") if name.startswith(EXPORTS) else text
     for number, line in enumerate(code(text).splitlines(), 1):
         for words in [LETS_GO] if name in MAY_BE_UNSAFE else [LETS_GO, UNSAFE]:
             for word in words.findall(line):

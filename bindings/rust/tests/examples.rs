@@ -1,6 +1,6 @@
 //! The setups and logs in examples/, whole, in pieces and by single calls.
 
-use calvin::{Fault, LineFault, Session, Settings};
+use calvin::{Fault, LineFault, Outcome, Reply, Session, Settings, Setup, Value};
 use std::fs;
 use std::path::PathBuf;
 
@@ -100,6 +100,7 @@ fn a_fault_of_the_log_stays() {
 fn misuse_is_told() {
     let settings = Settings { arena: 0, ..Settings::default() };
     assert_eq!(Session::open(&example("bank.json"), settings).err(), Some(Fault::Misused));
+    assert_eq!(Setup::new(&example("bank.json")).with_settings(settings).open().err(), Some(Fault::Misused));
     let mut session = bank();
     session.feed(b"[\"cu").expect("a piece");
     assert_eq!(session.call(b"1"), Err(Fault::Misused));
@@ -113,4 +114,122 @@ fn misuse_is_told() {
 fn faults_are_said() {
     assert_eq!(Fault::Log { number: 31, line: 7 }.to_string(), "fault 31 line 7");
     assert_eq!(Fault::Line(LineFault::NoProcedure).to_string(), "no procedure has that name");
+}
+
+/// The examples with a report.
+fn stems() -> Vec<String> {
+    let entries = fs::read_dir(examples()).expect("there are examples");
+    let paths = entries.map(|entry| entry.expect("an entry").path());
+    let reports = paths.filter(|path| path.extension().is_some_and(|ending| ending == "report"));
+    reports.map(|path| path.file_stem().expect("a name").to_string_lossy().into_owned()).collect()
+}
+
+#[test]
+fn replies_are_the_lines_of_the_report() {
+    for stem in stems() {
+        let mut session = Session::open(&example(&format!("{stem}.json")), Settings::default()).expect("the setup is right");
+        session.keep_replies();
+        session.feed(&example(&format!("{stem}.log"))).expect("the log is right");
+        session.end().expect("the log is whole");
+        let report = String::from_utf8(example(&format!("{stem}.report"))).expect("a report is text");
+        let wanted: Vec<&str> = report.lines().filter(|line| line.starts_with(|digit: char| digit.is_ascii_digit())).collect();
+        let told: Vec<String> = session.replies().map(|reply| reply.to_string()).collect();
+        assert_eq!(told, wanted, "{stem}");
+        assert_eq!(session.next_reply(), None);
+    }
+}
+
+#[test]
+fn a_reply_is_taken_once_and_after_its_cut() {
+    let mut session = bank();
+    session.keep_replies();
+    session.call(br#"["call","pay",[1,2,30]]"#).expect("a call");
+    session.call(br#"["call","pay",[1,2,500]]"#).expect("a call");
+    assert_eq!(session.next_reply(), None);
+    session.cut().expect("the batch runs");
+    let first = Reply { number: 0, first: 0, outcome: Outcome::Commit(vec![Value::Int(70)]) };
+    assert_eq!(session.next_reply(), Some(first));
+    assert_eq!(session.next_reply(), Some(Reply { number: 1, first: 1, outcome: Outcome::Abort(100) }));
+    assert_eq!(session.next_reply(), None);
+}
+
+#[test]
+fn no_reply_is_kept_where_none_is_asked_for() {
+    let mut session = bank();
+    session.feed(&example("two-batches.log")).expect("the log is right");
+    assert_eq!(session.next_reply(), None);
+}
+
+#[test]
+fn rows_are_found_by_their_keys() {
+    let mut session = bank();
+    session.call(br#"["call","pay",[1,2,30]]"#).expect("a call");
+    assert_eq!(session.row("acct", 1), Ok(Some(vec![Value::Int(100)])));
+    session.cut().expect("the batch runs");
+    assert_eq!(session.row("acct", 1), Ok(Some(vec![Value::Int(70)])));
+    for key in [0, 3, i64::MAX as u64, 1 << 63, u64::MAX] {
+        assert_eq!(session.row("acct", key), Ok(None));
+    }
+    assert_eq!(session.row("accts", 1), Err(Fault::NoTable));
+    assert_eq!(Fault::NoTable.to_string(), "the setup has no such table");
+}
+
+#[test]
+fn rows_come_by_ascending_keys() {
+    let session = bank();
+    let rows: Result<Vec<_>, Fault> = session.rows("acct").collect();
+    assert_eq!(rows, Ok(vec![(1, vec![Value::Int(100)]), (2, vec![Value::Int(100)])]));
+    assert_eq!(session.next_row("acct", Some(1)), Ok(Some((2, vec![Value::Int(100)]))));
+    assert_eq!(session.next_row("acct", Some(2)), Ok(None));
+    assert_eq!(session.next_row("acct", Some(u64::MAX)), Ok(None));
+    assert_eq!(session.next_row("accts", Some(u64::MAX)), Err(Fault::NoTable));
+    assert_eq!(session.rows("none").collect::<Vec<_>>(), [Err(Fault::NoTable)]);
+}
+
+#[test]
+fn texts_are_values() {
+    let session = Session::open(&example("inventory.json"), Settings::default()).expect("the setup is right");
+    let (_, values) = session.next_row("item", None).expect("a table").expect("a row");
+    assert!(values.iter().any(|value| matches!(value, Value::Text(text) if !text.is_empty())), "{values:?}");
+    assert_eq!(Value::Text("hi".to_owned()).to_string(), "x6869");
+}
+
+#[test]
+fn digests_are_those_of_the_report() {
+    for stem in stems() {
+        let mut session = Session::open(&example(&format!("{stem}.json")), Settings::default()).expect("the setup is right");
+        session.feed(&example(&format!("{stem}.log"))).expect("the log is right");
+        session.end().expect("the log is whole");
+        let report = String::from_utf8(example(&format!("{stem}.report"))).expect("a report is text");
+        let wanted = report.split_whitespace().rev().nth(2).expect("an end line");
+        assert_eq!(session.digest().as_deref(), Ok(wanted), "{stem}");
+    }
+}
+
+#[test]
+fn another_session_starts_from_the_rows() {
+    let (mut first, line) = (bank(), br#"["call","pay",[1,2,30]]"#);
+    first.call(line).expect("a call");
+    first.cut().expect("the batch runs");
+    let rows = first.rows_document().expect("the rows");
+    assert_eq!(rows, b"[\"rows\",1,[\n[\"acct\",1,[70]],\n[\"acct\",2,[130]],\n[\"ref\",1,[2]]\n]]\n");
+    let mut second = Setup::new(&example("bank.json")).with_rows(&rows).open().expect("the rows are right");
+    for session in [&mut first, &mut second] {
+        session.call(line).expect("a call");
+        session.cut().expect("the batch runs");
+    }
+    assert_eq!(first.digest(), second.digest());
+    assert_eq!(first.rows_document(), second.rows_document());
+}
+
+#[test]
+fn rows_with_a_fault_are_refused() {
+    let wanted: [(&[u8], &str); 3] =
+        [(b"[", "fault 41"), (br#"["rows",2,[]]"#, "fault 42"), (br#"["rows",1,[["none",1,[1]]]]"#, "fault 43")];
+    for (rows, fault) in wanted {
+        match Setup::new(&example("bank.json")).with_rows(rows).open() {
+            Err(Fault::Setup(line)) => assert!(line.starts_with(fault), "{line}"),
+            _ => panic!("the rows are taken"),
+        }
+    }
 }

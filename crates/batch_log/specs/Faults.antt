@@ -1,8 +1,8 @@
 -- Claimed: what contracts promise to a reader rests on these words.
 -- Faults by their kind.
-use Rattle.std.specs.Prelude.{◌≡◌, ℕ, [], Option, Some, None, Result, Ok, Err, IfErr, Bool, true, false, ◌||◌, if◌then◌else◌}
+use Rattle.std.specs.Prelude.{◌≡◌, ℕ, List, [], Option, Some, None, Result, Ok, Err, IfErr, Bool, true, false, ◌||◌, if◌then◌else◌}
 use Rattle.devices.specs.Lines.{next_number}
-use Rattle.devices.specs.LineReader.{came, Position, position_of, source_of}
+use Rattle.devices.specs.LineReader.{came, failed_in, has_ended, IsFeedEnd, Position, position_of, source_of}
 use Rattle.devices.specs.declared.line_reader.LineReadFault.{LineReadFault}
 use Rattle.devices.specs.declared.line_reader.LineReader.{LineReader}
 use Rattle.devices.specs.declared.line_reader.LineReadFault.TheVariants as devices
@@ -55,9 +55,11 @@ ends_in_io (Ok x) = false
 ends_in_io (Err e) = is_io e.kind
 
 -- What a call to a reader without a fault tells of one: it names its line; where a read failed, every byte that came
--- was taken; and the source has failed meanwhile only where a read failed.
-pub record TellsFault {S T : Type 0} (failed : S → Bool) (old new : LineReader S) (result : Result T LogFault)
-    : Type 0 where
+-- was taken; a read has failed meanwhile only where the call says so; and a feed ends by a failed read alone, once all
+-- that had come is read.
+pub record TellsFault {S T : Type 0} (left : S → Option (List ℕ)) (failed : S → Bool) (old new : LineReader S)
+    (result : Result T LogFault) : Type 0 where
   pub place : IfErr result (λ e. e.line ≡ line_named e.kind (position_of new))
   pub spent : ends_in_io result ≡ true → came new ≡ []
-  pub fails : failed (source_of new) ≡ (failed (source_of old) || ends_in_io result)
+  pub fails : failed_in failed new ≡ (failed_in failed old || ends_in_io result)
+  pub end : has_ended old ≡ false → has_ended new ≡ true → IsFeedEnd (ends_in_io result) (left (source_of new))

@@ -1,9 +1,8 @@
 -- Claimed: what contracts promise to a reader rests on these words.
 -- What a clause sees of a reader of a log.
-use Rattle.std.specs.Prelude.{ℕ, List, Option}
-use Rattle.std.specs.Borrow.{GName}
+use Rattle.std.specs.Prelude.{◌≡◌, ℕ, List, [], Bool, false, Option, None}
 use Rattle.devices.specs.LineReader as lines
-use Rattle.devices.specs.LineReader.{Position}
+use Rattle.devices.specs.LineReader.{Origin, Position}
 use Rattle.batch_log.specs.declared.fault.LogFault.{LogFault}
 use Rattle.devices.specs.declared.line_reader.LineReader.{LineReader}
 use Rattle.batch_log.specs.declared.reader.LogReader.{LogReader}
@@ -16,9 +15,21 @@ lines_of r = r.lines
 abbrev pub source_of : {S : Type 0} → LogReader S → S
 source_of r = lines.source_of r.lines
 
--- the ghost name of the reference to the source
-abbrev pub source_name : {S : Type 0} → LogReader S → GName
-source_name r = lines.source_name r.lines
+-- what the reader reads: the source, by the ghost name of the reference to it, and whether that is a feed
+abbrev pub origin_of : {S : Type 0} → LogReader S → Origin
+origin_of r = lines.origin_of r.lines
+
+-- whether nothing more had come when a feed was read
+abbrev pub has_ended : {S : Type 0} → LogReader S → Bool
+has_ended r = lines.has_ended r.lines
+
+-- what the source has left for the reader: of a feed, the bytes that are there and at least one more
+abbrev pub left_in : {S : Type 0} → (S → Option (List ℕ)) → LogReader S → Option (List ℕ)
+left_in left r = lines.left_in left r.lines
+
+-- whether a read has failed: of a feed, also where nothing more had come
+abbrev pub failed_in : {S : Type 0} → (S → Bool) → LogReader S → Bool
+failed_in failed r = lines.failed_in failed r.lines
 
 -- the bytes that came from the source and were not taken
 abbrev pub came : {S : Type 0} → LogReader S → List ℕ
@@ -51,3 +62,12 @@ fault_of r = r.fault
 -- how often a stale request is tried again, for the sake of which a log has fewer calls
 abbrev pub retries_of : {S : Type 0} → LogReader S → ℕ
 retries_of r = r.retries
+
+-- a reader that has read nothing of a log whose stale requests are tried again so often
+pub record IsUnread {S : Type 0} (retries : ℕ) (reader : LogReader S) : Type 0 where
+  pub nothing_came : came reader ≡ []
+  pub position : position_of reader ≡ record { newlines = 0; begun = 0 }
+  pub calls : calls_read reader ≡ 0
+  pub fault : fault_of reader ≡ None
+  pub retries_are : retries_of reader ≡ retries
+  pub goes_on : has_ended reader ≡ false

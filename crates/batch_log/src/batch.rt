@@ -3,7 +3,7 @@
 ghost use Rattle.std.specs.Prelude.{◌≡◌, ℕ, ◌+◌, ◌≤◌, ◌^◌, List, length, None, Ok, Err, [], ◌∷◌, IfOk, IfErr, OnOk, IfSome, IsNone};
 ghost use Rattle.std.specs.List.{AllByRecursion};
 ghost use Rattle.devices.specs.Devices.{Passes};
-ghost use Rattle.devices.specs.LineReader.{fault_of, line_begun, newlines_taken, position_of, source_name, unread};
+ghost use Rattle.devices.specs.LineReader.{fault_of, line_begun, newlines_taken, origin_of, position_of, unread};
 ghost use Rattle.batch_log.specs.Faults.{ends_in_io, is_io, IsOfLine, TellsFault};
 ghost use Rattle.batch_log.specs.Lines.{line_said, lines_said, IsOver};
 ghost use Rattle.batch_log.specs.Log.{calls_in, is_room, log_said, most_calls, IsEnd, IsFault, IsNextBatch};
@@ -34,7 +34,7 @@ fn next_said<S: Source>(
     lines: &mut LineReader<'_, S>,
     scratch: &mut Scratch,
 ) -> Result<Option<LogLine>, LogFault>
-    ensures same { source_name lines.new ≡ source_name lines.old }
+    ensures same { origin_of lines.new ≡ origin_of lines.old }
     ensures line { IfOk result (λ o. IfSome o (λ said. Passes
         (λ xs ys. lines_said procs.now.procs (newlines_taken lines.old) xs ≡ (line_begun lines.new, Ok said)
         ∷ lines_said procs.now.procs (newlines_taken lines.new) ys)
@@ -54,7 +54,7 @@ fn next_said<S: Source>(
     ensures moves { Moves (unread S.left lines.old) (unread S.left lines.new) (position_of lines.old)
         (position_of lines.new) }
     ensures stays { OnOk result (fault_of lines.new ≡ None) }
-    ensures tells { fault_of lines.old ≡ None → TellsFault S.failed lines.old lines.new result }
+    ensures tells { fault_of lines.old ≡ None → TellsFault S.left S.failed lines.old lines.new result }
 {
     let line = match lines.next_line(alloc) {
         Ok(Some(line)) => line,
@@ -93,7 +93,7 @@ pub(crate) fn read_batch<S: Source>(
     total: &mut u64,
 ) -> Result<Option<Vec<Request>>, LogFault>
     requires { total.old ≤ most_calls retries }
-    ensures same { (source_name lines.new ≡ source_name lines.old) × OnOk result (fault_of lines.new ≡ None) }
+    ensures same { (origin_of lines.new ≡ origin_of lines.old) × OnOk result (fault_of lines.new ≡ None) }
     ensures batch { IfOk result (λ o. IfSome o (λ calls. Passes
         (λ xs ys. IsNextBatch (log_said retries procs.now.procs (newlines_taken lines.old) total.old xs) calls.items
         (log_said retries procs.now.procs (newlines_taken lines.new) total.new ys))
@@ -111,7 +111,7 @@ pub(crate) fn read_batch<S: Source>(
         (unread S.left lines.new) }
     ensures moves { Moves (unread S.left lines.old) (unread S.left lines.new) (position_of lines.old)
         (position_of lines.new) }
-    ensures tells { fault_of lines.old ≡ None → TellsFault S.failed lines.old lines.new result }
+    ensures tells { fault_of lines.old ≡ None → TellsFault S.left S.failed lines.old lines.new result }
 {
     let mut calls = Vec::new(alloc);
     let mut scratch = Scratch::new(alloc);

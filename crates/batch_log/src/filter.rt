@@ -2,7 +2,7 @@
 
 ghost use Rattle.std.specs.Prelude.{◌≡◌, ◌++◌, ◌||◌, [], None, IfOk, IfErr, OnOk, IfSome, IsNone};
 ghost use Rattle.devices.specs.Devices.{Passes};
-ghost use Rattle.devices.specs.LineReader.{ends_bare, fault_of, line_begun, source_name, source_of, unread};
+ghost use Rattle.devices.specs.LineReader.{ends_bare, failed_in, fault_of, left_in, line_begun, origin_of, unread};
 ghost use Rattle.batch_log.specs.Faults.{ends_in_io, is_io, IsOfLine, TellsFault};
 ghost use Rattle.batch_log.specs.FilterSteps.{IsLooked, LosesLine, newline_of};
 ghost use Rattle.batch_log.specs.Filters.{IsFilterOf};
@@ -43,7 +43,7 @@ fn look<S: Source>(
     lines: &mut LineReader<'_, S>,
     scratch: &mut Scratch,
 ) -> Result<Option<LookedAt>, LogFault>
-    ensures same { source_name lines.new ≡ source_name lines.old }
+    ensures same { origin_of lines.new ≡ origin_of lines.old }
     ensures line { IfOk result (λ o. IfSome o (IsLooked procs.now.procs (unread S.left lines.old)
         (unread S.left lines.new) (line_begun lines.new))) }
     ensures end { IfOk result (λ o. IsNone o →
@@ -51,7 +51,7 @@ fn look<S: Source>(
     ensures lost { IfErr result (λ e. LosesLine (is_io e.kind) (unread S.left lines.old) (unread S.left lines.new)) }
     ensures machine { IfErr result (λ e. IsOfLine e.kind → ⊥) }
     ensures stays { OnOk result (fault_of lines.new ≡ None) }
-    ensures tells { fault_of lines.old ≡ None → TellsFault S.failed lines.old lines.new result }
+    ensures tells { fault_of lines.old ≡ None → TellsFault S.left S.failed lines.old lines.new result }
 {
     let mut line = match lines.next_line(alloc) {
         Ok(Some(line)) => line,
@@ -83,11 +83,11 @@ fn filter_lines<R: Wait, S: Source, K: Sink, E: Sink>(
     err: &mut E,
 ) -> Result<bool, LogFault>
     requires { fault_of lines.old ≡ None }
-    ensures same { source_name lines.new ≡ source_name lines.old }
-    ensures filter { IsFilterOf procs.now.procs (unread S.left lines.old) (S.left (source_of lines.new))
-        (K.taken sink.old) (K.taken sink.new) (S.failed (source_of lines.old)) (S.failed (source_of lines.new)) result }
-    ensures fails { (S.failed (source_of lines.new) || K.broken sink.new)
-        ≡ ((S.failed (source_of lines.old) || K.broken sink.old) || ends_in_io result) }
+    ensures same { origin_of lines.new ≡ origin_of lines.old }
+    ensures filter { IsFilterOf procs.now.procs (unread S.left lines.old) (left_in S.left lines.new)
+        (K.taken sink.old) (K.taken sink.new) (failed_in S.failed lines.old) (failed_in S.failed lines.new) result }
+    ensures fails { (failed_in S.failed lines.new || K.broken sink.new)
+        ≡ ((failed_in S.failed lines.old || K.broken sink.old) || ends_in_io result) }
 {
     let mut scratch = Scratch::new(alloc);
     let mut all_taken = true;

@@ -29,31 +29,58 @@ pub struct LogReader<'a, S> {
 }
 
 impl<'a, S: Source> LogReader<'a, S> {
-    ghost use Rattle.std.specs.Prelude.{[]};
-    ghost use Rattle.batch_log.specs.Reader.{calls_read, fault_of, line_begun, lines_of, newlines_taken, position_of, retries_of, source_name, source_of, unread};
+    ghost use Rattle.std.specs.Prelude.{[], false, true};
+    ghost use Rattle.devices.specs.LineReader.{awaited};
+    ghost use Rattle.batch_log.specs.Reader.{calls_read, fault_of, has_ended, line_begun, lines_of, newlines_taken, origin_of, position_of, retries_of, source_of, unread, IsUnread};
 
-    /// A reader that has read nothing, of a log whose stale requests are tried again so often: if at all, then the log
-    /// may have 2^46 calls, and else 2^48.
-    pub fn new(source: &'a mut S, retries: u8) -> LogReader<'a, S>
-        ensures same { source_name result ≡ source.entry.ghost_name }
-        ensures source { source_of result ≡ source.old }
-        ensures unread { unread S.left result ≡ S.left source.old }
-        ensures position { position_of result ≡ record { newlines = 0; begun = 0 } }
+    /// A reader of these lines, of which nothing was read.
+    fn over(lines: LineReader<'a, S>, retries: u8) -> LogReader<'a, S>
+        requires { line_reader.fault_of lines ≡ None }
+        ensures lines { lines_of result ≡ lines.entry }
         ensures retries { retries_of result ≡ retries }
         ensures calls { calls_read result ≡ 0 }
         ensures fault { fault_of result ≡ None }
     {
         LogReader {
-            lines: LineReader::new(source),
+            lines,
             retries,
             total: 0,
             fault: None,
         }
     }
 
+    /// A reader that has read nothing, of a log whose stale requests are tried again so often: if at all, then the log
+    /// may have 2^46 calls, and else 2^48.
+    pub fn new(source: &'a mut S, retries: u8) -> LogReader<'a, S>
+        ensures same { origin_of result ≡ record { name = source.entry.ghost_name; is_feed = false } }
+        ensures source { source_of result ≡ source.old }
+        ensures unread { unread S.left result ≡ S.left source.old }
+        ensures nothing { IsUnread retries result }
+    {
+        LogReader::over(LineReader::new(source), retries)
+    }
+
+    /// A reader that has read nothing of a log that is a feed, as `new` gives one of a log: where the source has
+    /// nothing left, more is to come at any time, so that a read fails. What was begun by then is no line and no batch.
+    pub fn follow(source: &'a mut S, retries: u8) -> LogReader<'a, S>
+        ensures same { origin_of result ≡ record { name = source.entry.ghost_name; is_feed = true } }
+        ensures source { source_of result ≡ source.old }
+        ensures unread { unread S.left result ≡ awaited (S.left source.old) }
+        ensures nothing { IsUnread retries result }
+    {
+        LogReader::over(LineReader::follow(source), retries)
+    }
+
+    /// Whether the log is a feed of which nothing more had come when it was read.
+    pub fn has_ended(&self) -> bool
+        ensures { result ≡ has_ended self.now }
+    {
+        self.lines.has_ended()
+    }
+
     /// Gives the source back. The bytes that came and were not taken are lost.
     pub fn into_source(self) -> &'a mut S
-        ensures same { result.ghost_name ≡ source_name self.entry }
+        ensures same { result.ghost_name ≡ (origin_of self.entry).name }
         ensures source { result.now ≡ source_of self.entry }
     {
         self.lines.into_source()
@@ -78,7 +105,7 @@ impl<'a, S: Source> LogReader<'a, S> {
         alloc: Global,
         procs: &Procs,
     ) -> Result<Option<Vec<Request>>, LogFault>
-        ensures same { (source_name self.new ≡ source_name self.old) × (retries_of self.new ≡ retries_of self.old) }
+        ensures same { (origin_of self.new ≡ origin_of self.old) × (retries_of self.new ≡ retries_of self.old) }
         // Each call is of these procedures, so it is over their tables.
         ensures batch { IfOk result (λ o. IfSome o (λ calls. Passes
             (λ xs ys. IsNextBatch (log_said (retries_of self.old) procs.now.procs (newlines_taken self.old)
@@ -103,7 +130,8 @@ impl<'a, S: Source> LogReader<'a, S> {
             (TakesCalls (retries_of self.old) procs.now.procs (calls_read self.old) (ends_in_io result))
             (unread S.left self.old) (unread S.left self.new) ×
             Moves (unread S.left self.old) (unread S.left self.new) (position_of self.old) (position_of self.new) }
-        ensures tells { fault_of self.old ≡ None → TellsFault S.failed (lines_of self.old) (lines_of self.new) result }
+        ensures tells { fault_of self.old ≡ None →
+            TellsFault S.left S.failed (lines_of self.old) (lines_of self.new) result }
         ensures stays { (fault_of self.new ≡ fault_in result) ×
             IfSome (fault_of self.old) (λ e. (result ≡ Err e) × (source_of self.new ≡ source_of self.old)) }
     {

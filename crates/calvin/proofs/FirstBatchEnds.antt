@@ -4,7 +4,8 @@ use Rattle.std.specs.Option.{IfSome}
 use Rattle.std.specs.declared.alloc.Global.{Global}
 use Rattle.std.specs.Io.KnownBytes.{Consumes, prepend_known}
 use Rattle.devices.specs.Devices.{Passes}
-use Rattle.devices.specs.LineReader.{Position}
+use Rattle.devices.specs.LineReader.{Origin, Position}
+use Rattle.devices.proofs.Feeds.{failed_of_log, left_of_log}
 use Rattle.devices.proofs.Passing.{Passes-first}
 use Rattle.catalogue.specs.Shapes.{TableShape}
 use Rattle.values.specs.Database.{Database}
@@ -19,6 +20,8 @@ use Rattle.batch_log.specs.declared.fault.LogFault.{LogFault}
 use Rattle.batch_log.specs.Faults.{is_io, IsOfLine, line_named}
 use Rattle.batch_log.specs.Log.{batches_of, first_fault, log_said, IsEnd, IsFault, IsNextBatch}
 use Rattle.batch_log.specs.Moves.{Moves}
+use Rattle.batch_log.specs.declared.reader.LogReader.{LogReader}
+use Rattle.batch_log.specs.Reader.{failed_in, left_in, origin_of, source_of, unread}
 use Rattle.batch_log.specs.Taken.{TakesCalls}
 use Rattle.dispatcher.specs.declared.settings.Settings.{Settings}
 use Rattle.running.specs.declared.run_fault.RunFault.{RunFault}
@@ -26,7 +29,7 @@ use Rattle.running.specs.declared.run_fault.RunFault.TheVariants as runs
 use Rattle.report_text.specs.Report.{entries_in}
 use Rattle.retries.specs.Standings.{closed, closing_within, in_turn, start_of, transaction_of}
 use Rattle.running.specs.Reports.{whole_log}
-use Rattle.running.specs.Runs.{device_with}
+use Rattle.running.specs.Runs.{device_with, Device}
 use Rattle.running.proofs.RunEnds.{or_nothing}
 use Rattle.running.proofs.Stopping.{line_begun_is, line_of_fault, not_of_line, nothing_taken, taken_and_came}
 use Rattle.calvin.specs.FirstBatches.{first_batch, first_of, IsFirstBatchPlanned, IsPlansText}
@@ -140,7 +143,13 @@ module _ (procs : ProcsParts) (retries : ℕ) (db : Database) (settings : Settin
       rw is ended
 
 -- what a reader does is done to the source that it reads
-pub planned_through : {T : Type 0} (procs : ProcsParts) (retries : ℕ) (db : Database) (settings : Settings) (bytes : T → Option (List ℕ)) (failed : T → Bool) (old given first last : T) (unread : Option (List ℕ)) (r : Result (String Global) RunFault) →
-    IsFirstBatchPlanned procs retries db settings (device_with unread (failed first)) (device_with (bytes last) (failed last)) r → unread ≡ bytes old → first ≡ old → given ≡ last →
-    IsFirstBatchPlanned procs retries db settings (device_with (bytes old) (failed old)) (device_with (bytes given) (failed given)) r
-planned_through procs retries db settings bytes failed old given first last unread r h u f e = rw e (rw (u, f) at h)
+pub planned_through : {S : Type 0} (procs : ProcsParts) (retries : ℕ) (db : Database) (settings : Settings) (left : S → Option (List ℕ)) (failed : S → Bool) (reader spent : LogReader S) (first given : S) (r : Result (String Global) RunFault) →
+    IsFirstBatchPlanned procs retries db settings (device_with (unread left reader) (failed_in failed reader)) (device_with (left_in left spent) (failed_in failed spent)) r →
+    origin_of spent ≡ origin_of reader → (origin_of reader).is_feed ≡ false → unread left reader ≡ left first → source_of reader ≡ first → given ≡ source_of spent →
+    IsFirstBatchPlanned procs retries db settings (device_with (left first) (failed first)) (device_with (left given) (failed given)) r
+planned_through procs retries db settings left failed reader spent first given r planned same none unread_is begins gives =
+    let still : spent.lines.is_feed ≡ false = ap (λ (o : Origin). o.is_feed) same ∙ none in
+    let was : failed_in failed reader ≡ failed first = failed_of_log failed reader.lines none ∙ ap failed begins in
+    let is : failed_in failed spent ≡ failed given = failed_of_log failed spent.lines still ∙ ap failed (sym gives) in
+    let rest : left_in left spent ≡ left given = left_of_log left spent.lines still ∙ ap left (sym gives) in
+    subst (λ (d : Device × Device). IsFirstBatchPlanned procs retries db settings d.0 d.1 r) (λ i. (device_with (unread_is i) (was i), device_with (rest i) (is i))) planned

@@ -1,7 +1,5 @@
-pub mod Feeds
 pub mod Comparisons
-pub mod ProgressLines
 pub mod FirstBatches
-pub mod EngineRuns
+pub mod Inputs
 pub mod CommandEnds
 pub mod Listings

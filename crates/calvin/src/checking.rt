@@ -2,12 +2,14 @@
 
 ghost use Rattle.std.specs.Prelude.{◌≡◌, IfOk, string_bytes};
 ghost use Rattle.calvin.specs.CommandEnds.{check_text, counts_text, IsCheckCommand, IsWritten};
+ghost use Rattle.calvin.specs.Inputs.{paths_of};
 ghost use Rattle.running.specs.Runs.{device_with};
 
 use crate::files::Files;
 use crate::inputs::{print, refused, setup_at};
 use crate::status::DONE;
 use batch_log::{LogFaultKind, Sink};
+use command_line::Input;
 use running::RunFault;
 use setup::Setup;
 use std::alloc::{AllocError, Global};
@@ -55,19 +57,19 @@ fn count<K: Sink, E: Sink>(alloc: Global, setup: &Setup, out: &mut K, err: &mut 
 }
 
 // rule: command.check
-/// Reads the setup at a path, and prints how much it has.
+/// Reads the setup of an input, and prints how much it has.
 pub(crate) fn check<F: Files, K: Sink, E: Sink>(
     alloc: Global,
-    path: &str,
+    input: &Input,
     files: &F,
     out: &mut K,
     err: &mut E,
 ) -> u8
-    ensures { IsCheckCommand (F.holds files.now path.now)
+    ensures { IsCheckCommand (F.holds files.now) (paths_of input.now)
         (device_with (K.taken out.old) (K.broken out.old))
         (device_with (K.taken out.new) (K.broken out.new)) result }
 {
-    match setup_at(alloc, files, path, err) {
+    match setup_at(alloc, files, input, err) {
         Ok(document) => count(alloc, &document.setup, out, err),
         Err(status) => status,
     }

@@ -2,70 +2,43 @@
 
 ghost use Rattle.std.specs.Prelude.{◌≡◌};
 ghost use Rattle.running.specs.Runs.{device_with};
-ghost use Rattle.calvin.specs.CommandEnds.{Does, IsLocksCommand, IsRunCommand};
+ghost use Rattle.calvin.specs.CommandEnds.{Does, IsLocksCommand};
+ghost use Rattle.calvin.specs.Inputs.{paths_of};
 
 use crate::checking::check;
 use crate::files::Files;
 use crate::filtering::filter;
-use crate::following::follow;
 use crate::inputs::{print, refused, setup_at};
 use crate::listing::rows;
 use crate::locks::plans_of;
 use crate::replicas::replicas;
-use crate::setup_runs::{RunOptions, run_setup};
+use crate::reporting::run;
 use crate::status::DONE;
-use crate::telling::lines_of;
 use batch_log::{Sink, Source};
-use command_line::{Command, Line};
+use command_line::{Command, Input, Line, Running};
 use engine::Settings;
+use log_runs::{RunOptions, lines_of};
 use std::alloc::Global;
 use std::sync::Wait;
 use std::thread::Threads;
 
-/// Prints the report of the log on the setup at a path.
-fn run<R: Threads + Wait + Sync, F: Files, S: Source, K: Sink, E: Sink + Send>(
-    rt: &R,
-    alloc: Global,
-    options: &RunOptions,
-    path: &str,
-    files: &F,
-    source: &mut S,
-    out: &mut K,
-    err: &mut E,
-) -> u8
-    ensures { IsRunCommand options.now.alone (F.holds files.now path.now)
-        (device_with (S.left source.old) (S.failed source.old))
-        (device_with (S.left source.new) (S.failed source.new))
-        (device_with (K.taken out.old) (K.broken out.old))
-        (device_with (K.taken out.new) (K.broken out.new)) result }
-{
-    let document = match setup_at(alloc, files, path, err) {
-        Ok(document) => document,
-        Err(status) => return status,
-    };
-    match run_setup(rt, alloc, options, document, source, out, err) {
-        Ok(_) => DONE,
-        Err(fault) => refused(alloc, err, fault),
-    }
-}
-
-/// Prints the plans of the log's first batch on the setup at a path.
+/// Prints the plans of the log's first batch on the setup of an input.
 fn locks<F: Files, S: Source, K: Sink, E: Sink>(
     alloc: Global,
     settings: Settings,
-    path: &str,
+    input: &Input,
     files: &F,
     source: &mut S,
     out: &mut K,
     err: &mut E,
 ) -> u8
-    ensures { IsLocksCommand (F.holds files.now path.now) settings
+    ensures { IsLocksCommand (F.holds files.now) (paths_of input.now) settings
         (device_with (S.left source.old) (S.failed source.old))
         (device_with (S.left source.new) (S.failed source.new))
         (device_with (K.taken out.old) (K.broken out.old))
         (device_with (K.taken out.new) (K.broken out.new)) result }
 {
-    let document = match setup_at(alloc, files, path, err) {
+    let document = match setup_at(alloc, files, input, err) {
         Ok(document) => document,
         Err(status) => return status,
     };
@@ -80,12 +53,13 @@ fn locks<F: Files, S: Source, K: Sink, E: Sink>(
 }
 
 /// How a log is run, by the words of a command line.
-fn options_of(line: &Line, alone: bool, progress: bool, err_is_terminal: bool) -> RunOptions
-    ensures { result.alone ≡ alone }
+fn options_of(line: &Line, running: Running, err_is_terminal: bool) -> RunOptions
+    ensures { (result.alone ≡ running.alone) × (result.feed ≡ running.follow) }
 {
     RunOptions {
-        alone,
-        lines: lines_of(progress, err_is_terminal),
+        alone: running.alone,
+        feed: running.follow,
+        lines: lines_of(running.progress, err_is_terminal),
         settings: line.settings,
     }
 }
@@ -114,38 +88,33 @@ pub fn command<R: Threads + Wait + Sync, F: Files, S: Source, K: Sink, E: Sink +
         (device_with (K.taken out.new) (K.broken out.new)) result }
 {
     match &line.command {
-        Command::Run {
-            alone,
-            progress,
-            follow: is_followed,
-            setup,
-        } => {
-            let options = options_of(line, *alone, *progress, err_is_terminal);
-            if *is_followed {
-                follow(rt, alloc, &options, setup, files, source, out, err)
-            } else {
-                run(rt, alloc, &options, setup, files, source, out, err)
-            }
+        Command::Run { input, running } => {
+            let options = options_of(line, *running, err_is_terminal);
+            run(rt, alloc, &options, input, files, source, out, err)
         }
         Command::Rows {
-            alone,
-            progress,
-            setup,
-            table,
+            input,
+            running,
+            listing,
         } => {
-            let options = options_of(line, *alone, *progress, err_is_terminal);
-            rows(rt, alloc, &options, setup, table, files, source, out, err)
+            let options = options_of(line, *running, err_is_terminal);
+            rows(rt, alloc, &options, input, listing, files, source, out, err)
         }
         Command::Filter { setup } => filter(rt, alloc, setup, files, source, out, err),
-        Command::Locks { setup } => locks(alloc, line.settings, setup, files, source, out, err),
-        Command::Check { setup } => check(alloc, setup, files, out, err),
+        Command::Locks { input } => locks(alloc, line.settings, input, files, source, out, err),
+        Command::Check { input } => check(alloc, input, files, out, err),
         Command::Replicas {
+            input,
             progress,
-            setup,
             report,
         } => {
-            let options = options_of(line, false, *progress, err_is_terminal);
-            replicas(rt, alloc, &options, setup, report, files, source, out, err)
+            let running = Running {
+                alone: false,
+                progress: *progress,
+                follow: false,
+            };
+            let options = options_of(line, running, err_is_terminal);
+            replicas(rt, alloc, &options, input, report, files, source, out, err)
         }
     }
 }

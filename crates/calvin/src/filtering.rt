@@ -2,9 +2,10 @@
 
 ghost use Rattle.running.specs.Runs.{device_with};
 ghost use Rattle.calvin.specs.CommandEnds.{IsFilterCommand};
+ghost use Rattle.calvin.specs.Inputs.{alone_at};
 
 use crate::files::Files;
-use crate::inputs::{refused, setup_at};
+use crate::inputs::{refused, setup_alone};
 use crate::status::filter_status;
 use batch_log::{Sink, Source, filter_log};
 use running::RunFault;
@@ -22,13 +23,13 @@ pub(crate) fn filter<R: Wait, F: Files, S: Source, K: Sink, E: Sink>(
     out: &mut K,
     err: &mut E,
 ) -> u8
-    ensures { IsFilterCommand (F.holds files.now path.now)
+    ensures { IsFilterCommand (F.holds files.now) (alone_at path.now)
         (device_with (S.left source.old) (S.failed source.old))
         (device_with (S.left source.new) (S.failed source.new))
         (device_with (K.taken out.old) (K.broken out.old))
         (device_with (K.taken out.new) (K.broken out.new)) result }
 {
-    let document = match setup_at(alloc, files, path, err) {
+    let document = match setup_alone(alloc, files, path, err) {
         Ok(document) => document,
         Err(status) => return status,
     };

@@ -1,15 +1,18 @@
 //! What a command reads, what it prints, and how it says why it stops.
 
-ghost use Rattle.std.specs.Prelude.{◌≡◌, ◌⊎◌, true, Some, None, IfOk, OnOk, IfErr};
+ghost use Rattle.std.specs.Prelude.{◌≡◌, ◌⊎◌, true, Some, None, Ok, Err, IfOk, OnOk, IfErr};
 ghost use Rattle.std.specs.Io.KnownBytes.{Appends};
 ghost use Rattle.devices.specs.Devices.{AppendsFront};
-ghost use Rattle.calvin.specs.CommandEnds.{fault_status, IsSetupAt, IsWithoutSetup};
+ghost use Rattle.setup.specs.declared.fault.SetupFault.{SetupFault};
+ghost use Rattle.calvin.specs.CommandEnds.{fault_status, setup_status};
+ghost use Rattle.calvin.specs.Inputs.{alone_at, paths_of, with_rows_at, IsSetupAt, IsWithoutSetup};
 
 use crate::files::{FileFault, Files};
 use crate::status::{DEVICE, MEMORY, run_status, setup_status};
 use batch_log::{LogFaultKind, Sink, say, write_all};
+use command_line::Input;
 use running::RunFault;
-use setup::{SetupDocument, read_setup};
+use setup::{SetupDocument, SetupFault, read_setup, read_setup_with_rows};
 use std::alloc::Global;
 
 /// Says a fault of a run and gives its exit status.
@@ -43,23 +46,70 @@ pub(crate) fn file_at<F: Files, E: Sink>(
     }
 }
 
-/// Reads the setup document of a path, or says why not and gives the exit status.
-pub(crate) fn setup_at<F: Files, E: Sink>(
+/// The setup document that was read, or says why there is none and gives the exit status.
+fn document_of<E: Sink>(
     alloc: Global,
-    files: &F,
-    path: &str,
+    read: Result<SetupDocument, SetupFault>,
     err: &mut E,
 ) -> Result<SetupDocument, u8>
-    ensures setup { IfOk result (IsSetupAt (F.holds files.now path.now)) }
-    ensures status { IfErr result (IsWithoutSetup (F.holds files.now path.now)) }
+    ensures same { IfOk result (λ document. read ≡ Ok document) }
+    ensures status { IfErr result (λ status. (fault : SetupFault) × (read ≡ Err fault) ×
+        (status ≡ setup_status fault)) }
 {
-    let bytes = file_at(alloc, files, path, err)?;
-    match read_setup(alloc, &bytes) {
+    match read {
         Ok(document) => Ok(document),
         Err(fault) => {
             say(alloc, err, &fault);
             Err(setup_status(&fault))
         }
+    }
+}
+
+/// Reads the setup document at a path, with its own rows, or says why not and gives the exit status.
+pub(crate) fn setup_alone<F: Files, E: Sink>(
+    alloc: Global,
+    files: &F,
+    path: &str,
+    err: &mut E,
+) -> Result<SetupDocument, u8>
+    ensures setup { IfOk result (IsSetupAt (F.holds files.now) (alone_at path.now)) }
+    ensures status { IfErr result (IsWithoutSetup (F.holds files.now) (alone_at path.now)) }
+{
+    let text = file_at(alloc, files, path, err)?;
+    document_of(alloc, read_setup(alloc, &text), err)
+}
+
+/// Reads the setup document at a path with the rows at another in place of its own, or says why not and gives the exit
+/// status.
+fn setup_with_rows<F: Files, E: Sink>(
+    alloc: Global,
+    files: &F,
+    path: &str,
+    rows: &str,
+    err: &mut E,
+) -> Result<SetupDocument, u8>
+    ensures setup { IfOk result (IsSetupAt (F.holds files.now) (with_rows_at path.now rows.now)) }
+    ensures status { IfErr result (IsWithoutSetup (F.holds files.now) (with_rows_at path.now rows.now)) }
+{
+    let text = file_at(alloc, files, path, err)?;
+    let rows = file_at(alloc, files, rows, err)?;
+    document_of(alloc, read_setup_with_rows(alloc, &text, &rows), err)
+}
+
+// rule: option.rows
+/// Reads the setup document of an input, or says why not and gives the exit status.
+pub(crate) fn setup_at<F: Files, E: Sink>(
+    alloc: Global,
+    files: &F,
+    input: &Input,
+    err: &mut E,
+) -> Result<SetupDocument, u8>
+    ensures setup { IfOk result (IsSetupAt (F.holds files.now) (paths_of input.now)) }
+    ensures status { IfErr result (IsWithoutSetup (F.holds files.now) (paths_of input.now)) }
+{
+    match &input.rows {
+        None => setup_alone(alloc, files, &input.setup, err),
+        Some(rows) => setup_with_rows(alloc, files, &input.setup, rows, err),
     }
 }
 

@@ -7,7 +7,7 @@ ghost use Rattle.std.specs.FinMap as map_of;
 ghost use Rattle.row_store.specs.Stock.{with_rows};
 ghost use Rattle.sequencer.specs.Entries.{prepared};
 ghost use Rattle.interp.specs.Entries.{entry_shape};
-ghost use Rattle.batch_log.specs.Reader.{calls_read, fault_of, position_of, retries_of, source_name, source_of, unread};
+ghost use Rattle.batch_log.specs.Reader.{failed_in, left_in, origin_of, unread, IsUnread};
 ghost use Rattle.report_text.specs.PlanTexts.{plan_lines};
 ghost use Rattle.running.specs.Runs.{device_with};
 ghost use Rattle.scheduler.specs.Logs.{IsPlanOfEntry};
@@ -99,13 +99,11 @@ fn first_plans<S: Source>(
     settings: Settings,
     reader: &mut LogReader<'_, S>,
 ) -> Result<String, RunFault>
-    requires unread { (position_of reader.old ≡ record { newlines = 0; begun = 0 }) × (calls_read reader.old ≡ 0) ×
-        (fault_of reader.old ≡ None) }
-    requires retries { retries_of reader.old ≡ setup.retries }
-    ensures same { source_name reader.new ≡ source_name reader.old }
+    requires { IsUnread setup.retries reader.old }
+    ensures same { origin_of reader.new ≡ origin_of reader.old }
     ensures planned { IsFirstBatchPlanned setup.procs setup.retries (with_rows map_of.empty setup.rows.items) settings
-        (device_with (unread S.left reader.old) (S.failed (source_of reader.old)))
-        (device_with (S.left (source_of reader.new)) (S.failed (source_of reader.new))) result }
+        (device_with (unread S.left reader.old) (failed_in S.failed reader.old))
+        (device_with (left_in S.left reader.new) (failed_in S.failed reader.new)) result }
 {
     let requests = match reader.next_batch(alloc, &setup.procs) {
         Ok(Some(requests)) => requests,

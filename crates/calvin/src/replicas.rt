@@ -1,15 +1,17 @@
 //! The command `replicas`: a report compared with one that was made elsewhere.
 
-ghost use Rattle.std.specs.Prelude.{◌≡◌, IfOk, string_bytes};
+ghost use Rattle.std.specs.Prelude.{◌≡◌, false, IfOk, string_bytes};
 ghost use Rattle.calvin.specs.CommandEnds.{answer_status, answer_text, IsAnswered, IsReplicasCommand};
+ghost use Rattle.calvin.specs.Inputs.{paths_of};
 ghost use Rattle.running.specs.Runs.{device_with};
 
 use crate::comparison::{KeptReport, first_difference};
 use crate::files::Files;
 use crate::inputs::{file_at, print, refused, setup_at};
-use crate::setup_runs::{RunOptions, run_setup};
 use crate::status::{DIFFERENT, DONE};
 use batch_log::{LogFaultKind, Sink, Source};
+use command_line::Input;
+use log_runs::{RunOptions, run_setup};
 use running::RunFault;
 use std::alloc::{AllocError, Global};
 use std::sync::Wait;
@@ -59,19 +61,20 @@ fn answer<K: Sink, E: Sink>(
 }
 
 // rule: command.replicas, command.order
-/// Compares the report of the log on the setup at a path with the file at another, which is read first.
+/// Compares the report of the log on the setup of an input with the file at a path, which is read first.
 pub(crate) fn replicas<R: Threads + Wait + Sync, F: Files, S: Source, K: Sink, E: Sink + Send>(
     rt: &R,
     alloc: Global,
     options: &RunOptions,
-    path: &str,
+    input: &Input,
     report: &str,
     files: &F,
     source: &mut S,
     out: &mut K,
     err: &mut E,
 ) -> u8
-    ensures { IsReplicasCommand (F.holds files.now path.now) (F.holds files.now report.now)
+    requires { options.now.feed ≡ false }
+    ensures { IsReplicasCommand (F.holds files.now) (paths_of input.now) report.now
         (device_with (S.left source.old) (S.failed source.old))
         (device_with (S.left source.new) (S.failed source.new))
         (device_with (K.taken out.old) (K.broken out.old))
@@ -81,12 +84,13 @@ pub(crate) fn replicas<R: Threads + Wait + Sync, F: Files, S: Source, K: Sink, E
         Ok(other) => other,
         Err(status) => return status,
     };
-    let document = match setup_at(alloc, files, path, err) {
+    let document = match setup_at(alloc, files, input, err) {
         Ok(document) => document,
         Err(status) => return status,
     };
     let mut kept = KeptReport::new(alloc);
-    match run_setup(rt, alloc, options, document, source, &mut kept, err) {
+    let ended = run_setup(rt, alloc, options, document, source, &mut kept, err);
+    match ended.result {
         Ok(_) => answer(alloc, kept.bytes(), &other, out, err),
         Err(fault) => refused(alloc, err, kept.fault_of(fault)),
     }

@@ -2,13 +2,17 @@
 -- What a handle owns.
 use base.Fml.{Fml, fex}
 use denote.RawPtr.{Ptr}
+use Rattle.std.specs.Coded.{Coded}
 use Rattle.std_alloc.specs.Box.Ownership.{box_owns}
 use Rattle.std_heap.specs.declared.Global.{Global}
 use Rattle.std_heap.specs.contracts.GlobalAllocator.TheImpl.{ghosts}
-use Rattle.session.specs.declared.session.Session.{Session}
-use Rattle.session.specs.contracts.session.Session as session
+use Rattle.calvin_c.specs.declared.opened.Opened.{Opened}
+use Rattle.calvin_c.specs.contracts.opened.Opened as opened
 
--- a session lies there, in a block that may be freed
-abbrev pub live : Ptr → Fml
-live p =
-    fex Global (λ (a : Global). fex Session (λ (x : Session). box_owns (ghosts.dealloc_token a) session.the_row p x))
+-- this session lies there, with its document, in a block that may be freed
+abbrev pub lies : Ptr → Opened → Fml
+lies p x = fex Global (λ (a : Global). box_owns (ghosts.dealloc_token a) opened.the_row p x)
+
+-- how what lies there is told apart
+abbrev pub opened_code : Coded Opened
+opened_code = opened.the_row.coded

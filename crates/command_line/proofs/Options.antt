@@ -9,8 +9,8 @@ use Rattle.clap.specs.declared.parser.matches.Found.{Found}
 use Rattle.clap.proofs.WalkLemmas.{first_value-rows, one_text-rows}
 use Rattle.command_line.specs.CommandLine.{AreSettings, IsCommand, IsFlag, IsNumber}
 use Rattle.dispatcher.specs.Ranges.{AreInRange}
-use Rattle.command_line.specs.declared.line.Command.{Command}
-use Rattle.command_line.specs.declared.line.Command.TheVariants.{Check, Filter, Locks, Replicas, Rows, Run}
+use Rattle.command_line.specs.declared.command.Command.{Command}
+use Rattle.command_line.specs.declared.command.Command.TheVariants.{Check, Filter, Locks, Replicas, Rows, Run}
 use Rattle.dispatcher.specs.declared.settings.Settings.{Settings}
 
 -- what reading a number from a text gives
@@ -117,23 +117,23 @@ pub no_settings : {E : Type 0} (rows : List Row) (r : Result Settings E) (o : Op
 no_settings rows r o workers lanes threshold arena e accepted a b c d none s given =
     not_made r o e none (accepted (in_range rows s workers lanes threshold arena a b c d given))
 
--- where no text was read, the rows have none
-pub no_text : (f : Found) (id path : Text) → None ≡ first_value f id → first_of id (rows_of f) ≡ Some path → ⊥
-no_text f id path none is =
-    let bad : None ≡ Some path = none ∙ first_value-rows f id ∙ is in absurd cc
+-- an argument has one text or none
+pub no_value : (rows : List Row) (id text : Text) → first_of id rows ≡ None → first_of id rows ≡ Some text → ⊥
+no_value rows id text none is =
+    let bad : None ≡ Some text = sym none ∙ is in absurd cc
 
 -- where no text was read, the rows say none
 pub none_read : (f : Found) (id : Text) → None ≡ first_value f id → first_of id (rows_of f) ≡ None
 none_read f id none = sym (first_value-rows f id) ∙ sym none
 
--- where no setup was read, the rows give no command
-pub no_setup : (f : Found) (word : Text) (command : Command) → None ≡ first_value f (codes "setup") → IsCommand word (rows_of f) command → ⊥
-no_setup f word (Run alone progress follow setup) none asks = no_text f (codes "setup") (string_bytes setup) none asks.setup_is
-no_setup f word (Rows alone progress setup table) none asks = no_text f (codes "setup") (string_bytes setup) none asks.setup_is
-no_setup f word (Filter setup) none asks = no_text f (codes "setup") (string_bytes setup) none asks.setup_is
-no_setup f word (Locks setup) none asks = no_text f (codes "setup") (string_bytes setup) none asks.setup_is
-no_setup f word (Check setup) none asks = no_text f (codes "setup") (string_bytes setup) none asks.setup_is
-no_setup f word (Replicas progress setup report) none asks = no_text f (codes "setup") (string_bytes setup) none asks.setup_is
+-- where the rows have no setup they give no command
+pub no_setup : (rows : List Row) (word : Text) (command : Command) → first_of (codes "setup") rows ≡ None → IsCommand word rows command → ⊥
+no_setup rows word (Run input running) none asks = no_value rows (codes "setup") _ none asks.input_is.setup_is
+no_setup rows word (Rows input running listing) none asks = no_value rows (codes "setup") _ none asks.input_is.setup_is
+no_setup rows word (Filter setup) none asks = no_value rows (codes "setup") _ none asks.setup_is
+no_setup rows word (Locks input) none asks = no_value rows (codes "setup") _ none asks.input_is.setup_is
+no_setup rows word (Check input) none asks = no_value rows (codes "setup") _ none asks.input_is.setup_is
+no_setup rows word (Replicas input progress report) none asks = no_value rows (codes "setup") _ none asks.input_is.setup_is
 
 run_for_replicas : codes "replicas" ≡ codes "run" → ⊥
 run_for_replicas e = cc
@@ -150,20 +150,20 @@ locks_for_replicas e = cc
 check_for_replicas : codes "replicas" ≡ codes "check" → ⊥
 check_for_replicas e = cc
 
--- where no report was read, the rows give no comparison
-pub no_report : (f : Found) (command : Command) → None ≡ first_value f (codes "report") → IsCommand (codes "replicas") (rows_of f) command → ⊥
-no_report f (Run alone progress follow setup) none asks = run_for_replicas asks.name
-no_report f (Rows alone progress setup table) none asks = rows_for_replicas asks.name
-no_report f (Filter setup) none asks = filter_for_replicas asks.name
-no_report f (Locks setup) none asks = locks_for_replicas asks.name
-no_report f (Check setup) none asks = check_for_replicas asks.name
-no_report f (Replicas progress setup report) none asks = no_text f (codes "report") (string_bytes report) none asks.report_is
+-- where the rows have no report they give no comparison
+pub no_report : (rows : List Row) (command : Command) → first_of (codes "report") rows ≡ None → IsCommand (codes "replicas") rows command → ⊥
+no_report rows (Run input running) none asks = run_for_replicas asks.name
+no_report rows (Rows input running listing) none asks = rows_for_replicas asks.name
+no_report rows (Filter setup) none asks = filter_for_replicas asks.name
+no_report rows (Locks input) none asks = locks_for_replicas asks.name_is
+no_report rows (Check input) none asks = check_for_replicas asks.name_is
+no_report rows (Replicas input progress report) none asks = no_value rows (codes "report") _ none asks.report_is
 
 -- a word that is no command's name
 pub no_command : (rows : List Row) (word : Text) (command : Command) → (word ≡ codes "run" → ⊥) → (word ≡ codes "rows" → ⊥) → (word ≡ codes "filter" → ⊥) → (word ≡ codes "replicas" → ⊥) → (word ≡ codes "locks" → ⊥) → (word ≡ codes "check" → ⊥) → IsCommand word rows command → ⊥
-no_command rows word (Run alone progress follow setup) run listing filter replicas locks check asks = run asks.name
-no_command rows word (Rows alone progress setup table) run listing filter replicas locks check asks = listing asks.name
-no_command rows word (Filter setup) run listing filter replicas locks check asks = filter asks.name
-no_command rows word (Replicas progress setup report) run listing filter replicas locks check asks = replicas asks.name
-no_command rows word (Locks setup) run listing filter replicas locks check asks = locks asks.name
-no_command rows word (Check setup) run listing filter replicas locks check asks = check asks.name
+no_command rows word (Run input running) run lists filter replicas locks check asks = run asks.name
+no_command rows word (Rows input running listing) run lists filter replicas locks check asks = lists asks.name
+no_command rows word (Filter setup) run lists filter replicas locks check asks = filter asks.name
+no_command rows word (Replicas input progress report) run lists filter replicas locks check asks = replicas asks.name
+no_command rows word (Locks input) run lists filter replicas locks check asks = locks asks.name_is
+no_command rows word (Check input) run lists filter replicas locks check asks = check asks.name_is

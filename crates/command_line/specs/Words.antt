@@ -37,43 +37,46 @@ with_settings app =
     (number_rule (codes "coarsen") 0 65535 (codes "64")))
     (number_rule (codes "arena") 1 1048576 (codes "65536"))
 
--- `run [--alone] [--progress] [--follow] SETUP`, with settings
-unfoldable pub run_app : App
-run_app = with_settings (with_rule (with_rule (with_rule (with_rule (new_app (codes "run"))
-    (word_rule (codes "setup")))
-    (flag_rule (codes "alone")))
-    (flag_rule (codes "progress")))
-    (flag_rule (codes "follow")))
+-- `SETUP [--rows FILE]`
+abbrev pub with_input : App → App
+with_input app = with_rule (with_rule app (word_rule (codes "setup"))) (text_rule (codes "rows"))
 
--- `rows [--alone] [--progress] [--table NAME] SETUP`, with settings
-unfoldable pub rows_app : App
-rows_app = with_settings (with_rule (with_rule (with_rule (with_rule (new_app (codes "rows"))
-    (word_rule (codes "setup")))
+-- `[--alone] [--progress] [--follow]`
+abbrev pub with_running : App → App
+with_running app =
+    with_rule (with_rule (with_rule app
     (flag_rule (codes "alone")))
     (flag_rule (codes "progress")))
+    (flag_rule (codes "follow"))
+
+-- `run SETUP [--rows FILE] [--alone] [--progress] [--follow]`, with settings
+unfoldable pub run_app : App
+run_app = with_settings (with_running (with_input (new_app (codes "run"))))
+
+-- `rows SETUP [--rows FILE] [--alone] [--progress] [--follow] [--table NAME] [--document]`, with settings
+unfoldable pub rows_app : App
+rows_app = with_settings (with_rule (with_rule (with_running (with_input (new_app (codes "rows"))))
     (text_rule (codes "table")))
+    (flag_rule (codes "document")))
 
 -- `filter SETUP`, with settings
 unfoldable pub filter_app : App
 filter_app = with_settings (with_rule (new_app (codes "filter"))
     (word_rule (codes "setup")))
 
--- `replicas [--progress] SETUP REPORT`, with settings
+-- `replicas SETUP [--rows FILE] REPORT [--progress]`, with settings
 unfoldable pub replicas_app : App
-replicas_app = with_settings (with_rule (with_rule (with_rule (new_app (codes "replicas"))
-    (word_rule (codes "setup")))
+replicas_app = with_settings (with_rule (with_rule (with_input (new_app (codes "replicas")))
     (word_rule (codes "report")))
     (flag_rule (codes "progress")))
 
--- `locks SETUP`, with settings
+-- `locks SETUP [--rows FILE]`, with settings
 unfoldable pub locks_app : App
-locks_app = with_settings (with_rule (new_app (codes "locks"))
-    (word_rule (codes "setup")))
+locks_app = with_settings (with_input (new_app (codes "locks")))
 
--- `check SETUP`, with settings
+-- `check SETUP [--rows FILE]`, with settings
 unfoldable pub check_app : App
-check_app = with_settings (with_rule (new_app (codes "check"))
-    (word_rule (codes "setup")))
+check_app = with_settings (with_input (new_app (codes "check")))
 
 -- the commands, of which one must be named; the words begin after the program's name
 unfoldable pub calvin_app : App

@@ -6,7 +6,10 @@
 //! Tested only: the texts of `clap`.
 #![tactic(auto)]
 
+mod command;
+mod help;
 pub mod line;
 mod parser;
 
-pub use line::{Command, Line, LineFault, read_line};
+pub use command::{Command, Input, Line, Listing, Running};
+pub use line::{LineFault, read_line};

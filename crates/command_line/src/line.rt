@@ -1,65 +1,19 @@
 //! Reading a command line.
 
-ghost use Rattle.std.specs.Prelude.{◌≡◌, codes, map, option_map, IfErr, IfOk, IfSome, IsNone, string_bytes};
+ghost use Rattle.std.specs.Prelude.{◌≡◌, codes, map, option_map, None, IfErr, IfOk, IfSome, IsNone, string_bytes};
 ghost use Rattle.clap.specs.Words.{first_of, found_of, kind_of, rows_of, subcommand_rows_of};
-ghost use Rattle.command_line.specs.CommandLine.{AreSettings, AsksFor, IsAskedFor, IsCommand, IsRefused};
-ghost use Rattle.command_line.specs.declared.line.Command.{Command};
-ghost use Rattle.command_line.specs.declared.line.Line.{Line};
+ghost use Rattle.command_line.specs.CommandLine.{AreSettings, AsksFor, IsAskedFor, IsCommand, IsInput, IsListing, IsRefused, IsRunning};
+ghost use Rattle.command_line.specs.declared.command.Command.{Command};
+ghost use Rattle.command_line.specs.declared.command.Line.{Line};
 ghost use Rattle.command_line.specs.declared.line.LineFault.TheVariants.{NoMemory};
 ghost use Rattle.dispatcher.specs.declared.settings.Settings.{Settings};
 
+use crate::command::{Command, Input, Line, Listing, Running};
 use crate::parser::calvin_command;
 use clap::error::ErrorKind;
 use clap::{ArgMatches, Error};
 use dispatcher::Settings;
 use std::alloc::{AllocError, Global};
-
-/// What the program is asked to do.
-#[derive(Debug, Drop, PartialEq, Eq)]
-pub enum Command {
-    /// Run the log on the setup at this path, with `alone` on one thread. With `progress` standard error tells how far
-    /// it is. With `follow` the log is a feed, which has no end.
-    Run {
-        alone: bool,
-        progress: bool,
-        follow: bool,
-        setup: String,
-    },
-    /// Run the log on the setup at this path as `Run` does, and print the rows that it leaves, of all tables or of the
-    /// one with a name.
-    Rows {
-        alone: bool,
-        progress: bool,
-        setup: String,
-        table: Option<String>,
-    },
-    /// Copy the lines of the log that a run on the setup at this path would take.
-    Filter {
-        setup: String,
-    },
-    /// Print the plans of the log's first batch on the setup at this path.
-    Locks {
-        setup: String,
-    },
-    /// Read the setup at this path, and say how much it has.
-    Check {
-        setup: String,
-    },
-    /// Run the log on the setup at this path, and compare the report with the file at that one. With `progress`
-    /// standard error tells how far it is.
-    Replicas {
-        progress: bool,
-        setup: String,
-        report: String,
-    },
-}
-
-/// A command line that was read.
-#[derive(Debug, Drop, PartialEq, Eq)]
-pub struct Line {
-    pub command: Command,
-    pub settings: Settings,
-}
 
 /// Why a command line was not read.
 #[derive(Debug, Drop, PartialEq, Eq, thiserror::Error)]
@@ -106,57 +60,88 @@ fn settings_of(matches: &ArgMatches<'_>) -> Option<Settings>
     Settings::new(workers, lanes, threshold, arena).ok()
 }
 
+// The text of an option, where it is given.
+fn text_of(
+    alloc: Global,
+    matches: &ArgMatches<'_>,
+    name: &str,
+) -> Result<Option<String>, AllocError>
+    ensures { IfOk result (λ text.
+        first_of name.now (rows_of (found_of matches.now)) ≡ option_map string_bytes text) }
+{
+    match matches.get_str(name) {
+        Some(text) => Ok(Some(String::from_str(alloc, text)?)),
+        None => Ok(None),
+    }
+}
+
+// Where the setup is, and the rows in place of its own; `None` where the words name no setup.
+fn input_of(alloc: Global, matches: &ArgMatches<'_>) -> Result<Option<Input>, AllocError>
+    ensures some { IfOk result (λ o. IfSome o (IsInput (rows_of (found_of matches.now)))) }
+    ensures none { IfOk result (λ o. IsNone o → first_of (codes "setup") (rows_of (found_of matches.now)) ≡ None) }
+{
+    let setup = text_of(alloc, matches, "setup")?;
+    let rows = text_of(alloc, matches, "rows")?;
+    match setup {
+        Some(setup) => Ok(Some(Input { setup, rows })),
+        None => Ok(None),
+    }
+}
+
+// How a log is run.
+fn running_of(matches: &ArgMatches<'_>) -> Running
+    ensures { IsRunning (rows_of (found_of matches.now)) result }
+{
+    let alone = matches.get_flag("alone");
+    let progress = matches.get_flag("progress");
+    let follow = matches.get_flag("follow");
+    Running {
+        alone,
+        progress,
+        follow,
+    }
+}
+
+// Which rows are printed, and how.
+fn listing_of(alloc: Global, matches: &ArgMatches<'_>) -> Result<Listing, AllocError>
+    ensures { IfOk result (IsListing (rows_of (found_of matches.now))) }
+{
+    let table = text_of(alloc, matches, "table")?;
+    let document = matches.get_flag("document");
+    Ok(Listing { table, document })
+}
+
 // The command `run`, by its arguments.
 fn run_of(alloc: Global, matches: &ArgMatches<'_>) -> Result<Option<Command>, AllocError>
     ensures some { IfOk result (λ o. IfSome o (IsCommand (codes "run") (rows_of (found_of matches.now)))) }
     ensures none { IfOk result (λ o. IsNone o → (command : Command) →
         ¬ IsCommand (codes "run") (rows_of (found_of matches.now)) command) }
 {
-    let Some(setup) = matches.get_str("setup") else {
-        return Ok(None);
-    };
-    let setup = String::from_str(alloc, setup)?;
-    let alone = matches.get_flag("alone");
-    let progress = matches.get_flag("progress");
-    let follow = matches.get_flag("follow");
-    Ok(Some(Command::Run {
-        alone,
-        progress,
-        follow,
-        setup,
-    }))
-}
-
-// The name of a table, where one is given.
-fn table_of(alloc: Global, matches: &ArgMatches<'_>) -> Result<Option<String>, AllocError>
-    ensures { IfOk result (λ table.
-        first_of (codes "table") (rows_of (found_of matches.now)) ≡ option_map string_bytes table) }
-{
-    match matches.get_str("table") {
-        Some(name) => Ok(Some(String::from_str(alloc, name)?)),
+    match input_of(alloc, matches)? {
+        Some(input) => {
+            let running = running_of(matches);
+            Ok(Some(Command::Run { input, running }))
+        }
         None => Ok(None),
     }
 }
 
 // The command `rows`, by its arguments.
-fn listing_of(alloc: Global, matches: &ArgMatches<'_>) -> Result<Option<Command>, AllocError>
+fn rows_command_of(alloc: Global, matches: &ArgMatches<'_>) -> Result<Option<Command>, AllocError>
     ensures some { IfOk result (λ o. IfSome o (IsCommand (codes "rows") (rows_of (found_of matches.now)))) }
     ensures none { IfOk result (λ o. IsNone o → (command : Command) →
         ¬ IsCommand (codes "rows") (rows_of (found_of matches.now)) command) }
 {
-    let Some(setup) = matches.get_str("setup") else {
-        return Ok(None);
-    };
-    let setup = String::from_str(alloc, setup)?;
-    let table = table_of(alloc, matches)?;
-    let alone = matches.get_flag("alone");
-    let progress = matches.get_flag("progress");
-    Ok(Some(Command::Rows {
-        alone,
-        progress,
-        setup,
-        table,
-    }))
+    let running = running_of(matches);
+    let listing = listing_of(alloc, matches)?;
+    match input_of(alloc, matches)? {
+        Some(input) => Ok(Some(Command::Rows {
+            input,
+            running,
+            listing,
+        })),
+        None => Ok(None),
+    }
 }
 
 // The command `filter`, by its arguments.
@@ -165,33 +150,10 @@ fn filter_of(alloc: Global, matches: &ArgMatches<'_>) -> Result<Option<Command>,
     ensures none { IfOk result (λ o. IsNone o → (command : Command) →
         ¬ IsCommand (codes "filter") (rows_of (found_of matches.now)) command) }
 {
-    let Some(setup) = matches.get_str("setup") else {
-        return Ok(None);
-    };
-    let setup = String::from_str(alloc, setup)?;
-    Ok(Some(Command::Filter { setup }))
-}
-
-// The command `replicas`, by its arguments.
-fn replicas_of(alloc: Global, matches: &ArgMatches<'_>) -> Result<Option<Command>, AllocError>
-    ensures some { IfOk result (λ o. IfSome o (IsCommand (codes "replicas") (rows_of (found_of matches.now)))) }
-    ensures none { IfOk result (λ o. IsNone o → (command : Command) →
-        ¬ IsCommand (codes "replicas") (rows_of (found_of matches.now)) command) }
-{
-    let Some(setup) = matches.get_str("setup") else {
-        return Ok(None);
-    };
-    let Some(report) = matches.get_str("report") else {
-        return Ok(None);
-    };
-    let setup = String::from_str(alloc, setup)?;
-    let report = String::from_str(alloc, report)?;
-    let progress = matches.get_flag("progress");
-    Ok(Some(Command::Replicas {
-        progress,
-        setup,
-        report,
-    }))
+    match text_of(alloc, matches, "setup")? {
+        Some(setup) => Ok(Some(Command::Filter { setup })),
+        None => Ok(None),
+    }
 }
 
 // The command `locks`, by its arguments.
@@ -200,11 +162,10 @@ fn locks_of(alloc: Global, matches: &ArgMatches<'_>) -> Result<Option<Command>, 
     ensures none { IfOk result (λ o. IsNone o → (command : Command) →
         ¬ IsCommand (codes "locks") (rows_of (found_of matches.now)) command) }
 {
-    let Some(setup) = matches.get_str("setup") else {
-        return Ok(None);
-    };
-    let setup = String::from_str(alloc, setup)?;
-    Ok(Some(Command::Locks { setup }))
+    match input_of(alloc, matches)? {
+        Some(input) => Ok(Some(Command::Locks { input })),
+        None => Ok(None),
+    }
 }
 
 // The command `check`, by its arguments.
@@ -213,11 +174,30 @@ fn check_of(alloc: Global, matches: &ArgMatches<'_>) -> Result<Option<Command>, 
     ensures none { IfOk result (λ o. IsNone o → (command : Command) →
         ¬ IsCommand (codes "check") (rows_of (found_of matches.now)) command) }
 {
-    let Some(setup) = matches.get_str("setup") else {
+    match input_of(alloc, matches)? {
+        Some(input) => Ok(Some(Command::Check { input })),
+        None => Ok(None),
+    }
+}
+
+// The command `replicas`, by its arguments.
+fn replicas_of(alloc: Global, matches: &ArgMatches<'_>) -> Result<Option<Command>, AllocError>
+    ensures some { IfOk result (λ o. IfSome o (IsCommand (codes "replicas") (rows_of (found_of matches.now)))) }
+    ensures none { IfOk result (λ o. IsNone o → (command : Command) →
+        ¬ IsCommand (codes "replicas") (rows_of (found_of matches.now)) command) }
+{
+    let Some(input) = input_of(alloc, matches)? else {
         return Ok(None);
     };
-    let setup = String::from_str(alloc, setup)?;
-    Ok(Some(Command::Check { setup }))
+    let Some(report) = text_of(alloc, matches, "report")? else {
+        return Ok(None);
+    };
+    let progress = matches.get_flag("progress");
+    Ok(Some(Command::Replicas {
+        input,
+        progress,
+        report,
+    }))
 }
 
 // The command of a name, by its arguments.
@@ -232,7 +212,7 @@ fn command_of(
 {
     match name {
         "run" => run_of(alloc, matches),
-        "rows" => listing_of(alloc, matches),
+        "rows" => rows_command_of(alloc, matches),
         "filter" => filter_of(alloc, matches),
         "locks" => locks_of(alloc, matches),
         "check" => check_of(alloc, matches),

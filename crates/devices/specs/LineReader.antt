@@ -1,8 +1,8 @@
 -- Claimed: what contracts promise to a reader rests on these words.
 -- What a clause sees of a reader of lines.
-use Rattle.std.specs.Prelude.{◌≡◌, ℕ, ◌+◌, ◌<◌, ◌⊎◌, List, [], ◌∷◌, ◌++◌, length, slice_range, Option, Some, None, Result, Ok, Err, Bool, true, false, ◌||◌, IfErr}
+use Rattle.std.specs.Prelude.{◌≡◌, ℕ, ◌+◌, ◌<◌, ◌⊎◌, List, [], ◌∷◌, ◌++◌, length, slice_range, Option, Some, None, Result, Ok, Err, Bool, true, false, ◌||◌, IfErr, IfSome}
 use Rattle.std.specs.Borrow.{GName}
-use Rattle.std.specs.Io.KnownBytes.{prepend_known, Consumes, IsAtEnd}
+use Rattle.std.specs.Io.KnownBytes.{append_known, prepend_known, Consumes, IsAtEnd}
 use Rattle.devices.specs.Lines.{has_newline, line_number, lines_of, newline, newlines_in}
 use Rattle.devices.specs.declared.line_reader.LineReadFault.{LineReadFault}
 use Rattle.devices.specs.declared.line_reader.LineReadFault.TheVariants.{Io, Memory}
@@ -12,9 +12,34 @@ use Rattle.devices.specs.declared.line_reader.LineReader.{LineReader}
 abbrev pub source_of : {S : Type 0} → LineReader S → S
 source_of r = r.source.now
 
--- the ghost name of the reference to the source
-abbrev pub source_name : {S : Type 0} → LineReader S → GName
-source_name r = r.source.ghost_name
+-- what a reader reads: the source, by the ghost name of the reference to it, and whether that is a feed, of which more
+-- is to come at any time
+pub record Origin : Type 0 where
+  pub name : GName
+  pub is_feed : Bool
+
+abbrev pub origin_of : {S : Type 0} → LineReader S → Origin
+origin_of r = record { name = r.source.ghost_name; is_feed = r.is_feed }
+
+-- whether nothing more had come when a feed was read
+abbrev pub has_ended : {S : Type 0} → LineReader S → Bool
+has_ended r = r.has_ended
+
+-- what is to come of a feed: the bytes that are there, and at least one more, which ends a line that is begun
+abbrev pub awaited : Option (List ℕ) → Option (List ℕ)
+awaited left = append_known left (newline ∷ [])
+
+-- what a source has left for a reader, by whether it is a feed
+abbrev pub left_for : Bool → Option (List ℕ) → Option (List ℕ)
+left_for false left = left
+left_for true left = awaited left
+
+abbrev pub left_in : {S : Type 0} → (S → Option (List ℕ)) → LineReader S → Option (List ℕ)
+left_in left r = left_for r.is_feed (left r.source.now)
+
+-- whether a read has failed: of a feed, also where nothing more had come
+abbrev pub failed_in : {S : Type 0} → (S → Bool) → LineReader S → Bool
+failed_in failed r = r.has_ended || failed r.source.now
 
 -- the bytes that came from the source and were not taken
 abbrev pub came : {S : Type 0} → LineReader S → List ℕ
@@ -22,7 +47,7 @@ came r = slice_range r.buffer r.start r.end
 
 -- the bytes that were not taken: those that came, and those that the source has left
 abbrev pub unread : {S : Type 0} → (S → Option (List ℕ)) → LineReader S → Option (List ℕ)
-unread left r = prepend_known (came r) (left r.source.now)
+unread left r = prepend_known (came r) (left_in left r)
 
 -- how many newlines were taken; the number stops rising at 2^64 - 1
 abbrev pub newlines_taken : {S : Type 0} → LineReader S → ℕ
@@ -90,10 +115,16 @@ abbrev pub fault_in : {T : Type 0} → Result T LineReadFault → Option LineRea
 fault_in (Ok value) = None
 fault_in (Err fault) = Some fault
 
+-- What a feed's end is: a read failed, and all that had come is read.
+abbrev pub IsFeedEnd : Bool → Option (List ℕ) → Type 0
+IsFeedEnd io left = (io ≡ true) × IfSome left (λ bytes. bytes ≡ [])
+
 -- What a call to a reader without a fault tells of one: it names the line at which the reader is; where a read failed,
--- every byte that came was taken; and the source has failed meanwhile only where a read failed.
-pub record TellsFault {S T : Type 0} (failed : S → Bool) (old new : LineReader S) (result : Result T LineReadFault)
-    : Type 0 where
+-- every byte that came was taken; a read has failed meanwhile only where the call says so; and a feed ends by a failed
+-- read alone, once all that had come is read.
+pub record TellsFault {S T : Type 0} (left : S → Option (List ℕ)) (failed : S → Bool) (old new : LineReader S)
+    (result : Result T LineReadFault) : Type 0 where
   pub place : IfErr result (λ fault. IsFaultAt fault (position_of new))
   pub spent : is_io result ≡ true → came new ≡ []
-  pub fails : failed (source_of new) ≡ (failed (source_of old) || is_io result)
+  pub fails : failed_in failed new ≡ (failed_in failed old || is_io result)
+  pub end : has_ended old ≡ false → has_ended new ≡ true → IsFeedEnd (is_io result) (left (source_of new))

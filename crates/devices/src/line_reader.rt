@@ -36,6 +36,11 @@ pub struct LineReader<'a, S> {
     fault: Option<LineReadFault>,
     // Whether the line that was read last came without a newline.
     bare: bool,
+    // Whether more is to come at any time where the source has nothing left.
+    is_feed: bool,
+    // Whether the source had nothing left when it was read as a feed.
+    has_ended: bool,
+    ghost feed: { has_ended ≡ true → is_feed ≡ true },
     ghost ordered: { start ≤ end },
     ghost in_bounds: { end ≤ length buffer },
     ghost ahead: { length (slice_range buffer start end) ≤ 4096 },
@@ -76,16 +81,17 @@ fn push_piece(line: &mut Vec<u8>, piece: &[u8]) -> Result<(), AllocError>
 }
 
 impl<'a, S: Source> LineReader<'a, S> {
-    ghost use Rattle.devices.specs.LineReader.{came, ends_bare, fault_in, fault_of, line_begun, LosesLine, newlines_taken, position_of, source_name, source_of, Takes, TakesLine, TellsFault, unread};
+    ghost use Rattle.devices.specs.LineReader.{awaited, came, ends_bare, failed_in, fault_in, fault_of, has_ended, left_for, left_in, line_begun, IsFeedEnd, LosesLine, newlines_taken, origin_of, position_of, source_of, Takes, TakesLine, TellsFault, unread};
 
-    /// A reader that has read nothing.
-    pub fn new(source: &'a mut S) -> LineReader<'a, S>
-        ensures same { source_name result ≡ source.entry.ghost_name }
+    /// A reader that has read nothing of a source, which may be a feed.
+    fn over(source: &'a mut S, is_feed: bool) -> LineReader<'a, S>
+        ensures same { origin_of result ≡ record { name = source.entry.ghost_name; is_feed = is_feed } }
         ensures source { source_of result ≡ source.old }
         ensures came { came result ≡ [] }
-        ensures unread { unread S.left result ≡ S.left source.old }
+        ensures unread { unread S.left result ≡ left_for is_feed (S.left source.old) }
         ensures position { position_of result ≡ record { newlines = 0; begun = 0 } }
         ensures fault { fault_of result ≡ None }
+        ensures begins { has_ended result ≡ false }
     {
         LineReader {
             source,
@@ -96,12 +102,41 @@ impl<'a, S: Source> LineReader<'a, S> {
             begun: 0,
             fault: None,
             bare: false,
+            is_feed,
+            has_ended: false,
         }
+    }
+
+    /// A reader that has read nothing.
+    pub fn new(source: &'a mut S) -> LineReader<'a, S>
+        ensures same { origin_of result ≡ record { name = source.entry.ghost_name; is_feed = false } }
+        ensures source { source_of result ≡ source.old }
+        ensures came { came result ≡ [] }
+        ensures unread { unread S.left result ≡ S.left source.old }
+        ensures position { position_of result ≡ record { newlines = 0; begun = 0 } }
+        ensures fault { fault_of result ≡ None }
+        ensures begins { has_ended result ≡ false }
+    {
+        LineReader::over(source, false)
+    }
+
+    /// A reader that has read nothing of a feed: where the source has nothing left, more is to come at any time, so
+    /// that a read fails, and the beginning of a line is none.
+    pub fn follow(source: &'a mut S) -> LineReader<'a, S>
+        ensures same { origin_of result ≡ record { name = source.entry.ghost_name; is_feed = true } }
+        ensures source { source_of result ≡ source.old }
+        ensures came { came result ≡ [] }
+        ensures unread { unread S.left result ≡ awaited (S.left source.old) }
+        ensures position { position_of result ≡ record { newlines = 0; begun = 0 } }
+        ensures fault { fault_of result ≡ None }
+        ensures begins { has_ended result ≡ false }
+    {
+        LineReader::over(source, true)
     }
 
     /// Gives the source back. The bytes that came and were not taken are lost.
     pub fn into_source(self) -> &'a mut S
-        ensures same { result.ghost_name ≡ source_name self.entry }
+        ensures same { result.ghost_name ≡ (origin_of self.entry).name }
         ensures source { result.now ≡ source_of self.entry }
     {
         self.source
@@ -122,6 +157,13 @@ impl<'a, S: Source> LineReader<'a, S> {
         self.begun
     }
 
+    /// Whether the source was read as a feed and had nothing left.
+    pub fn has_ended(&self) -> bool
+        ensures { result ≡ has_ended self.now }
+    {
+        self.has_ended
+    }
+
     /// Whether the line that was read last came without a newline, as the last one of a source may.
     pub fn ends_bare(&self) -> bool
         ensures { result ≡ ends_bare self.now }
@@ -131,7 +173,7 @@ impl<'a, S: Source> LineReader<'a, S> {
 
     // Reads on where every byte that came was taken. Then the buffer has none but at the end.
     fn fill(&mut self) -> Result<(), DeviceFailed>
-        ensures same { source_name self.new ≡ source_name self.old }
+        ensures same { origin_of self.new ≡ origin_of self.old }
         ensures stays { (self.new.newlines ≡ self.old.newlines) × (self.new.begun ≡ self.old.begun) ×
             (self.new.fault ≡ self.old.fault) }
         ensures bytes { Keeps (unread S.left self.old) (unread S.left self.new) }
@@ -139,12 +181,18 @@ impl<'a, S: Source> LineReader<'a, S> {
         ensures late { self.old.start < self.old.end → IsOk result × (source_of self.new ≡ source_of self.old) ×
             (came self.new ≡ came self.old) }
         ensures spent { OnErr result (came self.new ≡ []) }
-        ensures fails { S.failed (source_of self.new) ≡ (S.failed (source_of self.old) || is_err result) }
+        ensures fails { failed_in S.failed self.new ≡ (failed_in S.failed self.old || is_err result) }
+        ensures feed { has_ended self.old ≡ false → has_ended self.new ≡ true →
+            IsFeedEnd (is_err result) (S.left (source_of self.new)) }
     {
         if self.start == self.end {
-            let count = self.source.read(&mut self.buffer)?;
             self.start = 0;
-            self.end = count;
+            self.end = 0;
+            self.end = self.source.read(&mut self.buffer)?;
+            if self.end == 0 && self.is_feed {
+                self.has_ended = true;
+                return Err(DeviceFailed);
+            }
         }
         Ok(())
     }
@@ -154,9 +202,9 @@ impl<'a, S: Source> LineReader<'a, S> {
     // fails. Answers whether the line ends.
     fn take_piece(&mut self, number: u64, line: &mut Vec<u8>) -> Result<bool, AllocError>
         requires { self.old.start < self.old.end }
-        ensures same { source_name self.new ≡ source_name self.old }
+        ensures same { origin_of self.new ≡ origin_of self.old }
         ensures source { source_of self.new ≡ source_of self.old }
-        ensures stays { self.new.fault ≡ self.old.fault }
+        ensures stays { (self.new.fault ≡ self.old.fault) × (has_ended self.new ≡ has_ended self.old) }
         ensures begun { self.new.begun ≡ number }
         ensures newlines { self.new.newlines ≡ (if says_end result then number else self.old.newlines) }
         ensures piece { IfOk result
@@ -179,7 +227,7 @@ impl<'a, S: Source> LineReader<'a, S> {
     // The next line, where the reader has no fault. A line grows each turn, and none is longer than
     // memory, so the loop ends.
     fn take_line(&mut self, alloc: Global) -> Result<Option<Vec<u8>>, LineReadFault>
-        ensures same { source_name self.new ≡ source_name self.old }
+        ensures same { origin_of self.new ≡ origin_of self.old }
         ensures stays { self.new.fault ≡ self.old.fault }
         ensures line { IfOk result (λ o.
             IfSome o (λ line. TakesLine (unread S.left self.old) (unread S.left self.new) (position_of self.old)
@@ -193,7 +241,7 @@ impl<'a, S: Source> LineReader<'a, S> {
         ensures at_end { IfOk result (λ o. IsNone o → position_of self.new ≡ position_of self.old) }
         ensures lost { OnErr result (LosesLine (unread S.left self.old) (unread S.left self.new)
             (position_of self.old) (position_of self.new)) }
-        ensures tells { TellsFault S.failed self.old self.new result }
+        ensures tells { TellsFault S.left S.failed self.old self.new result }
         ensures late { has_newline (came self.old) ≡ true → source_of self.new ≡ source_of self.old }
     {
         let number = self.newlines.saturating_add(1);
@@ -224,7 +272,7 @@ impl<'a, S: Source> LineReader<'a, S> {
     /// The next line without its newline, or `None` at the end. After a fault each further call
     /// answers the same fault.
     pub fn next_line(&mut self, alloc: Global) -> Result<Option<Vec<u8>>, LineReadFault>
-        ensures same { source_name self.new ≡ source_name self.old }
+        ensures same { origin_of self.new ≡ origin_of self.old }
         ensures line { IfOk result (λ o. IfSome o (λ line.
             TakesLine (unread S.left self.old) (unread S.left self.new) (position_of self.old)
             (position_of self.new) (ends_bare self.new) line.items ×
@@ -237,7 +285,7 @@ impl<'a, S: Source> LineReader<'a, S> {
         // A call that ends with a fault loses the beginning of a line, and each later call answers that fault.
         ensures lost { OnErr result (LosesLine (unread S.left self.old) (unread S.left self.new)
             (position_of self.old) (position_of self.new)) }
-        ensures tells { fault_of self.old ≡ None → TellsFault S.failed self.old self.new result }
+        ensures tells { fault_of self.old ≡ None → TellsFault S.left S.failed self.old self.new result }
         ensures stays { fault_of self.new ≡ fault_in result }
         ensures again { IfSome (fault_of self.old) (λ fault. (result ≡ Err fault) ×
             (source_of self.new ≡ source_of self.old)) }

@@ -7,3 +7,4 @@ pub mod Short
 pub mod Later
 pub mod NeverStale
 pub mod Reported
+pub mod Moved

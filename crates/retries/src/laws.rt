@@ -15,6 +15,7 @@ ghost use Rattle.row_text.specs.declared.form.DigestForm.{DigestForm};
 ghost use Rattle.row_text.specs.Partitions.{digested_text};
 ghost use Rattle.row_text.specs.Texts.{digest};
 ghost use Rattle.report_text.specs.Texts.{end_line};
+ghost use Rattle.retries.specs.Moved.{raised};
 ghost use Rattle.retries.specs.Standings.{Standing, start_of, attempts_at, transactions_at, transactions_in, replies_at, after_batch, after_batches, in_turn, is_later_of, may_have, call_count, while_carried, closing, closing_within, closed};
 
 use sequencer::found_request_holds_in_its_batch;
@@ -205,4 +206,19 @@ pub fn report_grows_batch_by_batch()
         (digest (digested_text form tables (after_batches retries (start_of db) batches).rows))
         (digest (reply_lines 0 (transactions_in retries db batches)
         (serial_replies (entries_in (transactions_in retries db batches)) db))) }
+{}
+
+/// A log goes on from its rows: where nothing is carried after some batches, each later batch gives the replies, and
+/// leaves the rows, that it gives and leaves if the log begins on the rows after those batches. Numbers begin at 0
+/// then.
+pub fn a_log_goes_on_from_its_rows()
+    ensures after { (retries : ℕ) (db : Database) (batches more : List (List Call)) →
+        (after_batches retries (start_of db) batches).carried ≡ [] →
+        after_batches retries (start_of db) (batches ++ more)
+        ≡ raised (after_batches retries (start_of db) batches).next
+        (after_batches retries (start_of (after_batches retries (start_of db) batches).rows) more) }
+    ensures replies { (retries : ℕ) (db : Database) (batches more : List (List Call)) (calls : List Call) →
+        (after_batches retries (start_of db) batches).carried ≡ [] →
+        replies_at (after_batches retries (start_of db) (batches ++ more)) calls
+        ≡ replies_at (after_batches retries (start_of (after_batches retries (start_of db) batches).rows) more) calls }
 {}

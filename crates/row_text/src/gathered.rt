@@ -9,8 +9,9 @@ use std::alloc::{AllocError, Global};
 use values::{Key, Row, TableNo};
 use workspace::RowView;
 
-/// Up to how many rows are placed one by one. More than these are farther from the processor than its own cache, and each
-/// exchange waits for the one before it: a sort, which merges the ascending rows of the partitions, takes half as long.
+/// Up to how many rows are placed one by one. More than these are farther from the processor than its own cache, and
+/// each exchange waits for the one before it: a sort, which merges the ascending rows of the partitions, takes half as
+/// long.
 const MOST_PLACED: usize = 1 << 15;
 
 /// The rows of a table with their keys, partition by partition.
@@ -86,7 +87,7 @@ fn place_consecutive(rows: &mut [(Key, &Row)])
 }
 
 /// The rows of a table with their keys, by ascending key.
-pub(crate) fn rows_of_table<'a, V: RowView>(
+pub fn rows_of_table<'a, V: RowView>(
     alloc: Global,
     catalogue: &Catalogue,
     view: &'a V,

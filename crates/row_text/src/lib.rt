@@ -29,6 +29,7 @@ mod words;
 pub use by_form::{kept_rows_digest, rows_digest};
 pub use digest::{digest_of, digest_text, push_table_name, row_line};
 pub use form::DigestForm;
+pub use gathered::rows_of_table;
 pub use kept::KeptDigests;
 pub use laws::{
     every_row_has_its_line, every_row_left_by_calls_has_its_line, partition_line_is_of_its_rows,

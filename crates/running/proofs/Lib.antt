@@ -4,6 +4,7 @@ pub mod Uncommitted
 pub mod Runs
 pub mod Stopping
 pub mod SoFar
+pub mod Following
 pub mod Stopped
 pub mod Fronts
 pub mod Closers

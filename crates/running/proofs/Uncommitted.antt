@@ -1,6 +1,5 @@
 -- A batch without a commit leaves the rows as they were.
 use Rattle.std.proofs.Common.{◌≡◌, ◌||◌, Bool, true, false, List, [], ◌∷◌, map, refl, sym, ap, ◌∙◌, Result, Ok, Err}
-use Rattle.std.specs.FinMap.{empty}
 use Rattle.values.specs.Database.{Database}
 use Rattle.requests.specs.ProcLists.{ProcsParts}
 use Rattle.meaning.specs.declared.outcome.Ending.{Ending}

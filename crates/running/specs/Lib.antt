@@ -8,4 +8,5 @@ pub mod Stops
 pub mod Stopped
 pub mod Reported
 pub mod Runs
+pub mod Followed
 pub mod Executors

@@ -3,12 +3,14 @@
 ghost use Rattle.std.specs.Prelude.{◌≡◌, ◌||◌, IfOk, IfErr, OnOk, false};
 ghost use Rattle.devices.specs.Devices.{AppendsFront};
 ghost use Rattle.sequencer.specs.Batches.{items_of, AreOver};
+ghost use Rattle.retries.specs.Standings.{attempts_at};
 ghost use Rattle.engine.specs.Batches.{next_attempts};
 ghost use Rattle.engine.specs.Engines.{tables_of, is_busy};
 ghost use Rattle.engine.specs.Executions.{IsRefusal, IsExecutionOf, KeepsSetting};
 ghost use Rattle.running.specs.Batches.{due_text, IsDue, IsReported, KeepsDigest};
 ghost use Rattle.running.specs.Executors.{Executes, HasAnswered};
 ghost use Rattle.running.specs.Hashers.{form_of};
+ghost use Rattle.running.specs.Standings.{standing_of};
 ghost use Rattle.running.specs.Stops.{ends_in_io, is_of_device, IfOfThread, IsHeld, IsMachineFault, IsRefusedBy};
 
 use crate::run_fault::RunFault;
@@ -51,8 +53,9 @@ fn execute<E: BatchEngine, X: Fn(&mut E, Batch) -> Result<BatchDone, ExecFault>>
     executor(engine, batch)
 }
 
-/// Executes the requests of a batch, after those that are carried to it, and writes its report. Each fault is a failed
-/// write (36), a failed allocation (37) or a refused thread (38), at this line, the last one read.
+/// Executes the requests of a batch, after those that are carried to it, and writes its report. The answer is the
+/// batch with its replies, which are reported. Each fault is a failed write (36), a failed allocation (37) or a refused
+/// thread (38), at this line, the last one read.
 ///
 /// The digest of rows that the transcript keeps, if it keeps one, must be that of the engine's rows, and however the
 /// batch ends, it is again.
@@ -64,12 +67,15 @@ pub fn run_batch<E: BatchEngine, X: Fn(&mut E, Batch) -> Result<BatchDone, ExecF
     transcript: &mut Transcript,
     sink: &mut K,
     line: u64,
-) -> Result<(), RunFault>
+) -> Result<BatchDone, RunFault>
     requires executes { Executes E.parts X.Fn executor.now }
     requires due { IsDue (E.parts engine.old) transcript.old requests.items }
     ensures same { KeepsSetting (E.parts engine.old) (E.parts engine.new) }
-    ensures reported { OnOk result (IsReported (E.parts engine.old) (E.parts engine.new)
-        transcript.old transcript.new (K.taken sink.old) (K.taken sink.new) requests.items) }
+    ensures reported { IfOk result (λ done.
+        IsReported (E.parts engine.old) (E.parts engine.new)
+        transcript.old transcript.new (K.taken sink.old) (K.taken sink.new) requests.items
+        × IsExecutionOf (E.parts engine.old) (E.parts engine.new)
+        (attempts_at (standing_of (E.parts engine.old)) requests.items) done) }
     ensures front { AppendsFront (K.taken sink.old) (K.taken sink.new)
         (due_text (E.parts engine.old) transcript.old requests.items) }
     ensures stops { IfErr result (IsMachineFault line) }
@@ -88,7 +94,7 @@ pub fn run_batch<E: BatchEngine, X: Fn(&mut E, Batch) -> Result<BatchDone, ExecF
         Err(fault) => return Err(exec_fault(&fault, line)),
     };
     match transcript.write_batch(alloc, sink, engine, &done.replies) {
-        Ok(()) => Ok(()),
+        Ok(()) => Ok(done),
         Err(kind) => Err(RunFault::at(kind, line)),
     }
 }

@@ -61,7 +61,7 @@ pub fn run_closing_batches<
         }
         let none = Vec::new(alloc);
         match run_batch(alloc, executor, engine, none, transcript, sink, line) {
-            Ok(()) => {}
+            Ok(_) => {}
             Err(fault) => return Err(fault),
         }
     }

@@ -1,10 +1,11 @@
 //! Running a log: from its bytes to the bytes of its report.
 
-ghost use Rattle.std.specs.Prelude.{◌≡◌, None, IfErr, IfSome, OnOk, false};
-ghost use Rattle.batch_log.specs.Reader.{calls_read, fault_of, position_of, retries_of, source_name, source_of, unread};
+ghost use Rattle.std.specs.Prelude.{◌≡◌, [], IfErr, IfSome, OnOk, false, true};
+ghost use Rattle.batch_log.specs.Reader.{failed_in, has_ended, left_in, origin_of, source_of, unread, IsUnread};
 ghost use Rattle.engine.specs.Engines.{is_busy};
 ghost use Rattle.engine.specs.Executions.{KeepsSetting};
 ghost use Rattle.running.specs.Executors.{core_of, Executes, HasAnswered};
+ghost use Rattle.running.specs.Followed.{LeavesBetween};
 ghost use Rattle.running.specs.Reports.{rows_after};
 ghost use Rattle.running.specs.Runs.{IsRunOfLog, RunsLog, device_with};
 ghost use Rattle.running.specs.Standings.{IsUnused};
@@ -23,9 +24,22 @@ use setup::SetupDocument;
 use std::alloc::Global;
 use std::sync::Wait;
 
-/// Runs the batches of a log, of which nothing was read, and writes its report into a sink, with digests of rows in
-/// that form.
-fn run_batches<
+/// Does nothing. An engine that has run no transaction carries no request, and tries one again at most twice.
+fn observe_unused(engine: &Engine)
+    requires idle { is_busy engine.now.core ≡ false }
+    requires unused { engine.now.core.next ≡ 0 }
+    ensures { IsUnused engine.now.core }
+{
+    let carried = engine.carried();
+    let _retries = engine.retries();
+    prove!(carried == 0);
+}
+
+// rule: command.follow
+/// Runs the log of which a reader has read nothing on an engine that has run none, as `run_log` does on a new one, with
+/// digests of rows in that form. Where the log is a feed, the run ends with a failed read (36) once nothing more comes:
+/// then the batches that a cut ends are reported, and the rows are those after them.
+pub fn run_reader<
     R: Wait,
     X: Fn(&mut Engine, Batch) -> Result<BatchDone, ExecFault>,
     S: Source,
@@ -40,21 +54,28 @@ fn run_batches<
     sink: &mut K,
 ) -> Result<u64, RunFault>
     requires executes { Executes core_of X.Fn executor.now }
-    requires unused { IsUnused engine.old.core }
-    requires unread { (position_of reader.old ≡ record { newlines = 0; begun = 0 }) × (calls_read reader.old ≡ 0) ×
-        (fault_of reader.old ≡ None) × (retries_of reader.old ≡ engine.old.core.retries) }
-    ensures same { (source_name reader.new ≡ source_name reader.old) ×
-        KeepsSetting engine.old.core engine.new.core }
+    requires idle { is_busy engine.old.core ≡ false }
+    requires unused { engine.old.core.next ≡ 0 }
+    requires unread { IsUnread engine.old.core.retries reader.old }
     ensures run { IsRunOfLog (start_of engine.old.core form)
-        (device_with (unread S.left reader.old) (S.failed (source_of reader.old)))
-        (device_with (S.left (source_of reader.new)) (S.failed (source_of reader.new)))
+        (device_with (unread S.left reader.old) (failed_in S.failed reader.old))
+        (device_with (left_in S.left reader.new) (failed_in S.failed reader.new))
         (device_with (K.taken sink.old) (K.broken sink.old))
         (device_with (K.taken sink.new) (K.broken sink.new)) result }
+    // It ends with a refused thread only where the executor has answered so.
     ensures threads { IfErr result (λ e. IfOfThread e (HasAnswered X.Fn executor.now ExecFault.Spawn)) }
-    ensures idle { OnOk result (is_busy engine.new.core ≡ false) }
+    ensures same { (origin_of reader.new ≡ origin_of reader.old) × KeepsSetting engine.old.core engine.new.core }
+    // After a whole run the engine holds no batch, and its rows are those that the log leaves.
+    ensures ended { OnOk result (is_busy engine.new.core ≡ false) }
     ensures rows { OnOk result (IfSome (unread S.left reader.old) (λ log.
         engine.new.core.rows ≡ rows_after (start_of engine.old.core form) log)) }
+    // After the end of a feed it holds none either, and has run those that are reported.
+    ensures followed { has_ended reader.new ≡ true → LeavesBetween (start_of engine.old.core form)
+        (unread S.left reader.old) (left_in S.left reader.new) (K.taken sink.old) (K.taken sink.new) engine.new.core }
+    // A feed ends once all that had come is read.
+    ensures feed { has_ended reader.new ≡ true → IfSome (S.left (source_of reader.new)) (λ bytes. bytes ≡ []) }
 {
+    observe_unused(engine);
     let mut transcript = Transcript::new(form);
     'batches: for _ in rt.forever() {
         let requests = match reader.next_batch(alloc, engine.procs()) {
@@ -75,53 +96,14 @@ fn run_batches<
             sink,
             line,
         ) {
-            Ok(()) => {}
+            Ok(_) => {}
             Err(fault) => return Err(fault),
         }
     }
     unreachable!()
 }
 
-// rule: option.report
-/// Runs the log that a source gives on an engine that has run none, as `run_log` does on a new one, with digests of
-/// rows in that form.
-pub fn run_log_on<
-    R: Wait,
-    X: Fn(&mut Engine, Batch) -> Result<BatchDone, ExecFault>,
-    S: Source,
-    K: Sink,
->(
-    rt: &R,
-    alloc: Global,
-    executor: &X,
-    engine: &mut Engine,
-    form: DigestForm,
-    source: &mut S,
-    sink: &mut K,
-) -> Result<u64, RunFault>
-    requires executes { Executes core_of X.Fn executor.now }
-    requires idle { is_busy engine.old.core ≡ false }
-    requires unused { engine.old.core.next ≡ 0 }
-    ensures run { RunsLog S.left S.failed K.taken K.broken (start_of engine.old.core form)
-        source.old source.new sink.old sink.new result }
-    // It ends with a refused thread only where the executor has answered so.
-    ensures threads { IfErr result (λ e. IfOfThread e (HasAnswered X.Fn executor.now ExecFault.Spawn)) }
-    ensures same { KeepsSetting engine.old.core engine.new.core }
-    // After a whole run the engine holds no batch, and its rows are those that the log leaves.
-    ensures ended { OnOk result (is_busy engine.new.core ≡ false) }
-    ensures rows { OnOk result (IfSome (S.left source.old) (λ log.
-        engine.new.core.rows ≡ rows_after (start_of engine.old.core form) log)) }
-{
-    // An engine that has run no transaction carries no request.
-    let carried = engine.carried();
-    prove!(carried == 0);
-    let mut reader = LogReader::new(source, engine.retries());
-    let ended = run_batches(rt, alloc, executor, engine, form, &mut reader, sink);
-    let _source = reader.into_source();
-    ended
-}
-
-// rule: batch.whole
+// rule: batch.whole, option.report
 /// Runs the log that a source gives on a setup document, and writes its report into a sink: for each batch a reply line
 /// for each request that it tries and a batch line, and then the end line. Each batch is executed by `executor`, which
 /// decides on how many threads. The answer is the number of transactions.
@@ -152,8 +134,12 @@ pub fn run_log<
     ensures threads { IfErr result (λ e. IfOfThread e (HasAnswered X.Fn executor.now ExecFault.Spawn)) }
 {
     let SetupDocument { setup, digest } = document;
-    match Engine::new(alloc, setup, settings) {
-        Ok(mut engine) => run_log_on(rt, alloc, executor, &mut engine, digest, source, sink),
-        Err(_) => Err(RunFault::at(LogFaultKind::Memory, 0)),
-    }
+    let retries = setup.retries;
+    let Ok(mut engine) = Engine::new(alloc, setup, settings) else {
+        return Err(RunFault::at(LogFaultKind::Memory, 0));
+    };
+    let mut reader = LogReader::new(source, retries);
+    let ended = run_reader(rt, alloc, executor, &mut engine, digest, &mut reader, sink);
+    let _source = reader.into_source();
+    ended
 }

@@ -1,5 +1,5 @@
 -- What was executed and reported, one batch more, and how a run ends.
-use Rattle.std.proofs.Common.{◌≡◌, ℕ, ◌+◌, ◌<◌, List, [], ◌∷◌, ◌++◌, append_assoc, length, take, drop, get_or, false, true, Some, Result, Ok, Err, IfErr, OnOk, refl, sym, ◌∙◌, ap}
+use Rattle.std.proofs.Common.{◌≡◌, ℕ, ◌+◌, ◌<◌, List, [], ◌∷◌, ◌++◌, append-nil, append_assoc, length, take, drop, get_or, false, true, Option, Some, Result, Ok, Err, IfErr, OnOk, refl, sym, ◌∙◌, ap}
 use Rattle.std.proofs.lemmas.List.{take-append-drop, take_more}
 use Rattle.std.specs.Io.KnownBytes.{Appends}
 use Rattle.sha2.specs.Hashers.{Holds256}
@@ -10,6 +10,7 @@ use Rattle.batch_log.specs.declared.fault.LogFaultKind.{LogFaultKind}
 use Rattle.batch_log.specs.declared.fault.LogFaultKind.TheVariants.{Memory}
 use Rattle.batch_log.specs.Faults.{is_io, IsOfLine}
 use Rattle.batch_log.specs.Places.{IsFaulty, IsWhole}
+use Rattle.row_text.specs.declared.form.DigestForm.{DigestForm}
 use Rattle.row_text.specs.Partitions.{digested_text}
 use Rattle.row_text.specs.Texts.{digest}
 use Rattle.report_text.specs.Texts.{end_line}
@@ -24,16 +25,19 @@ use Rattle.running.specs.Hashers.{batch_of, form_of, said_of}
 use Rattle.running.specs.Reported.{lines_of, with_closing}
 use Rattle.running.specs.Reports.{report_of}
 use Rattle.running.specs.Starts.{Start}
-use Rattle.running.specs.Stopped.{next_text, texts_of}
+use Rattle.running.specs.Stopped.{next_text, standing_after, texts_of}
 use Rattle.running.proofs.Closers.{end_line_is}
 use Rattle.running.proofs.Reported as running
 use Rattle.session.specs.declared.report.Report.{Report}
 use Rattle.session.specs.Ends.{IsRunInto, IsWholeRun}
 use Rattle.session.specs.Reports.{waiting_in}
-use Rattle.session.specs.Works.{HasReported}
+use Rattle.session.specs.declared.replies.Replies.{Replies}
+use Rattle.session.specs.Replies.{all_replies, kept_in, replies_after, replies_of, AreFirstReplies, AreReplies, NumberedReply}
+use Rattle.session.specs.Works.{HasReplied, HasReported}
 use Rattle.session.specs.Writes.{IsBeginning}
 use Rattle.session.proofs.Growing.{begins_onward}
-use Rattle.session.proofs.Turns.{counted-whole, report-faulty, report-whole}
+use Rattle.session.proofs.Told.{all_of, first_of_all, replies-faulty, replies-whole}
+use Rattle.session.proofs.Turns.{calls-whole, counted-whole, report-faulty, report-whole}
 
 -- nothing was executed
 pub HasReported-start : (start : Start) (engine : EngineParts) (transcript : Transcript) (report : Report) → engine.procs ≡ start.procs → engine.retries ≡ start.retries → engine.rows ≡ start.rows → engine.next ≡ 0 →
@@ -97,6 +101,10 @@ pub on_ok : {T E : Type 0} (answer : Result T E) (A B : Type 0) → OnOk answer 
 on_ok (Ok x) A B a f = f a
 on_ok (Err e) A B a f = tt
 
+pub on_ok_both : {T E : Type 0} (answer : Result T E) (A B C : Type 0) → OnOk answer A → OnOk answer B → (A → B → C) → OnOk answer C
+on_ok_both (Ok x) A B C a b f = f a b
+on_ok_both (Err e) A B C a b f = tt
+
 pub on_err : {T E : Type 0} (answer : Result T E) (P Q : E → Type 0) → IfErr answer P → ((e : E) → P e → Q e) → IfErr answer Q
 on_err (Ok x) P Q p f = tt
 on_err (Err e) P Q p f = f e p
@@ -104,6 +112,16 @@ on_err (Err e) P Q p f = f e p
 pub on_both : {T E : Type 0} (answer : Result T E) (P Q R : E → Type 0) → IfErr answer P → IfErr answer Q → ((e : E) → P e → Q e → R e) → IfErr answer R
 on_both (Ok x) P Q R p q f = tt
 on_both (Err e) P Q R p q f = f e p q
+
+-- ---- what stays
+
+-- a setting is kept through two steps
+pub keeps_setting : (old between new : EngineParts) (before then_ after : DigestForm) → KeepsSetting old between × (then_ ≡ before) → KeepsSetting between new × (after ≡ then_) →
+    KeepsSetting old new × (after ≡ before)
+keeps_setting old between new before then_ after a b = (
+  record { procs = b.0.procs ∙ a.0.procs; settings = b.0.settings ∙ a.0.settings; retries = b.0.retries ∙ a.0.retries },
+  b.1 ∙ a.1,
+)
 
 -- ---- the bytes of a log, one by one
 
@@ -115,9 +133,9 @@ fed_again fed more xs i d few =
     ∙ ap (λ (x : List ℕ). x ++ more) (append_assoc fed (take (i + 1) xs) after ∙ ap (λ (x : List ℕ). fed ++ x) (take-append-drop (i + 1) xs))
 
 -- a run that stops at a byte of these stops in them
-pub stopped_at_byte : (start : Start) (fed more xs reported : List ℕ) (i d : ℕ) (fault : LogFault) → i < length xs →
-    IsRunInto start (((fed ++ take i xs) ++ get_or xs i d ∷ []) ++ (drop (i + 1) xs ++ more)) reported fault → IsRunInto start ((fed ++ xs) ++ more) reported fault
-stopped_at_byte start fed more xs reported i d fault few h = rw (fed_again fed more xs i d few) at h
+pub stopped_at_byte : (start : Start) (fed more xs reported : List ℕ) (replies : Option (List NumberedReply)) (i d : ℕ) (fault : LogFault) → i < length xs →
+    IsRunInto start (((fed ++ take i xs) ++ get_or xs i d ∷ []) ++ (drop (i + 1) xs ++ more)) reported replies fault → IsRunInto start ((fed ++ xs) ++ more) reported replies fault
+stopped_at_byte start fed more xs reported replies i d fault few h = rw (fed_again fed more xs i d few) at h
 
 -- ---- how a run ends
 
@@ -128,21 +146,26 @@ memory_is_none : (kind : LogFaultKind) → kind ≡ Memory → is_io kind ≡ fa
 memory_is_none kind e = rw e refl
 
 -- an allocation failed, and what was reported is a beginning of the report
-pub stopped_with : (start : Start) (log reported : List ℕ) (fault : LogFault) → fault.kind ≡ Memory → IsBeginning reported (report_of start log) → IsRunInto start log reported fault
-stopped_with start log reported fault m f = record { first = no_line fault.kind m _; front = f; no_device = memory_is_none fault.kind m }
+pub stopped_with : (start : Start) (log reported : List ℕ) (replies : Option (List NumberedReply)) (fault : LogFault) → fault.kind ≡ Memory → IsBeginning reported (report_of start log) →
+    AreFirstReplies replies (replies_of start log) → IsRunInto start log reported replies fault
+stopped_with start log reported replies fault m f g = record { first = no_line fault.kind m _; front = f; replied = g; no_device = memory_is_none fault.kind m }
 
 -- an allocation failed in a batch
-pub stopped_in_batch : (start : Start) (log reported : List ℕ) (ended : List (List Call)) (fault : LogFault) → fault.kind ≡ Memory →
-    IsBeginning reported (texts_of start ended) → IsBeginning (texts_of start ended) (report_of start log) → IsRunInto start log reported fault
-stopped_in_batch start log reported ended fault m f g =
-    stopped_with start log reported fault m (begins_onward reported (texts_of start ended) (report_of start log) f g)
+pub stopped_in_batch : (start : Start) (log reported : List ℕ) (replies : Option (List NumberedReply)) (ran ended : List (List Call)) (fault : LogFault) → fault.kind ≡ Memory →
+    IsBeginning reported (texts_of start ended) → IsBeginning (texts_of start ended) (report_of start log) → AreReplies replies (replies_after start ran) → IsBeginning (replies_after start ran) (replies_of start log) →
+    IsRunInto start log reported replies fault
+stopped_in_batch start log reported replies ran ended fault m f g r b =
+    stopped_with start log reported replies fault m (begins_onward reported (texts_of start ended) (report_of start log) f g) (first_of_all replies _ _ r b)
 
 -- a fault was found, or an allocation failed, in reading
-pub stopped_reading : (start : Start) (log reported : List ℕ) (ended : List (List Call)) (fault : LogFault) → (IsOfLine fault.kind → IsFaulty start.procs start.retries fault ended log) → is_io fault.kind ≡ false →
-    reported ≡ texts_of start ended → IsBeginning (texts_of start ended) (report_of start log) → IsRunInto start log reported fault
-stopped_reading start log reported ended fault f n r g = record {
-  first = λ of. ((f of).first, r ∙ report-faulty start log ended fault (f of));
+pub stopped_reading : (start : Start) (log reported : List ℕ) (replies : Option (List NumberedReply)) (ended : List (List Call)) (fault : LogFault) →
+    (IsOfLine fault.kind → IsFaulty start.procs start.retries fault ended log) → is_io fault.kind ≡ false →
+    reported ≡ texts_of start ended → IsBeginning (texts_of start ended) (report_of start log) → AreReplies replies (replies_after start ended) → IsBeginning (replies_after start ended) (replies_of start log) →
+    IsRunInto start log reported replies fault
+stopped_reading start log reported replies ended fault f n r g told b = record {
+  first = λ of. ((f of).first, r ∙ report-faulty start log ended fault (f of), all_of replies _ _ told (replies-faulty start log ended fault (f of)));
   front = rw r g;
+  replied = first_of_all replies _ _ told b;
   no_device = n;
 }
 
@@ -169,17 +192,20 @@ module _ (start : Start) (log drained : List ℕ) (ended : List (List Call)) (en
       ∙ ap (λ (x : List ℕ). (drained ++ waiting_in r) ++ x) (sym (end_line_is start closed engine t (Some []) (Some (drained ++ waiting_in r)) h))
 
   -- it was written
-  pub whole_where_written : (n : ℕ) → n ≡ engine.next → Appends (Some (waiting_in r)) (Some (waiting_in s)) due → IsWholeRun start log (drained ++ waiting_in s) n
-  whole_where_written n c text = record {
+  pub whole_where_written : (passed : List NumberedReply) (replies : Replies) (n : ℕ) → n ≡ engine.next → HasReplied start closed passed replies → Appends (Some (waiting_in r)) (Some (waiting_in s)) due →
+      IsWholeRun start log (drained ++ waiting_in s) (all_replies passed (kept_in replies)) engine.rows n
+  whole_where_written passed replies n c told text = record {
     sound = w.fault;
     report = drained_before drained (waiting_in r) (waiting_in s) due text ∙ sym report_is_due;
+    replied = all_of _ _ _ told (replies-whole start log ended w);
+    left = ap (λ (x : Standing). x.rows) h.standing_is ∙ sym (ap (λ (bs : List (List Call)). (standing_after start.retries start.rows bs).rows) (calls-whole start log ended w));
     counted = c ∙ ap (λ (x : Standing). x.next) h.standing_is ∙ sym (counted-whole start log ended w);
   }
 
   -- or a beginning of it
-  pub stopped_at_end : (fault : LogFault) → fault.kind ≡ Memory → AppendsFront (Some (waiting_in r)) (Some (waiting_in s)) due → IsRunInto start log (drained ++ waiting_in s) fault
-  stopped_at_end fault m f = record {
-    first = no_line fault.kind m _;
-    front = front_begins (drained ++ waiting_in r) (drained ++ waiting_in s) due _ (drained_front drained (waiting_in r) (waiting_in s) due f) (sym report_is_due);
-    no_device = memory_is_none fault.kind m;
-  }
+  pub stopped_at_end : (passed : List NumberedReply) (replies : Replies) (fault : LogFault) → fault.kind ≡ Memory → HasReplied start closed passed replies → AppendsFront (Some (waiting_in r)) (Some (waiting_in s)) due →
+      IsRunInto start log (drained ++ waiting_in s) (all_replies passed (kept_in replies)) fault
+  stopped_at_end passed replies fault m told f =
+      stopped_with start log (drained ++ waiting_in s) _ fault m
+      (front_begins (drained ++ waiting_in r) (drained ++ waiting_in s) due _ (drained_front drained (waiting_in r) (waiting_in s) due f) (sym report_is_due))
+      (first_of_all _ _ _ told (let same = replies-whole start log ended w in ([], sym same ∙ sym (append-nil _))))

@@ -1,6 +1,9 @@
 pub mod Reports
 pub mod Writes
+pub mod Replies
 pub mod Ends
 pub mod Works
 pub mod Sessions
 pub mod Calls
+pub mod Rows
+pub mod Scanning

@@ -1,4 +1,5 @@
-//! A run of a log that is fed piece by piece, on the thread that calls it, and whose report is taken piece by piece.
+//! A run of a log that is fed piece by piece, on the thread that calls it, and whose report is taken piece by piece,
+//! and its replies and rows as values.
 //!
 //! Proved, by `Session::feed`, `end` and `drain`, whatever the pieces: each batch that ends in what was fed was
 //! executed, and what was drained and what waits are together the texts of these batches and of no others; after `end`
@@ -10,14 +11,24 @@
 //! first of these that fails, and nothing changes. `test`: what `call` would answer. `cut`: as if the line of a cut
 //! were fed, where no line is begun.
 //!
+//! `keep_replies`, `next_reply`: from there on the replies of each batch wait that is executed; those that were handed
+//! out and those that wait are together the replies of these batches, in the order of the log, each once, and after
+//! `end` those of the whole log. A fault leaves those that waited. `row`, `next_row`, `digest`, `rows_document`: rows
+//! by their keys, their digest and their document are exact, over the rows that the batches which were executed have
+//! left, and after `end` over those that the log leaves; after a fault nothing is told of rows.
+//!
 //! Tested only, by `scripts/static_library.sh`: the stored cases of a log in pieces of 1, 7 and 4096 bytes, and single
-//! calls. Not proved: the line that 37 names.
+//! calls. Not proved: the line that 37 names, and that it comes only if allocation fails; so too `RowsFault::NoMemory`.
 #![tactic(auto)]
 
 mod call;
+mod replies;
 mod report;
+mod rows;
 mod session;
 mod work;
 
 pub use call::CallFault;
+pub use replies::Reply;
+pub use rows::RowsFault;
 pub use session::{Session, SessionFault};

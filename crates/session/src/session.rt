@@ -1,10 +1,13 @@
 //! A run of a log, piece by piece.
 
-ghost use Rattle.std.specs.Prelude.{◌≡◌, ◌++◌, ◌≤◌, [], ◌∷◌, ℕ, List, length, take, None, Ok, Err, IfOk, IfErr, IfSome, IsSome, OnOk, OnErr, drop, min};
+ghost use Rattle.std.specs.Prelude.{◌≡◌, ◌++◌, ◌≤◌, [], ◌∷◌, ℕ, List, length, take, None, Ok, Err, IfOk, IfErr, IfSome, IsSome, OnOk, OnErr, Some, drop, false, min};
 ghost use Rattle.std.proofs.Props.{props};
 ghost use Rattle.running.specs.Starts.{start_in, Start};
 ghost use Rattle.devices.specs.Lines.{newline};
+ghost use Rattle.engine.specs.Engines.{is_busy};
+ghost use Rattle.session.specs.declared.session.SessionFault.TheVariants.{Over};
 ghost use Rattle.session.specs.declared.call.CallFault.{CallFault as AnyFault};
+ghost use Rattle.session.specs.Replies.{KeepsReplies, NumberedReply};
 ghost use Rattle.session.specs.Works.{next_number, IsReady};
 
 use crate::call::CallFault;
@@ -36,26 +39,29 @@ pub enum SessionFault {
 /// setup says; at the end batches without calls follow while there are such requests.
 ///
 /// A fault of what is fed, of a cut or of the end stops the run: one of a line of the log (31 to 35), or want of memory
-/// (37). What was reported until then can be drained.
+/// (37). What was reported until then can be drained, and replies that wait can be taken.
 #[derive(Drop)]
 pub struct Session {
-    work: Work,
-    stop: Option<SessionFault>,
+    pub(crate) work: Work,
+    pub(crate) stop: Option<SessionFault>,
     ghost ready: { stop ≡ None → IsReady work } by { Prim.hlevel props },
+    // After the end of the log no batch is unfinished.
+    ghost ended: { stop ≡ Some Over → is_busy work.engine ≡ false },
 }
 
 impl Session {
     ghost use Rattle.session.specs.Calls.{at_line_of, call_said, cut_line, stop_at_cut, Answers, HasStopped};
-    ghost use Rattle.session.specs.Sessions.{stop_at_end, stop_in, stop_of, waiting_of, EndsInFault, EndsWhole, FaultsOn, HasTaken, KeepsWaiting, KeepsWaitingAtEnd, TakesOn};
+    ghost use Rattle.session.specs.Sessions.{form_of, kept_of, stock_of, stop_at_end, stop_in, stop_of, tables_of, waiting_of, EndsInFault, EndsWhole, FaultsOn, HasTaken, KeepsWaiting, KeepsWaitingAtEnd, TakesOn};
 
-    /// A run on a setup document, of whose log nothing was fed.
+    /// A run on a setup document, of whose log nothing was fed. No reply is kept.
     pub fn new(
         alloc: Global,
         document: SetupDocument,
         settings: Settings,
     ) -> Result<Session, NoMemory>
         ensures open { IfOk result (λ session. stop_of session ≡ None) }
-        ensures begun { IfOk result (HasTaken (start_in document) [] []) }
+        ensures begun { IfOk result (HasTaken (start_in document) [] [] []) }
+        ensures unkept { IfOk result (λ session. kept_of session ≡ None) }
     {
         let work = Work::new(alloc, document, settings)?;
         Ok(Session { work, stop: None })
@@ -71,6 +77,8 @@ impl Session {
         ensures fault { IfErr result (FaultsOn self.old bytes.now self.new) }
         // Report bytes that waited wait still.
         ensures kept { KeepsWaiting self.old self.new }
+        // Replies that waited wait still.
+        ensures replies { KeepsReplies (kept_of self.old) (kept_of self.new) }
         ensures stops { stop_of self.old ≡ None → stop_of self.new ≡ stop_in result }
         ensures again { IfSome (stop_of self.old) (λ fault. (result ≡ Err fault) × (self.new ≡ self.old)) }
     {
@@ -120,7 +128,9 @@ impl Session {
         ensures answer { Answers result (call_said self.old line.now) }
         ensures err { OnErr result (TakesOn self.old [] self.new) }
         ensures kept { waiting_of self.new ≡ waiting_of self.old }
-        ensures stays { stop_of self.new ≡ stop_of self.old }
+        // Nothing is executed.
+        ensures replies { kept_of self.new ≡ kept_of self.old }
+        ensures stays { (stop_of self.new ≡ stop_of self.old) × (stock_of self.new ≡ stock_of self.old) }
     {
         self.is_at_line()?;
         let number = self.work.next_number();
@@ -137,6 +147,8 @@ impl Session {
             IfErr result (λ e. HasStopped e (FaultsOn self.old cut_line self.new)) }
         // Report bytes that waited wait still.
         ensures kept { KeepsWaiting self.old self.new }
+        // Replies that waited wait still.
+        ensures replies { KeepsReplies (kept_of self.old) (kept_of self.new) }
         ensures refused { (fault : AnyFault) → at_line_of self.old ≡ Err fault →
             (result ≡ Err fault) × (self.new ≡ self.old) }
         ensures stops { at_line_of self.old ≡ Ok tt → stop_of self.new ≡ stop_at_cut result }
@@ -153,11 +165,15 @@ impl Session {
     /// is the number of transactions. Nothing more is taken afterwards.
     #[tactic(auto, using(crate::proofs::Growing::begins_itself))]
     pub fn end(&mut self, alloc: Global) -> Result<u64, SessionFault>
-        // What was fed is a whole log. What was drained and what waits are together its report.
+        // What was fed is a whole log. What was drained and what waits are together its report, replies that are kept
+        // are its replies, and the rows are those that it leaves.
         ensures whole { IfOk result (EndsWhole self.old self.new) }
         ensures fault { IfErr result (EndsInFault self.old self.new) }
         // Report bytes that waited wait still.
         ensures kept { KeepsWaitingAtEnd self.old self.new }
+        // Replies that waited wait still.
+        ensures replies { KeepsReplies (kept_of self.old) (kept_of self.new) }
+        ensures setting { (tables_of self.new ≡ tables_of self.old) × (form_of self.new ≡ form_of self.old) }
         ensures stops { IsSome (stop_of self.new) }
         ensures over { stop_of self.old ≡ None → stop_of self.new ≡ stop_at_end result }
         ensures again { IfSome (stop_of self.old) (λ fault. (result ≡ Err fault) × (self.new ≡ self.old)) }
@@ -185,9 +201,11 @@ impl Session {
         ensures room { length into.new ≡ length into.old }
         ensures moved { waiting_of self.old ≡ take result into.new ++ waiting_of self.new }
         ensures rest { drop result into.new ≡ drop result into.old }
-        ensures taken { (start : Start) (fed drained : List ℕ) → HasTaken start fed drained self.old →
-            HasTaken start fed (drained ++ take result into.new) self.new }
-        ensures stays { stop_of self.new ≡ stop_of self.old }
+        ensures taken { (start : Start) (fed drained : List ℕ) (passed : List NumberedReply) →
+            HasTaken start fed drained passed self.old →
+            HasTaken start fed (drained ++ take result into.new) passed self.new }
+        ensures replies { kept_of self.new ≡ kept_of self.old }
+        ensures stays { (stop_of self.new ≡ stop_of self.old) × (stock_of self.new ≡ stock_of self.old) }
     {
         self.work.report.drain(into)
     }

@@ -1,6 +1,6 @@
 //! The work at a log: bytes become batches, and batches report.
 
-ghost use Rattle.std.specs.Prelude.{◌≡◌, ◌++◌, [], ◌∷◌, List, ℕ, IfOk, IfErr, OnOk, OnErr, Some};
+ghost use Rattle.std.specs.Prelude.{◌≡◌, ◌++◌, [], ◌∷◌, List, ℕ, IfOk, IfErr, None, OnOk, OnErr, Some, false, map};
 ghost use Rattle.documents.specs.Reading.{Reads};
 ghost use Rattle.devices.specs.Devices.{AppendsFront};
 ghost use Rattle.devices.specs.Lines.{newline};
@@ -8,23 +8,25 @@ ghost use Rattle.batch_log.specs.Calls.{is_call, next_call};
 ghost use Rattle.batch_log.specs.Faults.{is_memory};
 ghost use Rattle.batch_log.specs.Feeds.{place_of};
 ghost use Rattle.sequencer.specs.Batches.{items_of, AreOver};
-ghost use Rattle.engine.specs.Engines.{tables_of};
+ghost use Rattle.engine.specs.Engines.{is_busy, tables_of};
 ghost use Rattle.engine.specs.Executions.{KeepsSetting};
 ghost use Rattle.running.specs.Batches.{due_text, IsDue, IsReported};
 ghost use Rattle.running.specs.Executors.{IsExecution};
 ghost use Rattle.running.specs.Reported.{IsBetweenBatches};
 ghost use Rattle.running.specs.Hashers.{form_of};
+ghost use Rattle.running.specs.Standings.{standing_of};
 ghost use Rattle.running.specs.Starts.{start_in, Start};
-ghost use Rattle.session.specs.Ends.{IsWholeRun};
+ghost use Rattle.session.specs.Replies.{batch_replies, kept_in, kept_with, numbered, KeepsReplies, NumberedReply};
 ghost use Rattle.session.specs.Reports.{waiting_in};
-ghost use Rattle.session.specs.Works.{next_number, Continues, FaultsAfter, FaultsAtEnd, HasRun, IsReady, ReadsWhole, RunsWhole};
+ghost use Rattle.session.specs.Works.{next_number, ClosesWhole, Continues, EndsLog, FaultsAfter, FaultsAtEnd, FaultsInClosing, HasRun, IsReady, ReadsWhole, RunsWhole};
 ghost use Rattle.session.specs.Writes.{IsBeginning};
 
+use crate::replies::Replies;
 use crate::report::Report;
 use batch_log::{LogFault, LogFaultKind, LogFeed};
-use engine::{Batch, BatchDone, ExecFault, QuietEngine, Settings};
+use engine::{Batch, BatchDone, ExecFault, QuietEngine, Reply, Settings};
 use requests::Request;
-use running::{Transcript, finish, run_batch, run_closing_batches};
+use running::{Transcript, finish, run_batch};
 use setup::SetupDocument;
 use std::alloc::Global;
 use std::mem;
@@ -37,6 +39,7 @@ pub(crate) struct Work {
     pub feed: LogFeed,
     pub transcript: Transcript,
     pub report: Report,
+    pub replies: Replies,
 }
 
 /// A failed allocation at a line. The report is kept in memory, so that nothing else fails.
@@ -57,7 +60,8 @@ impl Work {
         settings: Settings,
     ) -> Result<Work, NoMemory>
         ensures ready { IfOk result IsReady }
-        ensures begun { IfOk result (HasRun (start_in document) [] []) }
+        ensures begun { IfOk result (HasRun (start_in document) [] [] []) }
+        ensures unkept { IfOk result (λ work. kept_in work.replies ≡ None) }
     {
         let SetupDocument { setup, digest } = document;
         let engine = QuietEngine::new(alloc, setup, settings)?;
@@ -67,10 +71,27 @@ impl Work {
             feed,
             transcript: Transcript::new(digest),
             report: Report::new(alloc),
+            replies: Replies::new(),
         })
     }
 
-    /// Executes a batch of calls, after those that are carried to it, and reports it.
+    /// Lets the replies of a batch wait after the others, where replies are kept.
+    fn keep(&mut self, replies: Vec<Reply>, line: u64) -> Result<(), LogFault>
+        ensures same { (self.new.engine ≡ self.old.engine) × (self.new.feed ≡ self.old.feed) ×
+            (self.new.transcript ≡ self.old.transcript) × (self.new.report ≡ self.old.report) }
+        ensures ok { OnOk result (kept_in self.new.replies
+            ≡ kept_with (kept_in self.old.replies) (map numbered replies.items)) }
+        ensures err { OnErr result (kept_in self.new.replies ≡ kept_in self.old.replies) }
+        ensures memory { IfErr result (λ e. e.kind ≡ LogFaultKind.Memory) }
+    {
+        match self.replies.put(replies) {
+            Ok(()) => Ok(()),
+            Err(_) => Err(no_memory(line)),
+        }
+    }
+
+    /// Executes a batch of calls, after those that are carried to it, and reports it. Where replies are kept, its
+    /// replies wait then, too.
     fn run(&mut self, alloc: Global, calls: Vec<Request>) -> Result<(), LogFault>
         requires { IsDue self.old.engine self.old.transcript calls.items }
         ensures feed { self.new.feed ≡ self.old.feed }
@@ -82,6 +103,9 @@ impl Work {
             (due_text self.old.engine self.old.transcript calls.items) }
         ensures memory { IfErr result (λ e. e.kind ≡ LogFaultKind.Memory) }
         ensures form { form_of self.new.transcript ≡ form_of self.old.transcript }
+        ensures replied { OnOk result (kept_in self.new.replies
+            ≡ kept_with (kept_in self.old.replies) (batch_replies (standing_of self.old.engine) calls.items)) }
+        ensures unreplied { OnErr result (kept_in self.new.replies ≡ kept_in self.old.replies) }
     {
         let line = self.feed.lines();
         let executor = |engine: &mut QuietEngine, batch: Batch| -> Result<BatchDone, ExecFault>
@@ -97,7 +121,7 @@ impl Work {
             &mut self.report,
             line,
         ) {
-            Ok(()) => Ok(()),
+            Ok(done) => self.keep(done.replies, line),
             Err(_) => Err(no_memory(line)),
         }
     }
@@ -108,8 +132,9 @@ impl Work {
         requires ready { IsReady self.old }
         ensures ready { OnOk result (IsReady self.new) }
         ensures taken { OnOk result (Continues self.old (byte ∷ []) self.new) }
-        ensures fault { IfErr result (FaultsAfter self.old (byte ∷ []) self.new.report) }
+        ensures fault { IfErr result (FaultsAfter self.old (byte ∷ []) self.new) }
         ensures kept { IsBeginning (waiting_in self.old.report) (waiting_in self.new.report) }
+        ensures replies { KeepsReplies (kept_in self.old.replies) (kept_in self.new.replies) }
     {
         match self.feed.take(alloc, self.engine.procs(), byte) {
             Ok(Some(calls)) => self.run(alloc, calls),
@@ -124,8 +149,9 @@ impl Work {
         requires ready { IsReady self.old }
         ensures ready { OnOk result (IsReady self.new) }
         ensures taken { OnOk result (Continues self.old bytes.now self.new) }
-        ensures fault { IfErr result (FaultsAfter self.old bytes.now self.new.report) }
+        ensures fault { IfErr result (FaultsAfter self.old bytes.now self.new) }
         ensures kept { IsBeginning (waiting_in self.old.report) (waiting_in self.new.report) }
+        ensures replies { KeepsReplies (kept_in self.old.replies) (kept_in self.new.replies) }
     {
         for byte in bytes {
             match self.take_byte(alloc, *byte) {
@@ -154,7 +180,8 @@ impl Work {
         ensures exact { Reads is_memory (λ _. tt) result
             (is_call (next_call self.old.engine.procs.procs (place_of self.old.feed) line.now)) }
         ensures err { OnErr result (Continues self.old [] self.new) }
-        ensures report { self.new.report ≡ self.old.report }
+        ensures same { (self.new.report ≡ self.old.report) × (self.new.replies ≡ self.old.replies) ×
+            (self.new.engine ≡ self.old.engine) × (self.new.transcript ≡ self.old.transcript) }
     {
         match self.feed.call(alloc, self.engine.procs(), line) {
             Ok(()) => Ok(()),
@@ -168,14 +195,42 @@ impl Work {
         requires ready { IsReady self.old }
         ensures between { OnOk result (IsBetweenBatches self.new.engine self.new.transcript) }
         ensures whole { OnOk result (ReadsWhole self.old self.new) }
-        ensures fault { IfErr result (FaultsAtEnd self.old self.new.report) }
+        ensures fault { IfErr result (FaultsAtEnd self.old self.new) }
         ensures kept { IsBeginning (waiting_in self.old.report) (waiting_in self.new.report) }
+        ensures replies { KeepsReplies (kept_in self.old.replies) (kept_in self.new.replies) }
+        ensures setting { KeepsSetting self.old.engine self.new.engine ×
+            (form_of self.new.transcript ≡ form_of self.old.transcript) }
     {
         match self.feed.end(alloc, self.engine.procs()) {
             Ok(Some(calls)) => self.run(alloc, calls),
             Ok(None) => Ok(()),
             Err(fault) => Err(fault),
         }
+    }
+
+    /// Executes and reports the batches without calls that close a log, while requests are carried.
+    #[tactic(auto, using(crate::proofs::Growing::begins_onward))]
+    fn close(&mut self, alloc: Global) -> Result<(), LogFault>
+        requires between { IsBetweenBatches self.old.engine self.old.transcript }
+        ensures between { OnOk result (IsBetweenBatches self.new.engine self.new.transcript) }
+        ensures whole { OnOk result (ClosesWhole self.old self.new) }
+        ensures fault { IfErr result (FaultsInClosing self.old self.new) }
+        ensures kept { IsBeginning (waiting_in self.old.report) (waiting_in self.new.report) }
+        ensures replies { KeepsReplies (kept_in self.old.replies) (kept_in self.new.replies) }
+        ensures setting { KeepsSetting self.old.engine self.new.engine ×
+            (form_of self.new.transcript ≡ form_of self.old.transcript) }
+    {
+        // No request is tried again more often, so nothing is carried after `retries` batches.
+        for _turn in 0..self.engine.retries() {
+            if self.engine.carried() == 0 {
+                return Ok(());
+            }
+            match self.run(alloc, Vec::new(alloc)) {
+                Ok(()) => {}
+                Err(fault) => return Err(fault),
+            }
+        }
+        Ok(())
     }
 
     /// Takes the end of the log, executes and reports the last batch, if there is one, and the batches without calls
@@ -185,40 +240,30 @@ impl Work {
         requires ready { IsReady self.old }
         ensures between { OnOk result (IsBetweenBatches self.new.engine self.new.transcript) }
         ensures whole { OnOk result (RunsWhole self.old self.new) }
-        ensures fault { IfErr result (FaultsAtEnd self.old self.new.report) }
+        ensures fault { IfErr result (FaultsAtEnd self.old self.new) }
         ensures kept { IsBeginning (waiting_in self.old.report) (waiting_in self.new.report) }
+        ensures replies { KeepsReplies (kept_in self.old.replies) (kept_in self.new.replies) }
+        ensures setting { KeepsSetting self.old.engine self.new.engine ×
+            (form_of self.new.transcript ≡ form_of self.old.transcript) }
     {
         match self.take_last_batch(alloc) {
-            Ok(()) => {}
-            Err(fault) => return Err(fault),
-        }
-        let line = self.feed.lines();
-        let executor = |engine: &mut QuietEngine, batch: Batch| -> Result<BatchDone, ExecFault>
-            requires { AreOver (tables_of engine.old) (items_of batch) }
-            ensures { IsExecution engine.old batch result engine.new }
-        { engine.execute(alloc, batch) };
-        match run_closing_batches(
-            alloc,
-            &executor,
-            &mut self.engine,
-            &mut self.transcript,
-            &mut self.report,
-            line,
-        ) {
-            Ok(()) => Ok(()),
-            Err(_) => Err(no_memory(line)),
+            Ok(()) => self.close(alloc),
+            Err(fault) => Err(fault),
         }
     }
 
     /// Takes the end of the log. The answer is the number of transactions.
     pub(crate) fn take_end(&mut self, alloc: Global) -> Result<u64, LogFault>
         requires ready { IsReady self.old }
-        ensures whole { IfOk result (λ count. (start : Start) (fed drained : List ℕ) →
-            HasRun start fed drained self.old →
-            IsWholeRun start fed (drained ++ waiting_in self.new.report) count) }
-        ensures fault { IfErr result (FaultsAtEnd self.old self.new.report) }
-        ensures kept { (start : Start) (fed drained : List ℕ) → HasRun start fed drained self.old →
+        ensures whole { IfOk result (EndsLog self.old self.new) }
+        ensures fault { IfErr result (FaultsAtEnd self.old self.new) }
+        ensures kept { (start : Start) (fed drained : List ℕ) (passed : List NumberedReply) →
+            HasRun start fed drained passed self.old →
             IsBeginning (waiting_in self.old.report) (waiting_in self.new.report) }
+        ensures replies { KeepsReplies (kept_in self.old.replies) (kept_in self.new.replies) }
+        ensures setting { KeepsSetting self.old.engine self.new.engine ×
+            (form_of self.new.transcript ≡ form_of self.old.transcript) }
+        ensures idle { OnOk result (is_busy self.new.engine ≡ false) }
     {
         match self.take_rest(alloc) {
             Ok(()) => {}

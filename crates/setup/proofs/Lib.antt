@@ -1,5 +1,5 @@
-pub mod Texts
 pub mod SaidRows
 pub mod SaidSetups
+pub mod SaidWithRows
 pub mod OneSetup
 pub mod ToldRows

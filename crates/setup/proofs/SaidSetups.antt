@@ -2,14 +2,12 @@
 use Rattle.std.proofs.Common.{◌≡◌, ◌≤◌, nat_le, ◌⊎◌, inl, inr, ℕ, ℤ, pos, negsuc, Bool, true, false, if◌then◌else◌, ◌&&◌, List, [], ◌∷◌, Option, Some, None, option_and_then, Result, Ok, Err, refl, sym, ap, ◌∙◌, subst}
 use Rattle.std.specs.Prelude.{codes}
 use Rattle.std.specs.Option.{option_or}
-use Rattle.std.specs.Result.{IsErrAnd, IfOk, IfErr, OnOk}
-use Rattle.std.specs.Str.{bytes_eq, IsUtf8, is_utf8}
+use Rattle.std.specs.Result.{IsErrAnd, IfErr}
+use Rattle.std.specs.Str.{bytes_eq}
 use Rattle.std.proofs.lemmas.Bool.{eqb-true, leb-true, le-leb}
-use Rattle.std.proofs.lemmas.Str.{IsUtf8-from_is_utf8, is_utf8-from_IsUtf8}
 use Rattle.std.proofs.lemmas.Slice.Eq.{bytes_eq-Decides}
 use Rattle.serde_json.specs.Data.{Data, string, array}
 use Rattle.serde_json.specs.Find.{as_str}
-use Rattle.serde_json.specs.Read.{read}
 use Rattle.serde_json.specs.View.{items_of}
 use Rattle.documents.specs.Json.{elements, five, six, integer, is_one}
 use Rattle.documents.specs.FirstFault.{first}
@@ -33,9 +31,9 @@ use Rattle.row_text.specs.declared.form.DigestForm.{DigestForm}
 use Rattle.row_text.specs.declared.form.DigestForm.TheVariants.{Rows, Partitions}
 use Rattle.setup.specs.declared.document.SetupDocument.{SetupDocument}
 use Rattle.setup.specs.Faults.{is_memory}
-use Rattle.setup.specs.FirstFault.{InForm, InDocument, BreaksFirst, rows_faults}
+use Rattle.setup.specs.FirstFault.{InForm, InDocument, rows_faults}
 use Rattle.setup.specs.Rows.{RowAt}
-use Rattle.setup.specs.Says.{name_of, SaysRows, SpellsFirst, SpellsSecond, SpellsThird, SpellsSetup, SaysDocument, IsJson, SaysSetup}
+use Rattle.setup.specs.Says.{name_of, SaysRows, SpellsFirst, SpellsSecond, SpellsThird, SpellsSetup, SaysDocument}
 use Rattle.setup.specs.Setups.{SetupParts, SetupShape, first_parts, second_parts, third_parts, form_named, is_two, is_three, retries_of, seven, setup_form, setup_view}
 
 -- ---- the outer form
@@ -336,45 +334,9 @@ no_break d form tables e only c p r fault (inr (other, is, h)) = by (subst (λ (
     by (inr (inr h)) =
         nothing_first (rows_faults h.tables form.rows) fault (ap (λ (ts : List TableShape). rows_faults ts form.rows) (are h.tables h.is_catalogue h.catalogue) ∙ r) h.is_first
 
--- ---- texts
+-- ---- faults
 
-pub not_utf8 : (text : List ℕ) → (IsUtf8 text → ⊥) → is_utf8 text ≡ false
-not_utf8 text never = by (is_utf8 text) refl
-  where
-    by : (b : Bool) → is_utf8 text ≡ b → is_utf8 text ≡ false
-    by false e = e
-    by true e = absurd (never (IsUtf8-from_is_utf8 text e))
-
-pub says_nothing : {B : Type 0} (text : List ℕ) (s : SetupShape) → (IsUtf8 text → ⊥) → SaysSetup text s → B
-says_nothing text s never says = absurd (never (IsUtf8-from_is_utf8 text says.1.utf8))
-
-json_of : (text bytes : List ℕ) (d : Data) → bytes ≡ text → IsUtf8 text → read bytes ≡ Some d → IsJson text d
-json_of text bytes d same utf8 e = record { utf8 = is_utf8-from_IsUtf8 text utf8; json = ap read (sym same) ∙ e }
-
-pub text_found : (text bytes : List ℕ) (d : Data) (r : Result SetupDocument SetupFault) → bytes ≡ text → IsUtf8 text → read bytes ≡ Some d → IfOk r (λ s. SaysDocument d (setup_view s)) → IfOk r (λ s. SaysSetup text (setup_view s))
-text_found text bytes d (Ok s) same utf8 e h = (d, json_of text bytes d same utf8 e, h)
-text_found text bytes d (Err f) same utf8 e h = tt
-
-pub text_first : (text bytes : List ℕ) (d : Data) (r : Result SetupDocument SetupFault) → bytes ≡ text → IsUtf8 text → read bytes ≡ Some d → IfErr r (λ f. is_memory f ≡ false → InDocument d f) → IfErr r (λ f. is_memory f ≡ false → BreaksFirst text f)
-text_first text bytes d (Ok s) same utf8 e h = tt
-text_first text bytes d (Err f) same utf8 e h = λ known. inr (d, json_of text bytes d same utf8 e, h known)
-
-pub text_unbroken : (text bytes : List ℕ) (d : Data) (r : Result SetupDocument SetupFault) → bytes ≡ text → IsUtf8 text → read bytes ≡ Some d
-    → OnOk r ((fault : SetupFault) → InDocument d fault → ⊥) → OnOk r ((fault : SetupFault) → BreaksFirst text fault → ⊥)
-text_unbroken text bytes d (Ok s) same utf8 e h = λ fault there. by fault there
-  where
-    json : IsJson text d
-    json = json_of text bytes d same utf8 e
-
-    is : (x y : Data) → Some x ≡ Some y → x ≡ y
-    is x y q = cc
-
-    by : (fault : SetupFault) → BreaksFirst text fault → ⊥
-    by fault (inl (is_fault, inl not)) = let g = sym json.utf8 ∙ not in cc
-    by fault (inl (is_fault, inr none)) = let g = sym json.json ∙ none in cc
-    by fault (inr (other, says, h2)) = h fault (subst (λ (x : Data). InDocument x fault) (is other d (sym says.json ∙ json.json)) h2)
-text_unbroken text bytes d (Err f) same utf8 e h = tt
-
+-- a text that breaks no rule is refused for want of memory alone
 pub unbroken : {P : Type 0} (e : SetupFault) → (is_memory e ≡ false → P) → (P → ⊥) → is_memory e ≡ true
 unbroken e h never = by (is_memory e) refl
   where

@@ -3,7 +3,8 @@
 //!
 //! Proved, by `read_setup` and `read_rows`: what is read is what the text says, and what it says is read; the fault is
 //! that of the first rule that is broken, all before it being well formed; a text that is read breaks none, and one
-//! that breaks none is read. `row_faults_are_told_apart`: each fault of a row by what is wrong with the row.
+//! that breaks none is read. `read_setup_with_rows`: the same of a setup's text and of a rows' text, whose document is
+//! in place of the setup's own rows. `row_faults_are_told_apart`: each fault of a row by what is wrong with the row.
 //!
 //! Tested only: fault texts.
 #![tactic(auto)]
@@ -18,7 +19,7 @@ mod rows;
 pub use document::SetupDocument;
 pub use fault::SetupFault;
 pub use laws::{one_setup_is_said, row_faults_are_told_apart};
-pub use reading::read_setup;
+pub use reading::{read_setup, read_setup_with_rows};
 pub use requests::Setup;
 pub use row_text::DigestForm;
 pub use rows::read_rows;

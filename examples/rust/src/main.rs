@@ -37,7 +37,7 @@ fn told(fault: Fault) -> ExitCode {
     let status = match fault {
         Fault::Setup(_) | Fault::Line(_) => 1,
         Fault::Log { number, .. } if number != 37 => 1,
-        Fault::Misused => 2,
+        Fault::Misused | Fault::NoTable => 2,
         Fault::Log { .. } | Fault::NoMemory => 3,
     };
     eprintln!("{fault}");

@@ -20,6 +20,7 @@ lines-init g c = record {
   counted = search rules;
   stays = λ h. h;
   fails = λ h. refl;
+  goes_on = λ h e. e;
 }
 
 pub returns-in-Ok-None-clause-end : goal.returns-in-Ok-None-clause-end
@@ -69,6 +70,7 @@ lines-preserved g c =
       counted = search rules;
       stays = λ h. search rules;
       fails = λ h. search rules;
+      goes_on = λ h e. search rules;
     }
 
 -- ---- which bytes are taken

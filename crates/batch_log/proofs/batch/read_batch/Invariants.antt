@@ -1,7 +1,7 @@
-use Rattle.std.proofs.Common.{◌≡◌, ◌≤◌, ◌+◌, ◌-◌, None, length, vec_len}
+use Rattle.std.proofs.Common.{◌≡◌, ◌≤◌, ◌+◌, ◌-◌, false, None, length, vec_len}
 use Rattle.std.specs.List.{AllByRecursion}
 use Rattle.devices.specs.Devices.{Passes}
-use Rattle.devices.specs.LineReader.{fault_of, newlines_taken, position_of, source_name, source_of, unread}
+use Rattle.devices.specs.LineReader.{failed_in, fault_of, has_ended, newlines_taken, origin_of, position_of, unread}
 use Rattle.batch_log.specs.Lines.{lines_said}
 use Rattle.batch_log.specs.Log.{limited, log_said, most_calls}
 use Rattle.batch_log.specs.Moves.{Moves}
@@ -11,7 +11,7 @@ use Rattle.batch_log.proofs.batch.read_batch.Given as goal
 
 abbrev pub invariant-lines : goal.invariant-lines
 invariant-lines g l = record {
-  same : source_name l.lines ≡ source_name l.initial.lines;
+  same : origin_of l.lines ≡ origin_of l.initial.lines;
   taken : Passes (λ xs ys. Reads (log_said l.retries l.procs.procs (newlines_taken l.initial.lines) l.initial.total xs) l.calls.items
       (limited l.retries (length l.calls.items) l.total (lines_said l.procs.procs (newlines_taken l.lines) ys)))
       (unread g.S.Source.left l.initial.lines) (unread g.S.Source.left l.lines);
@@ -22,7 +22,8 @@ invariant-lines g l = record {
   room : l.total ≤ most_calls l.retries;
   counted : l.total ≡ l.initial.total + length l.calls.items;
   stays : fault_of l.initial.lines ≡ None → fault_of l.lines ≡ None;
-  fails : fault_of l.initial.lines ≡ None → g.S.Source.failed (source_of l.lines) ≡ g.S.Source.failed (source_of l.initial.lines);
+  fails : fault_of l.initial.lines ≡ None → failed_in g.S.Source.failed l.lines ≡ failed_in g.S.Source.failed l.initial.lines;
+  goes_on : fault_of l.initial.lines ≡ None → has_ended l.initial.lines ≡ false → has_ended l.lines ≡ false;
 }
 
 abbrev pub decreases-lines : goal.decreases-lines

@@ -4,22 +4,20 @@ use Rattle.calvin.proofs.commands.command.Goals as goal
 pub returns-in-Check : goal.returns-in-Check
 returns-in-Check g c = record {
   run = rw c.in-Check.is tt;
-  follow = rw c.in-Check.is tt;
   rows = rw c.in-Check.is tt;
   filter = rw c.in-Check.is tt;
   locks = rw c.in-Check.is tt;
   replicas = rw c.in-Check.is tt;
-  check = rw (c.in-Check.is, ← c.deref-in-Check.ensures) c.check.ensures;
+  check = rw c.in-Check.is c.check.ensures;
   unread = rw c.in-Check.is refl;
 }
 
 pub returns-in-Locks : goal.returns-in-Locks
 returns-in-Locks g c = record {
   run = rw c.in-Locks.is tt;
-  follow = rw c.in-Locks.is tt;
   rows = rw c.in-Locks.is tt;
   filter = rw c.in-Locks.is tt;
-  locks = rw (c.in-Locks.is, ← c.deref-in-Locks.ensures) c.locks.ensures;
+  locks = rw c.in-Locks.is c.locks.ensures;
   replicas = rw c.in-Locks.is tt;
   check = rw c.in-Locks.is tt;
   unread = rw c.in-Locks.is tt;
@@ -28,9 +26,8 @@ returns-in-Locks g c = record {
 pub returns-in-Filter : goal.returns-in-Filter
 returns-in-Filter g c = record {
   run = rw c.in-Filter.is tt;
-  follow = rw c.in-Filter.is tt;
   rows = rw c.in-Filter.is tt;
-  filter = rw (c.in-Filter.is, ← c.deref-in-Filter.ensures) c.filter.ensures;
+  filter = rw (c.in-Filter.is, ← c.deref.ensures) c.filter.ensures;
   locks = rw c.in-Filter.is tt;
   replicas = rw c.in-Filter.is tt;
   check = rw c.in-Filter.is tt;
@@ -40,8 +37,7 @@ returns-in-Filter g c = record {
 pub returns-in-Rows : goal.returns-in-Rows
 returns-in-Rows g c = record {
   run = rw c.in-Rows.is tt;
-  follow = rw c.in-Rows.is tt;
-  rows = rw (c.in-Rows.is, ← c.deref-in-Rows.ensures, ← c.options_of-options-in-Rows.ensures) c.rows.ensures;
+  rows = rw (c.in-Rows.is, ← c.options_of-options-in-Rows.ensures.0, ← c.options_of-options-in-Rows.ensures.1) c.rows.ensures;
   filter = rw c.in-Rows.is tt;
   locks = rw c.in-Rows.is tt;
   replicas = rw c.in-Rows.is tt;

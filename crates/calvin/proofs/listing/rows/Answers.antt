@@ -7,8 +7,8 @@ list-requires-clause-place g c = λ κs bounds. place_within c.in-Ok.document.se
 
 pub returns-in-Err-place_of : goal.returns-in-Err-place_of
 returns-in-Err-place_of g c =
-    let none = not_there c.in-Ok.document.setup.catalogue (option_map string_bytes c.args.table.now) c.in-Err-place_of.ensures.status.1 in
+    let none = not_there c.in-Ok.document.setup.catalogue (option_map string_bytes c.args.listing.now.table) c.in-Err-place_of.ensures.status.1 in
     inr (c.in-Ok.document, c.in-Ok.ensures.setup, inl ((c.in-Err-place_of.ensures.status.0, none.0, none.1, none.2), refl, refl))
 
 pub returns : goal.returns
-returns g c = inr (c.in-Ok.document, c.in-Ok.ensures.setup, inr (c.list.ensures (option_map string_bytes c.args.table.now) c.in-Ok-place_of.ensures.place))
+returns g c = inr (c.in-Ok.document, c.in-Ok.ensures.setup, inr (c.list.ensures (option_map string_bytes c.args.listing.now.table) c.in-Ok-place_of.ensures.place))

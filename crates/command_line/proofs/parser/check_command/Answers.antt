@@ -1,20 +1,11 @@
-use Rattle.std.proofs.Common.{◌≡◌, false, ap, ap₂, ◌∙◌, codes}
+use Rattle.std.proofs.Common.{◌≡◌, ap, ap₂, ◌∙◌}
 use Rattle.std.proofs.lemmas.Result.{IfOk-weaker}
-use Rattle.clap.specs.Simple.{app_of_fields}
-use Rattle.clap.specs.Words.{app_of, new_app, with_rule}
-use Rattle.clap.specs.declared.builder.command.Command.TheViews.{out-Command as fields_of}
-use Rattle.command_line.specs.Words.{check_app, with_settings}
+use Rattle.clap.specs.Words.{with_rule}
+use Rattle.command_line.specs.Words.{check_app, with_input, with_settings}
 use Rattle.command_line.proofs.Locals.{stays_local}
 use Rattle.command_line.proofs.parser.check_command.Goals as goal
 
 pub returns-clause-app : goal.returns-clause-app
 unfolding check_app
 returns-clause-app c =
-    let named : app_of c.after_help.result ≡ new_app (codes "check") = ap app_of_fields c.after_help.ensures ∙ ap app_of_fields c.about.ensures ∙ c.new.ensures.app in
-    let first = c.in_ok-command.ensures.shape c.required_word-setup.ensures.local ∙ ap₂ with_rule named c.required_word-setup.ensures.rule in
-    IfOk-weaker c.with_settings.result _ _ (λ r h. h ∙ ap with_settings first) c.with_settings.ensures.app
-
-pub with_settings-requires : goal.with_settings-requires
-with_settings-requires c =
-    let named : (fields_of c.after_help.result).has_globals ≡ false = ap (λ f. f.has_globals) c.after_help.ensures ∙ ap (λ f. f.has_globals) c.about.ensures ∙ c.new.ensures.local in
-    stays_local _ _ _ named c.required_word-setup.ensures.local c.in_ok-command.ensures
+    IfOk-weaker c.with_settings.result _ _ (λ r h. h ∙ ap with_settings (c.in_ok-command.ensures.app ∙ ap with_input c.bare_command-command.ensures.app)) c.with_settings.ensures.app

@@ -1,26 +1,19 @@
-use Rattle.std.proofs.Common.{◌≡◌, false, ap, ap₂, ◌∙◌, codes}
+use Rattle.std.proofs.Common.{◌≡◌, ap, ap₂, ◌∙◌}
 use Rattle.std.proofs.lemmas.Result.{IfOk-weaker}
-use Rattle.clap.specs.Simple.{app_of_fields}
-use Rattle.clap.specs.Words.{app_of, new_app, with_rule}
-use Rattle.clap.specs.declared.builder.command.Command.TheViews.{out-Command as fields_of}
-use Rattle.command_line.specs.Words.{rows_app, with_settings}
+use Rattle.clap.specs.Words.{with_rule}
+use Rattle.command_line.specs.Words.{rows_app, with_input, with_running, with_settings}
 use Rattle.command_line.proofs.Locals.{stays_local}
 use Rattle.command_line.proofs.parser.rows_command.Goals as goal
 
 pub returns-clause-app : goal.returns-clause-app
 unfolding rows_app
 returns-clause-app c =
-    let named : app_of c.after_help.result ≡ new_app (codes "rows") = ap app_of_fields c.after_help.ensures ∙ ap app_of_fields c.about.ensures ∙ c.new.ensures.app in
-    let first = c.in_ok-arg.ensures.shape c.required_word-setup.ensures.local ∙ ap₂ with_rule named c.required_word-setup.ensures.rule in
-    let second = c.in_ok-arg-2.ensures.shape c.alone_option-alone.ensures.local ∙ ap₂ with_rule first c.alone_option-alone.ensures.rule in
-    let third = c.in_ok-arg-3.ensures.shape c.progress_option-progress.ensures.local ∙ ap₂ with_rule second c.progress_option-progress.ensures.rule in
-    let fourth = c.in_ok-command.ensures.shape c.text_option-table.ensures.local ∙ ap₂ with_rule third c.text_option-table.ensures.rule in
+    let first = c.in_ok-command.ensures.app ∙ ap with_input c.bare_command-command.ensures.app in
+    let second = c.in_ok-with_running.ensures.app ∙ ap with_running first in
+    let third = c.in_ok-arg.ensures.shape c.text_option-table.ensures.local ∙ ap₂ with_rule second c.text_option-table.ensures.rule in
+    let fourth = c.in_ok-command-2.ensures.shape c.flag_option-document.ensures.local ∙ ap₂ with_rule third c.flag_option-document.ensures.rule in
     IfOk-weaker c.with_settings.result _ _ (λ r h. h ∙ ap with_settings fourth) c.with_settings.ensures.app
 
 pub with_settings-requires : goal.with_settings-requires
 with_settings-requires c =
-    let named : (fields_of c.after_help.result).has_globals ≡ false = ap (λ f. f.has_globals) c.after_help.ensures ∙ ap (λ f. f.has_globals) c.about.ensures ∙ c.new.ensures.local in
-    let first = stays_local _ _ _ named c.required_word-setup.ensures.local c.in_ok-arg.ensures in
-    let second = stays_local _ _ _ first c.alone_option-alone.ensures.local c.in_ok-arg-2.ensures in
-    let third = stays_local _ _ _ second c.progress_option-progress.ensures.local c.in_ok-arg-3.ensures in
-    stays_local _ _ _ third c.text_option-table.ensures.local c.in_ok-command.ensures
+    stays_local _ _ _ (stays_local _ _ _ c.in_ok-with_running.ensures.local c.text_option-table.ensures.local c.in_ok-arg.ensures) c.flag_option-document.ensures.local c.in_ok-command-2.ensures

@@ -7,7 +7,7 @@ use Rattle.sequencer.specs.declared.batch.Batch.{Batch}
 use Rattle.sequencer.specs.Attempts.{Attempt}
 use Rattle.sequencer.specs.Batches.{items_of, items_from}
 use Rattle.report_text.specs.Report.{reply_lines}
-use Rattle.retries.specs.Standings.{replies_at, transactions_at}
+use Rattle.retries.specs.Standings.{attempts_at, replies_at, transactions_at}
 use Rattle.engine.specs.declared.replies.BatchDone.{BatchDone}
 use Rattle.engine.specs.declared.replies.Reply.{Reply}
 use Rattle.engine.specs.Batches.{next_attempts}
@@ -44,15 +44,18 @@ returns-in-Ok-write_batch-clause-reported g c =
     ap said_lines c.deref.ensures.value ∙ lines_are _ _ c.in-Ok.batch c.in-Ok-execute.done requests run items in
     let text : with_batch_line (form_of c.args.transcript.now) (batch_of c.args.transcript.now) (tables_of new) new.rows (said_lines c.deref.result.now) ≡ due_text old c.args.transcript.now requests =
     batch_text_is _ _ c.in-Ok.batch c.in-Ok-execute.done requests _ _ _ _ _ run c.in-Ok-execute.ensures.same items refl refl c.deref.ensures.value in
-    subst (λ e. IsReported old (g.E.BatchEngine.parts e) c.args.transcript.now c.write_batch.new.self (g.K.Sink.taken c.args.sink.now) (g.K.Sink.taken c.write_batch.new.sink) requests) (sym c.write_batch.ensures.same)
-    (record {
-      idle = c.in-Ok-execute.ensures.idle;
-      standing = standing_is _ _ c.in-Ok.batch c.in-Ok-execute.done requests run items;
-      batch = written.added.batch;
-      said = λ m h. rw (← lines) (written.added.said m h);
-      text = rw (← text) written.text;
-      digest_kept = digest_of_rows new c.write_batch.new.self _ _ _ written.rows c.in-Ok-write_batch.ensures.form refl refl;
-    })
+    subst (λ e. IsReported old (g.E.BatchEngine.parts e) c.args.transcript.now c.write_batch.new.self (g.K.Sink.taken c.args.sink.now) (g.K.Sink.taken c.write_batch.new.sink) requests
+    × IsExecutionOf old (g.E.BatchEngine.parts e) (attempts_at (standing_of old) requests) c.in-Ok-execute.done) (sym c.write_batch.ensures.same) (
+      record {
+        idle = c.in-Ok-execute.ensures.idle;
+        standing = standing_is _ _ c.in-Ok.batch c.in-Ok-execute.done requests run items;
+        batch = written.added.batch;
+        said = λ m h. rw (← lines) (written.added.said m h);
+        text = rw (← text) written.text;
+        digest_kept = digest_of_rows new c.write_batch.new.self _ _ _ written.rows c.in-Ok-write_batch.ensures.form refl refl;
+      },
+      rw (attempts_are old c.in-Ok.batch requests items) at run,
+    )
 
 front_is : (old new : EngineParts) (t : Transcript) (batch : Batch) (run : BatchDone) (requests : List Call) (given : List TableShape) (rows : Database) (replies : List Reply) (sink filled : Option (List ℕ)) →
     IsExecutionOf old new (next_attempts old batch) run → KeepsSetting old new → items_of batch ≡ items_from 0 requests → given ≡ tables_of new → rows ≡ new.rows → replies ≡ run.replies.items →
@@ -65,8 +68,8 @@ returns-in-Ok-write_batch-clause-front g c =
     front_is _ _ c.args.transcript.now c.in-Ok.batch c.in-Ok-execute.done c.args.requests.items _ _ _ _ _ c.in-Ok-execute.ensures.done c.in-Ok-execute.ensures.same c.in-Ok.ensures.items
     refl refl c.deref.ensures.value c.write_batch.ensures.front
 
-pub returns-clause-front : goal.returns-clause-front
-returns-clause-front g c =
+pub returns-in-Err-write_batch-clause-front : goal.returns-in-Err-write_batch-clause-front
+returns-in-Err-write_batch-clause-front g c =
     front_is _ _ c.args.transcript.now c.in-Ok.batch c.in-Ok-execute.done c.args.requests.items _ _ _ _ _ c.in-Ok-execute.ensures.done c.in-Ok-execute.ensures.same c.in-Ok.ensures.items
     refl refl c.deref.ensures.value c.write_batch.ensures.front
 

@@ -48,7 +48,7 @@ loop-turn-preserved g c =
     let new = g.E.BatchEngine.parts c.run_batch.new.engine in
     let was = c.loop-turn.invariant in
     let same = c.in-Ok.ensures.same in
-    let reported = rw c.new-none.ensures.items at c.in-Ok.ensures.reported in
+    let reported = rw c.new-none.ensures.items at c.in-Ok.ensures.reported.0 in
     record {
       same = record {
         procs = same.procs ∙ was.same.procs;

@@ -24,8 +24,7 @@ use Rattle.std_heap.specs.contracts.Global as HP
 use Rattle.std_heap.specs.contracts.GlobalAllocator.TheImpl.{ghosts}
 use Rattle.std_heap.proofs.Handle.{heap_val, heap_Tells}
 use Rattle.std_alloc.specs.Box.Ownership.{box_owns}
-use Rattle.session.specs.contracts.session.Session as session
-use Rattle.calvin_c.specs.contracts.loose.Loose as loose
+use Rattle.calvin_c.specs.contracts.opened.Opened as opened
 use Rattle.calvin_c.specs.contracts.handle.Handle as handle
 use Rattle.calvin_c.proofs.Values.{both, made_loose}
 use Rattle.calvin_c.specs.contracts.handle.Handle.loosen.{ended, clauses}
@@ -40,7 +39,7 @@ abbrev Z : RattleType
 Z = HP.the_row
 
 abbrev R : RattleType
-R = session.the_row
+R = opened.the_row
 
 abbrev one : Val → Val
 one v = vstruct (vcons v vnil)
@@ -56,8 +55,8 @@ loosen_spec 𝓤 𝓛 𝓜 𝓡 wired =
     let Post : Val → SProp 𝓤 = (walk_of 𝓛 ended stayed c).post z in let Run : List Val → SProp 𝓤 = λ ws. WpFn 𝓤 𝓛.H 𝓣.C 𝓣.Λ fn ws Post in
     let asked = raw ((c z.0.0 z.0.3).requires z.1) in
     qed 𝓛 ((‵ ftrue ⊛ ‵ (owns (types_at ended.signature.params z.0.0) z.0.3 z.0.4)) ∷ asked ∷ []) ∵ split ! $ move ! (1 ∷ []) $ fsplit ! $
-    fsplit ! $ fpick ! (λ vss. fsplit ! $ feq_l ! (λ ev. fsplit ! $ feq_l ! (λ ep. drop ! $ fpick ! (λ given. fpick ! (λ x.
-    in_a_block ! d.at (λ p. box_owns (ghosts.dealloc_token a) R p x) (fst∗ 𝓤 (never 𝓤) (sem 𝓛 (ghosts.dealloc_token a (bare (lone R.mir)) null_ptr))) (λ b o e.
+    fsplit ! $ fpick ! (λ vss. fsplit ! $ feq_l ! (λ ev. fsplit ! $ feq_l ! (λ ep. drop ! $ fpick ! (λ given.
+    in_a_block ! d.at (λ p. box_owns (ghosts.dealloc_token a) R p d.opened) (fst∗ 𝓤 (never 𝓤) (sem 𝓛 (ghosts.dealloc_token a (bare (lone R.mir)) null_ptr))) (λ b o e.
     move ! (1 ∷ []) $ fsplit ! $ peeks ! Z (Is Z) (shows 𝓛 Z) a z.0.4.1.0 (λ is.
     let ws : z.0.4.1.0 ≡ heap_val ∷ [] = heap_Tells a z.0.4.1.0 is in
     let vs : z.0.4.0 ≡ one (vptr b o) ∷ [] = ev ∙ (λ j. vstruct (of_list ((ep ∙ ap (λ (p : Ptr). ptr_val p ∷ []) e) j ++ [])) ∷ []) in
@@ -68,6 +67,6 @@ loosen_spec 𝓤 𝓛 𝓜 𝓡 wired =
     sets ! (of_opd ! (get_in ! (fld ! refl (stop !)) (sub ! 0 refl (whole !)))) refl (tt, tt) $
     sets ! (of_opd ! (get ! refl)) refl (tt, tt) $
     sets ! (agg ! (and_then ! (get ! refl) (and_then ! (get ! refl) (no_more !)))) refl (tt, (tt, (((tt, tt), tt), tt))) $
-    move ! (2 ∷ 0 ∷ []) $ made_loose R Z ghosts ! b o heap_val a x $ nothing ! $ nothing ! $ fjoin ! $ nothing ! $ fjoin ! $
+    move ! (2 ∷ 0 ∷ []) $ made_loose R Z ghosts ! b o heap_val a d.opened $ nothing ! $ nothing ! $ fjoin ! $ nothing ! $ fjoin ! $
     returns ! (look_at ! 0 refl) $ free_all ! refl $ keep ! (3 ∷ 0 ∷ 1 ∷ 4 ∷ []) $
-    by ! (leaves 𝓛 ended stayed c z (both (vptr b o) heap_val) (record { at = block_ptr b o; alloc = a; value = x }) (tt, (tt, tt)) (tt, (tt, tt))))))))))))
+    by ! (leaves 𝓛 ended stayed c z (both (vptr b o) heap_val) (record { at = block_ptr b o; alloc = a; value = d.opened }) (tt, (tt, tt)) (tt, (tt, tt)))))))))))

@@ -1,8 +1,8 @@
-use Rattle.std.proofs.Common.{◌≡◌, ◌∙◌, ◌<◌, [], ap, append-nil, false, true, length, refl, rules, arith}
+use Rattle.std.proofs.Common.{◌≡◌, ℕ, List, Bool, Option, ◌∙◌, ◌<◌, [], ap, append-nil, false, true, length, refl, rules, arith}
 use Rattle.std.proofs.KnownBytes.{Consumes-kept}
 use Rattle.std.proofs.lemmas.Bool.{both_ways}
 use Rattle.std.proofs.lemmas.List.{nil_from_length}
-use Rattle.devices.specs.LineReader.{came, position_of, source_of}
+use Rattle.devices.specs.LineReader.{came, has_ended, left_in, position_of, IsFeedEnd}
 use Rattle.devices.specs.Lines.{has_newline}
 use Rattle.devices.proofs.Passing.{Passes-at_end}
 use Rattle.devices.proofs.Pieces.{came_some, grown_longer, grown_taken, grown_whole, more_taken, piece_as}
@@ -34,7 +34,7 @@ returns-then-self-clause-numbered g c =
 pub returns-in-Ok-true-clause-line : goal.returns-in-Ok-true-clause-line
 returns-in-Ok-true-clause-line g c =
     line_taken _ _ (position_of c.args.self.now) _ _ _ (grown_whole true _ _ _ _ c.pieces.invariant.line (piece_as _ true _ _ _ _ c.in-Ok-true.field-0-test c.in-Ok-true.ensures.piece))
-    (grown_taken _ _ _ (g.S.Source.left (source_of c.fill.new.self)) (g.S.Source.left (source_of c.take_piece.new.self)) (came c.fill.new.self) (came c.take_piece.new.self) _ _
+    (grown_taken _ _ _ (left_in g.S.Source.left c.fill.new.self) (left_in g.S.Source.left c.take_piece.new.self) (came c.fill.new.self) (came c.take_piece.new.self) _ _
     c.pieces.invariant.taken c.fill.ensures.bytes (search rules) (piece_as _ true _ _ _ _ c.in-Ok-true.field-0-test c.in-Ok-true.ensures.piece)) (search rules) (search rules)
 
 pub returns-in-Ok-true-clause-numbered : goal.returns-in-Ok-true-clause-numbered
@@ -49,7 +49,7 @@ pieces-preserved g c =
     record {
       same = search rules;
       stays = search rules;
-      taken = rw append-nil at (grown_taken _ _ _ (g.S.Source.left (source_of c.fill.new.self)) (g.S.Source.left (source_of c.take_piece.new.self)) (came c.fill.new.self) (came c.take_piece.new.self) _ _
+      taken = rw append-nil at (grown_taken _ _ _ (left_in g.S.Source.left c.fill.new.self) (left_in g.S.Source.left c.take_piece.new.self) (came c.fill.new.self) (came c.take_piece.new.self) _ _
           c.pieces.invariant.taken c.fill.ensures.bytes (search rules) (piece_as _ false _ _ _ _ c.in-Ok-false.field-0-test c.in-Ok-false.ensures.piece));
       line = grown_whole false _ _ _ _ c.pieces.invariant.line (piece_as _ false _ _ _ _ c.in-Ok-false.field-0-test c.in-Ok-false.ensures.piece);
       newlines = search rules;
@@ -60,6 +60,7 @@ pieces-preserved g c =
           let kept = c.fill.ensures.late (came_some c.pieces.self.buffer c.pieces.self.start c.pieces.self.end before) in
           absurd (both_ways _ (piece.all refl).0 (ap has_newline kept.2 ∙ before));
       fails = search rules;
+      goes_on = λ h. search rules;
     }
 
 pub pieces-smaller : goal.pieces-smaller
@@ -71,5 +72,32 @@ pub returns-in-Err-clause-lost : goal.returns-in-Err-clause-lost
 returns-in-Err-clause-lost g c =
     let lost = c.in-Err.ensures.lost in
     piece_lost _ _ (position_of c.args.self.now) (position_of c.take_piece.new.self) _ lost.piece c.pieces.invariant.line lost.whole lost.some (search rules) (search rules)
-    (more_taken _ _ (g.S.Source.left (source_of c.fill.new.self)) (g.S.Source.left (source_of c.take_piece.new.self)) (came c.fill.new.self) (came c.take_piece.new.self) _ _
+    (more_taken _ _ (left_in g.S.Source.left c.fill.new.self) (left_in g.S.Source.left c.take_piece.new.self) (came c.fill.new.self) (came c.take_piece.new.self) _ _
     c.pieces.invariant.taken c.fill.ensures.bytes (search rules) lost.taken) (search rules)
+
+-- a feed that was read on has not ended
+stays : (before now : Bool) (left : Option (List ℕ)) → (before ≡ false → now ≡ true → IsFeedEnd false left) → before ≡ false → now ≡ false
+stays before now left h began = elim now as (λ b. (b ≡ true → IsFeedEnd false left) → b ≡ false) [
+  | true ↦ λ k. absurd (both_ways false refl (k refl).0)
+  | false ↦ λ k. refl
+] (h began)
+
+pub returns-in-Ok-true-clause-tells : goal.returns-in-Ok-true-clause-tells
+returns-in-Ok-true-clause-tells g c =
+    let goes_on : has_ended c.args.self.now ≡ false → has_ended c.take_piece.new.self ≡ false = λ began. search rules in
+    record {
+      place = tt;
+      spent = λ e. absurd (both_ways false refl e);
+      fails = search rules;
+      end = λ began ended. absurd (both_ways _ (goes_on began) ended);
+    }
+
+pub returns-in-Err-clause-tells : goal.returns-in-Err-clause-tells
+returns-in-Err-clause-tells g c =
+    let goes_on : has_ended c.args.self.now ≡ false → has_ended c.take_piece.new.self ≡ false = λ began. search rules in
+    record {
+      place = search rules;
+      spent = λ e. absurd (both_ways false refl e);
+      fails = search rules;
+      end = λ began ended. absurd (both_ways _ (goes_on began) ended);
+    }

@@ -1,4 +1,4 @@
 use Rattle.session.proofs.session.Session.feed.Goals as goal
 
 pub returns-in-Err-clause-fault : goal.returns-in-Err-clause-fault
-returns-in-Err-clause-fault c = λ start fed drained more h. c.in-Err.ensures.fault start fed drained more h.run
+returns-in-Err-clause-fault c = λ start fed drained more passed h. c.in-Err.ensures.fault start fed drained more passed h.run

@@ -48,19 +48,21 @@ returns-in-Err-clause-ready c =
     }
 
 pub returns-in-Ok-clause-taken : goal.returns-in-Ok-clause-taken
-returns-in-Ok-clause-taken c = λ start fed drained h.
+returns-in-Ok-clause-taken c = λ start fed drained passed h.
     let e : c.procs.result.now ≡ start.procs = c.procs.ensures ∙ h.reported.procs_are in
     record {
       ended = h.ended;
       limit = ap (λ (p : Place). p.retries) c.in-Ok.ensures.taken.2 ∙ h.limit;
       at = (rw e at c.in-Ok.ensures.place) h.ended fed h.at;
       reported = h.reported;
+      replied = h.replied;
     }
 
 pub returns-in-Err-clause-err : goal.returns-in-Err-clause-err
-returns-in-Err-clause-err c = λ start fed drained h. record {
+returns-in-Err-clause-err c = λ start fed drained passed h. record {
   ended = h.ended;
   limit = ap (λ (p : Place). p.retries) c.in-Err.ensures.err ∙ h.limit;
   at = subst (λ (p : Place). IsAt start.procs p h.ended (fed ++ [])) (sym c.in-Err.ensures.err) (rw (append-nil fed) h.at);
   reported = h.reported;
+  replied = h.replied;
 }

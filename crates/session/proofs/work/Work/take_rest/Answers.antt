@@ -1,20 +1,17 @@
-use Rattle.std.proofs.Common.{◌++◌, [], Some, ap}
-use Rattle.batch_log.specs.declared.fault.LogFault.{LogFault}
-use Rattle.session.specs.Reports.{waiting_in}
-use Rattle.session.proofs.Closed.{cut_begins}
-use Rattle.session.proofs.Runs.{stopped_with}
+use Rattle.session.proofs.Told.{keeps_onward}
+use Rattle.session.proofs.Runs.{keeps_setting, on_err, on_ok}
 use Rattle.session.proofs.work.Work.take_rest.Goals as goal
 
-pub returns-in-Ok-run_closing_batches-clause-whole : goal.returns-in-Ok-run_closing_batches-clause-whole
-returns-in-Ok-run_closing_batches-clause-whole c = λ start fed drained h.
-    let read = c.in-Ok.ensures.whole start fed drained h in
-    let closed = c.run_closing_batches.ensures.closed start read.ended (Some []) drained read.reported in
-    record { ended = read.ended; whole = read.whole; reported = rw c.in-Ok-run_closing_batches.is at closed.reported }
+pub returns-in-Ok-clause-whole : goal.returns-in-Ok-clause-whole
+returns-in-Ok-clause-whole c = on_ok c.close.result _ _ c.close.ensures.whole
+    (λ closes start fed drained passed h. closes start fed drained passed (c.in-Ok.ensures.whole start fed drained passed h))
 
-pub returns-in-Err-run_closing_batches-clause-fault : goal.returns-in-Err-run_closing_batches-clause-fault
-returns-in-Err-run_closing_batches-clause-fault c = λ start fed drained h.
-    let read = c.in-Ok.ensures.whole start fed drained h in
-    let closed = c.run_closing_batches.ensures.closed start read.ended (Some []) drained read.reported in
-    let cut = rw c.in-Err-run_closing_batches.is at closed.stop in
-    stopped_with start fed (drained ++ waiting_in c.run_closing_batches.new.sink) c.no_memory.result (ap (λ (f : LogFault). f.kind) c.no_memory.ensures)
-    (cut_begins start fed _ read.ended read.whole c.in-Err-run_closing_batches.field-0 cut)
+pub returns-in-Ok-clause-fault : goal.returns-in-Ok-clause-fault
+returns-in-Ok-clause-fault c = on_err c.close.result _ _ c.close.ensures.fault
+    (λ fault faults start fed drained passed h. faults start fed drained passed (c.in-Ok.ensures.whole start fed drained passed h))
+
+pub returns-in-Ok-clause-replies : goal.returns-in-Ok-clause-replies
+returns-in-Ok-clause-replies c = keeps_onward _ _ _ c.take_last_batch.ensures.replies c.close.ensures.replies
+
+pub returns-in-Ok-clause-setting : goal.returns-in-Ok-clause-setting
+returns-in-Ok-clause-setting c = keeps_setting _ _ _ _ _ _ c.take_last_batch.ensures.setting c.close.ensures.setting

@@ -1,0 +1,16 @@
+use Rattle.std.proofs.Common.{refl}
+use Rattle.running.proofs.RunEnds.{nothing_run}
+use Rattle.log_runs.proofs.EngineRuns.{of_log}
+use Rattle.log_runs.proofs.executing.run_text.Goals as goal
+
+pub run_log_in_pool-ended-requires-clause-idle : goal.run_log_in_pool-ended-requires-clause-idle
+run_log_in_pool-ended-requires-clause-idle g c = λ κs bounds. rw c.in-Ok.ensures.made refl
+
+pub run_log_in_pool-ended-requires-clause-unused : goal.run_log_in_pool-ended-requires-clause-unused
+run_log_in_pool-ended-requires-clause-unused g c = λ κs bounds. rw c.in-Ok.ensures.made refl
+
+pub returns-in-Err : goal.returns-in-Err
+returns-in-Err g c = nothing_run c.in-Err.fault _ _ _ _ _ c.in-Err.ensures.refused
+
+pub returns : goal.returns
+returns g c = rw c.in-Ok.ensures.made at (of_log _ _ _ _ _ _ _ _ _ _ _ _ refl c.run_log_in_pool-ended.ensures)

@@ -1,0 +1,2 @@
+pub mod ProgressLines
+pub mod EngineRuns

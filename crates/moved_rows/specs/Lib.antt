@@ -1,0 +1,4 @@
+pub mod Stored
+pub mod Starts
+pub mod GoingOn
+pub mod CutLogs
