@@ -109,6 +109,7 @@ int32_t calvin_c_next_row(calvin_c_session *session, const uint8_t *table, size_
                           size_t *length, calvin_value *values, size_t room);
 int32_t calvin_c_rows_document(calvin_c_session *session, size_t *length);
 size_t calvin_c_drain_rows(calvin_c_session *session, uint8_t *into, size_t room);
+int32_t calvin_c_carried(calvin_c_session *session, size_t *count);
 int32_t calvin_c_digest(calvin_c_session *session, uint8_t *digits, size_t room);
 void calvin_c_close(calvin_c_session session);
 
@@ -316,6 +317,16 @@ static inline int calvin_drain_rows(calvin *session, uint8_t *into, size_t room,
     if (session == NULL || (into == NULL && room != 0)) return CALVIN_MISUSED;
     if (room != 0) *taken = calvin_c_drain_rows(&live, into, room);
     return CALVIN_DONE;
+}
+
+/* Gives how many calls the batches that have ended carry to the next one, where they are tried again: under retries 1 and 2 those that
+ * went stale, without retries none. Where it is 0 a session that is opened over the rows of this one goes on as this one. After a
+ * fault it answers CALVIN_REFUSED or CALVIN_NO_MEMORY, and `count` gets 0. The session is live. */
+static inline int calvin_carried(calvin *session, size_t *count) {
+    calvin_c_session live = {session};
+    if (count == NULL) return CALVIN_MISUSED;
+    *count = 0;
+    return session == NULL ? CALVIN_MISUSED : calvin_c_carried(&live, count);
 }
 
 /* Gives the digest of all rows, as the batches that have ended left them: 64 digits, without a null byte at their end, as R of the

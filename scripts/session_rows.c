@@ -110,6 +110,8 @@ static void require_misuse(calvin *session) {
     length = 7;
     require(calvin_drain_rows(NULL, digits, 64, &length) == CALVIN_MISUSED && length == 0, "no session has a document");
     require(calvin_drain_rows(session, digits, 64, &length) == CALVIN_DONE && length == 0, "a document waits unasked");
+    require(calvin_carried(NULL, &length) == CALVIN_MISUSED && length == 0, "no session carries a call");
+    require(calvin_carried(session, NULL) == CALVIN_MISUSED, "nobody is told what is carried");
     require(calvin_digest(NULL, digits) == CALVIN_MISUSED && digits[0] == 0, "no session has a digest");
 }
 
@@ -151,6 +153,7 @@ int main(int count, char **words) {
     require(calvin_next_reply(session, &reply) == CALVIN_NONE && reply.head.number == 0, "a reply comes twice");
     printf("\n");
     document = print_all_rows(session, words[2], &length);
+    require(calvin_carried(session, &written) == CALVIN_DONE && written == 0, "a call is carried past the end of the log");
 
     require(calvin_open_rows(setup, setup_length, document, length, CALVIN_COARSEN, CALVIN_ARENA, &other, NULL, 0, &written) ==
                 CALVIN_DONE, "the rows document is refused");

@@ -171,6 +171,7 @@ def _library():
         ("next_row", status, [session, text, size, ctypes.c_uint64, number, count, *values]),
         ("rows_document", status, [session, count]),
         ("drain_rows", size, [session, text, size]),
+        ("carried", status, [session, count]),
         ("digest", status, [session, text, size]),
         ("close", None, [_Handle]),
     ):
@@ -329,6 +330,14 @@ class Session:
         document = ctypes.create_string_buffer(length.value + 1)
         taken = _calvin.calvin_c_drain_rows(self._live(), document, length)
         return document.raw[:taken]
+
+    def carried(self):
+        """How many calls the batches that have ended carry to the next one, where they are tried again: under retries 1 and 2
+        those that went stale, without retries none. Where it is 0 a session that is opened over the rows of this one goes on as
+        this one. LogFault."""
+        count = ctypes.c_size_t()
+        self._raise(_calvin.calvin_c_carried(self._live(), count))
+        return count.value
 
     def digest(self):
         """The digest of all rows, as the report would have it after the batches that have ended: 64 digits. LogFault,

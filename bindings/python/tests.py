@@ -205,10 +205,11 @@ class RowsDocumentTest(unittest.TestCase):
         for name in reports():
             setup, log = example(name, "json"), example(name, "log").splitlines(keepends=True)
             cuts = [place + 1 for place, line in enumerate(log) if line.strip() == CUT]
-            if not cuts or (len(json.loads(setup)) > 5 and json.loads(setup)[5]):
+            if not cuts:
                 continue
             with self.subTest(name), Session.open(setup) as first:
                 first.feed(b"".join(log[: cuts[0]]))
+                self.assertEqual(first.carried(), 0)
                 document = first.rows_document()
                 with Session.open(setup, document) as second:
                     self.assertEqual(second.digest(), first.digest())
@@ -217,6 +218,15 @@ class RowsDocumentTest(unittest.TestCase):
                         session.feed(b"".join(log[cuts[0] :]))
                         session.end()
                     self.assertEqual(second.digest(), first.digest())
+
+    def test_calls_that_are_carried_are_counted(self):
+        with Session.open(example("tried-again", "json")) as session:
+            session.feed(example("tried-again", "log"))
+            for wanted in (0, 1, 0):
+                self.assertEqual(session.carried(), wanted)
+                session.cut()
+            self.assertRaises(LogFault, session.feed, b"[]\n")
+            self.assertRaises(LogFault, session.carried)
 
     def test_it_is_the_document_of_the_rows(self):
         with Session.open(example("bank", "json")) as session:

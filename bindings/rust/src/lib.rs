@@ -134,6 +134,7 @@ extern "C" {
     ) -> i32;
     fn calvin_c_rows_document(session: *mut Handle, length: *mut usize) -> i32;
     fn calvin_c_drain_rows(session: *mut Handle, into: *mut u8, room: usize) -> usize;
+    fn calvin_c_carried(session: *mut Handle, count: *mut usize) -> i32;
     fn calvin_c_digest(session: *mut Handle, digits: *mut u8, room: usize) -> i32;
     fn calvin_c_close(session: Handle);
 }
@@ -519,6 +520,16 @@ impl Session {
         let taken = unsafe { calvin_c_drain_rows(&mut self.live(), document.as_mut_ptr(), document.len()) };
         document.truncate(taken);
         Ok(document)
+    }
+
+    /// How many calls the batches that have ended carry to the next one, where they are tried again: under retries 1
+    /// and 2 those that went stale, without retries none. Where it is 0 a session that is opened over the rows of this
+    /// one goes on as this one.
+    pub fn carried(&mut self) -> Result<usize, Fault> {
+        let mut count = 0;
+        // Safety: the handle is live until it is dropped, and the pointer is to a number.
+        let status = unsafe { calvin_c_carried(&mut self.live(), &mut count) };
+        self.answer(status).map(|()| count)
     }
 
     /// The digest of all rows, as the report would have it after the batches that have ended: 64 digits.

@@ -223,6 +223,19 @@ fn another_session_starts_from_the_rows() {
 }
 
 #[test]
+fn calls_that_are_carried_are_counted() {
+    let mut session = Setup::new(&example("tried-again.json")).open().expect("the setup is right");
+    session.feed(&example("tried-again.log")).expect("the log is right");
+    assert_eq!(session.carried(), Ok(0));
+    session.cut().expect("the batch runs");
+    assert_eq!(session.carried(), Ok(1));
+    session.cut().expect("the batch runs");
+    assert_eq!(session.carried(), Ok(0));
+    let fault = session.feed(b"[]\n").expect_err("that is no line of a log");
+    assert_eq!(session.carried(), Err(fault));
+}
+
+#[test]
 fn rows_with_a_fault_are_refused() {
     let wanted: [(&[u8], &str); 3] =
         [(b"[", "fault 41"), (br#"["rows",2,[]]"#, "fault 42"), (br#"["rows",1,[["none",1,[1]]]]"#, "fault 43")];

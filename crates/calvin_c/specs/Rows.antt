@@ -36,6 +36,11 @@ abbrev pub TellsNextOf : Database → ℤ → ℕ → ℕ → List ValueCell →
 TellsNextOf db status key count cells after (Ok table) = TellsNext db status key count cells after table
 TellsNextOf db status key count cells after (Err fault) = (status ≡ rows_status fault) × (key ≡ 0) × (count ≡ 0)
 
+-- C is given how many calls are carried, or why nothing is told
+abbrev pub TellsCarried : ℤ → ℕ → Result ℕ RowsFault → Type 0
+TellsCarried status count (Ok carried) = (status ≡ done) × (count ≡ carried)
+TellsCarried status count (Err fault) = (status ≡ rows_status fault) × (count ≡ 0)
+
 -- whether a digest or a document is told
 abbrev pub text_status : Result (List ℕ) RowsFault → ℤ
 text_status (Ok text) = done

@@ -2,9 +2,9 @@
 
 ghost use Rattle.std.specs.Prelude.{◌≡◌, ◌≤◌, ◌++◌, [], drop, length, min, take, IfOk};
 ghost use Rattle.std.specs.Str.{IsUtf8};
-ghost use Rattle.session.specs.Rows.{digest_said, document_said, table_said};
+ghost use Rattle.session.specs.Rows.{carried_said, digest_said, document_said, table_said};
 ghost use Rattle.session.specs.Sessions.{rows_of};
-ghost use Rattle.calvin_c.specs.Rows.{key_before, row_said, text_status, TellsNextOf, TellsRow};
+ghost use Rattle.calvin_c.specs.Rows.{key_before, row_said, text_status, TellsCarried, TellsNextOf, TellsRow};
 ghost use Rattle.calvin_c.specs.Sessions.{document_of, session_of, LiesStill};
 ghost use Rattle.calvin_c.specs.Statuses.{done, no_table, Says};
 
@@ -127,6 +127,23 @@ pub extern "C" fn calvin_c_drain_rows(alloc: Global, handle: &mut Handle, into: 
     ensures place { handle.new.at ≡ handle.old.at }
 {
     handle.opened().document.drain(alloc, into)
+}
+
+/// How many calls are carried to the next batch, in `count`. 1 and 3: a fault has stopped the session, and `count` is 0.
+#[unsafe(no_mangle)]
+pub extern "C" fn calvin_c_carried(handle: &mut Handle, count: &mut usize) -> i32
+    ensures told { TellsCarried result count.new (carried_said (session_of handle.old)) }
+    ensures stays { session_of handle.new ≡ session_of handle.old }
+    ensures place { LiesStill handle.old handle.new }
+{
+    *count = 0;
+    match handle.opened().session.carried() {
+        Ok(carried) => {
+            *count = carried;
+            DONE
+        }
+        Err(fault) => rows_status(fault),
+    }
 }
 
 /// The digest of all rows, as the report has it: 64 digits, at the front of `digits` as far as they fit. 1 and 3: a

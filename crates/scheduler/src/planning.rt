@@ -88,8 +88,7 @@ impl Plans {
         requires room { 0 < arena }
         requires within { place < length entries.now }
         requires settled { settled ≤ place }
-        requires made {
-            AreMade (plans_for threshold arena entries.now) settled place self.old.from self.old.made.items }
+        requires made { AreMade (plans_for threshold arena entries.now) settled place self.old.from self.old.made.items }
         ensures made { AreMade (plans_for threshold arena entries.now) settled place self.new.from self.new.made.items }
         ensures next { OnOk result
             (AreMade (plans_for threshold arena entries.now) settled (place + 1) self.new.from self.new.made.items) }
@@ -119,8 +118,7 @@ impl Plans {
         requires room { 0 < arena }
         requires within { place < length entries.now }
         requires settled { settled ≤ place }
-        requires made {
-            AreMade (plans_for threshold arena entries.now) settled place self.old.from self.old.made.items }
+        requires made { AreMade (plans_for threshold arena entries.now) settled place self.old.from self.old.made.items }
         ensures made { AreMade (plans_for threshold arena entries.now) settled place self.new.from self.new.made.items }
         ensures next { OnOk result (settled < place →
             AreMade (plans_for threshold arena entries.now) settled (place + 1) self.new.from self.new.made.items) }

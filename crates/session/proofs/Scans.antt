@@ -14,9 +14,9 @@ use Rattle.retries.specs.Standings.{Standing}
 use Rattle.running.specs.Starts.{Start}
 use Rattle.session.specs.declared.session.Session.{Session}
 use Rattle.session.specs.Replies.{NumberedReply}
-use Rattle.session.specs.Rows.{AreRowsAfter, IsNextOfTable}
+use Rattle.session.specs.Rows.{AreEndedIn, AreRowsAfter, IsCarriedAfter, IsNextOfTable}
 use Rattle.session.specs.Scanning.{any_key, before_part, in_part, key_up_to, lesser_of, part_of, IsLeastKeyAmong, IsNextKeyAmong}
-use Rattle.session.specs.Sessions.{rows_of, HasTaken}
+use Rattle.session.specs.Sessions.{carried_of, rows_of, HasTaken}
 
 -- ---- one partition
 
@@ -148,13 +148,25 @@ pub table_there : (tables : List TableShape) (name : List ℕ) (place : ℕ) →
 table_there [] name place h = absurd cc
 table_there (t ∷ ts) name place h = (position-Some (λ (u : TableShape). bytes_eq name u.name) (t ∷ ts) place t h).0
 
--- ---- the rows of a session
+-- ---- the rows of a session, and what is carried past them
 
-pub rows_after_batches : (start : Start) (fed drained : List ℕ) (passed : List NumberedReply) (session : Session) → HasTaken start fed drained passed session → AreRowsAfter start fed (rows_of session)
-rows_after_batches start fed drained passed session h = record {
-  place = place_of session.work.feed;
-  ended = h.run.ended;
-  limit = h.run.limit;
-  at = h.run.at;
-  left = ap (λ (s : Standing). s.rows) h.run.reported.standing_is;
-}
+batches_ended : (start : Start) (fed drained : List ℕ) (passed : List NumberedReply) (session : Session)
+    → (h : HasTaken start fed drained passed session) → AreEndedIn start fed h.run.ended
+batches_ended start fed drained passed session h =
+    record { place = place_of session.work.feed; limit = h.run.limit; at = h.run.at }
+
+pub rows_after_batches : (start : Start) (fed drained : List ℕ) (passed : List NumberedReply) (session : Session)
+    → HasTaken start fed drained passed session → AreRowsAfter start fed (rows_of session)
+rows_after_batches start fed drained passed session h = (
+  h.run.ended,
+  batches_ended start fed drained passed session h,
+  ap (λ (s : Standing). s.rows) h.run.reported.standing_is,
+)
+
+pub carried_after_batches : (start : Start) (fed drained : List ℕ) (passed : List NumberedReply) (session : Session)
+    → HasTaken start fed drained passed session → IsCarriedAfter start fed (carried_of session)
+carried_after_batches start fed drained passed session h = (
+  h.run.ended,
+  batches_ended start fed drained passed session h,
+  ap (λ (s : Standing). length s.carried) h.run.reported.standing_is,
+)

@@ -1,6 +1,6 @@
 -- Claimed: what contracts promise to a reader rests on these words.
 -- The rows of a session, and what is told of them.
-use Rattle.std.specs.Prelude.{◌≡◌, ◌<◌, ◌^◌, ℕ, Bool, true, false, nat_lt, if◌then◌else◌, List, Option, None, Some, Result, Ok, Err, ok_or, ⊤}
+use Rattle.std.specs.Prelude.{◌≡◌, ◌<◌, ◌^◌, ℕ, Bool, true, false, nat_lt, if◌then◌else◌, List, length, Option, None, Some, Result, Ok, Err, ok_or, ⊤}
 use Rattle.std.specs.FinMap.{get}
 use Rattle.documents.specs.Reading.{◌>>=◌}
 use Rattle.values.specs.Database.{Database, RowOf}
@@ -18,15 +18,25 @@ use Rattle.session.specs.declared.rows.RowsFault.TheVariants.{NoMemory, NoTable,
 use Rattle.session.specs.declared.session.Session.{Session}
 use Rattle.session.specs.declared.session.SessionFault.{SessionFault}
 use Rattle.session.specs.declared.session.SessionFault.TheVariants.{Over, Log}
-use Rattle.session.specs.Sessions.{form_of, rows_of, stop_of, tables_of}
+use Rattle.session.specs.Sessions.{carried_of, form_of, rows_of, stop_of, tables_of}
 
--- the rows after the batches that end in these bytes of a log from a start
-pub record AreRowsAfter (start : Start) (fed : List ℕ) (rows : Database) : Type 0 where
+-- these batches end in these bytes of a log from a start, and no others
+pub record AreEndedIn (start : Start) (fed : List ℕ) (ended : List (List Call)) : Type 0 where
   pub place : Place
-  pub ended : List (List Call)
   pub limit : place.retries ≡ start.retries
   pub at : IsAt start.procs place ended fed
-  pub left : rows ≡ (standing_after start.retries start.rows ended).rows
+
+-- the rows after the batches that end in these bytes
+abbrev pub AreRowsAfter : Start → List ℕ → Database → Type 0
+AreRowsAfter start fed rows =
+    (ended : List (List Call)) × AreEndedIn start fed ended ×
+    (rows ≡ (standing_after start.retries start.rows ended).rows)
+
+-- how many requests are carried after the batches that end in these bytes
+abbrev pub IsCarriedAfter : Start → List ℕ → ℕ → Type 0
+IsCarriedAfter start fed count =
+    (ended : List (List Call)) × AreEndedIn start fed ended ×
+    (count ≡ length (standing_after start.retries start.rows ended).carried)
 
 -- ---- whether anything is told
 
@@ -53,6 +63,10 @@ abbrev pub is_of_memory : RowsFault → Bool
 is_of_memory (Stopped fault) = false
 is_of_memory NoTable = false
 is_of_memory (NoMemory e) = true
+
+-- how many requests are carried past the rows
+abbrev pub carried_said : Session → Result ℕ RowsFault
+carried_said session = told_until (stop_of session) >>= (λ x. Ok (carried_of session))
 
 -- ---- single rows
 

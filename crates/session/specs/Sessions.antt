@@ -1,6 +1,6 @@
 -- Claimed: what contracts promise to a reader rests on these words.
 -- What a clause sees of a session.
-use Rattle.std.specs.Prelude.{◌≡◌, ℕ, List, ◌++◌, Option, Some, None, Result, Ok, Err}
+use Rattle.std.specs.Prelude.{◌≡◌, ℕ, List, length, ◌++◌, Option, Some, None, Result, Ok, Err}
 use Rattle.catalogue.specs.Shapes.{TableShape}
 use Rattle.values.specs.Database.{Database}
 use Rattle.batch_log.specs.declared.fault.LogFault.{LogFault}
@@ -28,6 +28,10 @@ kept_of session = kept_in session.work.replies
 -- the rows that the batches which were executed have left
 abbrev pub rows_of : Session → Database
 rows_of session = session.work.engine.rows
+
+-- how many requests are carried to the next batch
+abbrev pub carried_of : Session → ℕ
+carried_of session = length session.work.engine.carried
 
 -- the tables of the setup
 abbrev pub tables_of : Session → List TableShape

@@ -15,7 +15,8 @@
 //! out and those that wait are together the replies of these batches, in the order of the log, each once, and after
 //! `end` those of the whole log. A fault leaves those that waited. `row`, `next_row`, `digest`, `rows_document`: rows
 //! by their keys, their digest and their document are exact, over the rows that the batches which were executed have
-//! left, and after `end` over those that the log leaves; after a fault nothing is told of rows.
+//! left, and after `end` over those that the log leaves; `carried`: how many requests these batches carry on. After a
+//! fault nothing is told of rows.
 //!
 //! Tested only, by `scripts/static_library.sh`: the stored cases of a log in pieces of 1, 7 and 4096 bytes, and single
 //! calls. Not proved: the line that 37 names, and that it comes only if allocation fails; so too `RowsFault::NoMemory`.

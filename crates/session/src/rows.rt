@@ -131,8 +131,8 @@ fn next_of_table(rows: &RowStore, table: TableNo, after: Option<Key>) -> Option<
 }
 
 impl Session {
-    ghost use Rattle.session.specs.Rows.{digest_said, document_said, is_of_memory, row_with, table_said, told_until, AreRowsAfter, Tells};
-    ghost use Rattle.session.specs.Sessions.{rows_of, stop_of, tables_of, HasTaken};
+    ghost use Rattle.session.specs.Rows.{carried_said, digest_said, document_said, is_of_memory, row_with, table_said, told_until, AreRowsAfter, IsCarriedAfter, Tells};
+    ghost use Rattle.session.specs.Sessions.{carried_of, rows_of, stop_of, tables_of, HasTaken};
 
     /// Whether rows are told of: no fault has stopped the run.
     fn tells_rows(&self) -> Result<(), RowsFault>
@@ -196,6 +196,18 @@ impl Session {
             Some((key, row)) => Ok(Some((key.number(), row))),
             None => Ok(None),
         }
+    }
+
+    /// How many requests are carried past the rows to the next batch, where they are tried again: under retries 1 and 2
+    /// stale ones, without retries none. Where it is 0 another run that starts from the rows goes on as this one. An
+    /// error is `Stopped`.
+    pub fn carried(&self) -> Result<usize, RowsFault>
+        ensures said { result ≡ carried_said self.now }
+        ensures carried { (start : Start) (fed drained : List ℕ) (passed : List NumberedReply) →
+            HasTaken start fed drained passed self.now → IsCarriedAfter start fed (carried_of self.now) }
+    {
+        self.tells_rows()?;
+        Ok(self.work.engine.carried())
     }
 
     /// The digest of the rows as a batch line and the end line have it: 64 digits, of the text of the rows of which the

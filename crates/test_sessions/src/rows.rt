@@ -49,11 +49,31 @@ fn a_row_is_told_by_its_key(rt: HostRuntime) -> Result<(), Fail> {
     take_all(&rt, alloc, &mut session, &ROWS)
 }
 
+/// A call that goes stale is carried past the cut, and its second attempt isn't.
+const CARRIED: [(Step, &str); 8] = [
+    (Step::Carried, "0"),
+    (Step::Call(r#"["call","point",[1,5]]"#), "0"),
+    (Step::Call(r#"["call","hop",[1]]"#), "1"),
+    (Step::Carried, "0"),
+    (Step::Cut, "ok"),
+    (Step::Carried, "1"),
+    (Step::Cut, "ok"),
+    (Step::Carried, "0"),
+];
+
+#[test]
+fn calls_that_are_carried_are_counted(rt: HostRuntime) -> Result<(), Fail> {
+    let alloc = rt.alloc();
+    let mut session = session_on_shop(alloc)?;
+    take_all(&rt, alloc, &mut session, &CARRIED)
+}
+
 /// After a fault nothing is told of rows.
-const FAULT: [(Step, &str); 5] = [
+const FAULT: [(Step, &str); 6] = [
     (Step::Feed("[]\n"), "fault 32 line 1"),
     (Step::Row("item", 2), "fault 32 line 1"),
     (Step::Next("item", None), "fault 32 line 1"),
+    (Step::Carried, "fault 32 line 1"),
     (Step::Digest, "fault 32 line 1"),
     (Step::Document, "fault 32 line 1"),
 ];

@@ -33,6 +33,8 @@ pub(crate) enum Step {
     Next(&'static str, Option<u64>),
     /// A cursor goes over a table.
     Table(&'static str),
+    /// Requests that are carried are counted.
+    Carried,
     /// The digest of the rows is taken.
     Digest,
     /// The document of the rows is taken.
@@ -143,6 +145,7 @@ fn taken(alloc: Global, session: &mut Session, step: &Step) -> Result<String, Fa
         Step::Row(table, key) => row_told(alloc, *key, session.row(table, *key)),
         Step::Next(table, after) => Ok(next_told(alloc, session, table, *after)?.1),
         Step::Table(table) => table_told(alloc, session, table),
+        Step::Carried => told(alloc, session.carried()),
         Step::Digest => told(alloc, session.digest()),
         Step::Document => document_told(alloc, session),
     }
