@@ -1,22 +1,18 @@
 -- Claimed: what contracts promise to a reader rests on these words.
 -- Digests of partitions that are kept.
-use Rattle.std.specs.Prelude.{◌≡◌, ◌<◌, ℕ, List, Option, Some, option_map}
+use Rattle.std.specs.Prelude.{◌≡◌, ◌<◌, ℕ, List, Option, Some, option_and_then, option_map, slice_get}
 use Rattle.std.specs.BTreeMap.{get}
-use Rattle.std.specs.declared.cmp.Ordering.{Ordering}
-use Rattle.std.specs.Ordering.{nat_cmp, ordering_then}
+use Rattle.std.specs.Ordering.{nat_cmp}
 use Rattle.hex.specs.Hex.{encode_lower}
 use Rattle.values.specs.Database.{Database}
 use Rattle.catalogue.specs.Shapes.{TableShape}
 use Rattle.row_text.specs.declared.kept.KeptDigests.{KeptDigests}
 use Rattle.row_text.specs.Partitions.{partition_count, partition_digest}
 
--- by table in declared order, and then by partition
-abbrev pub partition_cmp : ℕ × ℕ → ℕ × ℕ → Ordering
-partition_cmp one two = ordering_then (nat_cmp one.0 two.0) (nat_cmp one.1 two.1)
-
 -- the digest that is kept for a partition
 abbrev pub kept_at : KeptDigests → ℕ → ℕ → Option (List ℕ)
-kept_at kept table part = option_map encode_lower (get partition_cmp kept.hashes (table, part))
+kept_at kept table part =
+    option_map encode_lower (option_and_then (λ digests. get nat_cmp digests part) (slice_get kept.tables.items table))
 
 -- each digest that is kept is of a partition that a table of these has, and is the digest of that partition's row lines
 pub record AreKept (tables : List TableShape) (db : Database) (kept : KeptDigests) : Type 0 where

@@ -1,6 +1,6 @@
 //! Digests of partitions that are kept.
 
-ghost use Rattle.std.specs.Prelude.{◌≡◌, ◌&&◌, ◌==◌, ℕ, None, Some, if◌then◌else◌, is_some, OnErr, OnOk, option_map};
+ghost use Rattle.std.specs.Prelude.{◌≡◌, ◌<◌, ◌&&◌, ◌==◌, ℕ, None, Some, if◌then◌else◌, is_some, length, OnErr, OnOk, option_map};
 ghost use Rattle.std.specs.Bool.{OnTrue};
 ghost use Rattle.hex.specs.Hex.{encode_lower};
 ghost use Rattle.row_text.specs.Kept.{kept_at};
@@ -10,10 +10,11 @@ use std::alloc::{AllocError, Global};
 use std::collections::BTreeMap;
 use values::TableNo;
 
-/// Digests of partitions, each kept until its partition is forgotten: 48 bytes each, and what a B-tree takes beside.
+/// Digests of partitions, each kept until its partition is forgotten: of each table a B-tree of its own, with 36 bytes a
+/// partition and what the tree takes beside.
 #[derive(Drop)]
 pub struct KeptDigests {
-    hashes: BTreeMap<(TableNo, u32), Hash>,
+    tables: Vec<BTreeMap<u32, Hash>>,
 }
 
 impl KeptDigests {
@@ -22,15 +23,15 @@ impl KeptDigests {
         ensures { (table part : ℕ) → kept_at result table part ≡ None }
     {
         KeptDigests {
-            hashes: BTreeMap::new(alloc),
+            tables: Vec::new(alloc),
         }
     }
 
-    /// Whether nothing is kept.
+    /// Whether nothing was ever kept.
     pub fn is_empty(&self) -> bool
         ensures { OnTrue result ((table part : ℕ) → kept_at self.now table part ≡ None) }
     {
-        self.hashes.is_empty()
+        self.tables.is_empty()
     }
 
     /// Whether the digest of a partition is kept.
@@ -44,10 +45,34 @@ impl KeptDigests {
     pub(crate) fn hash(&self, table: TableNo, part: u32) -> Option<Hash>
         ensures { option_map encode_lower result ≡ kept_at self.now table part }
     {
-        match self.hashes.get(&(table, part)) {
+        let digests = self.tables.get(table.place())?;
+        match digests.get(&part) {
             Some(hash) => Some(*hash),
             None => None,
         }
+    }
+
+    /// Makes room for digests of the tables up to this one. Kept is what was kept.
+    fn reach(&mut self, table: TableNo) -> Result<(), AllocError>
+        ensures reached { OnOk result (table < length self.new.tables.items) }
+        ensures kept { (t p : ℕ) → kept_at self.new t p ≡ kept_at self.old t p }
+    {
+        while self.tables.len() <= table.place() {
+            let alloc = *self.tables.allocator();
+            self.tables.push(BTreeMap::new(alloc))?;
+        }
+        Ok(())
+    }
+
+    /// Keeps the digest of a partition of a table for which there is room. An `Err` leaves what was kept.
+    fn put(&mut self, table: TableNo, part: u32, hash: Hash) -> Result<(), AllocError>
+        requires { table < length self.old.tables.items }
+        ensures kept { OnOk result ((t p : ℕ) → kept_at self.new t p
+            ≡ (if (table == t) && (part == p) then Some (encode_lower hash) else kept_at self.old t p)) }
+        ensures err { OnErr result ((t p : ℕ) → kept_at self.new t p ≡ kept_at self.old t p) }
+    {
+        self.tables[table.place()].insert(part, hash)?;
+        Ok(())
     }
 
     /// Keeps the digest of a partition. An `Err` leaves what was kept.
@@ -56,8 +81,8 @@ impl KeptDigests {
             ≡ (if (table == t) && (part == p) then Some (encode_lower hash) else kept_at self.old t p)) }
         ensures err { OnErr result ((t p : ℕ) → kept_at self.new t p ≡ kept_at self.old t p) }
     {
-        self.hashes.insert((table, part), hash)?;
-        Ok(())
+        self.reach(table)?;
+        self.put(table, part, hash)
     }
 
     /// Forgets the digest of a partition. It takes no memory.
@@ -65,6 +90,8 @@ impl KeptDigests {
         ensures { (t p : ℕ) → kept_at self.new t p
             ≡ (if (table == t) && (part == p) then None else kept_at self.old t p) }
     {
-        self.hashes.remove(&(table, part));
+        if let Some(digests) = self.tables.get_mut(table.place()) {
+            digests.remove(&part);
+        }
     }
 }
