@@ -8,7 +8,8 @@
 set -uo pipefail
 here=$(cd -- "$(dirname -- "$0")" && pwd)
 out=$(realpath -m -- "${1:-$here/out}")
-registry=/usr/share/cargo/registry
+# The folder that Debian's package has its sources in, and those of other crates beside them.
+registry=$(dpkg -L librust-serde-json-dev 2>/dev/null | sed -n 's|/serde_json-[^/]*/Cargo.toml$||p' | head -n 1)
 mkdir -p -- "$out"
 built=() missing=()
 
@@ -17,7 +18,7 @@ has() {
     local one
     for one in "$@"; do
         case $one in
-            /*) compgen -G "$one" >/dev/null || return ;;
+            */*) compgen -G "$one" >/dev/null || return ;;
             -l*) pkg-config --exists "${one#-l}" 2>/dev/null || return ;;
             *) command -v "$one" >/dev/null || return ;;
         esac
