@@ -10,8 +10,8 @@ use std::alloc::{AllocError, Global};
 use std::collections::BTreeMap;
 use values::TableNo;
 
-/// Digests of partitions, each kept until its partition is forgotten: of each table a B-tree of its own, with 36 bytes a
-/// partition and what the tree takes beside.
+/// Digests of partitions, each kept until its partition is forgotten: of each table a B-tree of its own, with 36 bytes
+/// a partition and what the tree takes beside.
 #[derive(Drop)]
 pub struct KeptDigests {
     tables: Vec<BTreeMap<u32, Hash>>,
