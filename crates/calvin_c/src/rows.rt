@@ -129,7 +129,8 @@ pub extern "C" fn calvin_c_drain_rows(alloc: Global, handle: &mut Handle, into: 
     handle.opened().document.drain(alloc, into)
 }
 
-/// How many calls are carried to the next batch, in `count`. 1 and 3: a fault has stopped the session, and `count` is 0.
+/// How many calls are carried to the next batch, in `count`. 1 and 3: a fault has stopped the session, and `count` is
+/// 0.
 #[unsafe(no_mangle)]
 pub extern "C" fn calvin_c_carried(handle: &mut Handle, count: &mut usize) -> i32
     ensures told { TellsCarried result count.new (carried_said (session_of handle.old)) }
