@@ -10,7 +10,7 @@ ghost use Rattle.dispatcher.specs.Dispatched.{AreInLanes, AreStillInLanes, RunsO
 ghost use Rattle.dispatcher.specs.Listeners.{AreCounted, settled_in};
 
 use crate::alone::run_next;
-use crate::brief::is_brief;
+use crate::brief::{is_better_awaiting, is_brief};
 use crate::dispatcher::Dispatcher;
 use crate::gate::Gate;
 use crate::listener::{Listener, tell};
@@ -18,11 +18,23 @@ use scheduler::{AdmitFault, Scheduler, lent_jobs_come_back, run_job};
 use std::sync::Wait;
 use values::NoMemory;
 
+/// How many transactions at most are admitted and neither out nor settled: workers find jobs among them that don't wait
+/// for one another, and their requests stay in the cache.
+const AHEAD: usize = 256;
+
 /// Whether the next transaction is a brief call.
 fn is_next_brief(scheduler: &Scheduler) -> bool {
     scheduler
         .next_entry()
         .is_some_and(|entry| is_brief(entry, scheduler.rows()))
+}
+
+/// Whether the next transaction is a brief call that is rather run once the jobs that are out have come back than lent
+/// its rows.
+fn is_next_awaiting(scheduler: &Scheduler) -> bool {
+    scheduler
+        .next_entry()
+        .is_some_and(|entry| is_better_awaiting(entry, scheduler.rows()))
 }
 
 /// Admits the next transaction. `false` exactly where all are admitted, or there is no room for its requests.
@@ -43,6 +55,20 @@ pub(crate) fn admit_next(scheduler: &mut Scheduler) -> Result<bool, NoMemory>
 }
 
 impl<'s, R: Wait, G: Gate> Dispatcher<'s, R, G> {
+    /// Whether no more needs to be admitted: each lane has a job, or a job is out and many transactions wait, or the
+    /// gate is open and the next one is rather run here once these jobs have come back.
+    pub(crate) fn has_enough(&self, scheduler: &Scheduler) -> bool
+        ensures { result ≡ true → 0 < jobs_in self.now.jobs }
+    {
+        let place = self.place;
+        if self.out == 0 {
+            return false;
+        }
+        self.out >= place.count
+            || self.waiting >= AHEAD
+            || (self.gate.is_open() && is_next_awaiting(scheduler))
+    }
+
     /// Runs the next transaction here, where the gate is open, the call is brief, and it is ready as soon as it is
     /// admitted: whatever jobs are out have nothing to do with it. A job that still waits gets a worker then, since
     /// this thread has something else to do. Whether it did so; where it did not, nothing has changed.

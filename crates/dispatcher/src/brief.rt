@@ -1,20 +1,32 @@
 //! Calls that are run sooner than they would be handed over.
 
+use crate::scans::block_scans;
 use footprint::{Footprint, InPart, InTable, Resource};
 use interp::Entry;
 use proclang_types::{FootprintEntry, IntExpr, ProcFootprint, Stmt};
 use row_store::RowStore;
 
-/// A call whose footprint has more entries isn't brief: to count the rows of each takes time, too.
+/// A call whose footprint has more entries isn't brief if it looks through partitions: to count the rows of each entry
+/// takes time, too.
 const FEW_ENTRIES: usize = 32;
 
-/// A call that may take more steps isn't brief: a statement is one, and so is a turn of a loop. The steps of an
-/// expression aren't counted, though it may look through a partition.
+/// As many steps take about as long as to hand a job over, wake a worker and take in what comes of it: a statement is
+/// one, and so is a turn of a loop. The steps of an expression aren't counted. Measured: calls of 64 statements on two
+/// rows, which are handed over, take as long on four workers as alone, and 1.5 times the processors; those of 128 take
+/// 0.7 to 1.0 of the time.
 const FEW_STEPS: usize = 32;
 
-/// A call that may look at more rows isn't brief. The rows that its footprint covers are counted once for each of its
-/// steps, since each statement may look at all of them. To look at 512 takes about as long as to hand a job over,
-/// wake a worker and take in what comes of it.
+/// As many steps take about as long as to lock, lend and take back what one entry of a footprint covers. Measured: an
+/// order of `tpcc` has 5 to 8 steps an entry, and handed over it takes twice the processors.
+const STEPS_AN_ENTRY: usize = 8;
+
+/// A brief call that declares more entries isn't lent its rows where it has to wait: that takes longer than the jobs
+/// for which it waits.
+const FEW_TO_LEND: usize = 8;
+
+/// A call that may look at more rows isn't brief. Where it looks through partitions, the rows that its footprint covers
+/// are counted once for each of its steps, since each statement may look at all of them. Measured: sums over 1,024
+/// rows, handed over to four workers, take 0.9 of the time alone, and those over 4,096 rows 0.4.
 const FEW_ROWS: usize = 512;
 
 /// How many numbers there are between two, both included, `None` where they are too many to count.
@@ -87,15 +99,25 @@ fn covers_at_most(footprint: &Footprint, most: usize, rows: &RowStore) -> bool {
     true
 }
 
-/// Whether a call of `steps` steps may look at few rows alone. What a procedure declares tells it of all of its calls
-/// where it names few rows, each statement looking at one, without a look at their footprints.
+/// The entries that a procedure declares, none where reconnaissance finds them.
+fn declared(footprint: &ProcFootprint) -> &[FootprintEntry] {
+    match footprint {
+        ProcFootprint::Declared(entries) => entries.as_slice(),
+        ProcFootprint::Recon => &[],
+    }
+}
+
+/// Whether an entry of a declaration is one row.
+fn is_row(entry: &FootprintEntry) -> bool {
+    matches!(entry, FootprintEntry::Row { .. })
+}
+
+/// Whether a call of `steps` steps may look at few rows alone. Where its procedure declares single rows, or looks
+/// through no partition, each statement looks at one: then its footprint isn't looked at.
 fn looks_at_few_rows(entry: &Entry, steps: usize, rows: &RowStore) -> bool {
-    if let ProcFootprint::Declared(entries) = entry.request().proc().footprint() {
-        if entries.len() <= FEW_ENTRIES
-            && entries
-                .iter()
-                .all(|entry| matches!(entry, FootprintEntry::Row { .. }))
-        {
+    let proc = entry.request().proc();
+    if let ProcFootprint::Declared(entries) = proc.footprint() {
+        if entries.iter().all(is_row) || !block_scans(proc.body()) {
             return true;
         }
     }
@@ -106,7 +128,19 @@ fn looks_at_few_rows(entry: &Entry, steps: usize, rows: &RowStore) -> bool {
 }
 
 /// Whether a call takes so few steps on so few rows that to hand it over to a worker would cost more than to run it.
+/// What is handed over is locked, lent and taken back, so the more entries are declared, the longer it may take.
 pub(crate) fn is_brief(entry: &Entry, rows: &RowStore) -> bool {
-    let steps = count_steps(entry.request().proc().body(), FEW_STEPS);
+    let proc = entry.request().proc();
+    let most = declared(proc.footprint())
+        .len()
+        .saturating_mul(STEPS_AN_ENTRY)
+        .saturating_add(FEW_STEPS);
+    let steps = count_steps(proc.body(), most);
     steps.is_some_and(|steps| looks_at_few_rows(entry, steps, rows))
+}
+
+/// Whether a call is brief, and lending it its rows would take longer than waiting for the jobs that are out.
+pub(crate) fn is_better_awaiting(entry: &Entry, rows: &RowStore) -> bool {
+    let entries = declared(entry.request().proc().footprint());
+    entries.len() > FEW_TO_LEND && is_brief(entry, rows)
 }

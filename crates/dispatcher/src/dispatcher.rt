@@ -4,6 +4,7 @@ ghost use Rattle.std.specs.Prelude.{◌≡◌, ◌<◌, true};
 ghost use Rattle.lanes.specs.Seats.{jobs_in};
 
 use crate::gate::Gate;
+use crate::parking::spins_of_worker;
 use crate::refusal::Refusal;
 use crate::worker::{Worker, start};
 use crate::workplace::Workplace;
@@ -11,10 +12,6 @@ use lanes::{SchedulerSeat, WorkerSeat};
 use std::marker::Model;
 use std::sync::Wait;
 use std::thread::Scope;
-
-/// How many transactions at most are admitted and neither out nor settled: workers find jobs among them that don't wait
-/// for one another, and their requests stay in the cache.
-const AHEAD: usize = 256;
 
 /// What the scheduler's thread has at a workplace: the scheduler's seat, which contracts see, and a worker's seat, from
 /// which it runs a job itself. The one has as many jobs as are out, and the other none.
@@ -28,6 +25,8 @@ pub(crate) struct Dispatcher<'s, R, G> {
     pub(crate) out: usize,
     /// How many transactions are admitted and neither out nor settled. No proof counts them.
     pub(crate) waiting: usize,
+    /// How many processors there are, 1 where that is not known.
+    pub(crate) processors: usize,
 }
 
 impl<'s, R, G> Model for Dispatcher<'s, R, G> {
@@ -56,6 +55,7 @@ impl<'s, R, G> Drop for Dispatcher<'s, R, G> {
             own: _,
             out: _,
             waiting: _,
+            processors: _,
         } = self;
         place.parking.end();
     }
@@ -69,14 +69,6 @@ impl<'s, R, G> Dispatcher<'s, R, G> {
         ensures lanes { 0 < self.now.lanes.count }
     {
         self.out
-    }
-
-    /// Whether no more needs to be admitted: each lane has a job, or a job is out and many transactions wait.
-    pub(crate) fn has_enough(&self) -> bool
-        ensures { result ≡ true → 0 < jobs_in self.now.jobs }
-    {
-        let place = self.place;
-        self.out >= place.count || (self.out > 0 && self.waiting >= AHEAD)
     }
 }
 
@@ -94,11 +86,14 @@ impl<'s, R: Wait + Sync, G: Gate> Dispatcher<'s, R, G> {
             return Ok(false);
         };
         let seat = place.lanes.worker_seat(&mut self.seat)?;
+        // Beside it are the scheduler's thread and the workers before it.
+        let spins = spins_of_worker(number.saturating_add(1), self.processors);
         let worker = Worker {
             lanes: &place.lanes,
             seat,
             parking: &place.parking,
             spot,
+            spins,
         };
         if !start(self.rt, scope, self.gate, worker) {
             return Err(Refusal::Thread);

@@ -12,7 +12,7 @@ use crate::advancing::admit_next;
 use crate::dispatcher::Dispatcher;
 use crate::gate::Gate;
 use crate::listener::{Listener, tell};
-use crate::parking::Idling;
+use crate::parking::{Idling, spins_of_scheduler};
 use crate::worker::run_one;
 use scheduler::Scheduler;
 use std::sync::Wait;
@@ -77,6 +77,7 @@ impl<'s, R: Wait, G: Gate> Dispatcher<'s, R, G> {
     {
         let (rt, place) = (self.rt, self.place);
         let parking = &place.parking;
+        let spins = spins_of_scheduler(self.out.min(parking.workers.len()), self.processors);
         let mut idling = Idling::Busy;
         for _ in rt.forever() {
             if self.take_in(scheduler, listener)? {
@@ -88,7 +89,7 @@ impl<'s, R: Wait, G: Gate> Dispatcher<'s, R, G> {
                 parking.end_idling(idling);
                 idling = Idling::Busy;
             } else {
-                idling = parking.idle_scheduler(rt, idling);
+                idling = parking.idle_scheduler(rt, idling, spins);
             }
         }
         unreachable!()
@@ -117,7 +118,7 @@ impl<'s, R: Wait, G: Gate> Dispatcher<'s, R, G> {
         if self.run_brief(scheduler, listener)? {
             return Ok(true);
         }
-        if self.has_enough() || !admit_next(scheduler)? {
+        if self.has_enough(scheduler) || !admit_next(scheduler)? {
             return Ok(false);
         }
         self.waiting = self.waiting.saturating_add(1);

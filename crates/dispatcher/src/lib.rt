@@ -21,6 +21,7 @@ mod listener;
 mod parking;
 mod pool;
 mod refusal;
+mod scans;
 mod settings;
 mod worker;
 mod workplace;

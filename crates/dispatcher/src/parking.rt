@@ -10,8 +10,18 @@ use std::sync::atomic::{AtomicBool, AtomicIsize, AtomicUsize, Ordering};
 use std::thread::Parker;
 use values::NoMemory;
 
-/// How often a thread that has found nothing looks again before it announces that it will park.
-const SPINS: u32 = 64;
+/// How often a worker that has found nothing looks again before it announces that it will park, where a processor is
+/// left for it: for some 20 microseconds. To be woken takes as long, and on a virtual machine the thread that wakes it
+/// lacks its own processor for a while, too. Measured with one long call in 100: four workers take 1.15 of the processors
+/// that one thread takes, and 1.3 with 4,096 looks.
+const WORKER_SPINS: u32 = 1_024;
+
+/// How often the scheduler's thread looks again, for some 80 microseconds, where its workers leave a processor to it or
+/// are one too many: while it is parked they may all find nothing.
+const SCHEDULER_SPINS: u32 = 4_096;
+
+/// How often a thread looks again where others may need all processors.
+const FEW_SPINS: u32 = 64;
 
 /// While more jobs than this wait for a worker, the scheduler's thread is not woken to make more.
 const FEW_WAIT: usize = 1;
@@ -25,6 +35,24 @@ pub(crate) enum Idling {
     Spinning(u32),
     /// It has announced that it will park, and looks once more.
     Announced,
+}
+
+/// How often a worker spins beside `others` threads that may be at work.
+pub(crate) fn spins_of_worker(others: usize, processors: usize) -> u32 {
+    if others < processors {
+        WORKER_SPINS
+    } else {
+        FEW_SPINS
+    }
+}
+
+/// How often the scheduler's thread spins beside `others` threads that may be at work.
+pub(crate) fn spins_of_scheduler(others: usize, processors: usize) -> u32 {
+    if others <= processors {
+        SCHEDULER_SPINS
+    } else {
+        FEW_SPINS
+    }
 }
 
 /// Where one thread parks.
@@ -43,11 +71,12 @@ impl Spot {
         }
     }
 
-    /// Takes a thread that has found nothing a step nearer to being parked, or parks it until it is woken.
-    fn idle<R: Wait>(&self, rt: &R, idling: Idling) -> Idling {
+    /// Takes a thread that has found nothing a step nearer to being parked, or parks it until it is woken. It spins so
+    /// often at most.
+    fn idle<R: Wait>(&self, rt: &R, idling: Idling, spins: u32) -> Idling {
         match idling {
             Idling::Busy => Idling::Spinning(0),
-            Idling::Spinning(vain) if vain < SPINS => {
+            Idling::Spinning(vain) if vain < spins => {
                 spin_loop();
                 Idling::Spinning(vain + 1)
             }
@@ -136,8 +165,14 @@ impl Parking {
 
     /// Takes a worker that has found no job a step nearer to being parked, or parks it until it is woken. It announces
     /// that it will park before it is no longer counted among those that look, and looks once more after that.
-    pub(crate) fn idle_worker<R: Wait>(&self, rt: &R, spot: &Spot, idling: Idling) -> Idling {
-        let next = spot.idle(rt, idling);
+    pub(crate) fn idle_worker<R: Wait>(
+        &self,
+        rt: &R,
+        spot: &Spot,
+        idling: Idling,
+        spins: u32,
+    ) -> Idling {
+        let next = spot.idle(rt, idling, spins);
         match (idling, next) {
             (Idling::Busy, _) => {
                 self.looking.fetch_add(1, Ordering::SeqCst);
@@ -188,8 +223,8 @@ impl Parking {
     }
 
     /// Takes the scheduler's thread, which found no result, a step nearer to being parked, or parks it until woken.
-    pub(crate) fn idle_scheduler<R: Wait>(&self, rt: &R, idling: Idling) -> Idling {
-        self.scheduler.idle(rt, idling)
+    pub(crate) fn idle_scheduler<R: Wait>(&self, rt: &R, idling: Idling, spins: u32) -> Idling {
+        self.scheduler.idle(rt, idling, spins)
     }
 
     /// Says that a result was collected.

@@ -13,8 +13,9 @@ use crate::listener::Listener;
 use crate::refusal::Refusal;
 use crate::workplace::{HeadSeat, Workplace};
 use scheduler::Scheduler;
+use std::num::NonZeroUsize;
 use std::sync::Wait;
-use std::thread::Scope;
+use std::thread::{Scope, Threads, available_parallelism};
 
 /// Worker threads of a scope at a workplace. They are started as batches need them, work at one batch after another,
 /// park in between, and end when the pool goes: the scope doesn't end before.
@@ -36,7 +37,7 @@ impl<'s, E, R, G> Drop for WorkerPool<'s, E, R, G> {
     }
 }
 
-impl<'s, E, R: Wait + Sync, G: Gate> WorkerPool<'s, E, R, G> {
+impl<'s, E, R: Threads, G> WorkerPool<'s, E, R, G> {
     /// A pool without a worker. Who claims a job passes this gate, once for it, before it runs it.
     pub fn new(
         rt: &'s R,
@@ -58,6 +59,7 @@ impl<'s, E, R: Wait + Sync, G: Gate> WorkerPool<'s, E, R, G> {
             own,
             out: 0,
             waiting: 0,
+            processors: available_parallelism(rt).map_or(1, NonZeroUsize::get),
         };
         WorkerPool {
             scope,
@@ -65,7 +67,9 @@ impl<'s, E, R: Wait + Sync, G: Gate> WorkerPool<'s, E, R, G> {
             started: 0,
         }
     }
+}
 
+impl<'s, E, R: Wait + Sync, G: Gate> WorkerPool<'s, E, R, G> {
     /// The runtime on which its workers were started.
     #[inline]
     pub fn runtime(&self) -> &'s R {

@@ -25,6 +25,8 @@ pub(crate) struct Worker<'a, 'b> {
     pub seat: WorkerSeat,
     pub parking: &'b Parking,
     pub spot: &'b Spot,
+    /// How often it looks again for a job before it parks.
+    pub spins: u32,
     ghost seated: { seat.lanes ≡ lanes.now },
     ghost free: { HoldsNoJob seat },
 }
@@ -77,6 +79,7 @@ impl Task for Worker<'_, '_> {
             seat,
             parking,
             spot,
+            spins,
         } = self;
         let mut seat = seat;
         let mut idling = Idling::Busy;
@@ -95,7 +98,7 @@ impl Task for Worker<'_, '_> {
                     if parking.has_ended() {
                         break;
                     }
-                    idling = parking.idle_worker(rt, spot, idling);
+                    idling = parking.idle_worker(rt, spot, idling, spins);
                 }
             }
         }
