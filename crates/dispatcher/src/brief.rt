@@ -12,8 +12,7 @@ const FEW_ENTRIES: usize = 32;
 
 /// As many steps take about as long as to hand a job over, wake a worker and take in what comes of it: a statement is
 /// one, and so is a turn of a loop. The steps of an expression aren't counted. Measured: calls of 64 statements on two
-/// rows, which are handed over, take as long on four workers as alone, and 1.5 times the processors; those of 128 take
-/// 0.7 to 1.0 of the time.
+/// rows, which are handed over to four workers, take 1.5 times the processors that they take alone, and no less time.
 const FEW_STEPS: usize = 32;
 
 /// As many steps take about as long as to lock, lend and take back what one entry of a footprint covers. Measured: an
@@ -26,7 +25,7 @@ const FEW_TO_LEND: usize = 8;
 
 /// A call that may look at more rows isn't brief. Where it looks through partitions, the rows that its footprint covers
 /// are counted once for each of its steps, since each statement may look at all of them. Measured: sums over 1,024
-/// rows, handed over to four workers, take 0.9 of the time alone, and those over 4,096 rows 0.4.
+/// rows, handed over to four workers, take 0.9 of the time alone, and those over 4,096 rows less than half.
 const FEW_ROWS: usize = 512;
 
 /// How many numbers there are between two, both included, `None` where they are too many to count.
