@@ -19,8 +19,9 @@ const FEW_STEPS: usize = 32;
 /// order of `tpcc` has 5 to 8 steps an entry, and handed over it takes twice the processors.
 const STEPS_AN_ENTRY: usize = 8;
 
-/// A brief call that declares more entries isn't lent its rows where it has to wait: that takes longer than the jobs
-/// for which it waits.
+/// A brief call that declares more entries isn't lent its rows where it has to wait: that takes longer than most jobs
+/// for which it waits. Measured: `tpcc` on four workers takes two thirds of the processors that it takes where such
+/// calls are lent their rows.
 const FEW_TO_LEND: usize = 8;
 
 /// A call that may look at more rows isn't brief. Where it looks through partitions, the rows that its footprint covers

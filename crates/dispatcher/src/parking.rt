@@ -12,12 +12,14 @@ use values::NoMemory;
 
 /// How often a worker that has found nothing looks again before it announces that it will park, where a processor is
 /// left for it: for some 20 microseconds. To be woken takes as long, and on a virtual machine the thread that wakes it
-/// lacks its own processor for a while, too. Measured with one long call in 100: four workers take 1.15 of the processors
-/// that one thread takes, and 1.3 with 4,096 looks.
+/// lacks its own processor for a while, too. Measured with one long call in 100: four workers take 1.15 of the
+/// processors that one thread takes, and 1.3 with 4,096 looks.
 const WORKER_SPINS: u32 = 1_024;
 
 /// How often the scheduler's thread looks again, for some 80 microseconds, where its workers leave a processor to it or
-/// are one too many: while it is parked they may all find nothing.
+/// are one too many: while it is parked they may all find nothing. Measured on a busy host, where a thread is woken
+/// late: long calls on four workers take 0.66 s where each thread looks 4,096 times, and 1.06 s where each looks 64
+/// times.
 const SCHEDULER_SPINS: u32 = 4_096;
 
 /// How often a thread looks again where others may need all processors.
@@ -37,7 +39,7 @@ pub(crate) enum Idling {
     Announced,
 }
 
-/// How often a worker spins beside `others` threads that may be at work.
+/// How often a worker looks again beside `others` threads that may be at work.
 pub(crate) fn spins_of_worker(others: usize, processors: usize) -> u32 {
     if others < processors {
         WORKER_SPINS
@@ -46,7 +48,7 @@ pub(crate) fn spins_of_worker(others: usize, processors: usize) -> u32 {
     }
 }
 
-/// How often the scheduler's thread spins beside `others` threads that may be at work.
+/// How often the scheduler's thread looks again beside `others` threads that may be at work.
 pub(crate) fn spins_of_scheduler(others: usize, processors: usize) -> u32 {
     if others <= processors {
         SCHEDULER_SPINS
@@ -71,8 +73,8 @@ impl Spot {
         }
     }
 
-    /// Takes a thread that has found nothing a step nearer to being parked, or parks it until it is woken. It spins so
-    /// often at most.
+    /// Takes a thread that has found nothing a step nearer to being parked, or parks it until it is woken. It looks
+    /// again `spins` times at most.
     fn idle<R: Wait>(&self, rt: &R, idling: Idling, spins: u32) -> Idling {
         match idling {
             Idling::Busy => Idling::Spinning(0),
