@@ -26,9 +26,9 @@ use Rattle.running.specs.Standings.{standing_of}
 use Rattle.running.specs.Starts.{start_in, start_of}
 use Rattle.running.specs.Stops.{IsNotOfThread}
 use Rattle.running.proofs.RunEnds.{nothing_run}
-use Rattle.log_runs.specs.declared.reading.Ended.{Ended}
-use Rattle.log_runs.specs.declared.reading.Reading.{Reading}
-use Rattle.log_runs.specs.EngineRuns.{engine_on, has_ended, IsEngineRun}
+use Rattle.running.specs.declared.reading.Ended.{Ended}
+use Rattle.running.specs.declared.reading.Reading.{Reading}
+use Rattle.running.specs.EngineRuns.{engine_on, has_ended, IsEngineRun}
 use Rattle.calvin.specs.CommandEnds.{fault_status, rows_listed, unknown, AreListed, AreRowsOf, AreWritten, IsWritten}
 use Rattle.calvin.specs.Listings.{text_at, text_of_table, IsNotThere, IsPlaceOf}
 

@@ -6,8 +6,8 @@ use Rattle.engine.specs.Engines.{EngineParts}
 use Rattle.running.specs.Runs.{device_with}
 use Rattle.running.specs.Standings.{standing_of}
 use Rattle.running.specs.Stops.{IsNotOfThread}
-use Rattle.log_runs.specs.declared.reading.Ended.{Ended}
-use Rattle.log_runs.specs.EngineRuns.{engine_on, has_ended, IsEngineRun}
+use Rattle.running.specs.declared.reading.Ended.{Ended}
+use Rattle.running.specs.EngineRuns.{engine_on, has_ended, IsEngineRun}
 use Rattle.calvin.specs.CommandEnds.{end_status, IsRunAt}
 use Rattle.calvin.specs.Inputs.{Files, IsSetupAt, Paths}
 

@@ -17,7 +17,7 @@ use crate::status::DONE;
 use batch_log::{Sink, Source};
 use command_line::{Command, Input, Line, Running};
 use engine::Settings;
-use log_runs::{RunOptions, lines_of};
+use running::{RunOptions, lines_of};
 use std::alloc::Global;
 use std::sync::Wait;
 use std::thread::Threads;

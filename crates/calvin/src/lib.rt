@@ -43,7 +43,6 @@ pub use engine::{
 };
 pub use files::{FileFault, Files};
 pub use laws::plans_have_one_text;
-pub use log_runs::run_text;
 pub use programs::program;
-pub use running::RunFault;
+pub use running::{RunFault, run_text};
 pub use setup::{DigestForm, Setup, SetupDocument, SetupFault, read_setup};

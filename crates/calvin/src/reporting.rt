@@ -1,7 +1,7 @@
 //! The command `run`: the report of a log.
 
 ghost use Rattle.std.specs.Prelude.{◌≡◌};
-ghost use Rattle.log_runs.specs.EngineRuns.{has_ended};
+ghost use Rattle.running.specs.EngineRuns.{has_ended};
 ghost use Rattle.running.specs.Runs.{device_with};
 ghost use Rattle.calvin.specs.CommandEnds.{end_status, IsRunCommand};
 ghost use Rattle.calvin.specs.Inputs.{paths_of};
@@ -12,7 +12,7 @@ use crate::inputs::{refused, setup_at};
 use crate::status::DONE;
 use batch_log::{Sink, Source};
 use command_line::Input;
-use log_runs::{Ended, RunOptions, run_setup};
+use running::{Ended, RunOptions, run_setup};
 use std::alloc::Global;
 use std::sync::Wait;
 use std::thread::Threads;

@@ -1,9 +1,8 @@
 //! Calls that are run sooner than they would be handed over.
 
-use crate::scans::block_scans;
 use footprint::{Footprint, InPart, InTable, Resource};
 use interp::Entry;
-use proclang_types::{FootprintEntry, IntExpr, ProcFootprint, Stmt};
+use proclang_types::{FootprintEntry, ProcFootprint};
 use row_store::RowStore;
 
 /// A call whose footprint has more entries isn't brief if it looks through partitions: to count the rows of each entry
@@ -28,52 +27,6 @@ const FEW_TO_LEND: usize = 8;
 /// are counted once for each of its steps, since each statement may look at all of them. Measured: sums over 1,024
 /// rows, handed over to four workers, take 0.9 of the time alone, and those over 4,096 rows less than half.
 const FEW_ROWS: usize = 512;
-
-/// How many numbers there are between two, both included, `None` where they are too many to count.
-fn count_numbers(low: i64, high: i64) -> Option<usize> {
-    if low > high {
-        return Some(0);
-    }
-    usize::try_from(high.checked_sub(low)?.checked_add(1)?).ok()
-}
-
-/// How many steps a statement takes at most, `None` where that is not known at once, or a block in it takes more than
-/// `most`. A choice takes those of its longer block, and a loop between two literals those of each turn.
-#[cycle(steps)]
-fn count_statement(statement: &Stmt, most: usize) -> Option<usize> {
-    match statement {
-        Stmt::If { first, second, .. } => {
-            let first = count_steps(first, most)?;
-            let second = count_steps(second, most)?;
-            first.max(second).checked_add(1)
-        }
-        Stmt::For {
-            low: IntExpr::Number(low),
-            high: IntExpr::Number(high),
-            body,
-        } => {
-            let turn = count_steps(body, most)?.checked_add(1)?;
-            count_numbers(*low, *high)?
-                .checked_mul(turn)?
-                .checked_add(1)
-        }
-        Stmt::For { .. } | Stmt::Each { .. } => None,
-        _ => Some(1),
-    }
-}
-
-/// How many steps a block takes at most, `None` where that is not known at once, or more than `most`.
-#[cycle(steps)]
-fn count_steps(block: &[Stmt], most: usize) -> Option<usize> {
-    let mut steps: usize = 0;
-    for statement in block {
-        steps = steps.checked_add(count_statement(statement, most)?)?;
-        if steps > most {
-            return None;
-        }
-    }
-    Some(steps)
-}
 
 /// About how many rows a resource covers, `None` where that is not known at once.
 fn count_rows(resource: &Resource, rows: &RowStore) -> Option<usize> {
@@ -107,19 +60,11 @@ fn declared(footprint: &ProcFootprint) -> &[FootprintEntry] {
     }
 }
 
-/// Whether an entry of a declaration is one row.
-fn is_row(entry: &FootprintEntry) -> bool {
-    matches!(entry, FootprintEntry::Row { .. })
-}
-
-/// Whether a call of `steps` steps may look at few rows alone. Where its procedure declares single rows, or looks
-/// through no partition, each statement looks at one: then its footprint isn't looked at.
+/// Whether a call of `steps` steps may look at few rows alone. Where it looks through no partition, each statement looks
+/// at one: then its footprint isn't looked at.
 fn looks_at_few_rows(entry: &Entry, steps: usize, rows: &RowStore) -> bool {
-    let proc = entry.request().proc();
-    if let ProcFootprint::Declared(entries) = proc.footprint() {
-        if entries.iter().all(is_row) || !block_scans(proc.body()) {
-            return true;
-        }
+    if !entry.request().proc().cost().looks_through_partitions {
+        return true;
     }
     let most = FEW_ROWS / steps.max(1);
     entry
@@ -135,8 +80,10 @@ pub(crate) fn is_brief(entry: &Entry, rows: &RowStore) -> bool {
         .len()
         .saturating_mul(STEPS_AN_ENTRY)
         .saturating_add(FEW_STEPS);
-    let steps = count_steps(proc.body(), most);
-    steps.is_some_and(|steps| looks_at_few_rows(entry, steps, rows))
+    match proc.cost().steps {
+        Some(steps) if steps <= most => looks_at_few_rows(entry, steps, rows),
+        _ => false,
+    }
 }
 
 /// Whether a call is brief, and lending it its rows would take longer than waiting for the jobs that are out.

@@ -22,7 +22,6 @@ mod listener;
 mod parking;
 mod pool;
 mod refusal;
-mod scans;
 mod settings;
 mod worker;
 mod workplace;

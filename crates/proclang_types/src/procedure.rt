@@ -5,6 +5,7 @@ ghost use Rattle.catalogue.specs.Schemas.{HaveSameSchema};
 ghost use Rattle.proclang_types.specs.Procedures.{proc_syntax, param_shape, ProcParts};
 ghost use Rattle.proclang_types.specs.Typing.{ProcFits};
 
+use crate::cost::Cost;
 use crate::statement::{ProcFootprint, Stmt};
 use catalogue::Catalogue;
 use std::alloc::{AllocError, Global};
@@ -26,6 +27,8 @@ struct Parts {
     params: Vec<Param>,
     footprint: ProcFootprint,
     body: Vec<Stmt>,
+    /// What a call costs, reckoned from the two above.
+    cost: Cost,
 }
 
 /// A procedure over the tables of a catalogue: its name, its parameters, how the footprint of its calls is known, and
@@ -96,11 +99,13 @@ impl Proc {
               body = body.items;
             }) }
     {
+        let cost = Cost::of(&footprint, &body);
         let parts = Parts {
             name,
             params,
             footprint,
             body,
+            cost,
         };
         let parts = Arc::new(alloc, parts)?;
         let catalogue = catalogue.clone()?;
@@ -154,5 +159,10 @@ impl Proc {
         ensures fits { ProcFits self.now.tables (proc_syntax self.now) }
     {
         &self.parts.body
+    }
+
+    /// What a call costs at most, for whoever decides where to run it. Nothing is proved of it.
+    pub fn cost(&self) -> Cost {
+        self.parts.cost
     }
 }

@@ -106,6 +106,9 @@ impl RowStore {
         requires threads { 0 < threads }
         ensures same { self.new ≡ self.old }
     {
+        if self.kept.is_whole() {
+            return;
+        }
         let Ok(unkept) = unkept_of(self.alloc, &self.catalogue, &self.shelves, &self.kept) else {
             return;
         };

@@ -15,6 +15,8 @@ use values::TableNo;
 #[derive(Drop)]
 pub struct KeptDigests {
     tables: Vec<BTreeMap<u32, Hash>>,
+    /// Whether none was forgotten since a digest of the partition text was made.
+    whole: bool,
 }
 
 impl KeptDigests {
@@ -24,7 +26,21 @@ impl KeptDigests {
     {
         KeptDigests {
             tables: Vec::new(alloc),
+            whole: false,
         }
+    }
+
+    /// Whether none was forgotten since a digest of the partition text was made: then each partition that has rows
+    /// keeps its digest, unless rows came since without a call of `forget`. Nothing is proved of it.
+    pub fn is_whole(&self) -> bool {
+        self.whole
+    }
+
+    /// Says that each partition that has rows keeps its digest. Where none has rows there is nothing to forget.
+    pub(crate) fn complete(&mut self)
+        ensures { (table part : ℕ) → kept_at self.new table part ≡ kept_at self.old table part }
+    {
+        self.whole = !self.tables.is_empty();
     }
 
     /// Whether nothing was ever kept.
@@ -90,6 +106,7 @@ impl KeptDigests {
         ensures { (t p : ℕ) → kept_at self.new t p
             ≡ (if (table == t) && (part == p) then None else kept_at self.old t p) }
     {
+        self.whole = false;
         if let Some(digests) = self.tables.get_mut(table.place()) {
             digests.remove(&part);
         }

@@ -25,7 +25,7 @@ pub fn every_row_has_its_line()
 {}
 
 /// How keys are split shows in no row text: it is the same under two catalogues that have the same tables and columns.
-pub fn row_text_hangs_on_no_split()
+pub fn row_text_depends_on_no_split()
     ensures { (ts us : List TableShape) (db : Database) → HaveSameSchema ts us → row_text ts db ≡ row_text us db }
 {}
 

@@ -33,7 +33,7 @@ pub use gathered::rows_of_table;
 pub use kept::KeptDigests;
 pub use laws::{
     every_row_has_its_line, every_row_left_by_calls_has_its_line, partition_line_is_of_its_rows,
-    partition_text_tells_each_digest, row_text_hangs_on_no_split,
+    partition_text_tells_each_digest, row_text_depends_on_no_split,
 };
 pub use listing::{rows_text, table_text};
 pub use side_by_side::keep_digests;

@@ -150,5 +150,6 @@ pub(crate) fn partition_text_digest<V: RowView>(
     for place in 0..catalogue.len() {
         push_partitions(alloc, catalogue, view, TableNo::new(place), kept, &mut text)?;
     }
+    kept.complete();
     digest_text(alloc, text.as_bytes())
 }

@@ -1,5 +1,5 @@
 -- A log is closed batch by batch.
-use Rattle.std.proofs.Common.{◌≡◌, ℕ, zero, suc, ◌+◌, List, [], ◌∷◌, ◌++◌, append_assoc, append-nil, length, false, Option, Some, None, Result, Ok, Err, IfOk, IfErr, OnOk, refl, sym, ◌∙◌, ap, subst, arith}
+use Rattle.std.proofs.Common.{◌≡◌, ℕ, ◌+◌, List, [], ◌∷◌, ◌++◌, append_assoc, append-nil, length, false, Option, Some, None, Result, Ok, Err, IfOk, IfErr, OnOk, refl, sym, ◌∙◌, ap, subst}
 use Rattle.std.specs.Io.KnownBytes.{Appends}
 use Rattle.std.proofs.KnownBytes.{Appends-trans}
 use Rattle.sha2.specs.Hashers.{Holds256}
@@ -7,13 +7,12 @@ use Rattle.devices.specs.Devices.{AppendsFront}
 use Rattle.catalogue.specs.Shapes.{TableShape}
 use Rattle.requests.specs.ProcLists.{ProcsParts}
 use Rattle.requests.specs.Requests.{Call}
-use Rattle.sequencer.specs.declared.attempts.Carried.{Carried}
 use Rattle.row_text.specs.declared.form.DigestForm.{DigestForm}
 use Rattle.row_text.specs.Partitions.{digested_text}
 use Rattle.row_text.specs.Texts.{digest}
 use Rattle.report_text.specs.Texts.{end_line}
 use Rattle.report_text.specs.Report.{end_text}
-use Rattle.retries.specs.Standings.{after_batch, closing, closing_within, transactions_in, while_carried, Standing}
+use Rattle.retries.specs.Standings.{closing, closing_within, transactions_in, Standing}
 use Rattle.retries.proofs.Reported.{end_is}
 use Rattle.engine.specs.Engines.{EngineParts, tables_of}
 use Rattle.running.specs.declared.run_fault.RunFault.{RunFault}
@@ -26,22 +25,8 @@ use Rattle.running.specs.Standings.{standing_of}
 use Rattle.running.specs.Starts.{Start}
 use Rattle.running.specs.Stops.{IfOfThread, IsMachineFault, IsNotOfThread}
 use Rattle.running.specs.Stopped.{at_end, in_closing, standing_after}
-use Rattle.running.proofs.Reported.{next_text_is, standing_next, HasReported-next}
-
--- ---- the batches that are still to come
-
-none_to_come : (carried : List Carried) (rest : List (List Call)) → length carried ≡ 0 → while_carried carried rest ≡ []
-none_to_come [] rest h = refl
-none_to_come (c ∷ cs) rest h = absurd (omega arith)
-
-one_to_come : (carried : List Carried) (rest : List (List Call)) → ¬ (length carried ≡ 0) → while_carried carried rest ≡ [] ∷ rest
-one_to_come [] rest h = absurd (h refl)
-one_to_come (c ∷ cs) rest h = refl
-
--- where nothing is carried, no batch is to come, however many might
-closing_none : (retries most : ℕ) (s : Standing) → length s.carried ≡ 0 → closing_within retries most s ≡ []
-closing_none retries zero s h = refl
-closing_none retries (suc most) s h = none_to_come s.carried (closing_within retries most (after_batch retries s [])) h
+use Rattle.running.proofs.ClosingBatches.{closing_further, closing_none, next_closing}
+use Rattle.running.proofs.Reported.{next_text_is, HasReported-next}
 
 -- ---- what a sink has given on before
 
@@ -91,19 +76,7 @@ module _ (start : Start) (most left n : ℕ) (ran : List (List Call)) (engine : 
   all = append_assoc ran h.closers ([] ∷ [])
 
   next : closing_within start.retries most (standing_after start.retries start.rows before) ≡ [] ∷ closing_within start.retries left (standing_after start.retries start.rows (before ++ [] ∷ []))
-  next =
-      ap (λ k. closing_within start.retries k (standing_after start.retries start.rows before)) (more ∙ one_more left)
-      ∙ one_to_come (standing_after start.retries start.rows before).carried (closing_within start.retries left (after_batch start.retries (standing_after start.retries start.rows before) [])) carries
-      ∙ ap (λ (s : Standing). [] ∷ closing_within start.retries left s) (sym (standing_next start.retries start.rows before []))
-    where
-      one_more : (k : ℕ) → k + 1 ≡ suc k
-      one_more k = omega arith
-
-  first_with : closing start.retries (standing_after start.retries start.rows ran) ≡ (h.closers ++ [] ∷ []) ++ closing_within start.retries left (standing_after start.retries start.rows (ran ++ (h.closers ++ [] ∷ [])))
-  first_with =
-      h.first ∙ ap (λ (rest : List (List Call)). h.closers ++ rest) next
-      ∙ sym (append_assoc h.closers ([] ∷ []) (closing_within start.retries left (standing_after start.retries start.rows (before ++ [] ∷ []))))
-      ∙ ap (λ (batches : List (List Call)). (h.closers ++ [] ∷ []) ++ closing_within start.retries left (standing_after start.retries start.rows batches)) all
+  next = next_closing start ran h.closers most left carries more
 
   -- it was run and reported
   pub HasClosed-next : (after : EngineParts) (after_it : Transcript) (given : Option (List ℕ)) → after.procs ≡ engine.procs → after.retries ≡ engine.retries → form_of after_it ≡ form_of transcript →
@@ -111,7 +84,7 @@ module _ (start : Start) (most left n : ℕ) (ran : List (List Call)) (engine : 
   HasClosed-next after after_it given same same_retries same_form reported = record {
     closers = h.closers ++ [] ∷ [];
     reported = rw all at (HasReported-next start before [] engine after transcript after_it sink gave given h.reported same same_retries same_form reported);
-    first = first_with;
+    first = closing_further start ran h.closers most left carries more h.first;
   }
 
   -- or a fault stopped it

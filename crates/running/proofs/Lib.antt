@@ -1,5 +1,5 @@
 pub mod Reported
-pub mod Lines
+pub mod ReplyLines
 pub mod Uncommitted
 pub mod Runs
 pub mod Stopping
@@ -7,5 +7,9 @@ pub mod SoFar
 pub mod Following
 pub mod Stopped
 pub mod Fronts
+pub mod ClosingBatches
 pub mod Closers
 pub mod RunEnds
+pub mod Alone
+pub mod Seen
+pub mod EngineRuns

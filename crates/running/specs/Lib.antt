@@ -10,3 +10,5 @@ pub mod Reported
 pub mod Runs
 pub mod Followed
 pub mod Executors
+pub mod ProgressLines
+pub mod EngineRuns

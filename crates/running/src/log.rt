@@ -39,7 +39,7 @@ fn observe_unused(engine: &Engine)
 /// Runs the log of which a reader has read nothing on an engine that has run none, as `run_log` does on a new one, with
 /// digests of rows in that form. Where the log is a feed, the run ends with a failed read (36) once nothing more comes:
 /// then the batches that a cut ends are reported, and the rows are those after them.
-pub fn run_reader<
+pub(crate) fn run_reader<
     R: Wait,
     X: Fn(&mut Engine, Batch) -> Result<BatchDone, ExecFault>,
     S: Source,

@@ -1,12 +1,11 @@
 -- The batches without calls that close a log, one by one.
-use Rattle.std.proofs.Common.{◌≡◌, ℕ, zero, suc, ◌+◌, List, [], ◌∷◌, ◌++◌, append_assoc, append-nil, length, refl, sym, ◌∙◌, ap, subst, arith, Some}
+use Rattle.std.proofs.Common.{◌≡◌, ℕ, ◌+◌, List, [], ◌∷◌, ◌++◌, append_assoc, append-nil, length, sym, ◌∙◌, ap, subst, Some}
 use Rattle.devices.specs.Devices.{AppendsFront}
 use Rattle.requests.specs.Requests.{Call}
 use Rattle.batch_log.specs.declared.fault.LogFault.{LogFault}
 use Rattle.batch_log.specs.declared.fault.LogFaultKind.TheVariants.{Memory}
 use Rattle.batch_log.specs.Places.{IsWhole}
-use Rattle.sequencer.specs.declared.attempts.Carried.{Carried}
-use Rattle.retries.specs.Standings.{after_batch, closing, closing_within, while_carried, Standing}
+use Rattle.retries.specs.Standings.{closing_within, Standing}
 use Rattle.engine.specs.Executions.{KeepsSetting}
 use Rattle.running.specs.Batches.{due_text, IsReported}
 use Rattle.running.specs.Hashers.{form_of}
@@ -15,7 +14,8 @@ use Rattle.running.specs.Reports.{report_of}
 use Rattle.running.specs.Standings.{standing_of}
 use Rattle.running.specs.Starts.{Start}
 use Rattle.running.specs.Stopped.{standing_after, texts_of}
-use Rattle.running.proofs.Reported.{standing_next, texts_further}
+use Rattle.running.proofs.ClosingBatches.{closing_further, closing_none, next_closing}
+use Rattle.running.proofs.Reported.{texts_further}
 use Rattle.session.specs.declared.work.Work.{Work}
 use Rattle.session.specs.Ends.{IsRunInto}
 use Rattle.session.specs.Replies.{all_replies, batch_replies, kept_in, kept_with, replies_after, NumberedReply}
@@ -25,21 +25,6 @@ use Rattle.session.proofs.Growing.{begins_onward}
 use Rattle.session.proofs.Runs.{front-next, reported_next, stopped_in_batch}
 use Rattle.session.proofs.Told.{replied_next, replied_still, replies_further, replies-whole}
 use Rattle.session.proofs.Turns.{closing-begins}
-
--- ---- the batches that are still to come
-
-none_to_come : (carried : List Carried) (rest : List (List Call)) → length carried ≡ 0 → while_carried carried rest ≡ []
-none_to_come [] rest h = refl
-none_to_come (c ∷ cs) rest h = absurd (omega arith)
-
-one_to_come : (carried : List Carried) (rest : List (List Call)) → ¬ (length carried ≡ 0) → while_carried carried rest ≡ [] ∷ rest
-one_to_come [] rest h = absurd (h refl)
-one_to_come (c ∷ cs) rest h = refl
-
--- where nothing is carried, no batch is to come, however many might
-closing_none : (retries most : ℕ) (s : Standing) → length s.carried ≡ 0 → closing_within retries most s ≡ []
-closing_none retries zero s h = refl
-closing_none retries (suc most) s h = none_to_come s.carried (closing_within retries most (after_batch retries s [])) h
 
 -- ---- batch by batch
 
@@ -68,18 +53,7 @@ module _ (start : Start) (drained : List ℕ) (passed : List NumberedReply) (ran
   all = append_assoc ran h.closers ([] ∷ [])
 
   next : closing_within start.retries most (standing_after start.retries start.rows before) ≡ [] ∷ later
-  next =
-      ap (λ k. closing_within start.retries k (standing_after start.retries start.rows before)) (more ∙ one_more left)
-      ∙ one_to_come (standing_after start.retries start.rows before).carried (closing_within start.retries left (after_batch start.retries (standing_after start.retries start.rows before) [])) carries
-      ∙ ap (λ (s : Standing). [] ∷ closing_within start.retries left s) (sym (standing_next start.retries start.rows before []))
-    where
-      one_more : (k : ℕ) → k + 1 ≡ suc k
-      one_more k = omega arith
-
-  first_with : closing start.retries (standing_after start.retries start.rows ran) ≡ (h.closers ++ [] ∷ []) ++ closing_within start.retries left (standing_after start.retries start.rows (ran ++ (h.closers ++ [] ∷ [])))
-  first_with =
-      h.first ∙ ap (λ (rest : List (List Call)). h.closers ++ rest) next ∙ sym (append_assoc h.closers ([] ∷ []) later)
-      ∙ ap (λ (batches : List (List Call)). (h.closers ++ [] ∷ []) ++ closing_within start.retries left (standing_after start.retries start.rows batches)) all
+  next = next_closing start ran h.closers most left carries more
 
   -- all batches of the log are these, the next one, and those that are left
   whole_is : with_closing start.retries start.rows ran ≡ (before ++ [] ∷ []) ++ later
@@ -97,7 +71,7 @@ module _ (start : Start) (drained : List ℕ) (passed : List NumberedReply) (ran
         (reported_next start before [] drained work.engine new.engine work.transcript new.transcript work.report new.report h.reported same form reported);
     replied = subst (λ (batches : List (List Call)). HasReplied start batches passed new.replies) all
         (replied_next start before [] passed (standing_of work.engine) work.replies new.replies h.reported.standing_is h.replied told);
-    first = first_with;
+    first = closing_further start ran h.closers most left carries more h.first;
   }
 
   -- or a fault stopped it

@@ -1,6 +1,6 @@
 use Rattle.std.proofs.Common.{◌≡◌, false, is_some, ap, rules}
 use Rattle.requests.specs.ProcLists.{ProcsParts}
-use Rattle.log_runs.specs.EngineRuns.{has_ended}
+use Rattle.running.specs.EngineRuns.{has_ended}
 use Rattle.std.proofs.lemmas.Result.{IfOk-at_ok}
 use Rattle.calvin.proofs.ListedRows.{list_done, list_followed, list_refused, still_within}
 use Rattle.calvin.proofs.listing.list_on.Goals as goal

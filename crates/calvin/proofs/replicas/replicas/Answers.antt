@@ -1,5 +1,5 @@
 use Rattle.std.proofs.Common.{◌∙◌, inr}
-use Rattle.log_runs.proofs.EngineRuns.{of_log}
+use Rattle.running.proofs.EngineRuns.{of_log}
 use Rattle.calvin.specs.Inputs.{paths_of}
 use Rattle.calvin.specs.Comparisons.{bytes_of, is_full}
 use Rattle.calvin.proofs.CommandRuns.{compared, not_compared, replicas_at}

@@ -20,7 +20,7 @@ use Rattle.running.specs.Standings.{standing_of}
 use Rattle.running.specs.Transcripts.{said_lines, with_batch_line}
 use Rattle.running.specs.Executors.{HasAnswered}
 use Rattle.running.proofs.Runs.{held_fault, told_of_thread}
-use Rattle.running.proofs.Lines.{attempts_are, digest_of_rows, lines_are, standing_is, batch_text_is}
+use Rattle.running.proofs.ReplyLines.{attempts_are, digest_of_rows, lines_are, standing_is, batch_text_is}
 use Rattle.running.proofs.Uncommitted.{rows_after}
 use Rattle.running.proofs.batch.run_batch.Goals as goal
 

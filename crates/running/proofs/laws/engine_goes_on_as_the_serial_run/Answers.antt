@@ -1,4 +1,4 @@
-use Rattle.running.proofs.Lines.{replies_are, standing_is}
+use Rattle.running.proofs.ReplyLines.{replies_are, standing_is}
 use Rattle.running.proofs.laws.engine_goes_on_as_the_serial_run.Goals as goal
 
 pub returns-clause-standing : goal.returns-clause-standing

@@ -3,8 +3,8 @@
 use Rattle.std.specs.Prelude.{ℕ, List, [], ◌++◌, Bool, true, false, codes}
 use Rattle.std.specs.Fmt.{decimal}
 use Rattle.progress.specs.declared.tally.Tally.{Tally}
-use Rattle.log_runs.specs.declared.telling.Lines.{Lines}
-use Rattle.log_runs.specs.declared.telling.Lines.TheVariants.{Below, Over}
+use Rattle.running.specs.declared.telling.Lines.{Lines}
+use Rattle.running.specs.declared.telling.Lines.TheVariants.{Below, Over}
 
 -- how many are settled, and how they ended
 abbrev pub tally_text : Tally → List ℕ

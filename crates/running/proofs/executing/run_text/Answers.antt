@@ -1,7 +1,7 @@
 use Rattle.std.proofs.Common.{refl}
 use Rattle.running.proofs.RunEnds.{nothing_run}
-use Rattle.log_runs.proofs.EngineRuns.{of_log}
-use Rattle.log_runs.proofs.executing.run_text.Goals as goal
+use Rattle.running.proofs.EngineRuns.{of_log}
+use Rattle.running.proofs.executing.run_text.Goals as goal
 
 pub run_log_in_pool-ended-requires-clause-idle : goal.run_log_in_pool-ended-requires-clause-idle
 run_log_in_pool-ended-requires-clause-idle g c = λ κs bounds. rw c.in-Ok.ensures.made refl

@@ -6,11 +6,12 @@ ghost use Rattle.batch_log.specs.Reader.{has_ended, origin_of, source_of, unread
 ghost use Rattle.engine.specs.Engines.{is_busy};
 ghost use Rattle.running.specs.Executors.{core_of, Executes, HasAnswered};
 ghost use Rattle.running.specs.Stops.{IfOfThread};
-ghost use Rattle.log_runs.specs.EngineRuns.{IsEngineRun};
+ghost use Rattle.running.specs.EngineRuns.{IsEngineRun};
 
+use crate::log::run_reader;
+use crate::run_fault::RunFault;
 use batch_log::{LogReader, Sink, Source};
 use engine::{Batch, BatchDone, Engine, ExecFault};
-use running::{RunFault, run_reader};
 use setup::DigestForm;
 use std::alloc::Global;
 use std::sync::Wait;

@@ -5,7 +5,7 @@ ghost use Rattle.std.specs.Prelude.{◌≡◌, IfErr, false, true};
 ghost use Rattle.sequencer.specs.Batches.{items_of, AreOver};
 ghost use Rattle.engine.specs.Engines.{EngineParts, is_busy, tables_of};
 ghost use Rattle.engine.specs.Executions.{IsSpawn};
-ghost use Rattle.log_runs.specs.EngineRuns.{engine_on, IsEngineRun};
+ghost use Rattle.running.specs.EngineRuns.{engine_on, IsEngineRun};
 ghost use Rattle.running.specs.Executors.{IsExecution};
 ghost use Rattle.running.specs.Stops.{IsNotOfThread};
 

@@ -1,6 +1,6 @@
 use Rattle.std.proofs.Common.{◌≡◌, rules}
-use Rattle.log_runs.proofs.EngineRuns.{nothing_done}
-use Rattle.log_runs.proofs.setup_runs.run_on_workers.Goals as goal
+use Rattle.running.proofs.EngineRuns.{nothing_done}
+use Rattle.running.proofs.setup_runs.run_on_workers.Goals as goal
 
 pub returns-in_default-watcher : goal.returns-in_default-watcher
 returns-in_default-watcher g c =

@@ -3,17 +3,17 @@
 ghost use Rattle.std.specs.Prelude.{◌≡◌, Err, IfErr, IfOk, None, false};
 ghost use Rattle.sequencer.specs.Batches.{items_of, AreOver};
 ghost use Rattle.engine.specs.Engines.{is_busy, tables_of};
-ghost use Rattle.log_runs.specs.EngineRuns.{IsEngineRun, engine_on};
+ghost use Rattle.running.specs.EngineRuns.{IsEngineRun, engine_on};
 ghost use Rattle.running.specs.Executors.{IsExecution};
 ghost use Rattle.running.specs.Runs.{RunsLog};
 ghost use Rattle.running.specs.Starts.{start_in};
 
 use crate::reading::{Ended, Reading, run_source};
+use crate::run_fault::RunFault;
 use batch_log::{LogFaultKind, Sink, Source};
 use engine::{
     Batch, BatchDone, Engine, ExecFault, Gate, HeadSeat, Settings, WorkerPool, Workplace,
 };
-use running::RunFault;
 use setup::{Setup, SetupDocument};
 use std::alloc::Global;
 use std::sync::{Mutex, Wait};

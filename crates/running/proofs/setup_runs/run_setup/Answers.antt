@@ -1,7 +1,7 @@
 use Rattle.std.proofs.Common.{refl}
-use Rattle.log_runs.specs.EngineRuns.{engine_on}
-use Rattle.log_runs.proofs.EngineRuns.{nothing_done}
-use Rattle.log_runs.proofs.setup_runs.run_setup.Goals as goal
+use Rattle.running.specs.EngineRuns.{engine_on}
+use Rattle.running.proofs.EngineRuns.{nothing_done}
+use Rattle.running.proofs.setup_runs.run_setup.Goals as goal
 
 pub run_engine-requires-clause-idle : goal.run_engine-requires-clause-idle
 run_engine-requires-clause-idle g c = λ κs bounds. rw c.in-Ok.ensures.made refl

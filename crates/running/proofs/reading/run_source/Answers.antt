@@ -1,6 +1,6 @@
 use Rattle.std.proofs.Common.{rules}
-use Rattle.log_runs.proofs.EngineRuns.{of_reader}
-use Rattle.log_runs.proofs.reading.run_source.Goals as goal
+use Rattle.running.proofs.EngineRuns.{of_reader}
+use Rattle.running.proofs.reading.run_source.Goals as goal
 
 pub returns-clause-run : goal.returns-clause-run
 returns-clause-run g c =

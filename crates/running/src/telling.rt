@@ -2,8 +2,8 @@
 
 ghost use Rattle.std.specs.Prelude.{◌≡◌, ◌++◌, true, false, IfOk, OnOk, None, Some, string_bytes};
 ghost use Rattle.devices.specs.Devices.{AppendsFront};
-ghost use Rattle.log_runs.specs.declared.telling.Lines.TheVariants.{Below, Over};
-ghost use Rattle.log_runs.specs.ProgressLines.{before, line_ending, line_text, tally_text};
+ghost use Rattle.running.specs.declared.telling.Lines.TheVariants.{Below, Over};
+ghost use Rattle.running.specs.ProgressLines.{before, line_ending, line_text, tally_text};
 
 use batch_log::{Sink, write_all};
 use engine::{Engine, Tally, Watcher};

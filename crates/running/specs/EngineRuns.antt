@@ -12,8 +12,8 @@ use Rattle.running.specs.Followed.{LeavesBetween}
 use Rattle.running.specs.Reports.{rows_after}
 use Rattle.running.specs.Runs.{device_with, IsRunOfLog}
 use Rattle.running.specs.Starts.{start_of}
-use Rattle.log_runs.specs.declared.reading.Ended.{Ended}
-use Rattle.log_runs.specs.declared.reading.Reading.{Reading}
+use Rattle.running.specs.declared.reading.Ended.{Ended}
+use Rattle.running.specs.declared.reading.Reading.{Reading}
 
 -- an engine on the starting rows of a setup, which has run nothing
 abbrev pub engine_on : Setup → Settings → EngineParts

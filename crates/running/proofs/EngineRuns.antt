@@ -18,10 +18,10 @@ use Rattle.running.specs.Runs.{device_with, Device, IsRunOfLog}
 use Rattle.running.specs.Starts.{start_of}
 use Rattle.running.proofs.RunEnds.{nothing_run}
 use Rattle.running.proofs.Runs.{keeps_still}
-use Rattle.log_runs.specs.declared.reading.Ended.{Ended}
-use Rattle.log_runs.specs.declared.reading.Reading.{Reading}
-use Rattle.log_runs.specs.EngineRuns.{has_ended, IsEngineRun}
-use Rattle.log_runs.proofs.Seen.{first, is_feed, last, rest}
+use Rattle.running.specs.declared.reading.Ended.{Ended}
+use Rattle.running.specs.declared.reading.Reading.{Reading}
+use Rattle.running.specs.EngineRuns.{has_ended, IsEngineRun}
+use Rattle.running.proofs.Seen.{first, is_feed, last, rest}
 
 module _ {S K : Type 0} (left : S → Option (List ℕ)) (failed : S → Bool) (taken : K → Option (List ℕ)) (broken : K → Bool) (reading : Reading) where
   -- allocation failed before anything was read

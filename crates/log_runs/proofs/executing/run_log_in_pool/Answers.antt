@@ -1,5 +1,0 @@
-use Rattle.log_runs.proofs.EngineRuns.{nothing_done}
-use Rattle.log_runs.proofs.executing.run_log_in_pool.Goals as goal
-
-pub returns-in-Err : goal.returns-in-Err
-returns-in-Err g c = nothing_done _ _ _ _ _ _ _ _ _ c.no_memory.ensures

@@ -1,2 +1,0 @@
-pub mod ProgressLines
-pub mod EngineRuns
