@@ -4,7 +4,7 @@
     scripts/unsafe.py
 
 `unsafe` and raw pointers may be used in the files below alone, and a word by which a value is let go without its end
-nowhere. A proof knows neither: a `drop` that keeps its block in a `ManuallyDrop` would meet its contract. The attribute
+in one of them alone. A proof knows neither: a `drop` that keeps its block in a `ManuallyDrop` would meet its contract. The attribute
 by which a function keeps its name for C, `#[unsafe(no_mangle)]`, may be used in the crate of the C library alone. It
 ends with how many files were looked at, and with status 1 where it finds one of these words elsewhere.
 """
@@ -21,6 +21,8 @@ MAY_BE_UNSAFE = {
     "calvin_c/src/loose.rt",
     "calvin_c/src/opening.rt",
 }
+# Where the process ends next, the memory of an engine is left to the system.
+MAY_LET_GO = {"running/src/leaving.rt"}
 EXPORTS = "calvin_c/src/"
 EXPORT = "#[unsafe(no_mangle)]"
 UNSAFE = re.compile(
@@ -42,8 +44,9 @@ def code(text):
 def findings(name, text):
     """Each line that has a word which the file may not have."""
     text = text.replace(EXPORT, "") if name.startswith(EXPORTS) else text
+    refused = [words for words, files in [(LETS_GO, MAY_LET_GO), (UNSAFE, MAY_BE_UNSAFE)] if name not in files]
     for number, line in enumerate(code(text).splitlines(), 1):
-        for words in [LETS_GO] if name in MAY_BE_UNSAFE else [LETS_GO, UNSAFE]:
+        for words in refused:
             for word in words.findall(line):
                 yield f"crates/{name}:{number}: {word}"
 
@@ -52,9 +55,9 @@ def main():
     files = sorted((TOP / "crates").glob("*/src/**/*.rt"))
     names = {str(file.relative_to(TOP / "crates")): file for file in files}
     found = [one for name, file in names.items() for one in findings(name, file.read_text())]
-    found += [f"crates/{name} is not there" for name in sorted(MAY_BE_UNSAFE - names.keys())]
+    found += [f"crates/{name} is not there" for name in sorted((MAY_BE_UNSAFE | MAY_LET_GO) - names.keys())]
     print(*found, sep="\n", end="\n" if found else "")
-    print(f"{len(files)} files without a word that lets a value go, {len(found)} words that may not be there")
+    print(f"{len(files)} files, {len(found)} words that may not be there")
     return 1 if found else 0
 
 

@@ -28,9 +28,13 @@ class Words(unittest.TestCase):
     def test_a_named_file_may_have_both(self):
         self.assertEqual(found("calvin_c/src/handle.rt", "fn f(at: *mut u8) { unsafe { g(at) } }\n"), [])
 
-    def test_no_file_may_let_a_value_go(self):
+    def test_a_file_may_not_let_a_value_go(self):
         for word in ["ManuallyDrop", "MaybeUninit", "leak", "forget"]:
             self.assertEqual(len(found("calvin_c/src/handle.rt", f"fn f() {{ {word}(x); }}\n")), 1, word)
+
+    def test_the_file_of_the_end_may_let_an_engine_go_and_nothing_else(self):
+        self.assertEqual(found("running/src/leaving.rt", "fn f() { mem::forget(engine); }\n"), [])
+        self.assertEqual(found("running/src/leaving.rt", "fn f() { unsafe { g() } }\n"), ["crates/running/src/leaving.rt:1: unsafe"])
 
     def test_a_method_of_that_name_is_no_such_word(self):
         self.assertEqual(found("x/src/row.rt", "fn forget(&mut self) { self.kept.forget(); }\n"), [])

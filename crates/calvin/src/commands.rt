@@ -11,6 +11,7 @@ use crate::filtering::filter;
 use crate::inputs::{print, refused, setup_at};
 use crate::listing::rows;
 use crate::locks::plans_of;
+use crate::process::Process;
 use crate::replicas::replicas;
 use crate::reporting::run;
 use crate::status::DONE;
@@ -52,15 +53,16 @@ fn locks<F: Files, S: Source, K: Sink, E: Sink>(
     }
 }
 
-/// How a log is run, by the words of a command line.
-fn options_of(line: &Line, running: Running, err_is_terminal: bool) -> RunOptions
+/// How a log is run, by the words of a command line and the process.
+fn options_of(line: &Line, running: Running, process: Process) -> RunOptions
     ensures { (result.alone ≡ running.alone) × (result.feed ≡ running.follow) }
 {
     RunOptions {
         alone: running.alone,
         feed: running.follow,
-        lines: lines_of(running.progress, err_is_terminal),
+        lines: lines_of(running.progress, process.err_is_terminal),
         settings: line.settings,
+        process_ends: process.ends,
     }
 }
 
@@ -70,12 +72,13 @@ fn options_of(line: &Line, running: Running, err_is_terminal: bool) -> RunOption
 /// failed, a file can't be read, or a thread was refused, as none is with `--alone` nor to `filter` and `locks`; 5
 /// where reports differ; 6 where a feed that was followed has ended. A fault goes to `err` in a line. After a fault of
 /// the setup or the log `rows`, `locks` and `replicas` write nothing to `out`. What is asked for of a run's progress
-/// goes to `err`, line over line where that is a terminal, and changes nothing else.
+/// goes to `err`, line over line where that is a terminal, and changes nothing else. Whether the process ends then
+/// changes nothing that is written.
 pub fn command<R: Threads + Wait + Sync, F: Files, S: Source, K: Sink, E: Sink + Send>(
     rt: &R,
     alloc: Global,
     line: &Line,
-    err_is_terminal: bool,
+    process: Process,
     files: &F,
     source: &mut S,
     out: &mut K,
@@ -89,7 +92,7 @@ pub fn command<R: Threads + Wait + Sync, F: Files, S: Source, K: Sink, E: Sink +
 {
     match &line.command {
         Command::Run { input, running } => {
-            let options = options_of(line, *running, err_is_terminal);
+            let options = options_of(line, *running, process);
             run(rt, alloc, &options, input, files, source, out, err)
         }
         Command::Rows {
@@ -97,7 +100,7 @@ pub fn command<R: Threads + Wait + Sync, F: Files, S: Source, K: Sink, E: Sink +
             running,
             listing,
         } => {
-            let options = options_of(line, *running, err_is_terminal);
+            let options = options_of(line, *running, process);
             rows(rt, alloc, &options, input, listing, files, source, out, err)
         }
         Command::Filter { setup } => filter(rt, alloc, setup, files, source, out, err),
@@ -113,7 +116,7 @@ pub fn command<R: Threads + Wait + Sync, F: Files, S: Source, K: Sink, E: Sink +
                 progress: *progress,
                 follow: false,
             };
-            let options = options_of(line, running, err_is_terminal);
+            let options = options_of(line, running, process);
             replicas(rt, alloc, &options, input, report, files, source, out, err)
         }
     }

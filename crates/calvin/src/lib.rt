@@ -27,6 +27,7 @@ mod inputs;
 mod laws;
 mod listing;
 mod locks;
+mod process;
 mod programs;
 mod replicas;
 mod reporting;
@@ -43,6 +44,7 @@ pub use engine::{
 };
 pub use files::{FileFault, Files};
 pub use laws::plans_have_one_text;
+pub use process::Process;
 pub use programs::program;
 pub use running::{RunFault, run_text};
 pub use setup::{DigestForm, Setup, SetupDocument, SetupFault, read_setup};

@@ -3,7 +3,7 @@
 ghost use Rattle.std.specs.Prelude.{◌≡◌, ◌<◌, ℕ, List, Option, None, IfErr, IfOk, IfSome, false, length, option_map, string_bytes};
 ghost use Rattle.setup.specs.declared.document.SetupDocument.{SetupDocument as AnyDocument};
 ghost use Rattle.dispatcher.specs.declared.settings.Settings.{Settings};
-ghost use Rattle.running.specs.EngineRuns.{engine_on};
+ghost use Rattle.running.specs.EngineRuns.{IsFresh, engine_on};
 ghost use Rattle.calvin.specs.CommandEnds.{AreRowsOf, IsRowsCommand, IsWritten};
 ghost use Rattle.calvin.specs.Inputs.{paths_of};
 ghost use Rattle.calvin.specs.Listings.{text_at, IsNotThere, IsPlaceOf};
@@ -21,7 +21,7 @@ use engine::Engine;
 use row_store::all_is_free_with_nothing_lent;
 use row_text::{rows_text, table_text};
 use rows_document::{document_text, table_document};
-use running::{Reading, RunFault, RunOptions, engine_on, run_engine};
+use running::{Reading, RunFault, RunOptions, engine_on, let_go, run_engine};
 use setup::SetupDocument;
 use std::alloc::{AllocError, Global};
 use std::sync::Wait;
@@ -155,8 +155,7 @@ fn list_on<R: Threads + Wait + Sync, S: Source, K: Sink, E: Sink + Send>(
     out: &mut K,
     err: &mut E,
 ) -> u8
-    requires idle { is_busy engine.old.core ≡ false }
-    requires unused { engine.old.core.next ≡ 0 }
+    requires fresh { IsFresh engine.old.core }
     requires place { IfSome printing.place (λ table. table < length (tables_of engine.old.core)) }
     ensures { (document : AnyDocument) (settings : Settings) (table : Option (List ℕ)) →
         engine.old.core ≡ engine_on document.setup settings → reading.digest ≡ document.digest →
@@ -215,7 +214,7 @@ fn list<R: Threads + Wait + Sync, S: Source, K: Sink, E: Sink + Send>(
         digest,
         feed: options.feed,
     };
-    list_on(
+    let status = list_on(
         rt,
         alloc,
         options,
@@ -225,7 +224,9 @@ fn list<R: Threads + Wait + Sync, S: Source, K: Sink, E: Sink + Send>(
         source,
         out,
         err,
-    )
+    );
+    let_go(engine, options.process_ends);
+    status
 }
 
 // rule: command.rows

@@ -6,6 +6,7 @@ ghost use Rattle.running.specs.Runs.{device_with};
 
 use crate::commands::command;
 use crate::files::Files;
+use crate::process::Process;
 use crate::status::{COMMAND_LINE, MEMORY};
 use batch_log::{Sink, Source, say, write_all};
 use command_line::{LineFault, read_line};
@@ -21,7 +22,7 @@ pub fn program<R: Threads + Wait + Sync, F: Files, S: Source, K: Sink, E: Sink +
     rt: &R,
     alloc: Global,
     words: &[String],
-    err_is_terminal: bool,
+    process: Process,
     files: &F,
     source: &mut S,
     out: &mut K,
@@ -34,7 +35,7 @@ pub fn program<R: Threads + Wait + Sync, F: Files, S: Source, K: Sink, E: Sink +
         (device_with (K.taken out.new) (K.broken out.new)) result }
 {
     match read_line(alloc, words) {
-        Ok(line) => command(rt, alloc, &line, err_is_terminal, files, source, out, err),
+        Ok(line) => command(rt, alloc, &line, process, files, source, out, err),
         Err(LineFault::Refused(text)) => {
             let _ = write_all(err, text.as_bytes());
             COMMAND_LINE

@@ -4,7 +4,7 @@
 
 ghost use Rattle.std.specs.Prelude.{⊤};
 
-use calvin::{FileFault, Files, ReadSource, WriteSink, program};
+use calvin::{FileFault, Files, Process, ReadSource, WriteSink, program};
 use std::alloc::Global;
 use std::io::{self, ErrorKind, IsTerminal};
 use std::process::ExitCode;
@@ -47,11 +47,15 @@ fn main(rt: HostRuntime) -> io::Result<ExitCode> {
         // A word that isn't text is no command line that is served, and no words are none either.
         Err(_) => Vec::new(alloc),
     };
+    let process = Process {
+        err_is_terminal: rt.stderr().is_terminal(),
+        ends: true,
+    };
     let status = program(
         &rt,
         alloc,
         words.get(1..).unwrap_or(&[]),
-        rt.stderr().is_terminal(),
+        process,
         &Machine { rt: &rt },
         &mut ReadSource::new(rt.stdin()),
         &mut WriteSink::new(rt.stdout()),

@@ -4,7 +4,7 @@ ghost use Rattle.std.specs.Prelude.{◌≡◌, ◌<◌, true};
 ghost use Rattle.lanes.specs.Seats.{jobs_in};
 
 use crate::gate::Gate;
-use crate::parking::spins_of_worker;
+use crate::parking::Patience;
 use crate::refusal::Refusal;
 use crate::worker::{Worker, start};
 use crate::workplace::Workplace;
@@ -87,13 +87,13 @@ impl<'s, R: Wait + Sync, G: Gate> Dispatcher<'s, R, G> {
         };
         let seat = place.lanes.worker_seat(&mut self.seat)?;
         // Beside it are the scheduler's thread and the workers before it.
-        let spins = spins_of_worker(number.saturating_add(1), self.processors);
+        let patience = Patience::beside(number.saturating_add(1), self.processors);
         let worker = Worker {
             lanes: &place.lanes,
             seat,
             parking: &place.parking,
             spot,
-            spins,
+            patience,
         };
         if !start(self.rt, scope, self.gate, worker) {
             return Err(Refusal::Thread);

@@ -16,6 +16,10 @@ use values::NoMemory;
 /// processors that one thread takes, and 1.3 with 4,096 looks.
 const WORKER_SPINS: u32 = 1_024;
 
+/// How often a worker looks again if a job came while it did so the last time: for some 80 microseconds. Where jobs
+/// come one soon after another it isn't parked between them, so the scheduler's thread need not wake it.
+const PATIENT_SPINS: u32 = 4_096;
+
 /// How often the scheduler's thread looks again, for some 80 microseconds, where its workers leave a processor to it or
 /// are one too many: while it is parked they may all find nothing. Measured on a busy host, where a thread is woken
 /// late: long calls on four workers take 0.66 s where each thread looks 4,096 times, and 1.06 s where each looks 64
@@ -39,12 +43,40 @@ pub(crate) enum Idling {
     Announced,
 }
 
-/// How often a worker looks again beside `others` threads that may be at work.
-pub(crate) fn spins_of_worker(others: usize, processors: usize) -> u32 {
-    if others < processors {
-        WORKER_SPINS
-    } else {
-        FEW_SPINS
+/// How often a worker looks again before it announces that it will park.
+#[derive(Clone, Copy, Debug)]
+pub(crate) struct Patience {
+    /// Whether a processor is left for it.
+    has_processor: bool,
+    /// Whether a job came while it looked again the last time.
+    has_paid: bool,
+}
+
+impl Patience {
+    /// That of a worker beside `others` threads that may be at work.
+    pub(crate) fn beside(others: usize, processors: usize) -> Patience {
+        Patience {
+            has_processor: others < processors,
+            has_paid: false,
+        }
+    }
+
+    /// How often the worker looks again.
+    pub(crate) fn spins(self) -> u32 {
+        match (self.has_processor, self.has_paid) {
+            (false, _) => FEW_SPINS,
+            (true, false) => WORKER_SPINS,
+            (true, true) => PATIENT_SPINS,
+        }
+    }
+
+    /// Notes how near to being parked the worker was as it found a job. One that was woken has not looked yet.
+    pub(crate) fn note(&mut self, idling: Idling) {
+        match idling {
+            Idling::Busy => {}
+            Idling::Spinning(vain) => self.has_paid = vain > 0,
+            Idling::Announced => self.has_paid = true,
+        }
     }
 }
 

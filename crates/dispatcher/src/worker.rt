@@ -5,7 +5,7 @@ ghost use Rattle.lanes.specs.Calls.{Claims};
 ghost use Rattle.dispatcher.specs.Workers.{HoldsNoJob};
 
 use crate::gate::Gate;
-use crate::parking::{Idling, Parking, Spot};
+use crate::parking::{Idling, Parking, Patience, Spot};
 use lanes::{LaneNo, Lanes, WorkerSeat};
 use scheduler::{Job, run_job};
 use std::sync::Wait;
@@ -26,7 +26,7 @@ pub(crate) struct Worker<'a, 'b> {
     pub parking: &'b Parking,
     pub spot: &'b Spot,
     /// How often it looks again for a job before it parks.
-    pub spins: u32,
+    pub patience: Patience,
     ghost seated: { seat.lanes ≡ lanes.now },
     ghost free: { HoldsNoJob seat },
 }
@@ -79,14 +79,16 @@ impl Task for Worker<'_, '_> {
             seat,
             parking,
             spot,
-            spins,
+            patience,
         } = self;
         let mut seat = seat;
+        let mut patience = patience;
         let mut idling = Idling::Busy;
         for _ in rt.forever() {
             match find_job(lanes, &mut seat, parking) {
                 Some((lane, job)) => {
                     parking.go_to_job(spot, idling);
+                    patience.note(idling);
                     idling = Idling::Busy;
                     gate.enter(job.no());
                     let done = run_job(job);
@@ -98,7 +100,7 @@ impl Task for Worker<'_, '_> {
                     if parking.has_ended() {
                         break;
                     }
-                    idling = parking.idle_worker(rt, spot, idling, spins);
+                    idling = parking.idle_worker(rt, spot, idling, patience.spins());
                 }
             }
         }

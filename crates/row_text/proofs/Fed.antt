@@ -3,6 +3,8 @@ use Rattle.std.proofs.Common.{◌≡◌, ℕ, ◌==◌, Bool, true, false, cond,
 use Rattle.std.specs.Borrow.{Bor}
 use Rattle.std.proofs.lemmas.Bool.Decides.{nat_tests}
 use Rattle.std.proofs.lemmas.List.{drop_all, drop_more}
+use Rattle.std.proofs.lemmas.List.Folds.{drop_split}
+use Rattle.std.specs.Prelude.{slice_range}
 use Rattle.sha2.specs.Hashers.{Holds256}
 use Rattle.values.specs.declared.name.RowName.{RowName}
 use Rattle.catalogue.specs.Shapes.{TableShape}
@@ -38,6 +40,20 @@ more_lines tables table rows at name row now total l here is so_far =
 pub all_lines : (tables : List TableShape) (table : ℕ) (rows : List (ℕ × Bor RowOf)) (at : ℕ) (now total : List ℕ) → length rows ≤ at → now ++ table_lines tables table (drop at rows) ≡ total → now ≡ total
 all_lines tables table rows at now total l so_far =
     sym (append-nil now) ∙ ap (λ xs. now ++ table_lines tables table xs) (sym (drop_all at rows l)) ∙ so_far
+
+-- the lines of rows, and then of others
+pub lines_of_both : (tables : List TableShape) (table : ℕ) (front back : List (ℕ × Bor RowOf)) → table_lines tables table front ++ table_lines tables table back ≡ table_lines tables table (front ++ back)
+lines_of_both tables table [] back = refl
+lines_of_both tables table (row ∷ front) back =
+    append_assoc (row_line tables (record { table = table; key = row.0 }) row.1.now) (table_lines tables table front) (table_lines tables table back)
+    ∙ ap (λ rest. row_line tables (record { table = table; key = row.0 }) row.1.now ++ rest) (lines_of_both tables table front back)
+
+-- the lines of the rows from one place to another
+pub few_lines : (tables : List TableShape) (table : ℕ) (rows : List (ℕ × Bor RowOf)) (at end : ℕ) (now total : List ℕ) → at ≤ end → now ++ table_lines tables table (drop at rows) ≡ total
+    → (now ++ table_lines tables table (slice_range rows at end)) ++ table_lines tables table (drop end rows) ≡ total
+few_lines tables table rows at end now total l so_far =
+    append_assoc now (table_lines tables table (slice_range rows at end)) (table_lines tables table (drop end rows))
+    ∙ ap (λ lines. now ++ lines) (lines_of_both tables table (slice_range rows at end) (drop end rows) ∙ ap (table_lines tables table) (sym (drop_split rows at end l))) ∙ so_far
 
 abbrev pub keyed_lines : List TableShape → ℕ → Keyed → List ℕ
 keyed_lines tables table [] = []

@@ -42,6 +42,13 @@ impl Feed {
         self.text.clear();
     }
 
+    /// Makes room for n bytes more.
+    pub(crate) fn make_room(&mut self, bytes: usize) -> Result<(), AllocError>
+        ensures { (all : List ℕ) → IsFed self.old all → OnOk result (IsFed self.new all) }
+    {
+        self.text.reserve(bytes)
+    }
+
     /// Appends a row line.
     pub(crate) fn push_row(
         &mut self,

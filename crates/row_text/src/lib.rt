@@ -20,6 +20,7 @@ mod kept;
 mod laws;
 mod listing;
 mod partitions;
+mod room;
 mod rows_in_order;
 mod scratch;
 mod side_by_side;

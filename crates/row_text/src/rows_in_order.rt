@@ -7,11 +7,31 @@ ghost use Rattle.row_text.specs.Merge.{rows_of, ShowsAll};
 
 use crate::feed::Feed;
 use crate::gathered::rows_of_table;
+use crate::room::{TOGETHER, most_of_rows};
 use crate::scratch::Scratch;
 use catalogue::Catalogue;
 use std::alloc::{AllocError, Global};
 use values::{Key, Row, RowName, TableNo};
 use workspace::RowView;
+
+/// Feeds the lines of a few rows of a table.
+fn feed_few(
+    alloc: Global,
+    catalogue: &Catalogue,
+    table: TableNo,
+    rows: &[(Key, &Row)],
+    scratch: &mut Scratch,
+    feed: &mut Feed,
+) -> Result<(), AllocError>
+    ensures { (all : List ℕ) → IsFed feed.old all →
+        OnOk result (IsFed feed.new (all ++ table_lines catalogue.now table rows.now)) }
+{
+    for row in rows {
+        let name = RowName::new(table, row.0);
+        feed.push_row(alloc, catalogue, &name, row.1, scratch)?;
+    }
+    Ok(())
+}
 
 /// Feeds the lines of rows of a table.
 pub(crate) fn feed_rows(
@@ -25,9 +45,13 @@ pub(crate) fn feed_rows(
         OnOk result (IsFed feed.new (all ++ table_lines catalogue.now table rows.now)) }
 {
     let mut scratch = Scratch::new(alloc);
-    for row in rows {
-        let name = RowName::new(table, row.0);
-        feed.push_row(alloc, catalogue, &name, row.1, &mut scratch)?;
+    let mut start = 0;
+    while start < rows.len() {
+        let end = start.saturating_add(TOGETHER).min(rows.len());
+        let few = &rows[start..end];
+        feed.make_room(most_of_rows(few))?;
+        feed_few(alloc, catalogue, table, few, &mut scratch, feed)?;
+        start = end;
     }
     Ok(())
 }

@@ -11,8 +11,8 @@ use values::{Key, Value};
 /// Room for the words of most rows: a key, the numbers of 16 columns, and a newline.
 pub(crate) const ROOM: usize = 512;
 
-/// The most that a number takes: a space, its sign and 20 digits.
-const WORD: usize = 22;
+/// The most bytes that a number takes: a space, its sign and 20 digits.
+pub(crate) const WORD: usize = 22;
 
 /// Writes a number after a space, so that it ends at `end`. Answers where the space is.
 fn put_key(room: &mut [u8; ROOM], end: usize, number: u64) -> usize

@@ -7,7 +7,7 @@ use Rattle.devices.specs.LineReader.{left_for}
 use Rattle.batch_log.specs.declared.fault.LogFaultKind.TheVariants.{Memory}
 use Rattle.batch_log.specs.declared.reader.LogReader.{LogReader}
 use Rattle.batch_log.specs.Reader as readers
-use Rattle.batch_log.specs.Reader.{failed_in, left_in, origin_of, source_of, unread, IsUnread}
+use Rattle.batch_log.specs.Reader.{failed_in, left_in, origin_of, source_of, unread}
 use Rattle.engine.specs.Engines.{EngineParts, is_busy}
 use Rattle.engine.specs.Executions.{KeepsSetting}
 use Rattle.running.specs.declared.run_fault.RunFault.{RunFault}

@@ -1,5 +1,5 @@
 -- The source of a reader, before and after a run.
-use Rattle.std.proofs.Common.{◌≡◌, ℕ, List, Bool, true, false, ◌||◌, Option, refl, sym, ◌∙◌, ap, ap₂}
+use Rattle.std.proofs.Common.{◌≡◌, ℕ, List, Bool, true, false, ◌||◌, Option, sym, ◌∙◌, ap, ap₂}
 use Rattle.std.specs.Borrow.{GName}
 use Rattle.devices.specs.LineReader.{left_for, Origin}
 use Rattle.batch_log.specs.declared.reader.LogReader.{LogReader}

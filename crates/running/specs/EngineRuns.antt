@@ -27,6 +27,10 @@ engine_on setup settings = record {
   unfinished = None;
 }
 
+-- an engine that has run no transaction, and holds no batch
+abbrev pub IsFresh : EngineParts → Type 0
+IsFresh engine = (is_busy engine ≡ false) × (engine.next ≡ 0)
+
 -- whether the log was a feed, of which nothing more had come when it was read
 abbrev pub has_ended : Ended → Bool
 has_ended ended = is_some ended.feed

@@ -1,9 +1,9 @@
 //! Running a log on worker threads.
 
-ghost use Rattle.std.specs.Prelude.{◌≡◌, Err, IfErr, IfOk, None, false};
+ghost use Rattle.std.specs.Prelude.{◌≡◌, Err, IfErr, IfOk, None};
 ghost use Rattle.sequencer.specs.Batches.{items_of, AreOver};
-ghost use Rattle.engine.specs.Engines.{is_busy, tables_of};
-ghost use Rattle.running.specs.EngineRuns.{IsEngineRun, engine_on};
+ghost use Rattle.engine.specs.Engines.{tables_of};
+ghost use Rattle.running.specs.EngineRuns.{IsEngineRun, IsFresh, engine_on};
 ghost use Rattle.running.specs.Executors.{IsExecution};
 ghost use Rattle.running.specs.Runs.{RunsLog};
 ghost use Rattle.running.specs.Starts.{start_in};
@@ -64,8 +64,7 @@ fn run_log_at<'a, R: Threads + Wait + Sync, G: Gate, S: Source, K: Sink>(
     sink: &'a mut K,
 ) -> Ended
     requires place { head ≡ place.now }
-    requires idle { is_busy engine.old.core ≡ false }
-    requires unused { engine.old.core.next ≡ 0 }
+    requires fresh { IsFresh engine.old.core }
     ensures { IsEngineRun S.left S.failed K.taken K.broken reading engine.old.core engine.new.core
         source.old source.new sink.old sink.new result }
 {
@@ -73,7 +72,7 @@ fn run_log_at<'a, R: Threads + Wait + Sync, G: Gate, S: Source, K: Sink>(
         thread::scope_env(),
         rt,
         move |scope| -> (Ended, &mut Engine, &mut S, &mut K)
-            requires { (head ≡ place.now) × (is_busy engine.now.core ≡ false) × (engine.now.core.next ≡ 0) }
+            requires { (head ≡ place.now) × IsFresh engine.now.core }
             ensures engine { result.1.ghost_name ≡ engine.entry.ghost_name }
             ensures source { result.2.ghost_name ≡ source.entry.ghost_name }
             ensures sink { result.3.ghost_name ≡ sink.entry.ghost_name }
@@ -110,8 +109,7 @@ pub(crate) fn run_log_in_pool<R: Threads + Wait + Sync, G: Gate, S: Source, K: S
     source: &mut S,
     sink: &mut K,
 ) -> Ended
-    requires idle { is_busy engine.old.core ≡ false }
-    requires unused { engine.old.core.next ≡ 0 }
+    requires fresh { IsFresh engine.old.core }
     ensures { IsEngineRun S.left S.failed K.taken K.broken reading engine.old.core engine.new.core
         source.old source.new sink.old sink.new result }
 {

@@ -3,6 +3,7 @@
 ghost use Rattle.std.specs.Prelude.{◌≡◌, [], IfErr, IfSome, OnOk, false, true};
 ghost use Rattle.batch_log.specs.Reader.{failed_in, has_ended, left_in, origin_of, source_of, unread, IsUnread};
 ghost use Rattle.engine.specs.Engines.{is_busy};
+ghost use Rattle.running.specs.EngineRuns.{IsFresh};
 ghost use Rattle.engine.specs.Executions.{KeepsSetting};
 ghost use Rattle.running.specs.Executors.{core_of, Executes, HasAnswered};
 ghost use Rattle.running.specs.Followed.{LeavesBetween};
@@ -26,8 +27,7 @@ use std::sync::Wait;
 
 /// Does nothing. An engine that has run no transaction carries no request, and tries one again at most twice.
 fn observe_unused(engine: &Engine)
-    requires idle { is_busy engine.now.core ≡ false }
-    requires unused { engine.now.core.next ≡ 0 }
+    requires fresh { IsFresh engine.now.core }
     ensures { IsUnused engine.now.core }
 {
     let carried = engine.carried();
@@ -54,8 +54,7 @@ pub(crate) fn run_reader<
     sink: &mut K,
 ) -> Result<u64, RunFault>
     requires executes { Executes core_of X.Fn executor.now }
-    requires idle { is_busy engine.old.core ≡ false }
-    requires unused { engine.old.core.next ≡ 0 }
+    requires fresh { IsFresh engine.old.core }
     requires unread { IsUnread engine.old.core.retries reader.old }
     ensures run { IsRunOfLog (start_of engine.old.core form)
         (device_with (unread S.left reader.old) (failed_in S.failed reader.old))

@@ -1,12 +1,11 @@
 //! Reading a log, which may be a feed, from a source, and running it on an engine.
 
-ghost use Rattle.std.specs.Prelude.{◌≡◌, is_some, IfErr, false};
+ghost use Rattle.std.specs.Prelude.{◌≡◌, is_some, IfErr};
 ghost use Rattle.devices.specs.LineReader.{left_for};
 ghost use Rattle.batch_log.specs.Reader.{has_ended, origin_of, source_of, unread, IsUnread};
-ghost use Rattle.engine.specs.Engines.{is_busy};
 ghost use Rattle.running.specs.Executors.{core_of, Executes, HasAnswered};
 ghost use Rattle.running.specs.Stops.{IfOfThread};
-ghost use Rattle.running.specs.EngineRuns.{IsEngineRun};
+ghost use Rattle.running.specs.EngineRuns.{IsEngineRun, IsFresh};
 
 use crate::log::run_reader;
 use crate::run_fault::RunFault;
@@ -75,8 +74,7 @@ pub(crate) fn run_source<
     sink: &mut K,
 ) -> Ended
     requires executes { Executes core_of X.Fn executor.now }
-    requires idle { is_busy engine.old.core ≡ false }
-    requires unused { engine.old.core.next ≡ 0 }
+    requires fresh { IsFresh engine.old.core }
     ensures run { IsEngineRun S.left S.failed K.taken K.broken reading engine.old.core engine.new.core
         source.old source.new sink.old sink.new result }
     ensures threads { IfErr result.result (λ e. IfOfThread e (HasAnswered X.Fn executor.now ExecFault.Spawn)) }

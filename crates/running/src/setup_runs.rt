@@ -1,15 +1,16 @@
 //! Running the log on a setup, on one thread or on worker threads, and telling meanwhile on standard error how far it
 //! is.
 
-ghost use Rattle.std.specs.Prelude.{◌≡◌, IfErr, false, true};
+ghost use Rattle.std.specs.Prelude.{◌≡◌, IfErr, true};
 ghost use Rattle.sequencer.specs.Batches.{items_of, AreOver};
-ghost use Rattle.engine.specs.Engines.{EngineParts, is_busy, tables_of};
+ghost use Rattle.engine.specs.Engines.{EngineParts, tables_of};
 ghost use Rattle.engine.specs.Executions.{IsSpawn};
-ghost use Rattle.running.specs.EngineRuns.{engine_on, IsEngineRun};
+ghost use Rattle.running.specs.EngineRuns.{engine_on, IsEngineRun, IsFresh};
 ghost use Rattle.running.specs.Executors.{IsExecution};
 ghost use Rattle.running.specs.Stops.{IsNotOfThread};
 
 use crate::executing::{engine_on, no_memory, run_log_in_pool};
+use crate::leaving::let_go;
 use crate::reading::{Ended, Reading, run_source};
 use crate::telling::{Lines, RunEnd, tell_engine, tell_until};
 use batch_log::{Sink, Source};
@@ -31,6 +32,8 @@ pub struct RunOptions {
     pub lines: Option<Lines>,
     /// The workers and lanes, and how many rows a call locks one by one.
     pub settings: Settings,
+    /// The process ends after the run, so the memory of its rows is left to the system.
+    pub process_ends: bool,
 }
 
 /// Runs a log on an engine that has run none, on one thread. Where it is asked for lines, one goes to `err` at the end
@@ -45,8 +48,7 @@ fn run_telling<R: Wait, S: Source, K: Sink, E: Sink>(
     sink: &mut K,
     err: &RefCell<&mut E>,
 ) -> Ended
-    requires idle { is_busy engine.old.core ≡ false }
-    requires unused { engine.old.core.next ≡ 0 }
+    requires fresh { IsFresh engine.old.core }
     ensures run { IsEngineRun S.left S.failed K.taken K.broken reading engine.old.core engine.new.core
         source.old source.new sink.old sink.new result }
     ensures threadless { IsNotOfThread result.result }
@@ -77,8 +79,7 @@ fn run_alone<R: Wait, S: Source, K: Sink, E: Sink>(
     sink: &mut K,
     err: &mut E,
 ) -> Ended
-    requires idle { is_busy engine.old.core ≡ false }
-    requires unused { engine.old.core.next ≡ 0 }
+    requires fresh { IsFresh engine.old.core }
     ensures run { IsEngineRun S.left S.failed K.taken K.broken reading engine.old.core engine.new.core
         source.old source.new sink.old sink.new result }
     ensures threadless { IsNotOfThread result.result }
@@ -102,8 +103,7 @@ fn run_to_end<R: Threads + Wait + Sync, S: Source, K: Sink>(
     sink: &mut K,
     end: &RunEnd,
 ) -> Ended
-    requires idle { is_busy engine.old.core ≡ false }
-    requires unused { engine.old.core.next ≡ 0 }
+    requires fresh { IsFresh engine.old.core }
     ensures { IsEngineRun S.left S.failed K.taken K.broken reading engine.old.core engine.new.core
         source.old source.new sink.old sink.new result }
 {
@@ -125,8 +125,7 @@ fn run_beside_teller<R: Threads + Wait + Sync, S: Source, K: Sink, E: Sink + Sen
     sink: &mut K,
     err: &mut E,
 ) -> Ended
-    requires idle { is_busy engine.old.core ≡ false }
-    requires unused { engine.old.core.next ≡ 0 }
+    requires fresh { IsFresh engine.old.core }
     ensures { IsEngineRun S.left S.failed K.taken K.broken reading engine.old.core engine.new.core
         source.old source.new sink.old sink.new result }
 {
@@ -136,7 +135,7 @@ fn run_beside_teller<R: Threads + Wait + Sync, S: Source, K: Sink, E: Sink + Sen
         rt,
         &mut || tell_until(rt, alloc, lines, watcher, end, err),
         &mut || -> Ended
-            requires { (is_busy engine.now.core ≡ false) × (engine.now.core.next ≡ 0) }
+            requires { IsFresh engine.now.core }
             ensures { IsEngineRun S.left S.failed K.taken K.broken reading engine.entry.now.core engine.exit.now.core
                 source.entry.now source.exit.now sink.entry.now sink.exit.now result }
         { run_to_end(rt, alloc, engine, reading, source, sink, end) },
@@ -156,8 +155,7 @@ fn run_on_workers<R: Threads + Wait + Sync, S: Source, K: Sink, E: Sink + Send>(
     sink: &mut K,
     err: &mut E,
 ) -> Ended
-    requires idle { is_busy engine.old.core ≡ false }
-    requires unused { engine.old.core.next ≡ 0 }
+    requires fresh { IsFresh engine.old.core }
     ensures { IsEngineRun S.left S.failed K.taken K.broken reading engine.old.core engine.new.core
         source.old source.new sink.old sink.new result }
 {
@@ -192,8 +190,7 @@ pub fn run_engine<R: Threads + Wait + Sync, S: Source, K: Sink, E: Sink + Send>(
     sink: &mut K,
     err: &mut E,
 ) -> Ended
-    requires idle { is_busy engine.old.core ≡ false }
-    requires unused { engine.old.core.next ≡ 0 }
+    requires fresh { IsFresh engine.old.core }
     ensures run { IsEngineRun S.left S.failed K.taken K.broken reading engine.old.core engine.new.core
         source.old source.new sink.old sink.new result }
     ensures threadless { options.now.alone ≡ true → IsNotOfThread result.result }
@@ -227,7 +224,11 @@ pub fn run_setup<R: Threads + Wait + Sync, S: Source, K: Sink, E: Sink + Send>(
         feed: options.feed,
     };
     match engine_on(alloc, setup, options.settings) {
-        Ok(mut engine) => run_engine(rt, alloc, options, &mut engine, reading, source, out, err),
+        Ok(mut engine) => {
+            let ended = run_engine(rt, alloc, options, &mut engine, reading, source, out, err);
+            let_go(engine, options.process_ends);
+            ended
+        }
         Err(_) => no_memory(),
     }
 }

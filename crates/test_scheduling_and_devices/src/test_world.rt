@@ -3,8 +3,8 @@
 ghost use Rattle.std.specs.Prelude.{None, ⊤};
 
 use calvin::{
-    DeviceFailed, FileFault, Files, OpenGate, Settings, Sink, Source, command, program, read_line,
-    read_setup, run_text,
+    DeviceFailed, FileFault, Files, OpenGate, Process, Settings, Sink, Source, command, program,
+    read_line, read_setup, run_text,
 };
 use std::alloc::{AllocError, Global};
 use std::sync::Wait;
@@ -198,15 +198,12 @@ pub(crate) fn left_on<R: Threads + Wait + Sync + AllocGlobal>(
 ) -> Result<Left, Fail> {
     let alloc = rt.alloc();
     let words = words_of(alloc, line)?;
-    let status = program(
-        rt,
-        alloc,
-        &words,
+    let process = Process {
         err_is_terminal,
-        files,
-        source,
-        &mut out,
-        &mut err,
+        ends: false,
+    };
+    let status = program(
+        rt, alloc, &words, process, files, source, &mut out, &mut err,
     );
     Ok(Left {
         status,
@@ -226,7 +223,11 @@ fn left_by_command<R: Threads + Wait + Sync + AllocGlobal>(
     let alloc = rt.alloc();
     let line = read_line(alloc, &words_of(alloc, line)?)?;
     let mut err = Narrow::new(alloc, 1000, false);
-    let status = command(rt, alloc, &line, false, files, source, &mut out, &mut err);
+    let process = Process {
+        err_is_terminal: false,
+        ends: false,
+    };
+    let status = command(rt, alloc, &line, process, files, source, &mut out, &mut err);
     Ok(Left {
         status,
         out: out.taken,

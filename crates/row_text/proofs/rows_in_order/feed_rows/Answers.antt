@@ -1,14 +1,14 @@
 use Rattle.std.proofs.Common.{rules, ◌++◌}
 use Rattle.row_text.specs.Feeding.{table_lines}
-use Rattle.row_text.proofs.Fed.{all_lines, more_lines}
+use Rattle.row_text.proofs.Fed.{all_lines, few_lines}
 use Rattle.row_text.proofs.rows_in_order.feed_rows.Goals as goal
 
-pub loop-row-preserved : goal.loop-row-preserved
-loop-row-preserved c = λ all h.
-    let f = c.loop-row.invariant all h in
-    (_, c.in_ok-push_row.ensures f.0 f.1, more_lines c.args.catalogue.now c.args.table c.args.rows.now c.loop-row.row-index c.new-name.result c.row-item.result f.0 (all ++ table_lines c.args.catalogue.now c.args.table c.args.rows.now) (search rules) (search rules) (search rules) f.2)
+pub loop-start-preserved : goal.loop-start-preserved
+loop-start-preserved c = λ all h.
+    let f = c.loop-start.invariant all h in
+    (_, c.in_ok-feed_few.ensures f.0 (c.in_ok-make_room.ensures f.0 f.1), few_lines c.args.catalogue.now c.args.table c.args.rows.now c.loop-start.start c.min-end.result f.0 (all ++ table_lines c.args.catalogue.now c.args.table c.args.rows.now) (search rules) f.2)
 
 pub returns : goal.returns
 returns c = λ all h.
-    let f = c.loop-row.invariant all h in
-    rw (← all_lines c.args.catalogue.now c.args.table c.args.rows.now c.loop-row.row-index f.0 (all ++ table_lines c.args.catalogue.now c.args.table c.args.rows.now) (search rules) f.2) f.1
+    let f = c.loop-start.invariant all h in
+    rw (← all_lines c.args.catalogue.now c.args.table c.args.rows.now c.loop-start.start f.0 (all ++ table_lines c.args.catalogue.now c.args.table c.args.rows.now) c.loop-start-test.false f.2) f.1

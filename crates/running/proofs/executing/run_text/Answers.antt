@@ -3,11 +3,8 @@ use Rattle.running.proofs.RunEnds.{nothing_run}
 use Rattle.running.proofs.EngineRuns.{of_log}
 use Rattle.running.proofs.executing.run_text.Goals as goal
 
-pub run_log_in_pool-ended-requires-clause-idle : goal.run_log_in_pool-ended-requires-clause-idle
-run_log_in_pool-ended-requires-clause-idle g c = λ κs bounds. rw c.in-Ok.ensures.made refl
-
-pub run_log_in_pool-ended-requires-clause-unused : goal.run_log_in_pool-ended-requires-clause-unused
-run_log_in_pool-ended-requires-clause-unused g c = λ κs bounds. rw c.in-Ok.ensures.made refl
+pub run_log_in_pool-ended-requires-clause-fresh : goal.run_log_in_pool-ended-requires-clause-fresh
+run_log_in_pool-ended-requires-clause-fresh g c = λ κs bounds. rw c.in-Ok.ensures.made (refl, refl)
 
 pub returns-in-Err : goal.returns-in-Err
 returns-in-Err g c = nothing_run c.in-Err.fault _ _ _ _ _ c.in-Err.ensures.refused

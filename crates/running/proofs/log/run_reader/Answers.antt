@@ -19,7 +19,7 @@ use Rattle.running.proofs.log.run_reader.Goals as goal
 
 pub batches-init : goal.batches-init
 batches-init g c = record {
-  idle = c.requires.idle;
+  idle = c.requires.fresh.0;
   same = refl;
   setting = keeps_still _;
   retries = c.requires.unread.retries_are;
@@ -29,7 +29,7 @@ batches-init g c = record {
   source_works = refl;
   sink_works = refl;
   digest = search rules;
-  so_far = SoFar-start _ _ _ _ _ _ _ _ (ap (λ (p : Position). p.newlines) c.requires.unread.position) c.requires.unread.calls refl c.requires.unused c.observe_unused.ensures.2 c.new-transcript.ensures.batch c.new-transcript.ensures.said c.new-transcript.ensures.form;
+  so_far = SoFar-start _ _ _ _ _ _ _ _ (ap (λ (p : Position). p.newlines) c.requires.unread.position) c.requires.unread.calls refl c.requires.fresh.1 c.observe_unused.ensures.2 c.new-transcript.ensures.batch c.new-transcript.ensures.said c.new-transcript.ensures.form;
 }
 
 pub close-requires-clause-between : goal.close-requires-clause-between

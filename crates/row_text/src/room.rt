@@ -1,0 +1,35 @@
+//! Room for the lines of several rows at a time.
+
+use crate::words::WORD;
+use values::{Key, Row, Value};
+
+/// For how many lines room is made at a time. To know how much it is, the values of their rows are looked at, one row
+/// right after the other: they lie anywhere in memory, and the processor fetches many of them at once if it has little
+/// else to do in between.
+pub(crate) const TOGETHER: usize = 16;
+
+/// The most bytes that a value takes, with the space before it.
+fn most_of_value(value: &Value) -> usize {
+    match value {
+        Value::Int(_) => WORD,
+        Value::Text(text) => text.as_str().len().saturating_mul(2).saturating_add(2),
+    }
+}
+
+/// The most bytes that a row's key and values take.
+fn most_of_row(row: &Row) -> usize {
+    let mut most = WORD;
+    for value in row.values() {
+        most = most.saturating_add(most_of_value(value));
+    }
+    most
+}
+
+/// The most bytes that rows take in their lines, without the table's name.
+pub(crate) fn most_of_rows(rows: &[(Key, &Row)]) -> usize {
+    let mut most = 0_usize;
+    for row in rows {
+        most = most.saturating_add(most_of_row(row.1));
+    }
+    most
+}
