@@ -3,10 +3,11 @@
 
     scripts/unsafe.py
 
-`unsafe` and raw pointers may be used in the files below alone, and a word by which a value is let go without its end
-in one of them alone. A proof knows neither: a `drop` that keeps its block in a `ManuallyDrop` would meet its contract. The attribute
-by which a function keeps its name for C, `#[unsafe(no_mangle)]`, may be used in the crate of the C library alone. It
-ends with how many files were looked at, and with status 1 where it finds one of these words elsewhere.
+`unsafe` and raw pointers may be used in some named files alone, and a word by which a value is let go without its end
+in one other file alone. A proof knows neither: a `drop` that keeps its block in a `ManuallyDrop` would meet its
+contract. The attribute by which a function keeps its name for C, `#[unsafe(no_mangle)]`, may be used in the crate of
+the C library alone. It ends with how many files were looked at, and with status 1 where it finds one of these words
+elsewhere.
 """
 import re
 import sys

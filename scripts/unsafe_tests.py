@@ -34,7 +34,8 @@ class Words(unittest.TestCase):
 
     def test_the_file_of_the_end_may_let_an_engine_go_and_nothing_else(self):
         self.assertEqual(found("running/src/leaving.rt", "fn f() { mem::forget(engine); }\n"), [])
-        self.assertEqual(found("running/src/leaving.rt", "fn f() { unsafe { g() } }\n"), ["crates/running/src/leaving.rt:1: unsafe"])
+        unsafe_there = found("running/src/leaving.rt", "fn f() { unsafe { g() } }\n")
+        self.assertEqual(unsafe_there, ["crates/running/src/leaving.rt:1: unsafe"])
 
     def test_a_method_of_that_name_is_no_such_word(self):
         self.assertEqual(found("x/src/row.rt", "fn forget(&mut self) { self.kept.forget(); }\n"), [])

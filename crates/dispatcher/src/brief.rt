@@ -61,8 +61,8 @@ fn declared(footprint: &ProcFootprint) -> &[FootprintEntry] {
     }
 }
 
-/// Whether a call of `steps` steps may look at few rows alone. Where it looks through no partition, each statement looks
-/// at one: then its footprint isn't looked at.
+/// Whether a call of `steps` steps may look at few rows alone. Where it looks through no partition, each statement
+/// looks at one: then its footprint isn't looked at.
 fn looks_at_few_rows(entry: &Entry, steps: usize, rows: &RowStore) -> bool {
     if !entry.request().proc().cost().looks_through_partitions {
         return true;
