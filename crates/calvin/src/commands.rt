@@ -55,7 +55,8 @@ fn locks<F: Files, S: Source, K: Sink, E: Sink>(
 
 /// How a log is run, by the words of a command line and the process.
 fn options_of(line: &Line, running: Running, process: Process) -> RunOptions
-    ensures { (result.alone ≡ running.alone) × (result.feed ≡ running.follow) }
+    ensures mode { (result.alone ≡ running.alone) × (result.feed ≡ running.follow) }
+    ensures ends { result.process_ends ≡ process.ends }
 {
     RunOptions {
         alone: running.alone,

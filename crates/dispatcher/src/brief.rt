@@ -5,11 +5,6 @@ use interp::Entry;
 use proclang_types::{FootprintEntry, ProcFootprint};
 use row_store::RowStore;
 
-/// A call whose footprint has more entries isn't brief if it looks through partitions: to count the rows of each entry
-/// takes time, too. Measured: calls of 32 entries that count a partition take 1.1 of the time alone, and those of 40,
-/// which are handed over, more than four times as long.
-const FEW_ENTRIES: usize = 32;
-
 /// As many steps take about as long as to hand a job over, wake a worker and take in what comes of it: a statement is
 /// one, and so is a turn of a loop. The steps of an expression aren't counted. Measured: calls of 64 statements on two
 /// rows, which are handed over to four workers, take 1.5 times the processors that they take alone, and no less time.
@@ -26,7 +21,8 @@ const FEW_TO_LEND: usize = 8;
 
 /// A call that may look at more rows isn't brief. Where it looks through partitions, the rows that its footprint covers
 /// are counted once for each of its steps, since each statement may look at all of them. Measured: sums over 1,024
-/// rows, handed over to four workers, take 0.9 of the time alone, and those over 4,096 rows less than half.
+/// rows, handed over to four workers, take 0.9 of the time alone, and those over 4,096 rows less than half. Counts of
+/// the rows of 40 partitions of 4 rows take a fifth of the processors that they take where they are handed over.
 const FEW_ROWS: usize = 512;
 
 /// About how many rows a resource covers, `None` where that is not known at once.
@@ -38,13 +34,10 @@ fn count_rows(resource: &Resource, rows: &RowStore) -> Option<usize> {
     }
 }
 
-/// Whether a footprint has few entries, and covers at most `most` rows.
+/// Whether a footprint covers at most `most` rows.
 fn covers_at_most(footprint: &Footprint, most: usize, rows: &RowStore) -> bool {
     let mut left = most;
-    for (place, (resource, _)) in footprint.iter().enumerate() {
-        if place >= FEW_ENTRIES {
-            return false;
-        }
+    for (resource, _) in footprint.iter() {
         match count_rows(resource, rows) {
             Some(count) if count <= left => left -= count,
             _ => return false,

@@ -18,13 +18,13 @@ use Rattle.lock_tree.specs.Queues.{Queue, mode_on, asks, queue, granted_beside, 
 use Rattle.lock_tree.specs.Ready.{all_granted as all_of}
 use Rattle.lock_tree.specs.Laws.{ReadyApart, FirstReady}
 
-same_itself : (k : ℕ) → (k == k) ≡ true
+pub same_itself : (k : ℕ) → (k == k) ≡ true
 same_itself k = grind (arith, nat_tests)
 
 pub same_numbers : (i k : ℕ) → (i == k) ≡ true → i ≡ k
 same_numbers i k h = grind (arith, nat_tests)
 
-other_numbers : (i k : ℕ) → i < k → (i == k) ≡ false
+pub other_numbers : (i k : ℕ) → i < k → (i == k) ≡ false
 other_numbers i k h = grind (arith, nat_tests)
 
 cases : (b : Bool) → (b ≡ true) ⊎ (b ≡ false)
@@ -141,7 +141,7 @@ granted_apart r held (w ∷ ws) i k p q a b rising less first second on_p on_q g
           beyond held w.no k (mode_on r w.plan) (queue r ws) a b other (λ more. granted_apart r more ws i k p q a b rising.1 less first after on_p on_q) granted
     ] refl first
 
-each : (test : Resource × Mode → Bool) (es : Requests) (x : Resource × Mode) → list_all test es ≡ true → Contains es x → test x ≡ true
+pub each : (test : Resource × Mode → Bool) (es : Requests) (x : Resource × Mode) → list_all test es ≡ true → Contains es x → test x ≡ true
 each test [] x h k = absurd (let l = k.1 in omega (arith, l))
 each test (e ∷ es) x h (zero, l, is) = let same : e ≡ x = is in sym (ap test same) ∙ (both (test e) (list_all test es) h).0
 each test (e ∷ es) x h (suc n, l, is) = each test es x (both (test e) (list_all test es) h).1 (n, omega (arith, l), is)

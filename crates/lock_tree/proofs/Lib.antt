@@ -19,6 +19,7 @@ pub mod Dropping
 pub mod Queueing
 pub mod Trees
 pub mod Joining
+pub mod Beside
 pub mod Named
 pub mod Opens
 pub mod Marks

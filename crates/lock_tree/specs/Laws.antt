@@ -8,6 +8,7 @@ use Rattle.coarsen.specs.Subtrees.{Requests}
 use Rattle.coarsen.specs.Plans.{IsWellFormed}
 use Rattle.coarsen.specs.Clashes.{ModesClash}
 use Rattle.lock_tree.specs.Locks.{Waiting, plan_of, without, with_mark, IsRising}
+use Rattle.lock_tree.specs.Enqueues.{AreBelow}
 use Rattle.lock_tree.specs.Queues.{Queue, granted}
 use Rattle.lock_tree.specs.Ready.{ready}
 
@@ -32,6 +33,15 @@ ReadyApart =
 -- the first of all is ready
 abbrev pub FirstReady : Type 0
 FirstReady = (w : Waiting) (ws : List Waiting) → ready (w ∷ ws) w.no ≡ true
+
+-- where each that is enqueued and not released is ready, one more is ready whose plan is in no conflict with theirs
+abbrev pub ReadyBeside : Type 0
+ReadyBeside =
+    (waiting : List Waiting) → IsRising waiting → (number : ℕ) → AreBelow number waiting → (plan : Requests)
+    → IsWellFormed plan
+    → ((other : ℕ) (p : Requests) → plan_of waiting other ≡ Some p
+    → (ready waiting other ≡ true) × (ModesClash p plan → ⊥))
+    → ready (waiting ++ record { no = number; plan = plan; marked = false } ∷ []) number ≡ true
 
 -- a ready transaction stays ready until it is released: when one more is enqueued, when any is marked or unmarked, and
 -- when another is released

@@ -1,6 +1,6 @@
 //! Laws of queues and of readiness, as contracts of functions that do nothing.
 
-ghost use Rattle.lock_tree.specs.Laws.{GrantsLongestFront, ReadyApart, FirstReady, ReadyStays};
+ghost use Rattle.lock_tree.specs.Laws.{GrantsLongestFront, ReadyApart, FirstReady, ReadyBeside, ReadyStays};
 
 /// What is granted of a queue is its longest front whose members are pairwise compatible.
 pub fn granted_is_longest_front()
@@ -15,6 +15,11 @@ pub fn ready_apart()
 /// The transaction that was enqueued before all others is ready.
 pub fn first_ready()
     ensures { FirstReady }
+{}
+
+/// Where all that were enqueued and are not released are ready, one more that clashes with none of them is ready.
+pub fn ready_beside()
+    ensures { ReadyBeside }
 {}
 
 /// A transaction that is ready stays ready until it is released.

@@ -20,3 +20,4 @@ pub mod Settles
 pub mod Comings
 pub mod Between
 pub mod Making
+pub mod Beside

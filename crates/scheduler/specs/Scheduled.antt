@@ -4,8 +4,10 @@ use Rattle.std.specs.Prelude.{◌≡◌, ◌<◌, ◌≤◌, ◌+◌, ◌-◌, �
 use Rattle.std.specs.FinMap.{get}
 use Rattle.coarsen.specs.Subtrees.{Requests}
 use Rattle.coarsen.specs.Plans.{IsPlanOver}
+use Rattle.coarsen.specs.Clashes.{ModesClash}
 use Rattle.meaning.specs.Outcomes.{as_reply}
 use Rattle.lock_tree.specs.Locks.{Locks}
+use Rattle.interp.specs.Entries.{EntryParts}
 use Rattle.row_store.specs.Stock.{Stock}
 use Rattle.scheduler_core.specs.declared.phase.Phase.{Phase}
 use Rattle.scheduler_core.specs.Transactions.{Transaction, ArePlanned}
@@ -16,6 +18,8 @@ use Rattle.scheduler_core.specs.Laws.{FitIn}
 use Rattle.scheduler_core.specs.Sound.{IsSound}
 use Rattle.scheduler.specs.declared.slot.Slot.{Slot}
 use Rattle.scheduler.specs.declared.slot.Slot.TheVariants.{Idle, Lent, Held, Ran, Settled}
+use Rattle.scheduler.specs.declared.planning.Plans.{Plans}
+use Rattle.scheduler.specs.Logs.{plans_for}
 use Rattle.scheduler.specs.Schedules.{Work, log_of, phase_in}
 use Rattle.scheduler.specs.Jobs.{IsLentAt, IsRunAt}
 
@@ -67,9 +71,20 @@ pub record AreMade (plans : List Requests) (settled count from : ℕ) (made : Li
   pub admitted : settled < count → count ≤ from + length made
   pub next : settled < count → count < length plans → count < from + length made
 
+-- so it is of what is made of the plans for these entries
+abbrev pub AreMadeFor : ℕ → ℕ → List EntryParts → ℕ → ℕ → Plans → Type 0
+AreMadeFor threshold arena entries settled count p =
+    AreMade (plans_for threshold arena entries) settled count p.from p.made.items
+
 pub record HasPlans (w : Work) (slots : List Slot) (settled from : ℕ) (made : List Requests) : Type 0 where
   pub some : 0 < w.arena
   pub are_made : AreMade w.plans settled (length slots) from made
+
+-- who is so far, and has this plan, is settled, or is out and in no conflict with another plan
+abbrev pub StandsAside : Option Phase → Option Requests → Requests → Type 0
+StandsAside phase own plan =
+    is_settled phase ≡ false
+    → (is_out phase ≡ true) × ((p : Requests) → own ≡ Some p → ModesClash p plan → ⊥)
 
 -- the first `settled` are settled, and the next is not
 pub record AreSettledBefore (slots : List Slot) (settled : ℕ) : Type 0 where

@@ -3,8 +3,8 @@
 ghost use Rattle.std.specs.Prelude.{◌≡◌, ◌<◌, ◌≤◌, ◌+◌, ◌-◌, List, [], IfOk, OnOk, Some, length, slice_get};
 ghost use Rattle.coarsen.specs.Subtrees.{Requests};
 ghost use Rattle.interp.specs.Entries.{entry_shape};
-ghost use Rattle.scheduler.specs.Logs.{IsPlanOfEntry, plans_for};
-ghost use Rattle.scheduler.specs.Scheduled.{AreMade};
+ghost use Rattle.scheduler.specs.Logs.{IsPlanOfEntry};
+ghost use Rattle.scheduler.specs.Scheduled.{AreMade, AreMadeFor};
 
 use coarsen::{Plan, plan_is_one};
 use footprint::Footprint;
@@ -88,10 +88,9 @@ impl Plans {
         requires room { 0 < arena }
         requires within { place < length entries.now }
         requires settled { settled ≤ place }
-        requires made { AreMade (plans_for threshold arena entries.now) settled place self.old.from self.old.made.items }
-        ensures made { AreMade (plans_for threshold arena entries.now) settled place self.new.from self.new.made.items }
-        ensures next { OnOk result
-            (AreMade (plans_for threshold arena entries.now) settled (place + 1) self.new.from self.new.made.items) }
+        requires made { AreMadeFor threshold arena entries.now settled place self.old }
+        ensures made { AreMadeFor threshold arena entries.now settled place self.new }
+        ensures next { OnOk result (AreMadeFor threshold arena entries.now settled (place + 1) self.new) }
     {
         // proof: a footprint has one plan.
         plan_is_one();
@@ -104,6 +103,7 @@ impl Plans {
         }
         Ok(())
     }
+
     /// Makes the plan of the transaction after one that is run and settled at once, at a place of the log, if one that
     /// is admitted isn't settled; `settled` leading ones are. Those that may be needed stay, on an error, too.
     pub(crate) fn make_beside(
@@ -118,10 +118,10 @@ impl Plans {
         requires room { 0 < arena }
         requires within { place < length entries.now }
         requires settled { settled ≤ place }
-        requires made { AreMade (plans_for threshold arena entries.now) settled place self.old.from self.old.made.items }
-        ensures made { AreMade (plans_for threshold arena entries.now) settled place self.new.from self.new.made.items }
+        requires made { AreMadeFor threshold arena entries.now settled place self.old }
+        ensures made { AreMadeFor threshold arena entries.now settled place self.new }
         ensures next { OnOk result (settled < place →
-            AreMade (plans_for threshold arena entries.now) settled (place + 1) self.new.from self.new.made.items) }
+            AreMadeFor threshold arena entries.now settled (place + 1) self.new) }
     {
         if settled < place {
             return self.make_next(alloc, entries, threshold, arena, settled, place);

@@ -37,7 +37,7 @@ returns-in-Filter g c = record {
 pub returns-in-Rows : goal.returns-in-Rows
 returns-in-Rows g c = record {
   run = rw c.in-Rows.is tt;
-  rows = rw (c.in-Rows.is, ← c.options_of-options-in-Rows.ensures.0, ← c.options_of-options-in-Rows.ensures.1) c.rows.ensures;
+  rows = rw (c.in-Rows.is, ← c.options_of-options-in-Rows.ensures.mode.0, ← c.options_of-options-in-Rows.ensures.mode.1) c.rows.ensures;
   filter = rw c.in-Rows.is tt;
   locks = rw c.in-Rows.is tt;
   replicas = rw c.in-Rows.is tt;
