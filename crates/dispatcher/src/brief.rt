@@ -21,8 +21,8 @@ const FEW_TO_LEND: usize = 8;
 
 /// A call that may look at more rows isn't brief. Where it looks through partitions, the rows that its footprint covers
 /// are counted once for each of its steps, since each statement may look at all of them. Measured: sums over 1,024
-/// rows, handed over to four workers, take 0.9 of the time alone, and those over 4,096 rows less than half. Counts of
-/// the rows of 40 partitions of 4 rows take a fifth of the processors that they take where they are handed over.
+/// rows, handed over to four workers, take 0.9 of the time alone, and those over 4,096 rows less than half. A
+/// statement that counts the rows of 40 partitions of 4 takes a fifth of the processors that it takes if handed over.
 const FEW_ROWS: usize = 512;
 
 /// About how many rows a resource covers, `None` where that is not known at once.

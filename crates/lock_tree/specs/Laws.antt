@@ -34,7 +34,8 @@ ReadyApart =
 abbrev pub FirstReady : Type 0
 FirstReady = (w : Waiting) (ws : List Waiting) → ready (w ∷ ws) w.no ≡ true
 
--- where each that is enqueued and not released is ready, one more is ready whose plan is in no conflict with theirs
+-- if all that wait are ready, a transaction that is put last, and whose plan is in conflict with none of theirs, is
+-- ready
 abbrev pub ReadyBeside : Type 0
 ReadyBeside =
     (waiting : List Waiting) → IsRising waiting → (number : ℕ) → AreBelow number waiting → (plan : Requests)

@@ -17,7 +17,7 @@ pub fn first_ready()
     ensures { FirstReady }
 {}
 
-/// Where all that were enqueued and are not released are ready, one more that clashes with none of them is ready.
+/// If all that wait are ready, a transaction that is put last, and clashes with none of them, is ready.
 pub fn ready_beside()
     ensures { ReadyBeside }
 {}

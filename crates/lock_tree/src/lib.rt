@@ -4,8 +4,8 @@
 //! `would_be_ready`, `next_ready`, `mark`, `unmark` and `release` are exact. A plan is refused exactly where there is
 //! less room than it has requests; an error changes nothing. Laws: what is granted of a queue is its longest compatible
 //! front; a ready transaction clashes with none that was enqueued before it, where both plans are sound, and stays
-//! ready until it is released; the first of all is ready, and so is one more that clashes with none, where all others
-//! are.
+//! ready until it is released; the first of all is ready; if all that wait are ready, one that is put last and clashes
+//! with none of them is ready.
 //!
 //! Tested only: a comparison with a plain list. Not proved: any cost, and that only `enqueue` takes memory.
 #![tactic(auto)]

@@ -71,7 +71,7 @@ pub record AreMade (plans : List Requests) (settled count from : ℕ) (made : Li
   pub admitted : settled < count → count ≤ from + length made
   pub next : settled < count → count < length plans → count < from + length made
 
--- so it is of what is made of the plans for these entries
+-- what is made of the plans for these entries, as above
 abbrev pub AreMadeFor : ℕ → ℕ → List EntryParts → ℕ → ℕ → Plans → Type 0
 AreMadeFor threshold arena entries settled count p =
     AreMade (plans_for threshold arena entries) settled count p.from p.made.items
@@ -80,7 +80,7 @@ pub record HasPlans (w : Work) (slots : List Slot) (settled from : ℕ) (made : 
   pub some : 0 < w.arena
   pub are_made : AreMade w.plans settled (length slots) from made
 
--- who is so far, and has this plan, is settled, or is out and in no conflict with another plan
+-- a transaction in this phase, with its own plan, is settled, or is out and in no conflict with the other plan
 abbrev pub StandsAside : Option Phase → Option Requests → Requests → Type 0
 StandsAside phase own plan =
     is_settled phase ≡ false

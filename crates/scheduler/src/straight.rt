@@ -39,10 +39,9 @@ fn run_on_store(alloc: Global, entry: &Entry, store: &mut RowStore) -> Result<Ou
     Ok(outcome)
 }
 
-/// How many places there may be from the first transaction that isn't settled to the next one, where the plans of those
-/// between are compared with the next one's. Where there are more the lock tree is asked: it is done sooner than a walk
-/// over the slots. Measured with one long call in 100, on two workers: looks into the lock tree take 0.6 % of the
-/// processors where it is asked each time, and 0.1 % with this.
+/// The next plan is compared with others only if at most this many places begin at the first unsettled one; else the
+/// lock tree is asked, which is faster than a walk over more slots. Measured with one long call in 100, on two workers:
+/// looks into the lock tree take 0.6 % of the processors if it is asked each time, and 0.1 % with this.
 const FEW_PLACES: usize = 8;
 
 /// Whether the transaction at a place is settled, or is out with a plan that is in no conflict with this one. Its own
@@ -60,7 +59,7 @@ fn stands_aside(slot: &Slot, plans: &Plans, place: usize, plan: &Plan) -> bool
     }
 }
 
-/// Whether that holds at each place from `from` on. The plans of these are made.
+/// Whether that is so of each transaction from a place on. Their plans are made.
 fn stand_aside(slots: &[Slot], plans: &Plans, from: usize, plan: &Plan) -> bool
     requires begun { plans.now.from ≤ from }
     requires made { length slots.now ≤ plans.now.from + length plans.now.made.items }
@@ -91,9 +90,9 @@ impl Scheduler {
         &self.store
     }
 
-    /// Whether there is a next transaction, and it would be ready as soon as it is admitted. Where all that are
-    /// admitted are settled no plan is looked at. Where few aren't, and these are out, their plans are compared with
-    /// the next one.
+    /// Whether there is a next transaction, and it would be ready as soon as it is admitted. If all that are admitted
+    /// are settled, no plan is looked at. Of a few, those that aren't settled are compared with the next plan; the lock
+    /// tree is asked if one of them waits or clashes.
     fn is_next_ready(&self) -> bool
         ensures { result ≡ is_next_ready self.now }
     {
