@@ -1,16 +1,15 @@
 -- The next transaction where those that are admitted stand aside.
-use Rattle.std.proofs.Common.{◌≡◌, ◌<◌, ◌≤◌, ◌+◌, ◌-◌, ◌++◌, ◌∷◌, [], ℕ, zero, suc, true, false, List, length, get_or, map, Option, Some, None, slice_get, refl, sym, ap, ◌∙◌, subst, arith, ◌⊎◌, inl, inr}
+use Rattle.std.proofs.Common.{◌≡◌, ◌<◌, ◌≤◌, ◌+◌, ◌-◌, ◌++◌, ◌∷◌, [], ℕ, zero, suc, true, false, List, length, get_or, map, Some, None, slice_get, sym, ap, ◌∙◌, subst, arith, ◌⊎◌, inl, inr}
 use Rattle.std.proofs.lemmas.Option.{slice_get_within, slice_get-get_or}
 use Rattle.coarsen.specs.Subtrees.{Requests}
 use Rattle.coarsen.specs.Plans.{IsWellFormed}
 use Rattle.coarsen.specs.Clashes.{ModesClash}
-use Rattle.lock_tree.specs.Locks.{Locks, Waiting, plan_of}
+use Rattle.lock_tree.specs.Locks.{Locks}
 use Rattle.lock_tree.specs.Ready.{ready}
 use Rattle.lock_tree.specs.Laws.{ReadyBeside}
 use Rattle.interp.specs.Entries.{EntryParts, entry_shape}
 use Rattle.row_store.specs.Stock.{Stock}
 use Rattle.scheduler_core.specs.declared.phase.Phase.{Phase}
-use Rattle.scheduler_core.specs.declared.phase.Phase.TheVariants as phase
 use Rattle.scheduler_core.specs.Transactions.{Transaction}
 use Rattle.scheduler_core.specs.Phases.{is_out, is_settled}
 use Rattle.scheduler_core.specs.Events.{waiting}
