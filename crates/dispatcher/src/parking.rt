@@ -30,7 +30,9 @@ const SCHEDULER_SPINS: u32 = 4_096;
 /// How often a thread looks again where others may need all processors.
 const FEW_SPINS: u32 = 64;
 
-/// While more jobs than this wait for a worker, the scheduler's thread is not woken to make more.
+/// While more jobs than this wait for a worker, the scheduler's thread is not woken to make more. Measured on the same
+/// loads as the limit of transactions that are admitted ahead: with 0, and with no limit, they take the same time, but
+/// for noise.
 const FEW_WAIT: usize = 1;
 
 /// How near a thread is to being parked.

@@ -16,10 +16,12 @@ use Rattle.row_store.specs.declared.held.HeldRows.{HeldRows}
 use Rattle.shelves.specs.Places.{Shelves, PlaceOf, full, written, is_named}
 use Rattle.shelves.specs.Shelving.{shelf_of}
 use Rattle.row_store.specs.Locked.{gives, name_of, is_of, locks_shelf, locks_itself}
-use Rattle.row_store.specs.Named.{listed, is_listed, names_listed, row_in, reads_itself, AreDistinct}
+use Rattle.row_store.specs.Named.{row_in, reads_itself, AreDistinct}
+use Rattle.shelves.specs.Named.{listed, is_listed, names_listed}
 use Rattle.row_store.specs.Held.{row_by_name, rows_by_name, IsLoanByName, AreRowsReady, AreRowsBack}
 use Rattle.shelves.specs.Rows.{found}
-use Rattle.row_store.proofs.Lists.{listed_names, none_listed, some_test}
+use Rattle.row_store.proofs.Lists.{none_listed, some_test}
+use Rattle.shelves.proofs.Lists.{listed_names}
 use Rattle.row_store.proofs.Locks.{locks_either}
 use Rattle.shelves.proofs.Rows.{get-rows_at, get-applied, named_append, same_database}
 use Rattle.shelves.proofs.Booleans.{cases, neither}

@@ -31,10 +31,10 @@ use Rattle.shelves.proofs.Exact.{is_shelf_itself, same_name}
 use Rattle.shelves.proofs.Rows.{get-rows_of, same_rows}
 use Rattle.row_store.specs.declared.held.Holdings.{Holdings}
 use Rattle.row_store.specs.declared.held.Holdings.TheVariants.{Rows, Shelves}
-use Rattle.row_store.specs.declared.named.NamedRow.{NamedRow}
+use Rattle.shelves.specs.declared.named.NamedRow.{NamedRow}
 use Rattle.row_store.specs.Forgetting.{gives_on, has_listed, has_name, has_write, AreForgotten}
 use Rattle.row_store.specs.Held.{row_by_name, IsLoanOf}
-use Rattle.row_store.specs.Named.{names_listed}
+use Rattle.shelves.specs.Named.{names_listed}
 use Rattle.row_store.proofs.Back.{loan_locks}
 use Rattle.row_store.proofs.ByName.{gives_rows}
 use Rattle.row_store.proofs.Incoming.{gives_shelves}

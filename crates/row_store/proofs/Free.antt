@@ -5,16 +5,13 @@ use Rattle.std.proofs.lemmas.Grind.{common_steps}
 use Rattle.std.specs.Ordering.{nat_cmp, eq_by_cmp, is_eq, is_lt}
 use Rattle.std.specs.Cmp.{nat_cmp_total}
 use Rattle.std.specs.List.{list_any}
-use Rattle.std.specs.FinMap.{FinMap, find, is_sorted, entries, entries_sorted, get, get-entries}
+use Rattle.std.specs.FinMap.{find, is_sorted, entries, entries_sorted, get-entries}
 use Rattle.std.specs.FinMap.Entries.{below_all, find_tied}
-use Rattle.values.specs.declared.name.RowName.{RowName}
-use Rattle.catalogue.specs.Shapes.{TableShape}
-use Rattle.proclang_types.specs.declared.right.Right.TheVariants.{Read, Write}
+use Rattle.proclang_types.specs.declared.right.Right.TheVariants.{Write}
 use Rattle.coarsen.specs.Subtrees.{Requests}
 use Rattle.coarsen.specs.Clashes.{locks_row}
 use Rattle.coarsen.specs.Laws.{LockedRowsConflict}
 use Rattle.row_store.specs.Laws.{FreeWhereApart}
-use Rattle.row_store.specs.Stock.{is_free}
 
 abbrev Lents : Type 0
 Lents = List (ℕ × Requests)

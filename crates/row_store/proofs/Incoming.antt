@@ -17,7 +17,7 @@ use Rattle.row_store.specs.declared.held.Holdings.TheVariants.{Rows, Shelves}
 use Rattle.shelves.specs.Places.{Shelves as AllShelves, has_shelf, full}
 use Rattle.shelves.specs.Shelving.{shelf_of}
 use Rattle.row_store.specs.Held.{row_by_name, rows_by_name, rows_held, IsLoanOf, CanGoBack, AreShelvesBack, IsBackFrom}
-use Rattle.row_store.specs.Named.{names_listed}
+use Rattle.shelves.specs.Named.{names_listed}
 use Rattle.shelves.specs.Rows.{found, rows_of}
 use Rattle.row_store.specs.Views.{lent_at, IsRowStore}
 use Rattle.row_store.proofs.Back.{IsBack, Gives, out_and_back, kept_back, shown_back}

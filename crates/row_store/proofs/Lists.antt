@@ -4,22 +4,16 @@ use Rattle.std.specs.Option.{option_or}
 use Rattle.std.specs.Cmp.{eq_by_cmp_equiv}
 use Rattle.values.specs.declared.name.RowName.{RowName}
 use Rattle.values.specs.Database.{RowOf}
-use Rattle.row_store.specs.declared.named.NamedRow.{NamedRow}
+use Rattle.shelves.specs.declared.named.NamedRow.{NamedRow}
 use Rattle.shelves.specs.Places.{PlaceOf, full, written, shared_row, is_same_name, is_named}
-use Rattle.row_store.specs.Named.{listed, names_listed, is_listed, AreDistinct}
+use Rattle.row_store.specs.Named.{AreDistinct}
+use Rattle.shelves.specs.Named.{listed, names_listed, is_listed}
 use Rattle.shelves.proofs.Exact.{names_total, same_name}
+use Rattle.shelves.proofs.Lists.{listed_names}
 use Rattle.shelves.proofs.Rows.{named_append}
 
 pub turned_name : (a b : RowName) → is_same_name a b ≡ is_same_name b a
 turned_name a b = (eq_by_cmp_equiv names_total).symm a b
-
-some_if : (b c : Bool) (x : Option RowOf) (o : Option (Option RowOf)) → is_some o ≡ c → is_some (if b then Some x else o) ≡ (b || c)
-some_if true c x o h = refl
-some_if false c x o h = h
-
-pub listed_names : (es : List NamedRow) (q : RowName) → is_some (listed es q) ≡ is_listed es q
-listed_names [] q = refl
-listed_names (e ∷ es) q = some_if (is_same_name e.name q) (is_listed es q) (shared_row e.row) (listed es q) (listed_names es q)
 
 pub some_test : (b : Bool) (r : Option RowOf) → is_some (if b then Some r else None) ≡ b
 some_test true r = refl
@@ -31,16 +25,6 @@ no_some (Some x) h = absurd (cc)
 
 pub none_listed : (es : List NamedRow) (q : RowName) → is_listed es q ≡ false → listed es q ≡ None
 none_listed es q h = no_some (listed es q) (listed_names es q ∙ h)
-
-or_step : (b : Bool) (x : Option RowOf) (o p r : Option (Option RowOf)) → o ≡ option_or p r → (if b then Some x else o) ≡ option_or (if b then Some x else p) r
-or_step true x o p r h = refl
-or_step false x o p r h = h
-
-pub listed_push : (es : List NamedRow) (x : NamedRow) (q : RowName)
-    → listed (es ++ x ∷ []) q ≡ option_or (listed es q) (if is_same_name x.name q then Some (shared_row x.row) else None)
-listed_push [] x q = refl
-listed_push (e ∷ es) x q =
-    or_step (is_same_name e.name q) (shared_row e.row) (listed (es ++ x ∷ []) q) (listed es q) (if is_same_name x.name q then Some (shared_row x.row) else None) (listed_push es x q)
 
 neither_now : (a b : Bool) → a ≡ false → b ≡ false → a || (b || false) ≡ false
 neither_now true b h k = absurd (cc)
@@ -103,13 +87,6 @@ set_listed (x ∷ es) (suc i) e row n q l is none here =
 
 -- ---- steps of loops
 
-pub write_listed : (b : Bool) (o l : Option (Option RowOf)) (r : Option RowOf) → (b ≡ true → l ≡ Some r)
-    → option_or (option_or o (if b then Some r else None)) (if b then None else l) ≡ option_or o l
-write_listed true None l r h = sym (h refl)
-write_listed true (Some x) l r h = refl
-write_listed false None l r h = refl
-write_listed false (Some x) l r h = refl
-
 pub put_step : (b k : Bool) (o l : Option (Option RowOf)) (r : Option RowOf) → (b ≡ true → k ≡ true)
     → option_or o (if b && k then Some r else l) ≡ option_or (option_or o (if b then Some r else None)) l
 put_step true true None l r h = refl
@@ -117,14 +94,6 @@ put_step true true (Some x) l r h = refl
 put_step true false o l r h = let clash : false ≡ true = h refl in absurd (cc)
 put_step false k None l r h = refl
 put_step false k (Some x) l r h = refl
-
-pub some_or : (o p : Option (Option RowOf)) → is_some o ≡ true → is_some (option_or o p) ≡ true
-some_or None p h = absurd (cc)
-some_or (Some x) p h = refl
-
-pub or_some : (o p : Option (Option RowOf)) → is_some p ≡ true → is_some (option_or o p) ≡ true
-or_some None p h = h
-or_some (Some x) p h = refl
 
 pub list_step : (a b : Bool) (v r : Option RowOf) → (b ≡ true → r ≡ v)
     → option_or (if a then Some v else None) (if b then Some r else None) ≡ (if a || b then Some v else None)

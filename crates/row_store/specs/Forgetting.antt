@@ -15,7 +15,7 @@ use Rattle.shelves.specs.Places.{is_same_shelf, among}
 use Rattle.shelves.specs.Shelving.{shelf_of}
 use Rattle.row_store.specs.declared.held.Holdings.{Holdings}
 use Rattle.row_store.specs.declared.held.Holdings.TheVariants.{Rows, Shelves}
-use Rattle.row_store.specs.declared.named.NamedRow.{NamedRow}
+use Rattle.shelves.specs.declared.named.NamedRow.{NamedRow}
 
 -- the digest that is kept of the partition of a shelf
 abbrev pub kept_on : KeptDigests → Resource → Option (List ℕ)

@@ -20,7 +20,8 @@ use Rattle.shelves.specs.Shelving.{shelf_of, is_end}
 use Rattle.row_store.specs.Locked.{locks_shelf, locks_itself}
 use Rattle.row_store.specs.Moving.{AreEmptied}
 use Rattle.shelves.specs.Exchange.{AreShelvesLent, is_ready}
-use Rattle.row_store.specs.Named.{listed, is_listed, names_listed, row_in, reads_itself, AreDistinct, AreListed}
+use Rattle.row_store.specs.Named.{row_in, reads_itself, AreDistinct, AreListed}
+use Rattle.shelves.specs.Named.{listed, is_listed, names_listed}
 use Rattle.shelves.specs.Rows.{found, rows_at, rows_of}
 use Rattle.row_store.specs.Views.{IsLoan}
 

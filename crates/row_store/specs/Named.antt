@@ -1,6 +1,6 @@
 -- Of the code: invariants and steps; no promise rests on these words.
 -- Rows by their names, in lists.
-use Rattle.std.specs.Prelude.{◌≡◌, Bool, false, not, ◌&&◌, if◌then◌else◌, List, [], ◌∷◌, map, Option, Some, None, ⊤}
+use Rattle.std.specs.Prelude.{◌≡◌, Bool, false, not, ◌&&◌, if◌then◌else◌, List, [], ◌∷◌, Option, Some, None, ⊤}
 use Rattle.std.specs.List.{list_any}
 use Rattle.values.specs.declared.name.RowName.{RowName}
 use Rattle.values.specs.Database.{RowOf}
@@ -8,21 +8,11 @@ use Rattle.catalogue.specs.Shapes.{TableShape}
 use Rattle.proclang_types.specs.declared.right.Right.TheVariants.{Read, Write}
 use Rattle.modes.specs.declared.mode.Mode.{Mode}
 use Rattle.coarsen.specs.Subtrees.{Requests}
-use Rattle.row_store.specs.declared.named.NamedRow.{NamedRow}
-use Rattle.shelves.specs.Places.{Shelves, shared_row, seen_at, is_same_name, is_named}
+use Rattle.shelves.specs.declared.named.NamedRow.{NamedRow}
+use Rattle.shelves.specs.Named.{listed}
+use Rattle.shelves.specs.Places.{Shelves, seen_at, is_named}
 use Rattle.shelves.specs.Shelving.{shelf_of}
 use Rattle.row_store.specs.Locked.{gives, name_of, is_of}
-
--- what a list says of a name: its row or that it has none; nothing of a name that isn't listed
-abbrev pub listed : List NamedRow → RowName → Option (Option RowOf)
-listed [] name = None
-listed (e ∷ es) name = if is_same_name e.name name then Some (shared_row e.row) else listed es name
-
-abbrev pub names_listed : List NamedRow → List RowName
-names_listed rows = map (λ (e : NamedRow). e.name) rows
-
-abbrev pub is_listed : List NamedRow → RowName → Bool
-is_listed rows name = is_named (names_listed rows) name
 
 -- the row of a name, none where nothing is said of it
 abbrev pub row_in : Option (Option RowOf) → Option RowOf

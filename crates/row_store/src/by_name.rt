@@ -11,15 +11,15 @@ ghost use Rattle.coarsen.specs.Plans.{IsPlanOver};
 ghost use Rattle.shelves.specs.Places.{seen_at, has_shelf, is_away, has_place, written};
 ghost use Rattle.shelves.specs.Shelving.{shelf_of};
 ghost use Rattle.row_store.specs.Locked.{gives, name_of, locks_itself};
-ghost use Rattle.row_store.specs.Named.{listed, is_listed, names_listed, reads_only, reads_itself, AreDistinct, AreListed};
+ghost use Rattle.row_store.specs.Named.{reads_only, reads_itself, AreDistinct, AreListed};
+ghost use Rattle.shelves.specs.Named.{listed, is_listed, names_listed};
 ghost use Rattle.shelves.specs.Rows.{found};
 
 use crate::locked::{gives, name_of};
-use crate::named::NamedRow;
 use catalogue::Catalogue;
 use footprint::{Resource, Right};
 use modes::Mode;
-use shelves::{Shelves, lend_row, put_row, share_row, shelf_of};
+use shelves::{NamedRow, Shelves, lend_row, put_row, share_row, shelf_of};
 use std::alloc::Global;
 use values::{NoMemory, RowName};
 

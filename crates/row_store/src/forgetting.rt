@@ -5,11 +5,10 @@ ghost use Rattle.row_store.specs.declared.held.Holdings.TheVariants.{Shelves};
 ghost use Rattle.row_store.specs.Forgetting.{AreForgotten, gives_on, has_listed, has_name, has_write};
 
 use crate::held::{HeldShelves, Holdings};
-use crate::named::NamedRow;
 use catalogue::Catalogue;
 use footprint::{InPart, InTable, Resource};
 use row_text::KeptDigests;
-use shelves::shelf_of;
+use shelves::{NamedRow, shelf_of};
 use std::collections::BTreeMap;
 use values::{Row, RowName};
 

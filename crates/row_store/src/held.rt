@@ -5,12 +5,12 @@ ghost use Rattle.std.specs.Option.{option_or};
 ghost use Rattle.std.specs.BTreeMap as tree;
 ghost use Rattle.values.specs.declared.name.RowName.{RowName as AnyName};
 ghost use Rattle.values.specs.Database.{name_cmp};
-ghost use Rattle.row_store.specs.Named.{listed, is_listed, names_listed};
+ghost use Rattle.shelves.specs.Named.{listed, is_listed, names_listed};
 ghost use Rattle.row_store.specs.Held.{row_by_name};
 
-use crate::named::{NamedRow, entry_of, listed_writes, set_rows};
+use crate::named::{entry_of, set_rows};
 use footprint::Resource;
-use shelves::Shelves;
+use shelves::{NamedRow, Shelves, listed_writes};
 use std::alloc::Global;
 use std::collections::BTreeMap;
 use values::{NoMemory, Row, RowName};

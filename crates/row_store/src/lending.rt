@@ -12,7 +12,8 @@ ghost use Rattle.coarsen.specs.Clashes.{locks_row};
 ghost use Rattle.shelves.specs.Places.{seen_at, full, as_it_stands, has_shelf, is_away, has_place, among, is_named};
 ghost use Rattle.shelves.specs.Shelving.{shelf_of};
 ghost use Rattle.row_store.specs.Locked.{locks_shelf, locks_itself};
-ghost use Rattle.row_store.specs.Named.{names_listed, reads_itself, AreDistinct, AreListed};
+ghost use Rattle.row_store.specs.Named.{reads_itself, AreDistinct, AreListed};
+ghost use Rattle.shelves.specs.Named.{names_listed};
 ghost use Rattle.row_store.specs.Held.{AreHere, AreReadShelves, IsReady, IsTaken, AreShelvesTaken, CanGoBack, IsBackFrom};
 ghost use Rattle.shelves.specs.Rows.{found};
 

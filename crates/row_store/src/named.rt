@@ -1,25 +1,14 @@
 //! Rows by their names, in short lists.
 
-ghost use Rattle.std.specs.Prelude.{◌≡◌, true, Some, None, ◌&&◌, if◌then◌else◌, option_map, is_some, IfOk};
+ghost use Rattle.std.specs.Prelude.{◌≡◌, true, Some, ◌&&◌, if◌then◌else◌, option_map, is_some};
 ghost use Rattle.std.specs.Option.{option_or};
-ghost use Rattle.std.specs.BTreeMap as tree;
 ghost use Rattle.values.specs.declared.name.RowName.{RowName as AnyName};
-ghost use Rattle.values.specs.Database.{name_cmp};
 ghost use Rattle.shelves.specs.Places.{shared_row, is_same_name};
-ghost use Rattle.row_store.specs.Named.{listed, is_listed, names_listed};
+ghost use Rattle.shelves.specs.Named.{listed, is_listed, names_listed};
 
-use shelves::shared;
-use std::alloc::Global;
-use std::collections::BTreeMap;
+use shelves::NamedRow;
 use std::sync::Arc;
-use values::{NoMemory, Row, RowName};
-
-/// A name with its row, or with none.
-#[derive(Drop)]
-pub(crate) struct NamedRow {
-    pub(crate) name: RowName,
-    pub(crate) row: Option<Arc<Row>>,
-}
+use values::{Row, RowName};
 
 /// Whether two names are one.
 fn is_same_name(a: &RowName, b: &RowName) -> bool
@@ -66,20 +55,4 @@ pub(crate) fn set_rows(rows: &mut Vec<NamedRow>, made: Vec<NamedRow>)
     while let Some(NamedRow { name, row }) = left.pop() {
         set_row(rows, &name, row);
     }
-}
-
-/// A list of writes, with rows that can be put in place without memory.
-pub(crate) fn listed_writes(
-    alloc: Global,
-    writes: BTreeMap<RowName, Option<Row>>,
-) -> Result<Vec<NamedRow>, NoMemory>
-    ensures { IfOk result (λ made. (q : AnyName) → listed made.items q ≡ tree.get name_cmp writes q) }
-{
-    let mut left = writes;
-    let mut made = Vec::new(alloc);
-    while let Some((name, row)) = left.pop_first() {
-        let row = shared(alloc, row)?;
-        made.push(NamedRow { name, row })?;
-    }
-    Ok(made)
 }

@@ -2,6 +2,7 @@ pub mod Booleans
 pub mod Copies
 pub mod Exact
 pub mod Gathered
+pub mod Lists
 pub mod PartEnds
 pub mod Placed
 pub mod RowsBack

@@ -3,7 +3,7 @@ use Rattle.std.proofs.Common.{◌≡◌, Bool, true, false, ◌||◌, ◌&&◌, 
 use Rattle.std.specs.BTreeMap.{IsEmpty, is_at, keys}
 use Rattle.std.specs.BTreeMap as tree
 use Rattle.std.specs.Map.{lookup}
-use Rattle.std.specs.FinMap.{empty, get}
+use Rattle.std.specs.FinMap.{empty}
 use Rattle.std.specs.declared.sync.Arc.{Arc}
 use Rattle.std.specs.declared.alloc.Global.{Global}
 use Rattle.values.specs.declared.name.RowName.{RowName}

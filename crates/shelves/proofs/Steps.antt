@@ -106,3 +106,9 @@ map_cond f false o = refl
 pub some_left : {A : Type 0} (b : Bool) (o : Option A) → is_some (if b then None else o) ≡ true → is_some o ≡ true
 some_left true o h = absurd (cc)
 some_left false o h = h
+
+-- a row is put where its place is there
+pub fill_there : {A : Type 0} (n k : Bool) (p o : A) → (n ≡ true → k ≡ true) → (if n && k then p else o) ≡ (if n then p else o)
+fill_there true true p o h = refl
+fill_there true false p o h = let clash : false ≡ true = h refl in absurd (cc)
+fill_there false k p o h = refl

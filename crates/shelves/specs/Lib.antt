@@ -1,4 +1,5 @@
 pub mod Exchange
+pub mod Named
 pub mod Places
 pub mod Rebuilding
 pub mod Rows

@@ -148,10 +148,7 @@ among shelves at = list_any (λ r. is_same_shelf r at) shelves
 abbrev pub is_named : List RowName → RowName → Bool
 is_named names name = list_any (λ n. is_same_name n name) names
 
--- writes that are kept apart, and what is at a name after a write
-abbrev pub write_at : BTreeMap RowName (Option (Arc RowOf Global)) → RowName → Option (Option RowOf)
-write_at writes name = option_map shared_row (get name_cmp writes name)
-
+-- what is at a name after a write, or where none is made
 abbrev pub written : Option (Option RowOf) → PlaceOf → PlaceOf
 written None place = place
 written (Some row) place = full row

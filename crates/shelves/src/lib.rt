@@ -10,6 +10,7 @@
 mod contents;
 mod exchange;
 mod filling;
+mod named;
 mod place;
 mod rebuilding;
 mod scan;
@@ -20,6 +21,7 @@ mod writing;
 
 pub use exchange::{make_shelves, put_shelves, share_shelves, take_shelves};
 pub use filling::filled;
+pub use named::{NamedRow, listed_writes};
 pub use rebuilding::rebuilt;
 pub use scan::{next_row, push_rows};
 pub use shelf::Shelf;
@@ -28,4 +30,4 @@ pub use shelves::{
     take_row,
 };
 pub use shelving::{ends_partition, has_ends, shelf_of};
-pub use writing::{shared, write};
+pub use writing::write;

@@ -1,11 +1,11 @@
 //! Places: what is at row names.
 
-ghost use Rattle.std.specs.Prelude.{◌≡◌, true, false, Some, Option, option_map, IfOk};
+ghost use Rattle.std.specs.Prelude.{◌≡◌, true, false, Some, Option, option_map, IfOk, OnOk, OnErr};
 ghost use Rattle.std.specs.Arc.{arc_value};
 ghost use Rattle.values.specs.Database.{RowOf};
 ghost use Rattle.shelves.specs.Places.{row_of, seen_over, full, emptied, shared_row};
 
-use std::alloc::AllocError;
+use std::alloc::{AllocError, Global};
 use std::sync::Arc;
 use values::{NoMemory, Row};
 
@@ -64,6 +64,27 @@ impl Place {
             Place::Here(Some(old)) => overwrite(old, new),
             _ => *self = Place::Here(Some(new)),
         }
+    }
+
+    /// Fills the place with a row, or with none. A row that is here, and that nobody else has, takes the values of the
+    /// new one, and no memory is taken. An `Err` leaves the place as it was.
+    pub(crate) fn write(&mut self, alloc: Global, row: Option<Row>) -> Result<(), NoMemory>
+        ensures filled { OnOk result ((otherwise : Option RowOf) → seen_over (Some self.new) otherwise ≡ full row) }
+        ensures err { OnErr result (self.new ≡ self.old) }
+    {
+        let Some(new) = row else {
+            *self = Place::Here(None);
+            return Ok(());
+        };
+        let mut new = new;
+        if let Place::Here(Some(row)) = self {
+            if let Some(row) = Arc::get_mut(row) {
+                row.swap(&mut new);
+                return Ok(());
+            }
+        }
+        *self = Place::Here(Some(Arc::new(alloc, new)?));
+        Ok(())
     }
 
     /// Lends the row at the place. It counts as before.

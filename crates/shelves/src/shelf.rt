@@ -1,10 +1,11 @@
 //! One shelf: the places of row names.
 
-ghost use Rattle.std.specs.Prelude.{◌≡◌, Some, None, true, false, ◌&&◌, if◌then◌else◌, is_some, option_map, IfOk, OnOk};
+ghost use Rattle.std.specs.Prelude.{◌≡◌, Some, None, true, false, ◌&&◌, if◌then◌else◌, is_some, option_map, IfOk, OnOk, OnErr};
 ghost use Rattle.values.specs.declared.name.RowName.{RowName as AnyName};
 ghost use Rattle.shelves.specs.Places.{places_of, seen_in, has_in, is_shelf_out, full, emptied, gone, shared_row, is_same_name};
 
 use crate::contents::{Contents, Places};
+use crate::named::shared;
 use crate::place::Place;
 use std::alloc::Global;
 use std::collections::BTreeMap;
@@ -138,6 +139,32 @@ impl Shelf {
                 place.fill(row);
             }
         }
+    }
+
+    /// Puts a row, or none, at a name, which gets a place of the shelf's own. An `Err` leaves what is seen as it was.
+    #[tactic(auto, using(crate::proofs::Exact::own_same, std::proofs::lemmas::Map::Steps::set_value_same))]
+    pub(crate) fn write_row(
+        &mut self,
+        alloc: Global,
+        name: &RowName,
+        row: Option<Row>,
+    ) -> Result<(), NoMemory>
+        ensures seen { OnOk result ((q : AnyName) →
+            seen_in self.new q ≡ (if is_same_name name.now q then full row else seen_in self.old q)) }
+        ensures err { OnErr result ((q : AnyName) → seen_in self.new q ≡ seen_in self.old q) }
+        ensures kept { (q : AnyName) → has_in self.old q ≡ true → has_in self.new q ≡ true }
+        ensures away { is_shelf_out self.new ≡ is_shelf_out self.old }
+    {
+        if let Contents::Own(places) = &mut self.contents {
+            if let Some(place) = places.get_mut(name) {
+                place.write(alloc, row)?;
+                return Ok(());
+            }
+        }
+        let row = shared(alloc, row)?;
+        self.make_place(alloc, name)?;
+        self.fill_place(name, row);
+        Ok(())
     }
 
     /// Puts a row, or none, at a name. An `Err` leaves the shelf as it was.

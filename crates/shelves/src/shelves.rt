@@ -5,6 +5,7 @@ ghost use Rattle.values.specs.declared.name.RowName.{RowName as AnyName};
 ghost use Rattle.footprint.specs.declared.resource.Resource.{Resource as AnyResource};
 ghost use Rattle.shelves.specs.Places.{has_shelf, is_away, has_place, seen_at, seen_in, has_in, is_shelf_out, full, emptied, shared_row, is_same_name, is_same_shelf};
 
+use crate::named::shared;
 use crate::shelf::Shelf;
 use footprint::Resource;
 use std::alloc::Global;
@@ -104,6 +105,33 @@ pub fn add_row(
     let mut shelf = Shelf::new(alloc);
     shelf.set_row(alloc, name, row)?;
     add_shelf(shelves, at, shelf)?;
+    Ok(())
+}
+
+/// Puts a row, or none, at a name, which gets a place. An `Err` leaves the rows as they were.
+#[tactic(auto, using(crate::proofs::Exact::get_same))]
+pub(crate) fn write_row(
+    alloc: Global,
+    shelves: &mut Shelves,
+    at: &Resource,
+    name: &RowName,
+    row: Option<Row>,
+) -> Result<(), NoMemory>
+    ensures seen { OnOk result ((d : AnyResource) (q : AnyName) →
+        seen_at shelves.new d q ≡ (if is_same_shelf at.now d && is_same_name name.now q then full row
+        else seen_at shelves.old d q)) }
+    ensures err { OnErr result ((d : AnyResource) (q : AnyName) → seen_at shelves.new d q ≡ seen_at shelves.old d q) }
+    ensures kept { (d : AnyResource) (q : AnyName) → has_place shelves.old d q ≡ true →
+        has_place shelves.new d q ≡ true }
+    ensures shelves { (d : AnyResource) → has_shelf shelves.old d ≡ true → has_shelf shelves.new d ≡ true }
+    ensures away { (d : AnyResource) → is_away shelves.new d ≡ is_away shelves.old d }
+{
+    if let Some(shelf) = shelves.get_mut(at) {
+        return shelf.write_row(alloc, name, row);
+    }
+    let row = shared(alloc, row)?;
+    add_place(alloc, shelves, at, name)?;
+    fill_place(shelves, at, name, row);
     Ok(())
 }
 

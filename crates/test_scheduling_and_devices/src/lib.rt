@@ -4,6 +4,8 @@
 #![tactic(auto)]
 
 #[cfg(test)]
+mod beside_jobs;
+#[cfg(test)]
 mod device_tests;
 #[cfg(test)]
 mod gate_tests;

@@ -3,10 +3,11 @@ use Rattle.std.specs.Vec.Iter.{into_iter_items}
 use Rattle.values.specs.declared.name.RowName.{RowName}
 use Rattle.values.specs.Database.{RowOf}
 use Rattle.footprint.specs.declared.resource.Resource.{Resource}
-use Rattle.row_store.specs.declared.named.NamedRow.{NamedRow}
+use Rattle.shelves.specs.declared.named.NamedRow.{NamedRow}
 use Rattle.shelves.specs.Places.{PlaceOf, has_place, seen_at, full, written, shared_row, is_same_shelf, is_same_name}
 use Rattle.shelves.specs.Shelving.{shelf_of}
-use Rattle.row_store.specs.Named.{listed, is_listed, names_listed, AreDistinct}
+use Rattle.row_store.specs.Named.{AreDistinct}
+use Rattle.shelves.specs.Named.{listed, is_listed, names_listed}
 use Rattle.shelves.proofs.Exact.{own_place, same_name}
 use Rattle.shelves.proofs.Booleans.{cases, neither, or_left, or_right}
 use Rattle.row_store.proofs.Lists.{none_listed, there_step, back_step}

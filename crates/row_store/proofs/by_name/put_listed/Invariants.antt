@@ -4,7 +4,8 @@ use Rattle.values.specs.declared.name.RowName.{RowName}
 use Rattle.footprint.specs.declared.resource.Resource.{Resource}
 use Rattle.shelves.specs.Places.{has_shelf, is_away, has_place, written}
 use Rattle.shelves.specs.Shelving.{shelf_of}
-use Rattle.row_store.specs.Named.{listed, is_listed, names_listed, AreDistinct}
+use Rattle.row_store.specs.Named.{AreDistinct}
+use Rattle.shelves.specs.Named.{listed, is_listed, names_listed}
 use Rattle.shelves.specs.Rows.{found}
 use Rattle.row_store.proofs.by_name.put_listed.Given as goal
 

@@ -4,13 +4,15 @@ use Rattle.std.specs.Option.{option_or}
 use Rattle.values.specs.declared.name.RowName.{RowName}
 use Rattle.values.specs.Database.{RowOf}
 use Rattle.footprint.specs.declared.resource.Resource.{Resource}
-use Rattle.row_store.specs.declared.named.NamedRow.{NamedRow}
+use Rattle.shelves.specs.declared.named.NamedRow.{NamedRow}
 use Rattle.shelves.specs.Places.{seen_at, shared_row, is_same_name}
 use Rattle.shelves.specs.Shelving.{shelf_of}
 use Rattle.row_store.specs.Locked.{name_of, is_of}
-use Rattle.row_store.specs.Named.{listed, reads_only, reads_itself}
+use Rattle.row_store.specs.Named.{reads_only, reads_itself}
+use Rattle.shelves.specs.Named.{listed}
 use Rattle.shelves.proofs.Exact.{same_name}
-use Rattle.row_store.proofs.Lists.{listed_push, list_step}
+use Rattle.row_store.proofs.Lists.{list_step}
+use Rattle.shelves.proofs.Lists.{listed_push}
 use Rattle.row_store.proofs.Ordered.{of_tested, or_false}
 use Rattle.row_store.proofs.by_name.read_rows.Goals.{in-Some+in_ok-row+in_ok-push, in_default}
 use Rattle.row_store.proofs.by_name.read_rows.Goals as goal

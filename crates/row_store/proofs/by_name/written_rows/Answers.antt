@@ -6,14 +6,16 @@ use Rattle.values.specs.declared.name.RowName.{RowName}
 use Rattle.values.specs.Database.{RowOf}
 use Rattle.proclang_types.specs.declared.right.Right.TheVariants.{Write}
 use Rattle.footprint.specs.declared.resource.Resource.{Resource}
-use Rattle.row_store.specs.declared.named.NamedRow.{NamedRow}
+use Rattle.shelves.specs.declared.named.NamedRow.{NamedRow}
 use Rattle.shelves.specs.Places.{seen_at, has_place, has_shelf, is_away, shared_row, is_same_name}
 use Rattle.shelves.specs.Shelving.{shelf_of}
 use Rattle.row_store.specs.Locked.{gives, name_of, is_of, locks_itself}
-use Rattle.row_store.specs.Named.{listed, names_listed, AreDistinct}
+use Rattle.row_store.specs.Named.{AreDistinct}
+use Rattle.shelves.specs.Named.{listed, names_listed}
 use Rattle.shelves.proofs.Exact.{same_name, is_name_itself}
 use Rattle.shelves.proofs.Booleans.{either}
-use Rattle.row_store.proofs.Lists.{listed_names, listed_push, list_step, some_test, distinct_push}
+use Rattle.row_store.proofs.Lists.{list_step, some_test, distinct_push}
+use Rattle.shelves.proofs.Lists.{listed_names, listed_push}
 use Rattle.row_store.proofs.Ordered.{fresh, of_tested, or_false, tested}
 use Rattle.row_store.proofs.by_name.written_rows.Goals.{in-Some+in_ok-row+in_ok-push, in_default}
 use Rattle.row_store.proofs.by_name.written_rows.Goals as goal

@@ -5,7 +5,8 @@ use Rattle.footprint.specs.declared.resource.Resource.{Resource}
 use Rattle.shelves.specs.Places.{has_shelf, is_away, has_place, seen_at}
 use Rattle.shelves.specs.Shelving.{shelf_of}
 use Rattle.row_store.specs.Locked.{locks_itself}
-use Rattle.row_store.specs.Named.{names_listed, AreDistinct, AreListed}
+use Rattle.row_store.specs.Named.{AreDistinct, AreListed}
+use Rattle.shelves.specs.Named.{names_listed}
 use Rattle.row_store.proofs.by_name.written_rows.Given as goal
 
 abbrev pub invariant-loop-resource : goal.invariant-loop-resource

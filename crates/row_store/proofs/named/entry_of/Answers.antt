@@ -1,6 +1,6 @@
 use Rattle.std.proofs.Common.{sym, ap, ◌∙◌}
 use Rattle.std.proofs.lemmas.List.{take_all}
-use Rattle.row_store.specs.Named.{is_listed}
+use Rattle.shelves.specs.Named.{is_listed}
 use Rattle.row_store.proofs.Lists.{found_at, none_listed}
 use Rattle.row_store.proofs.named.entry_of.Goals as goal
 

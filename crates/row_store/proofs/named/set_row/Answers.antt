@@ -1,8 +1,8 @@
 use Rattle.std.proofs.Common.{◌≡◌, ◌<◌, ◌&&◌, if◌then◌else◌, List, Some, length, sym, ap, ◌∙◌, false, take, arith}
 use Rattle.std.proofs.lemmas.List.{get_or_read}
-use Rattle.row_store.specs.declared.named.NamedRow.{NamedRow}
+use Rattle.shelves.specs.declared.named.NamedRow.{NamedRow}
 use Rattle.shelves.specs.Places.{shared_row, is_same_name}
-use Rattle.row_store.specs.Named.{listed, is_listed, names_listed}
+use Rattle.shelves.specs.Named.{listed, is_listed, names_listed}
 use Rattle.row_store.proofs.Lists.{set_names, set_listed}
 use Rattle.row_store.proofs.named.set_row.Goals as goal
 

@@ -1,5 +1,5 @@
 use Rattle.std.proofs.Common.{◌≡◌, false, take}
-use Rattle.row_store.specs.Named.{is_listed}
+use Rattle.shelves.specs.Named.{is_listed}
 use Rattle.row_store.proofs.named.set_row.Given as goal
 
 abbrev pub invariant-loop-place : goal.invariant-loop-place

@@ -1,10 +1,11 @@
 use Rattle.std.proofs.Common.{◌≡◌, if◌then◌else◌, List, Some, None, is_some, true, sym, ap, ◌∙◌}
 use Rattle.std.specs.Option.{option_or}
 use Rattle.values.specs.declared.name.RowName.{RowName}
-use Rattle.row_store.specs.declared.named.NamedRow.{NamedRow}
+use Rattle.shelves.specs.declared.named.NamedRow.{NamedRow}
 use Rattle.shelves.specs.Places.{shared_row, is_same_name, is_named}
-use Rattle.row_store.specs.Named.{listed, is_listed}
-use Rattle.row_store.proofs.Lists.{listed_push, put_step, some_or, or_some}
+use Rattle.shelves.specs.Named.{listed, is_listed}
+use Rattle.row_store.proofs.Lists.{put_step}
+use Rattle.shelves.proofs.Lists.{listed_push, some_or, or_some}
 use Rattle.row_store.proofs.named.set_rows.Goals as goal
 
 pub loop-name-preserved : goal.loop-name-preserved

@@ -1,7 +1,7 @@
 use Rattle.std.proofs.Common.{◌≡◌, true, is_some, length}
 use Rattle.std.specs.Option.{option_or}
 use Rattle.values.specs.declared.name.RowName.{RowName}
-use Rattle.row_store.specs.Named.{listed, is_listed, names_listed}
+use Rattle.shelves.specs.Named.{listed, is_listed, names_listed}
 use Rattle.row_store.proofs.named.set_rows.Given as goal
 
 abbrev pub invariant-loop-name : goal.invariant-loop-name

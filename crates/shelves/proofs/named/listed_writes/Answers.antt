@@ -3,12 +3,12 @@ use Rattle.std.specs.Option.{option_or}
 use Rattle.std.specs.BTreeMap.{get}
 use Rattle.values.specs.declared.name.RowName.{RowName}
 use Rattle.values.specs.Database.{RowOf, name_cmp}
-use Rattle.row_store.specs.declared.named.NamedRow.{NamedRow}
+use Rattle.shelves.specs.declared.named.NamedRow.{NamedRow}
 use Rattle.shelves.specs.Places.{shared_row, is_same_name}
-use Rattle.row_store.specs.Named.{listed}
+use Rattle.shelves.specs.Named.{listed}
 use Rattle.shelves.proofs.Exact.{same_name}
-use Rattle.row_store.proofs.Lists.{listed_push, write_listed}
-use Rattle.row_store.proofs.named.listed_writes.Goals as goal
+use Rattle.shelves.proofs.Lists.{listed_push, write_listed}
+use Rattle.shelves.proofs.named.listed_writes.Goals as goal
 
 pub loop-name-preserved : goal.loop-name-preserved
 loop-name-preserved c = λ q.
