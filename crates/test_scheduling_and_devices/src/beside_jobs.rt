@@ -1,13 +1,13 @@
 //! Calls that are run beside jobs that are out. Whether one clashes with them is told by their plans where few places
 //! begin at the first unsettled one, and by the lock tree where more do: the answers are the same.
 
-ghost use Rattle.scheduler.specs.Schedules.{KeepsItsJobs};
-
 use crate::schedulers::scheduler;
 use scheduler::{Event, Scheduler};
 use std::alloc::Global;
 use std::test::Fail;
 use test_bank::Call;
+
+const READER: Call<'static> = ("peek", &[1]);
 
 /// How many calls that read an account are out; a call after them; whether it is run beside them. Reads go together; a
 /// payment from that account writes it, and an insert writes nothing that they read.
@@ -27,12 +27,11 @@ const BESIDE: [(usize, Call<'static>, bool); 12] = [
 ];
 
 /// A scheduler of readers of an account, which are out, and a call after them.
-fn with_readers(alloc: Global, readers: usize, last: Call<'_>) -> Result<Scheduler, Fail> {
-    let reader: Call<'_> = ("peek", &[1]);
-    let mut calls = Vec::new(alloc);
+fn with_readers(alloc: Global, readers: usize, last: Call<'static>) -> Result<Scheduler, Fail> {
+    let mut calls: Vec<Call<'static>> = Vec::new(alloc);
     let mut events = Vec::new(alloc);
     for number in 0..readers {
-        calls.push(reader)?;
+        calls.push(READER)?;
         events.push(Event::Admit)?;
         events.push(Event::Lend(number as u64))?;
     }
