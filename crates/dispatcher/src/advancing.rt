@@ -20,8 +20,8 @@ use values::NoMemory;
 
 /// How many transactions at most are admitted and neither out nor settled: workers find jobs among them that don't wait
 /// for one another, and their requests stay in the cache. Measured on two and four workers, with calls that wait for
-/// one another on ten rows, one long call in ten and long calls alone: limits of 16 and of 4,096 take the same time, but
-/// for noise. So it bounds memory more than time.
+/// one another on ten rows, one long call in ten and long calls alone, where the noise was up to a third: limits of 16
+/// and of 4,096 show no difference beyond it.
 const AHEAD: usize = 256;
 
 /// Whether the next transaction is a brief call.

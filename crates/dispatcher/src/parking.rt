@@ -31,8 +31,8 @@ const SCHEDULER_SPINS: u32 = 4_096;
 const FEW_SPINS: u32 = 64;
 
 /// While more jobs than this wait for a worker, the scheduler's thread is not woken to make more. Measured on the same
-/// loads as the limit of transactions that are admitted ahead: with 0, and with no limit, they take the same time, but
-/// for noise.
+/// loads as the limit of transactions that are admitted ahead, where the noise was up to a third: 0, and no limit, show
+/// no difference beyond it.
 const FEW_WAIT: usize = 1;
 
 /// How near a thread is to being parked.

@@ -41,8 +41,8 @@ fn run_on_store(alloc: Global, entry: &Entry, store: &mut RowStore) -> Result<Ou
 
 /// The next plan is compared with others only if at most this many places begin at the first unsettled one; else the
 /// lock tree is asked, so that no long walk over slots is made. Measured on two and four workers, with one long call in
-/// 100, one in ten, and calls that wait for one another on ten rows: with 0, where the tree is always asked, and with
-/// 999 they take the same time, but for noise.
+/// 100, one in ten, and calls that wait for one another on ten rows, where the noise was up to a third: 0, where the
+/// tree is always asked, and 999 show no difference beyond it.
 const FEW_PLACES: usize = 8;
 
 /// Whether the transaction at a place is settled, or is out with a plan that is in no conflict with this one. Its own
