@@ -57,6 +57,7 @@ fn locks<F: Files, S: Source, K: Sink, E: Sink>(
 fn options_of(line: &Line, running: Running, process: Process) -> RunOptions
     ensures mode { (result.alone ≡ running.alone) × (result.feed ≡ running.follow) }
     ensures ends { result.process_ends ≡ process.ends }
+    ensures settings { result.settings ≡ line.now.settings }
 {
     RunOptions {
         alone: running.alone,

@@ -2,15 +2,15 @@
 
 ghost use Rattle.std.specs.Prelude.{◌≡◌, ◌++◌, [], List, ℕ, IfOk, OnOk, string_bytes};
 ghost use Rattle.hex.specs.Hex.{encode_lower};
-ghost use Rattle.row_text.specs.Texts.{digest, row_line};
-ghost use Rattle.row_text.specs.Feeding.{IsFed};
+ghost use Rattle.row_text.specs.Texts.{digest};
+ghost use Rattle.row_text.specs.Feeding.{IsFed, table_lines};
 
 use crate::digest::Hash;
 use crate::scratch::Scratch;
 use catalogue::Catalogue;
 use sha2::{Digest, Sha256};
 use std::alloc::{AllocError, Global};
-use values::{Row, RowName};
+use values::{Key, Row, TableNo};
 
 /// From 4,096 bytes on, text is handed to the hasher.
 const PIECE: usize = 4096;
@@ -49,19 +49,19 @@ impl Feed {
         self.text.reserve(bytes)
     }
 
-    /// Appends a row line.
-    pub(crate) fn push_row(
+    /// Appends the lines of a few rows of a table.
+    pub(crate) fn push_rows(
         &mut self,
         alloc: Global,
         catalogue: &Catalogue,
-        name: &RowName,
-        row: &Row,
+        table: TableNo,
+        rows: &[(Key, &Row)],
         scratch: &mut Scratch,
     ) -> Result<(), AllocError>
         ensures { (all : List ℕ) → IsFed self.old all →
-            OnOk result (IsFed self.new (all ++ row_line catalogue.now name.now row.now)) }
+            OnOk result (IsFed self.new (all ++ table_lines catalogue.now table rows.now)) }
     {
-        scratch.push_line(alloc, catalogue, name, row, &mut self.text)?;
+        scratch.push_lines(alloc, catalogue, table, rows, &mut self.text)?;
         if self.text.len() >= PIECE {
             self.hand_over();
         }

@@ -4,15 +4,11 @@ ghost use Rattle.std.specs.Prelude.{◌≡◌, ◌<◌, IfOk, IsPermutation, len
 ghost use Rattle.workspace.specs.Scan.{by_key, referred};
 ghost use Rattle.row_text.specs.Merge.{rows_of, ShowsAll};
 
+use crate::room::MOST_NEAR;
 use catalogue::Catalogue;
 use std::alloc::{AllocError, Global};
 use values::{Key, Row, TableNo};
 use workspace::RowView;
-
-/// Up to how many rows are placed one by one. More than these are farther from the processor than its own cache, and
-/// each exchange waits for the one before it: a sort, which merges the ascending rows of the partitions, takes half as
-/// long.
-const MOST_PLACED: usize = 1 << 15;
 
 /// The rows of a table with their keys, partition by partition.
 fn rows_by_part<'a, V: RowView>(
@@ -73,11 +69,12 @@ fn place(rows: &mut [(Key, &Row)], least: u64)
 }
 
 /// Puts rows whose keys are consecutive numbers into the order of their keys, in which a sort leaves them. Other rows
-/// stay where they are, and so do very many.
+/// stay where they are, and so do rows that are far from the processor: each exchange would wait for the one before it,
+/// and a sort, which merges the ascending rows of the partitions, takes half as long.
 fn place_consecutive(rows: &mut [(Key, &Row)])
     ensures { IsPermutation rows.old rows.new }
 {
-    if rows.len() > MOST_PLACED {
+    if rows.len() > MOST_NEAR {
         return;
     }
     let least = least_number(rows);

@@ -18,6 +18,7 @@ mod form;
 mod gathered;
 mod kept;
 mod laws;
+mod lines;
 mod listing;
 mod partitions;
 mod room;

@@ -1,7 +1,6 @@
 //! The row lines of a table, and those of all tables, as texts.
 
 ghost use Rattle.std.specs.Prelude.{◌≡◌, ◌<◌, ◌++◌, IfOk, OnOk, length};
-ghost use Rattle.row_text.specs.Feeding.{table_lines};
 ghost use Rattle.row_text.specs.Merge.{rows_of, ShowsAll};
 ghost use Rattle.row_text.specs.Texts.{row_lines, row_text};
 
@@ -9,26 +8,8 @@ use crate::gathered::rows_of_table;
 use crate::scratch::Scratch;
 use catalogue::Catalogue;
 use std::alloc::{AllocError, Global};
-use values::{Key, Row, RowName, TableNo};
+use values::TableNo;
 use workspace::RowView;
-
-/// Appends the lines of rows of a table.
-fn push_lines(
-    alloc: Global,
-    catalogue: &Catalogue,
-    table: TableNo,
-    rows: &[(Key, &Row)],
-    text: &mut Vec<u8>,
-) -> Result<(), AllocError>
-    ensures { OnOk result (text.new.items ≡ text.old.items ++ table_lines catalogue.now table rows.now) }
-{
-    let mut scratch = Scratch::new(alloc);
-    for row in rows {
-        let name = RowName::new(table, row.0);
-        scratch.push_line(alloc, catalogue, &name, row.1, text)?;
-    }
-    Ok(())
-}
 
 /// Appends the row lines of a table.
 fn push_table<V: RowView>(
@@ -45,7 +26,8 @@ fn push_table<V: RowView>(
         (text.new.items ≡ text.old.items ++ row_lines catalogue.now (rows_of table (V.rows view.now))) }
 {
     let rows = rows_of_table(alloc, catalogue, view, table)?;
-    push_lines(alloc, catalogue, table, rows.as_slice(), text)
+    let mut scratch = Scratch::new(alloc);
+    scratch.push_each(alloc, catalogue, table, rows.as_slice(), text)
 }
 
 /// The row lines of a table of a view that shows every name, by ascending key.

@@ -35,7 +35,7 @@ pub(crate) fn hash_of_rows<V: RowView>(
         return Ok(None);
     }
     let mut feed = Feed::new(alloc);
-    feed_rows(alloc, catalogue, table, rows.as_slice(), &mut feed)?;
+    feed_rows(alloc, catalogue, table, rows.as_slice(), true, &mut feed)?;
     Ok(Some(feed.hash()))
 }
 

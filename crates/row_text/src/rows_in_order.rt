@@ -7,38 +7,20 @@ ghost use Rattle.row_text.specs.Merge.{rows_of, ShowsAll};
 
 use crate::feed::Feed;
 use crate::gathered::rows_of_table;
-use crate::room::{TOGETHER, most_of_rows};
+use crate::room::{MOST_NEAR, TOGETHER, most_of_rows};
 use crate::scratch::Scratch;
 use catalogue::Catalogue;
 use std::alloc::{AllocError, Global};
-use values::{Key, Row, RowName, TableNo};
+use values::{Key, Row, TableNo};
 use workspace::RowView;
 
-/// Feeds the lines of a few rows of a table.
-fn feed_few(
-    alloc: Global,
-    catalogue: &Catalogue,
-    table: TableNo,
-    rows: &[(Key, &Row)],
-    scratch: &mut Scratch,
-    feed: &mut Feed,
-) -> Result<(), AllocError>
-    ensures { (all : List ℕ) → IsFed feed.old all →
-        OnOk result (IsFed feed.new (all ++ table_lines catalogue.now table rows.now)) }
-{
-    for row in rows {
-        let name = RowName::new(table, row.0);
-        feed.push_row(alloc, catalogue, &name, row.1, scratch)?;
-    }
-    Ok(())
-}
-
-/// Feeds the lines of rows of a table.
+/// Feeds the lines of rows of a table. Rows that may be far from the processor are looked at ahead.
 pub(crate) fn feed_rows(
     alloc: Global,
     catalogue: &Catalogue,
     table: TableNo,
     rows: &[(Key, &Row)],
+    far: bool,
     feed: &mut Feed,
 ) -> Result<(), AllocError>
     ensures { (all : List ℕ) → IsFed feed.old all →
@@ -49,8 +31,9 @@ pub(crate) fn feed_rows(
     while start < rows.len() {
         let end = start.saturating_add(TOGETHER).min(rows.len());
         let few = &rows[start..end];
-        feed.make_room(most_of_rows(few))?;
-        feed_few(alloc, catalogue, table, few, &mut scratch, feed)?;
+        let most = if far { most_of_rows(few) } else { 0 };
+        feed.make_room(most)?;
+        feed.push_rows(alloc, catalogue, table, few, &mut scratch)?;
         start = end;
     }
     Ok(())
@@ -71,7 +54,8 @@ fn feed_table<V: RowView>(
         OnOk result (IsFed feed.new (all ++ row_lines catalogue.now (rows_of table (V.rows view.now)))) }
 {
     let rows = rows_of_table(alloc, catalogue, view, table)?;
-    feed_rows(alloc, catalogue, table, rows.as_slice(), feed)
+    let far = rows.len() > MOST_NEAR;
+    feed_rows(alloc, catalogue, table, rows.as_slice(), far, feed)
 }
 
 /// The digest of the row lines of a view that shows every name: by table in declared order, and by ascending key.

@@ -8,15 +8,16 @@ ghost use Rattle.row_text.specs.Texts.{line_end, value_text, values_text};
 use itoa::write_digits;
 use values::{Key, Value};
 
-/// Room for the words of most rows: a key, the numbers of 16 columns, and a newline.
-pub(crate) const ROOM: usize = 512;
+/// Room for the lines of 16 rows of five columns, in bytes, whatever their numbers are. A row of 16 columns takes a
+/// fifth of it.
+pub(crate) const ROOM: usize = 2048;
 
 /// The most bytes that a number takes: a space, its sign and 20 digits.
 pub(crate) const WORD: usize = 22;
 
 /// Writes a number after a space, so that it ends at `end`. Answers where the space is.
 fn put_key(room: &mut [u8; ROOM], end: usize, number: u64) -> usize
-    requires { (22 ≤ end) × (end ≤ 512) }
+    requires { (22 ≤ end) × (end ≤ 2048) }
     ensures within { result < end }
     ensures written { drop result room.new ≡ (codes " " ++ decimal number) ++ drop end room.old }
 {
@@ -27,7 +28,7 @@ fn put_key(room: &mut [u8; ROOM], end: usize, number: u64) -> usize
 
 /// Writes a number after its sign. Answers where it starts.
 fn put_signed(room: &mut [u8; ROOM], end: usize, number: i64) -> usize
-    requires { (22 ≤ end) × (end ≤ 512) }
+    requires { (22 ≤ end) × (end ≤ 2048) }
     ensures within { (0 < result) × (result ≤ end) }
     ensures written { drop result room.new ≡ signed_decimal number ++ drop end room.old }
 {
@@ -41,7 +42,7 @@ fn put_signed(room: &mut [u8; ROOM], end: usize, number: i64) -> usize
 
 /// Writes a number after a space and its sign. Answers where the space is.
 fn put_number(room: &mut [u8; ROOM], end: usize, number: i64) -> usize
-    requires { (22 ≤ end) × (end ≤ 512) }
+    requires { (22 ≤ end) × (end ≤ 2048) }
     ensures within { result < end }
     ensures written { drop result room.new ≡ (codes " " ++ signed_decimal number) ++ drop end room.old }
 {
@@ -54,7 +55,7 @@ fn put_number(room: &mut [u8; ROOM], end: usize, number: i64) -> usize
 /// `None` for a text.
 #[tactic(auto, unfolding(crate::specs::Texts::value_text))]
 fn put_value(room: &mut [u8; ROOM], end: usize, value: &Value) -> Option<usize>
-    requires { (22 ≤ end) × (end ≤ 512) }
+    requires { (22 ≤ end) × (end ≤ 2048) }
     ensures { IfSome result (λ start. (start < end) ×
         (drop start room.new ≡ (codes " " ++ value_text value.now) ++ drop end room.old)) }
 {
@@ -64,12 +65,17 @@ fn put_value(room: &mut [u8; ROOM], end: usize, value: &Value) -> Option<usize>
     }
 }
 
-/// Writes values, each after a space, and a newline. Answers where the first space is, or
+/// Writes values, each after a space, and a newline, so that it ends at `end`. Answers where the first space is, or
 /// `None` where a value is a text or there is no room.
-fn put_values(room: &mut [u8; ROOM], values: &[Value]) -> Option<usize>
-    ensures { IfSome result (λ start. (start < 512) × (drop start room.new ≡ values_text values.now ++ line_end)) }
+fn put_values(room: &mut [u8; ROOM], end: usize, values: &[Value]) -> Option<usize>
+    requires { end ≤ 2048 }
+    ensures { IfSome result (λ start. (start < 2048) ×
+        (drop start room.new ≡ values_text values.now ++ (line_end ++ drop end room.old))) }
 {
-    let mut start = ROOM - 1;
+    if end == 0 {
+        return None;
+    }
+    let mut start = end - 1;
     room[start] = b'\n';
     let mut left = values.len();
     while left > 0 {
@@ -82,12 +88,19 @@ fn put_values(room: &mut [u8; ROOM], values: &[Value]) -> Option<usize>
     Some(start)
 }
 
-/// Writes the words of a row, at the end of the room. Answers where they start, or `None` where a
-/// value is a text or there is no room.
-pub(crate) fn put_words(room: &mut [u8; ROOM], key: Key, values: &[Value]) -> Option<usize>
-    ensures { IfSome result (λ start. (start ≤ 512) × (drop start room.new ≡ row_words key values.now)) }
+/// Writes the words of a row after the table's name, so that they end at `end`. Answers where they start, or `None` where
+/// a value is a text or there is no room.
+pub(crate) fn put_words(
+    room: &mut [u8; ROOM],
+    end: usize,
+    key: Key,
+    values: &[Value],
+) -> Option<usize>
+    requires { end ≤ 2048 }
+    ensures { IfSome result (λ start. (start ≤ 2048) ×
+        (drop start room.new ≡ row_words key values.now ++ drop end room.old)) }
 {
-    let end = put_values(room, values)?;
+    let end = put_values(room, end, values)?;
     if end < WORD {
         return None;
     }

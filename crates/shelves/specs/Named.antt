@@ -11,8 +11,10 @@ abbrev pub listed : List NamedRow → RowName → Option (Option RowOf)
 listed [] name = None
 listed (e ∷ es) name = if is_same_name e.name name then Some (shared_row e.row) else listed es name
 
+-- the names of a list, in its order
 abbrev pub names_listed : List NamedRow → List RowName
 names_listed rows = map (λ (e : NamedRow). e.name) rows
 
+-- whether a list says anything of a name
 abbrev pub is_listed : List NamedRow → RowName → Bool
 is_listed rows name = is_named (names_listed rows) name

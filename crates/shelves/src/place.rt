@@ -61,7 +61,7 @@ impl Place {
             return;
         };
         match self {
-            Place::Here(Some(old)) => overwrite(old, new),
+            Place::Here(Some(row)) => replace(row, new),
             _ => *self = Place::Here(Some(new)),
         }
     }
@@ -78,8 +78,7 @@ impl Place {
         };
         let mut new = new;
         if let Place::Here(Some(row)) = self {
-            if let Some(row) = Arc::get_mut(row) {
-                row.swap(&mut new);
+            if exchange(row, &mut new) {
                 return Ok(());
             }
         }
@@ -98,31 +97,33 @@ impl Place {
     }
 }
 
-/// Exchanges the values of two rows, if nobody else has either, and tells whether it did.
-/// Else the other stays as it is.
-fn exchange(one: &mut Arc<Row>, other: &mut Arc<Row>) -> bool
-    ensures done { result ≡ true → arc_value one.new ≡ arc_value other.old }
-    ensures same { result ≡ false → arc_value other.new ≡ arc_value other.old }
+/// Exchanges the values of a row with those of another, if nobody else has the row, and tells whether it did. Else both
+/// stay as they are.
+fn exchange(row: &mut Arc<Row>, other: &mut Row) -> bool
+    ensures done { result ≡ true → arc_value row.new ≡ other.old }
+    ensures same { result ≡ false → (row.new ≡ row.old) × (other.new ≡ other.old) }
 {
-    let Some(one) = Arc::get_mut(one) else {
-        return false;
-    };
-    let Some(other) = Arc::get_mut(other) else {
-        return false;
-    };
-    one.swap(other);
-    true
+    match Arc::get_mut(row) {
+        Some(row) => {
+            row.swap(other);
+            true
+        }
+        None => false,
+    }
 }
 
 /// Gives a row the values of another. If nobody else has either row, the old one keeps its memory: rows that are
 /// written stay where they lie.
-fn overwrite(old: &mut Arc<Row>, new: Arc<Row>)
-    ensures { arc_value old.new ≡ arc_value new }
+fn replace(row: &mut Arc<Row>, new: Arc<Row>)
+    ensures { arc_value row.new ≡ arc_value new }
 {
     let mut new = new;
-    if !exchange(old, &mut new) {
-        *old = new;
+    if let Some(values) = Arc::get_mut(&mut new) {
+        if exchange(row, values) {
+            return;
+        }
     }
+    *row = new;
 }
 
 impl Clone for Place {

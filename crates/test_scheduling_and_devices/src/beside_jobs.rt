@@ -2,8 +2,9 @@
 //! begin at the first unsettled one, and by the lock tree where more do: the answers are the same.
 
 use crate::schedulers::scheduler;
-use scheduler::{Event, Scheduler};
+use scheduler::{Event, Scheduler, StepAnswer};
 use std::alloc::Global;
+use std::process::Abort;
 use std::test::Fail;
 use test_bank::Call;
 
@@ -27,7 +28,12 @@ const BESIDE: [(usize, Call<'static>, bool); 12] = [
 ];
 
 /// A scheduler of readers of an account, which are out, and a call after them.
-fn with_readers(alloc: Global, readers: usize, last: Call<'static>) -> Result<Scheduler, Fail> {
+fn with_readers(
+    rt: &impl Abort,
+    alloc: Global,
+    readers: usize,
+    last: Call<'static>,
+) -> Result<Scheduler, Fail> {
     let mut calls: Vec<Call<'static>> = Vec::new(alloc);
     let mut events = Vec::new(alloc);
     for number in 0..readers {
@@ -37,14 +43,16 @@ fn with_readers(alloc: Global, readers: usize, last: Call<'static>) -> Result<Sc
     }
     calls.push(last)?;
     let mut scheduler = scheduler(alloc, &calls, 0, 65_536)?;
-    scheduler.play(&events)?;
+    for answer in &scheduler.play(&events)? {
+        assert_eq!(rt; *answer, StepAnswer::Made, "{readers} {}", last.0);
+    }
     Ok(scheduler)
 }
 
 #[test]
 fn calls_are_run_beside_jobs_with_which_they_do_not_clash(rt: HostRuntime) -> Result<(), Fail> {
     for (readers, last, ran) in BESIDE {
-        let mut scheduler = with_readers(rt.alloc(), readers, last)?;
+        let mut scheduler = with_readers(&rt, rt.alloc(), readers, last)?;
         let wanted = if ran { Some(readers as u64) } else { None };
         assert_eq!(rt; scheduler.run_next()?, wanted, "{readers} {}", last.0);
     }

@@ -1,6 +1,6 @@
 use Rattle.std.proofs.Common.{◌≡◌, ◌++◌, drop}
 use Rattle.row_text.specs.Feeding.{table_lines}
-use Rattle.row_text.proofs.listing.push_lines.Given as goal
+use Rattle.row_text.proofs.scratch.Scratch.push_each.Given as goal
 
 -- the lines of the rows so far were appended
 abbrev pub invariant-loop-row : goal.invariant-loop-row

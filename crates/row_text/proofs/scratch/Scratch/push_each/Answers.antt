@@ -1,7 +1,7 @@
 use Rattle.std.proofs.Common.{◌+◌, ◌++◌, ◌∙◌, ap, drop, rules}
 use Rattle.row_text.specs.Feeding.{table_lines}
 use Rattle.row_text.proofs.Fed.{all_lines, more_lines}
-use Rattle.row_text.proofs.listing.push_lines.Goals as goal
+use Rattle.row_text.proofs.scratch.Scratch.push_each.Goals as goal
 
 pub loop-row-preserved : goal.loop-row-preserved
 loop-row-preserved c =
