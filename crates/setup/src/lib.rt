@@ -13,6 +13,7 @@ mod document;
 mod fault;
 mod form;
 pub mod laws;
+mod names;
 mod reading;
 mod rows;
 

@@ -11,11 +11,11 @@ ghost use Rattle.setup.specs.Rows.{RowAt, row_at, rows_at, row_values};
 ghost use Rattle.setup.specs.Says.{SaysRows};
 
 use crate::fault::SetupFault;
+use crate::names::Names;
 use catalogue::{Catalogue, read_values};
 use documents::{text_number_list, versioned_list};
 use serde_json::Value;
 use std::alloc::Global;
-use std::collections::BTreeSet;
 use values::{Key, NoMemory, Row, RowName, TableNo};
 
 /// The row of a table that documents say, `None` where they are not one value a column, of its type.
@@ -39,19 +39,20 @@ fn read_row(
 fn read_one(
     alloc: Global,
     catalogue: &Catalogue,
-    names: &mut BTreeSet<RowName>,
+    before: &[(TableNo, Key, Row)],
+    names: &mut Names,
     document: &Value,
 ) -> Result<(TableNo, Key, Row), SetupFault>
-    ensures row { (before : List RowAt) → HoldsNames names.old before →
-        Reads is_memory (λ r. r) result (row_at catalogue.now before (view document.now)) }
-    ensures names { (before : List RowAt) → HoldsNames names.old before →
-        IfOk result (λ r. HoldsNames names.new (before ++ r ∷ [])) }
+    ensures row { HoldsNames names.old before.now →
+        Reads is_memory (λ r. r) result (row_at catalogue.now before.now (view document.now)) }
+    ensures names { HoldsNames names.old before.now →
+        IfOk result (λ r. HoldsNames names.new (before.now ++ r ∷ [])) }
 {
     let (name, key, values) = text_number_list(document).ok_or(SetupFault::Shape)?;
     let table = catalogue.table(name).ok_or(SetupFault::RowTable)?;
     let key = Key::new(key).ok_or(SetupFault::RowKey)?;
     let row = read_row(alloc, catalogue, table, values)?.ok_or(SetupFault::RowValue)?;
-    if !names.insert(RowName::new(table, key))? {
+    if !names.add(alloc, before, RowName::new(table, key))? {
         return Err(SetupFault::RowTwice);
     }
     Ok((table, key, row))
@@ -66,10 +67,11 @@ fn read_document(
     ensures { Reads is_memory (λ v. v.items) result (rows_at catalogue.now (view document.now)) }
 {
     let documents = versioned_list("rows", document).ok_or(SetupFault::Shape)?;
-    let mut names = BTreeSet::new(alloc);
+    let mut names = Names::Ascending(None);
     let mut rows = Vec::new(alloc);
     for document in documents {
-        rows.push(read_one(alloc, catalogue, &mut names, document)?)?;
+        let row = read_one(alloc, catalogue, &rows, &mut names, document)?;
+        rows.push(row)?;
     }
     Ok(rows)
 }
