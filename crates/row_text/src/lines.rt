@@ -21,8 +21,8 @@ fn put_bytes(room: &mut [u8; ROOM], end: usize, bytes: &[u8]) -> Option<usize>
     Some(start)
 }
 
-/// Writes the line of a row of a table with that name, so that it ends at `end`. Answers where it starts, or `None` where
-/// a value is a text or there is no room.
+/// Writes the line of a row of a table with that name, so that it ends at `end`. Answers where it starts, or `None`
+/// where a value is a text or there is no room.
 pub(crate) fn put_line(
     room: &mut [u8; ROOM],
     end: usize,
@@ -38,15 +38,16 @@ pub(crate) fn put_line(
     put_bytes(room, start, table.as_bytes())
 }
 
-/// Writes the lines of rows of a table at the end of the room. Answers where they start, or `None` where a value is a text
-/// or there is no room.
+/// Writes the lines of rows of a table at the end of the room. Answers where they start, or `None` where a value is a
+/// text or there is no room.
 pub(crate) fn put_lines(
     room: &mut [u8; ROOM],
     catalogue: &Catalogue,
     table: TableNo,
     rows: &[(Key, &Row)],
 ) -> Option<usize>
-    ensures { IfSome result (λ start. (start ≤ 2048) × (drop start room.new ≡ table_lines catalogue.now table rows.now)) }
+    ensures { IfSome result (λ start. (start ≤ 2048) ×
+        (drop start room.new ≡ table_lines catalogue.now table rows.now)) }
 {
     let name = table_name(catalogue, table);
     let mut start = ROOM;

@@ -8,8 +8,7 @@ ghost use Rattle.row_text.specs.Texts.{line_end, value_text, values_text};
 use itoa::write_digits;
 use values::{Key, Value};
 
-/// Room for the lines of 16 rows of five columns, in bytes, whatever their numbers are. A row of 16 columns takes a
-/// fifth of it.
+/// Room in bytes for the lines of 16 rows, 128 for each. A row of 16 columns has room alone, whatever its numbers are.
 pub(crate) const ROOM: usize = 2048;
 
 /// The most bytes that a number takes: a space, its sign and 20 digits.
@@ -88,8 +87,8 @@ fn put_values(room: &mut [u8; ROOM], end: usize, values: &[Value]) -> Option<usi
     Some(start)
 }
 
-/// Writes the words of a row after the table's name, so that they end at `end`. Answers where they start, or `None` where
-/// a value is a text or there is no room.
+/// Writes the words of a row after the table's name, so that they end at `end`. Answers where they start, or `None`
+/// where a value is a text or there is no room.
 pub(crate) fn put_words(
     room: &mut [u8; ROOM],
     end: usize,

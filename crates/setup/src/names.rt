@@ -34,7 +34,7 @@ fn is_past(last: &Option<RowName>, name: RowName) -> bool
     }
 }
 
-/// The names of rows.
+/// The names of rows, as a set.
 fn names_of(alloc: Global, rows: &[(TableNo, Key, Row)]) -> Result<BTreeSet<RowName>, AllocError>
     ensures { IfOk result (λ names. (q : AnyName) → contains name_cmp names q ≡ is_given q.table q.key rows.now) }
 {
