@@ -49,14 +49,16 @@ impl<'s, R: Wait, G: Gate> Dispatcher<'s, R, G> {
         if is_run { Ok(true) } else { Err(NoMemory) }
     }
 
-    /// Runs a job that waits, where it is the only one out; `false` where none was run.
-    fn run_only_job(&mut self) -> bool
+    /// Runs a job that waits: the only one that is out, or, where the gate is open, one that the workers can spare.
+    /// `false` where none was run.
+    fn run_waiting_job(&mut self) -> bool
         ensures { self.new ≡ self.old }
     {
-        if self.out != 1 {
+        let place = self.place;
+        let can_spare = self.gate.is_open() && place.parking.has_spare_jobs();
+        if self.out != 1 && !can_spare {
             return false;
         }
-        let place = self.place;
         run_one(&place.lanes, &mut self.own, &place.parking, self.gate)
     }
 
@@ -85,7 +87,7 @@ impl<'s, R: Wait, G: Gate> Dispatcher<'s, R, G> {
                 idling = Idling::Busy;
             } else if self.jobs_out() <= most {
                 return Ok(());
-            } else if self.run_only_job() {
+            } else if self.run_waiting_job() {
                 parking.end_idling(idling);
                 idling = Idling::Busy;
             } else {

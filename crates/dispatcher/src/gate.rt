@@ -1,7 +1,8 @@
 //! Where a thread waits before it runs a job.
 
 /// What the thread that claims a job passes, once for it, before it runs it: a worker, or the scheduler's thread, which
-/// claims a job itself where no other is out. A brief call passes no gate that is open. A test holds threads here.
+/// claims a job itself where no other is out, and where the gate is open. A brief call passes no gate that is open. A
+/// test holds threads here.
 pub trait Gate: Sync {
     /// Passes with the job of the transaction of that number.
     fn enter(&self, no: u64);

@@ -251,10 +251,15 @@ impl Parking {
         self.finished.load(Ordering::SeqCst) > 0
     }
 
+    /// Whether more jobs wait for a worker than the scheduler's thread is to have in store for them.
+    pub(crate) fn has_spare_jobs(&self) -> bool {
+        self.waiting.load(Ordering::SeqCst) > FEW_WAIT
+    }
+
     /// Wakes the scheduler's thread if it is parked and few jobs wait for a worker. Where more wait it stays parked:
     /// whoever delivers what comes of one of these finds fewer that wait, and wakes it for all that was delivered.
     pub(crate) fn wake_scheduler(&self) {
-        if self.waiting.load(Ordering::SeqCst) <= FEW_WAIT && self.scheduler.call() {
+        if !self.has_spare_jobs() && self.scheduler.call() {
             self.scheduler.parker.unpark();
         }
     }

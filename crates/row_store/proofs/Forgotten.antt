@@ -1,7 +1,8 @@
 -- What is kept of partitions, after some of it is forgotten and rows are written.
 use Rattle.std.proofs.Common.{◌≡◌, ◌<◌, ◌&&◌, ◌||◌, ◌==◌, ℕ, Bool, true, false, cond, if◌then◌else◌, List, [], ◌∷◌, Option, Some, None, option_map, option_and_then, unwrap_or, slice_get, refl, sym, ap, subst, ◌∙◌, inl, inr, arith}
-use Rattle.std.specs.Prelude.{nat_lt}
+use Rattle.std.specs.Prelude.{nat_lt, IfSome, String}
 use Rattle.std.proofs.lemmas.Bool.Decides.{nat_tests}
+use Rattle.std.specs.declared.alloc.Global.{Global}
 use Rattle.std.specs.BTreeMap.{BTreeMap, is_at}
 use Rattle.std.specs.BTreeMap as tree
 use Rattle.std.specs.FinMap.{get}
@@ -34,6 +35,7 @@ use Rattle.row_store.specs.declared.held.Holdings.TheVariants.{Rows, Shelves}
 use Rattle.shelves.specs.declared.named.NamedRow.{NamedRow}
 use Rattle.row_store.specs.Forgetting.{gives_on, has_listed, has_name, has_write, AreForgotten}
 use Rattle.row_store.specs.Held.{row_by_name, IsLoanOf}
+use Rattle.row_store.specs.Kept.{IsDigestKept}
 use Rattle.shelves.specs.Named.{names_listed}
 use Rattle.row_store.proofs.Back.{loan_locks}
 use Rattle.row_store.proofs.ByName.{gives_rows}
@@ -91,6 +93,14 @@ still_kept tables old new before after test gone rows kept = record {
 pub kept_here : (tables : List TableShape) (old new : AllShelves) (kept : KeptDigests) → ((q : RowName) → (found tables new q).counts_as ≡ (found tables old q).counts_as)
     → AreKept tables (rows_of tables old) kept → AreKept tables (rows_of tables new) kept
 kept_here tables old new kept same was = subst (λ (db : Database). AreKept tables db kept) (sym (same_rows tables old new same)) was
+
+-- the digest of the row text that is kept where there are no writes is still right
+pub digest_still_kept : (tables : List TableShape) (writes : List (RowName × Option RowOf)) (old new : Database) (before after : Option (String Global))
+    → IfSome after (λ t. (before ≡ Some t) × (writes ≡ [])) → (writes ≡ [] → new ≡ old)
+    → IsDigestKept tables old before → IsDigestKept tables new after
+digest_still_kept tables writes old new before None same rows kept = tt
+digest_still_kept tables writes old new before (Some t) same rows kept =
+    subst (λ (db : Database). IsDigestKept tables db (Some t)) (sym (rows same.1)) (subst (λ (o : Option (String Global)). IsDigestKept tables old o) same.0 kept)
 
 -- ---- one shelf after another
 

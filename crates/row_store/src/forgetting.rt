@@ -1,5 +1,6 @@
 //! Forgets the digests that are kept of partitions, before rows of these are written. It takes no memory.
 
+ghost use Rattle.std.specs.Prelude.{◌≡◌, [], Some, IfSome};
 ghost use Rattle.shelves.specs.Places.{is_same_shelf, among};
 ghost use Rattle.row_store.specs.declared.held.Holdings.TheVariants.{Shelves};
 ghost use Rattle.row_store.specs.Forgetting.{AreForgotten, gives_on, has_listed, has_name, has_write};
@@ -92,5 +93,17 @@ pub(crate) fn forget_written(
 {
     if !kept.is_empty() {
         forget_writes(catalogue, kept, writes);
+    }
+}
+
+/// Keeps the digest of the row text where there are no writes to make, and forgets it where there are some.
+pub(crate) fn keep_unless_written(
+    kept: &mut Option<String>,
+    writes: &BTreeMap<RowName, Option<Row>>,
+)
+    ensures { IfSome kept.new (λ digest. (kept.old ≡ Some digest) × (writes.now.entries ≡ [])) }
+{
+    if !writes.is_empty() {
+        *kept = None;
     }
 }

@@ -10,19 +10,20 @@ ghost use Rattle.coarsen.specs.Plans.{IsPlanOver};
 ghost use Rattle.coarsen.specs.Clashes.{locks_row, ModesClash};
 ghost use Rattle.workspace.specs.Overlay.{applied};
 ghost use Rattle.row_text.specs.Partitions.{digested_text};
+ghost use Rattle.row_text.specs.declared.form.DigestForm.TheVariants.{Rows, Partitions};
 ghost use Rattle.row_text.specs.Texts.{digest};
 ghost use Rattle.row_store.specs.Laws.{AreLentAlone};
 ghost use Rattle.row_store.specs.Stock.{IsLoanFrom};
 ghost use Rattle.shelves.specs.Rows.{with_rows};
 
-use crate::forgetting::{forget_given, forget_written};
+use crate::forgetting::{forget_given, forget_written, keep_unless_written};
 use crate::laws::all_is_free_with_nothing_lent;
 use crate::lending::{hold, put_back, take_out};
 use crate::loan::Loan;
 use catalogue::Catalogue;
 use coarsen::{Plan, clashes_are_either_way, locked_rows_conflict};
 use footprint::Resource;
-use row_text::{DigestForm, KeptDigests, kept_rows_digest};
+use row_text::{DigestForm, KeptDigests, kept_rows_digest, rows_digest};
 use shelves::{Shelves, count_places, filled, rebuilt, write};
 use std::alloc::{AllocError, Global};
 use std::collections::BTreeMap;
@@ -32,18 +33,21 @@ use std::snapshot::Snapshot;
 use values::{Key, NoMemory, Row, RowName, TableNo};
 
 /// The rows of a database over the tables of a catalogue, and the plans for which rows are lent, by numbers. Rows that
-/// are lent count as they were lent. Each partition keeps its digest, once it was made, until rows of it are written.
+/// are lent count as they were lent. Each partition keeps its digest, once it was made, until rows of it are written;
+/// the store keeps that of the row text until rows are lent or written.
 #[derive(Drop)]
 pub struct RowStore {
     pub(crate) alloc: Global,
     pub(crate) catalogue: Catalogue,
     pub(crate) shelves: Shelves,
     pub(crate) kept: KeptDigests,
+    row_text: Option<String>,
     lent: BTreeMap<u64, Snapshot<Plan>>,
 }
 
 impl Model for RowStore {
     ghost use Rattle.row_text.specs.Kept.{AreKept};
+    ghost use Rattle.row_store.specs.Kept.{IsDigestKept};
     ghost use Rattle.row_store.specs.Stock.{Stock, stock_code};
     ghost use Rattle.shelves.specs.Rows.{rows_of};
     ghost use Rattle.row_store.specs.Views.{lent_of, IsRowStore};
@@ -55,7 +59,8 @@ impl Model for RowStore {
     ghost view = { λ s. record { tables = s.catalogue; rows = rows_of s.catalogue s.shelves; lent = lent_of s.lent } };
 
     ghost invariant = { λ s. IsRowStore s.catalogue s.shelves s.lent
-        × AreKept s.catalogue (rows_of s.catalogue s.shelves) s.kept };
+        × AreKept s.catalogue (rows_of s.catalogue s.shelves) s.kept
+        × IsDigestKept s.catalogue (rows_of s.catalogue s.shelves) s.row_text };
 }
 
 impl RowStore {
@@ -77,6 +82,7 @@ impl RowStore {
             catalogue,
             shelves,
             kept: KeptDigests::new(alloc),
+            row_text: None,
             lent,
         })
     }
@@ -98,6 +104,7 @@ impl RowStore {
             catalogue,
             shelves,
             kept: KeptDigests::new(self.alloc),
+            row_text: None,
             lent,
         })
     }
@@ -120,6 +127,7 @@ impl RowStore {
         clashes_are_either_way();
         // What holds of plans says that none of the rows that the plan locks is away.
         let _requests = plan.requests();
+        self.row_text = None;
         let ready = hold(self.alloc, &self.catalogue, &mut self.shelves, plan)?;
         let catalogue = self.catalogue.clone()?;
         self.lent.insert(no, Snapshot::of(plan))?;
@@ -150,6 +158,7 @@ impl RowStore {
             plan: _,
             held,
         } = loan;
+        self.row_text = None;
         forget_given(&self.catalogue, &mut self.kept, &held);
         put_back(&self.catalogue, &mut self.shelves, held);
         self.lent.remove(&no);
@@ -163,25 +172,58 @@ impl RowStore {
         ensures lent { self.new.lent ≡ self.old.lent }
         ensures err { OnErr result (self.new ≡ self.old) }
     {
+        keep_unless_written(&mut self.row_text, &writes);
         forget_written(&self.catalogue, &mut self.kept, &writes);
         write(self.alloc, &self.catalogue, &mut self.shelves, writes)?;
         Ok(())
     }
 
-    /// The digest of the rows, with nothing lent: of their row text, or of their partition text. For the latter only
-    /// the rows of partitions that keep no digest are looked at.
+    /// The digest of the row text: what is kept, or what is made and kept then.
+    fn row_text_digest(&mut self) -> Result<String, AllocError>
+        requires unlent { self.old.lent ≡ map.empty }
+        ensures digest { IfOk result (λ t.
+            string_bytes t ≡ digest (digested_text Rows self.old.tables self.old.rows)) }
+        ensures same { self.new ≡ self.old }
+    {
+        if let Some(digest) = &self.row_text {
+            return digest.clone();
+        }
+        // proof: with nothing lent each row is shown.
+        all_is_free_with_nothing_lent();
+        let digest = rows_digest(self.alloc, &self.catalogue, &*self, DigestForm::Rows)?;
+        self.row_text = Some(digest.clone()?);
+        Ok(digest)
+    }
+
+    /// The digest of the partition text: only the rows of partitions that keep no digest are looked at.
+    fn partition_text_digest(&mut self) -> Result<String, AllocError>
+        requires unlent { self.old.lent ≡ map.empty }
+        ensures digest { IfOk result (λ t.
+            string_bytes t ≡ digest (digested_text Partitions self.old.tables self.old.rows)) }
+        ensures same { self.new ≡ self.old }
+    {
+        // proof: with nothing lent each row is shown.
+        all_is_free_with_nothing_lent();
+        let form = DigestForm::Partitions;
+        let mut kept = mem::replace(&mut self.kept, KeptDigests::new(self.alloc));
+        let digest = kept_rows_digest(self.alloc, &self.catalogue, &*self, form, &mut kept);
+        self.kept = kept;
+        digest
+    }
+
+    /// The digest of the rows, with nothing lent: of their row text, or of their partition text. For the former no row
+    /// is looked at if none was lent or written since it was made last; for the latter only the rows of partitions
+    /// that keep no digest are looked at.
     pub fn rows_digest(&mut self, form: DigestForm) -> Result<String, AllocError>
         requires unlent { self.old.lent ≡ map.empty }
         ensures digest { IfOk result (λ t.
             string_bytes t ≡ digest (digested_text form self.old.tables self.old.rows)) }
         ensures same { self.new ≡ self.old }
     {
-        // proof: with nothing lent each row is shown.
-        all_is_free_with_nothing_lent();
-        let mut kept = mem::replace(&mut self.kept, KeptDigests::new(self.alloc));
-        let digest = kept_rows_digest(self.alloc, &self.catalogue, &*self, form, &mut kept);
-        self.kept = kept;
-        digest
+        match form {
+            DigestForm::Rows => self.row_text_digest(),
+            DigestForm::Partitions => self.partition_text_digest(),
+        }
     }
 
     /// A law; nothing is done. A row that a plan locks to write is its loan's alone while it is lent: the store doesn't

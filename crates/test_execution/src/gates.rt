@@ -20,7 +20,7 @@ const FOUR_READ: &str = "commit 100;commit 100;commit 100;commit 100;";
 /// Readers, and a reader and a writer of other rows, are run at once where there are two workers and two lanes.
 /// Writers, and a reader after a writer, are run one after the other. Who waits for a lane alone comes once one is
 /// free.
-const MEETINGS: [Met<'static>; 9] = [
+const MEETINGS: [Met<'static>; 8] = [
     (
         &[PEEK, ("ins", &[4, 7])],
         (2, 2),
@@ -38,13 +38,6 @@ const MEETINGS: [Met<'static>; 9] = [
     (&FOUR, (2, 8), (3, 1_000_000), FOUR_READ, true),
     (&FOUR, (2, 2), (3, 1_000_000), FOUR_READ, true),
     (&FOUR, (2, 1), (3, 1_000_000), FOUR_READ, false),
-    (
-        &[PEEK, ("peek", &[2])],
-        (1, 8),
-        (1, 1_000),
-        "commit 100;commit 100;",
-        false,
-    ),
     (
         &[("pay", &[1, 2, 1]), ("pay", &[2, 1, 1])],
         (2, 8),
@@ -65,6 +58,23 @@ const MEETINGS: [Met<'static>; 9] = [
         (1, 1_000),
         "commit;abort 2;",
         false,
+    ),
+];
+
+/// Calls for one worker, with the bodies and whether the gate is open. At an open gate the scheduler's thread runs jobs
+/// that wait, too; at another it never does while two are out.
+const AT_ONE_WORKER: [(Met<'static>, (Bodies, bool)); 3] = [
+    (
+        (&FOUR, (1, 8), (1, 1_000), FOUR_READ, false),
+        (Bodies::Brief, false),
+    ),
+    (
+        (&FOUR, (1, 8), (1, 1_000), FOUR_READ, false),
+        (Bodies::Looping, false),
+    ),
+    (
+        (&FOUR, (1, 8), (1, 1_000_000), FOUR_READ, true),
+        (Bodies::Looping, true),
     ),
 ];
 
@@ -95,6 +105,15 @@ fn jobs_meet_where_nothing_keeps_them_apart(rt: HostRuntime) -> Result<(), Fail>
                 "{workers} {lanes} {handed_over:?}"
             );
         }
+    }
+    Ok(())
+}
+
+/// The scheduler's thread runs jobs beside the worker at an open gate alone.
+#[test]
+fn jobs_meet_at_one_worker_if_the_gate_is_open(rt: HostRuntime) -> Result<(), Fail> {
+    for (met, handed_over) in AT_ONE_WORKER {
+        assert!(rt; meet(&rt, met, handed_over)?, "{handed_over:?}");
     }
     Ok(())
 }

@@ -10,7 +10,7 @@ use Rattle.shelves.specs.Rows.{found, rows_of}
 use Rattle.shelves.specs.Shelving.{shelf_of}
 use Rattle.row_store.specs.Views.{lent_of}
 use Rattle.shelves.proofs.Rows.{same_rows, rows_written}
-use Rattle.row_store.proofs.Forgotten.{not_changed, still_kept, store_over, written_here}
+use Rattle.row_store.proofs.Forgotten.{digest_still_kept, not_changed, still_kept, store_over, written_here}
 use Rattle.row_store.proofs.Kept.{on_err}
 use Rattle.row_store.proofs.store.RowStore.apply.Goals as goal
 
@@ -23,6 +23,8 @@ invariant_of-self c =
           c.write.ensures.kept c.write.ensures.shelves c.write.ensures.away c.self.invariant.0,
       still_kept c.self.inside.catalogue (rows_of c.self.inside.catalogue c.self.inside.shelves) (rows_of c.self.inside.catalogue c.write.new.shelves) c.self.inside.kept c.forget_written.new.kept
           (has_write c.self.inside.catalogue c.args.writes.entries) c.forget_written.ensures (λ q off. ap (λ (db : Database). finite.get db q) rows) c.self.invariant.1,
+      digest_still_kept c.self.inside.catalogue c.args.writes.entries (rows_of c.self.inside.catalogue c.self.inside.shelves) (rows_of c.self.inside.catalogue c.write.new.shelves) c.self.inside.row_text c.keep_unless_written.new.kept
+          c.keep_unless_written.ensures (λ none. rows) c.self.invariant.2,
     )
 
 pub invariant_of-self-2 : goal.invariant_of-self-2
@@ -36,6 +38,10 @@ invariant_of-self-2 c = (
   still_kept c.self.inside.catalogue (rows_of c.self.inside.catalogue c.self.inside.shelves) (rows_of c.self.inside.catalogue c.write.new.shelves) c.self.inside.kept c.forget_written.new.kept
       (has_write c.self.inside.catalogue c.args.writes.entries) c.forget_written.ensures
       (not_changed c.self.inside.catalogue c.self.inside.shelves c.write.new.shelves c.args.writes c.in_ok-write.ensures.seen) c.self.invariant.1,
+  digest_still_kept c.self.inside.catalogue c.args.writes.entries (rows_of c.self.inside.catalogue c.self.inside.shelves) (rows_of c.self.inside.catalogue c.write.new.shelves) c.self.inside.row_text c.keep_unless_written.new.kept
+      c.keep_unless_written.ensures
+      (λ none. rows_written c.self.inside.catalogue c.self.inside.shelves c.write.new.shelves c.args.writes c.in_ok-write.ensures.seen ∙ ap (λ es. applied es (rows_of c.self.inside.catalogue c.self.inside.shelves)) none)
+      c.self.invariant.2,
 )
 
 pub returns-in_err-write-clause-err : goal.returns-in_err-write-clause-err

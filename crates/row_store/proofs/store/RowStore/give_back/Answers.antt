@@ -39,6 +39,7 @@ invariant_of-self c =
           rows_given c.self.inside.catalogue plan c.self.inside.shelves c.put_back.new.shelves c.loan.inside.held c.self.inside.lent c.args.no c.put_back.ensures.back loan out c.self.invariant.0 q
           ∙ ap (λ b. if b then finite.get (rows_held c.self.inside.catalogue c.loan.inside.held) q else finite.get (rows_of c.self.inside.catalogue c.self.inside.shelves) q) (not_given c.self.inside.catalogue plan c.loan.inside.held loan q off))
           c.self.invariant.1,
+      tt,
     )
 
 pub returns-clause-rows : goal.returns-clause-rows

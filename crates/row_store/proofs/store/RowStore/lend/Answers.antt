@@ -68,6 +68,7 @@ invariant_of-self c =
     } in (
       kept_held c.self.inside.catalogue c.self.inside.shelves c.hold.new.shelves c.self.inside.lent c.self.inside.lent c.args.plan.now lending (λ i. refl),
       kept_here c.self.inside.catalogue c.self.inside.shelves c.hold.new.shelves c.self.inside.kept (λ q. ap (λ p. p.counts_as) (c.hold.ensures.seen (shelf_of c.self.inside.catalogue q) q)) c.self.invariant.1,
+      tt,
     )
 
 pub invariant_of-self-in_err-catalogue : goal.invariant_of-self-in_err-catalogue
@@ -85,6 +86,7 @@ invariant_of-self-in_err-catalogue c =
     } in (
       kept_held c.self.inside.catalogue c.self.inside.shelves c.hold.new.shelves c.self.inside.lent c.self.inside.lent c.args.plan.now lending (λ i. refl),
       kept_here c.self.inside.catalogue c.self.inside.shelves c.hold.new.shelves c.self.inside.kept (λ q. ap (λ p. p.counts_as) (c.hold.ensures.seen (shelf_of c.self.inside.catalogue q) q)) c.self.invariant.1,
+      tt,
     )
 
 pub invariant_of-self-in_err-insert : goal.invariant_of-self-in_err-insert
@@ -103,6 +105,7 @@ invariant_of-self-in_err-insert c =
       kept_held c.self.inside.catalogue c.self.inside.shelves c.hold.new.shelves c.self.inside.lent c.insert.new.self c.args.plan.now lending
           (λ i. ap (λ (es : List (ℕ × Snapshot Requests)). option_map (λ (p : Snapshot Requests). p.value) (lookup (is_at (nat_cmp i)) es)) c.in_err-insert.ensures.err),
       kept_here c.self.inside.catalogue c.self.inside.shelves c.hold.new.shelves c.self.inside.kept (λ q. ap (λ p. p.counts_as) (c.hold.ensures.seen (shelf_of c.self.inside.catalogue q) q)) c.self.invariant.1,
+      tt,
     )
 
 pub returns-in_err-insert-clause-rows : goal.returns-in_err-insert-clause-rows
@@ -158,6 +161,7 @@ invariant_of-self-2 c =
       kept_here c.self.inside.catalogue c.self.inside.shelves c.take_out-held.new.shelves c.self.inside.kept
           (counts_out c.self.inside.catalogue c.self.inside.shelves c.hold.new.shelves c.take_out-held.new.shelves c.self.inside.lent c.args.plan.now c.in_ok-ready.ready c.take_out-held.result lending c.in_ok-ready.ensures.ready c.take_out-held.ensures)
           c.self.invariant.1,
+      tt,
     )
 
 pub returns-clause-rows : goal.returns-clause-rows
