@@ -1,7 +1,7 @@
 //! Where the threads of a workplace park, and who wakes them. A thread that finds nothing to do spins, looking again a
 //! few times, then announces that it will park, looks once more, and is parked until another wakes it. A job that is
-//! put wakes a worker only where none looks for a job already, and a worker that finds a job while others wait wakes
-//! the next.
+//! put wakes a worker only where none looks for a job already, and who claims a job while others wait wakes the
+//! next.
 
 use std::alloc::Global;
 use std::hint::spin_loop;
@@ -30,9 +30,9 @@ const SCHEDULER_SPINS: u32 = 4_096;
 /// How often a thread looks again where others may need all processors.
 const FEW_SPINS: u32 = 64;
 
-/// While more jobs than this wait for a worker, the scheduler's thread is not woken to make more. Measured on the same
-/// loads as the limit of transactions that are admitted ahead, where the noise was up to a third: 0, and no limit, show
-/// no difference beyond it.
+/// While more jobs than this wait for a worker, the scheduler's thread is not woken to make more, and runs one if it is
+/// awake and the gate is open. Measured of waking, on the same loads as the limit of transactions that are admitted
+/// ahead, where the noise was up to a third: 0, and no limit, show no difference beyond it.
 const FEW_WAIT: usize = 1;
 
 /// How near a thread is to being parked.
@@ -251,7 +251,7 @@ impl Parking {
         self.finished.load(Ordering::SeqCst) > 0
     }
 
-    /// Whether more jobs wait for a worker than the scheduler's thread is to have in store for them.
+    /// Whether more jobs wait than are left for the workers alone.
     pub(crate) fn has_spare_jobs(&self) -> bool {
         self.waiting.load(Ordering::SeqCst) > FEW_WAIT
     }
@@ -264,7 +264,7 @@ impl Parking {
         }
     }
 
-    /// Takes the scheduler's thread, which found no result, a step nearer to being parked, or parks it until woken.
+    /// Takes the scheduler's thread, which found nothing to do, a step nearer to being parked, or parks it until woken.
     pub(crate) fn idle_scheduler<R: Wait>(&self, rt: &R, idling: Idling, spins: u32) -> Idling {
         self.scheduler.idle(rt, idling, spins)
     }

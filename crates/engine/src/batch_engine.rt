@@ -22,8 +22,8 @@ pub trait BatchEngine {
     fn core(&self) -> &QuietEngine
         ensures { result.now ≡ parts self.now };
 
-    /// The digest of the rows, where no batch is unfinished: of their row text, or of their partition text. For the
-    /// latter only the rows of partitions are looked at in which rows were written since the last such digest.
+    /// The digest of the rows, where no batch is unfinished: of their row text, or of their partition text. Only rows
+    /// are looked at that may have changed since the last such digest: all, or those of some partitions.
     fn rows_digest(&mut self, form: DigestForm) -> Result<String, AllocError>
         requires idle { is_busy (parts self.old) ≡ false }
         ensures digest { IfOk result (λ t.

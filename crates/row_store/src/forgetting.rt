@@ -1,4 +1,4 @@
-//! Forgets the digests that are kept of partitions, before rows of these are written. It takes no memory.
+//! Forgets digests that are kept, before rows are written. It takes no memory.
 
 ghost use Rattle.std.specs.Prelude.{◌≡◌, [], Some, IfSome};
 ghost use Rattle.shelves.specs.Places.{is_same_shelf, among};

@@ -41,7 +41,7 @@ pub struct RowStore {
     pub(crate) catalogue: Catalogue,
     pub(crate) shelves: Shelves,
     pub(crate) kept: KeptDigests,
-    row_text: Option<String>,
+    all_rows_digest: Option<String>,
     lent: BTreeMap<u64, Snapshot<Plan>>,
 }
 
@@ -60,7 +60,7 @@ impl Model for RowStore {
 
     ghost invariant = { λ s. IsRowStore s.catalogue s.shelves s.lent
         × AreKept s.catalogue (rows_of s.catalogue s.shelves) s.kept
-        × IsDigestKept s.catalogue (rows_of s.catalogue s.shelves) s.row_text };
+        × IsDigestKept s.catalogue (rows_of s.catalogue s.shelves) s.all_rows_digest };
 }
 
 impl RowStore {
@@ -82,7 +82,7 @@ impl RowStore {
             catalogue,
             shelves,
             kept: KeptDigests::new(alloc),
-            row_text: None,
+            all_rows_digest: None,
             lent,
         })
     }
@@ -104,7 +104,7 @@ impl RowStore {
             catalogue,
             shelves,
             kept: KeptDigests::new(self.alloc),
-            row_text: None,
+            all_rows_digest: None,
             lent,
         })
     }
@@ -127,7 +127,7 @@ impl RowStore {
         clashes_are_either_way();
         // What holds of plans says that none of the rows that the plan locks is away.
         let _requests = plan.requests();
-        self.row_text = None;
+        self.all_rows_digest = None;
         let ready = hold(self.alloc, &self.catalogue, &mut self.shelves, plan)?;
         let catalogue = self.catalogue.clone()?;
         self.lent.insert(no, Snapshot::of(plan))?;
@@ -158,7 +158,7 @@ impl RowStore {
             plan: _,
             held,
         } = loan;
-        self.row_text = None;
+        self.all_rows_digest = None;
         forget_given(&self.catalogue, &mut self.kept, &held);
         put_back(&self.catalogue, &mut self.shelves, held);
         self.lent.remove(&no);
@@ -172,26 +172,26 @@ impl RowStore {
         ensures lent { self.new.lent ≡ self.old.lent }
         ensures err { OnErr result (self.new ≡ self.old) }
     {
-        keep_unless_written(&mut self.row_text, &writes);
+        keep_unless_written(&mut self.all_rows_digest, &writes);
         forget_written(&self.catalogue, &mut self.kept, &writes);
         write(self.alloc, &self.catalogue, &mut self.shelves, writes)?;
         Ok(())
     }
 
-    /// The digest of the row text: what is kept, or what is made and kept then.
+    /// The digest of the row text: what is kept, or what is made, and kept then if there is memory for it.
     fn row_text_digest(&mut self) -> Result<String, AllocError>
         requires unlent { self.old.lent ≡ map.empty }
         ensures digest { IfOk result (λ t.
             string_bytes t ≡ digest (digested_text Rows self.old.tables self.old.rows)) }
         ensures same { self.new ≡ self.old }
     {
-        if let Some(digest) = &self.row_text {
+        if let Some(digest) = &self.all_rows_digest {
             return digest.clone();
         }
         // proof: with nothing lent each row is shown.
         all_is_free_with_nothing_lent();
         let digest = rows_digest(self.alloc, &self.catalogue, &*self, DigestForm::Rows)?;
-        self.row_text = Some(digest.clone()?);
+        self.all_rows_digest = digest.clone().ok();
         Ok(digest)
     }
 
@@ -212,7 +212,7 @@ impl RowStore {
     }
 
     /// The digest of the rows, with nothing lent: of their row text, or of their partition text. For the former no row
-    /// is looked at if none was lent or written since it was made last; for the latter only the rows of partitions
+    /// is looked at if none was lent or written since the last such digest; for the latter only the rows of partitions
     /// that keep no digest are looked at.
     pub fn rows_digest(&mut self, form: DigestForm) -> Result<String, AllocError>
         requires unlent { self.old.lent ≡ map.empty }

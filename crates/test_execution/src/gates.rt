@@ -20,7 +20,7 @@ const FOUR_READ: &str = "commit 100;commit 100;commit 100;commit 100;";
 /// Readers, and a reader and a writer of other rows, are run at once where there are two workers and two lanes.
 /// Writers, and a reader after a writer, are run one after the other. Who waits for a lane alone comes once one is
 /// free.
-const MEETINGS: [Met<'static>; 8] = [
+const MEETINGS: [Met<'static>; 7] = [
     (
         &[PEEK, ("ins", &[4, 7])],
         (2, 2),
@@ -36,7 +36,6 @@ const MEETINGS: [Met<'static>; 8] = [
         true,
     ),
     (&FOUR, (2, 8), (3, 1_000_000), FOUR_READ, true),
-    (&FOUR, (2, 2), (3, 1_000_000), FOUR_READ, true),
     (&FOUR, (2, 1), (3, 1_000_000), FOUR_READ, false),
     (
         &[("pay", &[1, 2, 1]), ("pay", &[2, 1, 1])],
@@ -61,9 +60,9 @@ const MEETINGS: [Met<'static>; 8] = [
     ),
 ];
 
-/// Calls for one worker, with the bodies and whether the gate is open. At an open gate the scheduler's thread runs jobs
-/// that wait, too; at another it never does while two are out.
-const AT_ONE_WORKER: [(Met<'static>, (Bodies, bool)); 3] = [
+/// Calls for one gate, with the bodies and whether it is open. At an open gate the scheduler's thread runs jobs that
+/// wait, too: then nobody hands out the last of four calls on two lanes while it is held with the first.
+const AT_ONE_GATE: [(Met<'static>, (Bodies, bool)); 5] = [
     (
         (&FOUR, (1, 8), (1, 1_000), FOUR_READ, false),
         (Bodies::Brief, false),
@@ -75,6 +74,14 @@ const AT_ONE_WORKER: [(Met<'static>, (Bodies, bool)); 3] = [
     (
         (&FOUR, (1, 8), (1, 1_000_000), FOUR_READ, true),
         (Bodies::Looping, true),
+    ),
+    (
+        (&FOUR, (2, 2), (3, 1_000_000), FOUR_READ, true),
+        (Bodies::Brief, false),
+    ),
+    (
+        (&FOUR, (2, 2), (3, 1_000_000), FOUR_READ, true),
+        (Bodies::Looping, false),
     ),
 ];
 
@@ -109,11 +116,15 @@ fn jobs_meet_where_nothing_keeps_them_apart(rt: HostRuntime) -> Result<(), Fail>
     Ok(())
 }
 
-/// The scheduler's thread runs jobs beside the worker at an open gate alone.
+/// Only at an open gate the scheduler's thread runs jobs while others are out.
 #[test]
-fn jobs_meet_at_one_worker_if_the_gate_is_open(rt: HostRuntime) -> Result<(), Fail> {
-    for (met, handed_over) in AT_ONE_WORKER {
-        assert!(rt; meet(&rt, met, handed_over)?, "{handed_over:?}");
+fn jobs_meet_at_one_gate_and_not_at_another(rt: HostRuntime) -> Result<(), Fail> {
+    for (met, handed_over) in AT_ONE_GATE {
+        let (workers, lanes) = met.1;
+        assert!(rt;
+            meet(&rt, met, handed_over)?,
+            "{workers} {lanes} {handed_over:?}"
+        );
     }
     Ok(())
 }

@@ -23,7 +23,7 @@ invariant_of-self c =
           c.write.ensures.kept c.write.ensures.shelves c.write.ensures.away c.self.invariant.0,
       still_kept c.self.inside.catalogue (rows_of c.self.inside.catalogue c.self.inside.shelves) (rows_of c.self.inside.catalogue c.write.new.shelves) c.self.inside.kept c.forget_written.new.kept
           (has_write c.self.inside.catalogue c.args.writes.entries) c.forget_written.ensures (λ q off. ap (λ (db : Database). finite.get db q) rows) c.self.invariant.1,
-      digest_still_kept c.self.inside.catalogue c.args.writes.entries (rows_of c.self.inside.catalogue c.self.inside.shelves) (rows_of c.self.inside.catalogue c.write.new.shelves) c.self.inside.row_text c.keep_unless_written.new.kept
+      digest_still_kept c.self.inside.catalogue c.args.writes.entries (rows_of c.self.inside.catalogue c.self.inside.shelves) (rows_of c.self.inside.catalogue c.write.new.shelves) c.self.inside.all_rows_digest c.keep_unless_written.new.kept
           c.keep_unless_written.ensures (λ none. rows) c.self.invariant.2,
     )
 
@@ -38,7 +38,7 @@ invariant_of-self-2 c = (
   still_kept c.self.inside.catalogue (rows_of c.self.inside.catalogue c.self.inside.shelves) (rows_of c.self.inside.catalogue c.write.new.shelves) c.self.inside.kept c.forget_written.new.kept
       (has_write c.self.inside.catalogue c.args.writes.entries) c.forget_written.ensures
       (not_changed c.self.inside.catalogue c.self.inside.shelves c.write.new.shelves c.args.writes c.in_ok-write.ensures.seen) c.self.invariant.1,
-  digest_still_kept c.self.inside.catalogue c.args.writes.entries (rows_of c.self.inside.catalogue c.self.inside.shelves) (rows_of c.self.inside.catalogue c.write.new.shelves) c.self.inside.row_text c.keep_unless_written.new.kept
+  digest_still_kept c.self.inside.catalogue c.args.writes.entries (rows_of c.self.inside.catalogue c.self.inside.shelves) (rows_of c.self.inside.catalogue c.write.new.shelves) c.self.inside.all_rows_digest c.keep_unless_written.new.kept
       c.keep_unless_written.ensures
       (λ none. rows_written c.self.inside.catalogue c.self.inside.shelves c.write.new.shelves c.args.writes c.in_ok-write.ensures.seen ∙ ap (λ es. applied es (rows_of c.self.inside.catalogue c.self.inside.shelves)) none)
       c.self.invariant.2,
