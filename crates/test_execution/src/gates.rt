@@ -64,11 +64,11 @@ const MEETINGS: [Met<'static>; 7] = [
 /// wait, too: then nobody hands out the last of four calls on two lanes while it is held with the first.
 const AT_ONE_GATE: [(Met<'static>, (Bodies, bool)); 5] = [
     (
-        (&FOUR, (1, 8), (1, 1_000), FOUR_READ, false),
+        (&FOUR, (1, 8), (1, 100_000), FOUR_READ, false),
         (Bodies::Brief, false),
     ),
     (
-        (&FOUR, (1, 8), (1, 1_000), FOUR_READ, false),
+        (&FOUR, (1, 8), (1, 100_000), FOUR_READ, false),
         (Bodies::Looping, false),
     ),
     (
