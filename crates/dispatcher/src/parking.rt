@@ -32,7 +32,8 @@ const FEW_SPINS: u32 = 64;
 
 /// While more jobs than this wait for a worker, the scheduler's thread is not woken to make more, and runs one if it is
 /// awake and the gate is open. Measured of waking, on the same loads as the limit of transactions that are admitted
-/// ahead, where the noise was up to a third: 0, and no limit, show no difference beyond it.
+/// ahead, where the noise was up to a third: 0, and no limit, show no difference beyond it. Measured of running one:
+/// long calls on two workers take 0.35 of the time of one thread, and 0.57 where the scheduler's thread spins.
 const FEW_WAIT: usize = 1;
 
 /// How near a thread is to being parked.
