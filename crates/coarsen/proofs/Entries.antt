@@ -12,10 +12,9 @@ use Rattle.footprint.specs.Tree.{resource_cmp}
 use Rattle.footprint.specs.Rights.{FootprintOf, greater, with_right, is_at_least, with_rights}
 use Rattle.modes.specs.Rights.{rank_of, rank}
 use Rattle.coarsen.specs.Subtrees.{greatest, is_same, right_on}
-use Rattle.coarsen.specs.Requests.{number_or_none}
 use Rattle.coarsen.specs.Coarsening.{gathered}
 use Rattle.footprint.proofs.Resources.{resources_total}
-use Rattle.coarsen.proofs.Greatest.{found, greatest-put, first_test, second_test, less, first_or_later}
+use Rattle.coarsen.proofs.Greatest.{number_or_none, found, greatest-put, first_test, second_test, less, first_or_later}
 
 none_of_len : {A : Type 0} (xs : List A) → length xs ≡ 0 → xs ≡ []
 none_of_len [] e = refl

@@ -1,5 +1,5 @@
 -- The greatest value at the resources that pass a test.
-use Rattle.std.proofs.Common.{◌≡◌, T, ◌&&◌, ℕ, ◌<◌, ◌≤◌, suc, zero, Bool, true, false, cond, max, List, [], ◌∷◌, refl, sym, ap, ◌∙◌, arith, Some, inl, inr, ◌⊎◌}
+use Rattle.std.proofs.Common.{◌≡◌, T, ◌&&◌, ℕ, ◌<◌, ◌≤◌, suc, zero, Bool, true, false, cond, max, List, [], ◌∷◌, refl, sym, ap, ◌∙◌, arith, Option, Some, None, inl, inr, ◌⊎◌}
 use Rattle.std.proofs.Math.Nat.{le-max_left, le-max_right, max-le}
 use Rattle.std.specs.List.{Contains}
 use Rattle.footprint.specs.declared.resource.Resource.{Resource}
@@ -11,7 +11,11 @@ use Rattle.footprint.specs.Tree.{resource_cmp}
 use Rattle.footprint.proofs.Resources.{exact_resources}
 use Rattle.coarsen.proofs.Tree.{same_resource, is_same_itself, ties_same}
 use Rattle.coarsen.specs.Subtrees.{greatest, is_same}
-use Rattle.coarsen.specs.Requests.{number_or_none}
+
+-- the value of what may be there, 0 where it isn't
+abbrev pub number_or_none : {X : Type 0} → (X → ℕ) → Option X → ℕ
+number_or_none value None = 0
+number_or_none value (Some x) = value x
 
 cases : (b : Bool) → (b ≡ true) ⊎ (b ≡ false)
 cases true = inl refl

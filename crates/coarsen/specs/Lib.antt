@@ -3,5 +3,4 @@ pub mod Coarsening
 pub mod Plans
 pub mod ThePlan
 pub mod Clashes
-pub mod Requests
 pub mod Laws

@@ -1,14 +1,13 @@
 //! The requests for a footprint, while they are put together.
 
-ghost use Rattle.std.specs.Prelude.{◌≡◌, IfOk, IfErr, OnOk, max, if◌then◌else◌};
+ghost use Rattle.std.specs.Prelude.{◌≡◌, IfOk, OnOk, max, if◌then◌else◌};
 ghost use Rattle.footprint.specs.declared.resource.Resource.{Resource as AnyResource};
 ghost use Rattle.modes.specs.Rights.{rank_of};
 ghost use Rattle.modes.specs.Modes.{own, subtree};
 ghost use Rattle.coarsen.specs.Subtrees.{own_on, subtree_on, is_same, holds};
-ghost use Rattle.coarsen.specs.Requests.{IsAt, IsGapFor};
 ghost use Rattle.coarsen.specs.Plans.{IsPlanOf};
 
-use footprint::{Footprint, Resource, Right};
+use footprint::{Footprint, Resource, Right, search};
 use modes::{Mode, join};
 use std::alloc::Global;
 use std::marker::Model;
@@ -21,16 +20,14 @@ struct Draft {
 }
 
 impl Model for Draft {
-    ghost use Rattle.std.specs.Map.{keys_of};
-    ghost use Rattle.std.specs.List.Sorted.{IsStrictlySortedBy};
-    ghost use Rattle.footprint.specs.Tree.{resource_cmp};
+    ghost use Rattle.footprint.specs.InTreeOrder.{IsInTreeOrder};
     ghost use Rattle.coarsen.specs.Subtrees.{Requests};
 
     ghost Value = { Requests };
 
     ghost view = { λ d. d.requests.items };
 
-    ghost invariant = { λ d. IsStrictlySortedBy resource_cmp (keys_of d.requests.items) };
+    ghost invariant = { λ d. IsInTreeOrder d.requests.items };
 }
 
 /// The mode of an entry of the footprint: its right on the resource itself, and so in the subtree.
@@ -56,17 +53,6 @@ fn intention(mode: Mode) -> Mode
 }
 
 impl Draft {
-    /// Where the request on a resource is, or else where it would go.
-    fn place(&self, resource: &Resource) -> Result<usize, usize>
-        ensures found { IfOk result (IsAt self.now resource.now) }
-        ensures absent { IfErr result (IsGapFor self.now resource.now) }
-    {
-        match self.requests.last() {
-            Some((last, _)) if last.cmp(resource).is_lt() => Err(self.requests.len()),
-            _ => self.requests.binary_search_by_key(resource, |&(on, _)| on),
-        }
-    }
-
     /// Joins a mode to the request on a resource.
     fn request(&mut self, resource: Resource, mode: Mode) -> Result<(), NoMemory>
         ensures own { OnOk result ((r : AnyResource) →
@@ -74,7 +60,7 @@ impl Draft {
         ensures subtree { OnOk result ((r : AnyResource) →
             subtree_on self.new r ≡ max (subtree_on self.old r) (if is_same r resource then subtree mode else 0)) }
     {
-        match self.place(&resource) {
+        match search(&self.requests, &resource) {
             Ok(place) => {
                 let joined = join(self.requests[place].1, mode);
                 self.requests[place] = (resource, joined);

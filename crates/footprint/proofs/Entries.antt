@@ -24,7 +24,7 @@ module _ (tables : List TableShape) (arguments : List Value) (count : ℕ) (foot
   goes_on : Result (List (Resource × Right)) AbortCode → Result FootprintOf AbortCode
   goes_on r = r >>= λ gs. rule (nat_le (count + length gs) 65536) TooLong >>= λ u. with_entries (pos 0) tables arguments (count + length gs) (with_rights footprint gs) rest
 
-  -- what an entry adds stands bind_same what stood before, while there is room
+  -- what an entry adds comes after what was added before, while there is room
   pub one_entry : count + length grants ≤ 65536 → with_entries (pos 0) tables arguments count footprint (entry ∷ rest) ≡ with_entries (pos 0) tables arguments (count + length grants) (with_rights footprint grants) rest
   unfolding goes_on
   one_entry room = ap goes_on is ∙ ap (λ (b : Bool). rule b TooLong >>= λ u. with_entries (pos 0) tables arguments (count + length grants) (with_rights footprint grants) rest) (few (count + length grants) room)

@@ -1,17 +1,14 @@
--- The entries of a map of the code are those of the footprint that it stands for.
+-- Entries in tree order are those of the footprint that has them.
 use Rattle.std.proofs.Common.{◌≡◌, List, [], ◌∷◌, map, length, refl, sym, ap, ◌∙◌, arith, Ordering, Less}
 use Rattle.std.specs.List.{AllByRecursion}
 use Rattle.std.specs.List.Sorted.{IsStrictlySortedBy}
 use Rattle.std.specs.FinMap.Entries.{by_order, put}
-use Rattle.std.specs.FinMap.{entries, entries-insert, len-empty, len-entries, from_entries}
+use Rattle.std.specs.FinMap.{entries, entries-insert, len-empty, len-entries}
 use Rattle.proclang_types.specs.declared.right.Right.{Right}
 use Rattle.footprint.specs.declared.resource.Resource.{Resource}
 use Rattle.footprint.specs.Tree.{resource_cmp}
-use Rattle.footprint.specs.Rights.{FootprintOf}
+use Rattle.footprint.specs.InOrder.{footprint_of}
 use Rattle.footprint.proofs.Resources.{resources_total}
-
-abbrev footprint_of : List (Resource × Right) → FootprintOf
-footprint_of es = from_entries es
 
 none_of_len : {A : Type 0} (xs : List A) → length xs ≡ 0 → xs ≡ []
 none_of_len [] e = refl

@@ -1,6 +1,8 @@
 pub mod Resources
+pub mod Placing
 pub mod Rights
 pub mod InOrder
+pub mod Kept
 pub mod OfCatalogue
 pub mod StandIns
 pub mod Ranges

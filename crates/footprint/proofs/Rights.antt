@@ -4,19 +4,16 @@ use Rattle.std.specs.Cmp.{eq_by_cmp_equiv}
 use Rattle.std.specs.Ordering.{eq_by_cmp}
 use Rattle.std.specs.BTreeMap.{is_at}
 use Rattle.std.specs.Map.{lookup}
-use Rattle.std.specs.FinMap.{get, insert, find, from_entries, get-insert, get-from_entries, same_map}
+use Rattle.std.specs.FinMap.{get, insert, find, get-insert, get-from_entries, same_map}
 use Rattle.proclang_types.specs.declared.right.Right.{Right}
 use Rattle.footprint.specs.declared.resource.Resource.{Resource}
 use Rattle.footprint.specs.Tree.{resource_cmp}
-use Rattle.footprint.specs.Rights.{FootprintOf}
+use Rattle.footprint.specs.InOrder.{footprint_of}
 use Rattle.footprint.proofs.Resources.{resources_total, exact_resources}
 
 find_lookup : (es : List (Resource × Right)) (r : Resource) → find resource_cmp r es ≡ lookup (is_at (resource_cmp r)) es
 find_lookup [] r = refl
 find_lookup (e ∷ es) r = ap (cond (eq_by_cmp resource_cmp r e.0) (Some e.1)) (find_lookup es r)
-
-abbrev footprint_of : List (Resource × Right) → FootprintOf
-footprint_of es = from_entries es
 
 pub get_entries : (es : List (Resource × Right)) (r : Resource) → lookup (is_at (resource_cmp r)) es ≡ get (footprint_of es) r
 get_entries es r = sym (get-from_entries resources_total es r ∙ find_lookup es r)

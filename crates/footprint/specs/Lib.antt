@@ -8,3 +8,6 @@ pub mod Tables
 pub mod Grants
 pub mod OfCatalogue
 pub mod TreeOrder
+pub mod InTreeOrder
+pub mod InOrder
+pub mod Left

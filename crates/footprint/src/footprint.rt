@@ -5,21 +5,22 @@ ghost use Rattle.std.specs.FinMap as map;
 ghost use Rattle.footprint.specs.Rights.{covers, with_right, is_at_least, greater};
 
 use crate::resource::Resource;
+use crate::storage::Storage;
 use proclang_types::Right;
 use std::alloc::Global;
-use std::collections::BTreeMap;
 use std::marker::Model;
 use values::NoMemory;
 
 /// A footprint: resources and the rights on them. Contracts see a finite map.
 #[derive(Drop)]
 pub struct Footprint {
-    pub(crate) rights: BTreeMap<Resource, Right>,
+    pub(crate) rights: Storage,
 }
 
 impl Model for Footprint {
-    ghost use Rattle.std.specs.FinMap.{code, from_entries};
+    ghost use Rattle.std.specs.FinMap.{code};
     ghost use Rattle.footprint.specs.Rights.{FootprintOf};
+    ghost use Rattle.footprint.specs.InOrder.{footprint_of, listed, IsInOrder};
     ghost use Rattle.footprint.specs.contracts.resource.Resource as resource;
     ghost use Rattle.proclang_types.specs.contracts.right.Right as right;
 
@@ -27,7 +28,9 @@ impl Model for Footprint {
 
     ghost coded = { code resource.the_row.coded right.the_row.coded };
 
-    ghost view = { λ f. from_entries f.rights.entries };
+    ghost view = { λ f. footprint_of (listed f.rights) };
+
+    ghost invariant = { λ f. IsInOrder f.rights };
 }
 
 impl Footprint {
@@ -36,7 +39,7 @@ impl Footprint {
         ensures { result ≡ map.empty }
     {
         Footprint {
-            rights: BTreeMap::new(alloc),
+            rights: Storage::new(alloc),
         }
     }
 
@@ -44,7 +47,7 @@ impl Footprint {
     pub fn get(&self, resource: &Resource) -> Option<Right>
         ensures { result ≡ map.get self.now resource.now }
     {
-        self.rights.get(resource).copied()
+        self.rights.get(resource)
     }
 
     // rule: footprint.greatest

@@ -7,6 +7,8 @@ mod chance;
 #[cfg(test)]
 mod declarations;
 #[cfg(test)]
+mod footprints;
+#[cfg(test)]
 mod interruptions;
 #[cfg(test)]
 mod lock_modes;
