@@ -30,8 +30,8 @@ Without an edit in the gate are laws, which have no body; `Entry::request`, `Att
 `Job::entry`, `Scheduler::rows`, `Proc::clone`, `Procs::new`, `ProcFault::from` and `LineFault::from`, for which no other answer can be written down with what their
 crates have; `procs` and `rows` of both engines, `Engine::watcher`, `Engine::run_alone` and `Engine::execute_in`, and `make_place`, `lend_row` and `share_row` of `shelves`, whose edits
 are in `must-fail/more/`; each other `from` of a fault, which says only which refusal is answered; the orders of `RowName` and of
-`Resource`, which are derived; `calvin_c_feed`, `calvin_c_end`, `calvin_c_fault` and `calvin_c_close`, which promise no more than
-to return; and `NoMemory::from`, `count_places`, `RowStore::count_rows`, `Gate::is_open`, `OpenGate::enter`, `WorkerPool::new`, `WorkerPool::runtime`, `Silence::hear` and `Display`,
+`Resource`, which are derived; `calvin_c_feed`, `calvin_c_end` and `calvin_c_fault`, whose edits are in `must-fail/more/`;
+`calvin_c_close`, which promises no more than to return; and `NoMemory::from`, `count_places`, `RowStore::count_rows`, `Gate::is_open`, `OpenGate::enter`, `WorkerPool::new`, `WorkerPool::runtime`, `Silence::hear` and `Display`,
 which promise nothing.
 
 | crate | function | in the gate | beside it |

@@ -23,7 +23,7 @@ use Rattle.running.specs.Followed.{IsFollowedTo}
 use Rattle.running.specs.Reports.{rows_after}
 use Rattle.running.specs.Runs.{device_with, Device, IsRunOfLog}
 use Rattle.running.specs.Standings.{standing_of}
-use Rattle.running.specs.Starts.{start_in, start_of}
+use Rattle.running.specs.Starts.{start_in, start_on}
 use Rattle.running.specs.Stops.{IsNotOfThread}
 use Rattle.running.proofs.RunEnds.{nothing_run}
 use Rattle.running.specs.declared.reading.Ended.{Ended}
@@ -77,8 +77,8 @@ list_unmade left failed alone document feed table setup source fault sink status
 module _ {S K : Type 0} (left : S → Option (List ℕ)) (failed : S → Bool) (alone document : Bool) (reading : Reading) (table : Option (List ℕ)) (place : Option ℕ) (setup : SetupDocument) (settings : Settings)
     (at : IsPlaceOf setup.setup.catalogue table place) (old new : EngineParts) (source spent : S) (report reported : K) (ended : Ended) (made : old ≡ engine_on setup.setup settings) (digest : reading.digest ≡ setup.digest)
     (run : IsEngineRun left failed (λ (k : K). None) (λ (k : K). false) reading old new source spent report reported ended) (threadless : alone ≡ true → IsNotOfThread ended.result) where
-  from : start_of old reading.digest ≡ start_in setup
-  from = ap₂ (λ (engine : EngineParts) (form : DigestForm). start_of engine form) made digest
+  from : start_on old reading.digest ≡ start_in setup
+  from = ap₂ (λ (engine : EngineParts) (form : DigestForm). start_on engine form) made digest
 
   ends_so : (sink filled : Device) (status : ℕ) →
       AreListed (document, table) reading.feed setup (device_with (left source) (failed source)) (device_with (left spent) (failed spent)) (has_ended ended) ended.result sink filled status →

@@ -4,8 +4,6 @@ ghost use Rattle.std.specs.Prelude.{◌≡◌, Ok};
 ghost use Rattle.calvin.specs.CommandEnds.{fault_status, filter_status, setup_status};
 
 use batch_log::LogFaultKind;
-use catalogue::CatalogueFault;
-use proclang::ProcFault;
 use running::RunFault;
 use setup::SetupFault;
 
@@ -28,11 +26,10 @@ pub(crate) const FEED_ENDED: u8 = 6;
 pub(crate) fn setup_status(fault: &SetupFault) -> u8
     ensures { result ≡ setup_status fault.now }
 {
-    match fault {
-        SetupFault::Memory
-        | SetupFault::Catalogue(CatalogueFault::Memory)
-        | SetupFault::Procedure(ProcFault::Memory) => MEMORY,
-        _ => REFUSED_INPUT,
+    if fault.is_memory() {
+        MEMORY
+    } else {
+        REFUSED_INPUT
     }
 }
 

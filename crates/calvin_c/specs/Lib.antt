@@ -1,4 +1,3 @@
-pub mod Pieces
 pub mod Values
 pub mod Statuses
 pub mod Handles

@@ -3,12 +3,12 @@
 use Rattle.std.specs.Prelude.{◌≡◌, ℕ, List}
 use Rattle.std.specs.Borrow.{Lends, MutBor, Fml}
 use Rattle.session.specs.declared.session.Session.{Session}
+use Rattle.session.specs.Pieces.{untaken}
 use Rattle.session.specs.Sessions.{EndsWhole}
 use Rattle.calvin_c.specs.declared.handle.Handle.{Handle}
 use Rattle.calvin_c.specs.declared.opened.Opened.{Opened}
 use Rattle.calvin_c.specs.contracts.handle.Handle as handle
 use Rattle.calvin_c.specs.contracts.opened.Opened as opened
-use Rattle.calvin_c.specs.Pieces.{waiting_in}
 
 -- the session of a handle
 abbrev pub session_of : Handle → Session
@@ -16,7 +16,7 @@ session_of h = h.opened.session
 
 -- what waits of the rows document that was asked for
 abbrev pub document_of : Handle → List ℕ
-document_of h = waiting_in h.opened.document
+document_of h = untaken h.opened.document
 
 -- the handle where this lies in place of what lay there
 abbrev pub with_opened : Handle → Opened → Handle

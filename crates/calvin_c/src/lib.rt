@@ -19,7 +19,6 @@ mod lines;
 mod loose;
 mod opened;
 mod opening;
-mod pieces;
 mod replies;
 mod rows;
 mod status;

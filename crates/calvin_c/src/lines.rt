@@ -3,7 +3,7 @@
 ghost use Rattle.std.specs.Prelude.{◌≡◌, ◌++◌, ◌≤◌, ◌∷◌, [], ℕ, List, drop, length, min, take, None, Some, IfErr, IfSome, IsSome, Ok};
 ghost use Rattle.devices.specs.Lines.{newline};
 ghost use Rattle.session.specs.Calls.{at_line_of, call_said, cut_line};
-ghost use Rattle.session.specs.Sessions.{kept_of, stock_of, stop_of, waiting_of, EndsInFault, FaultsOn, HasTaken, KeepsWaiting, KeepsWaitingAtEnd, TakesOn};
+ghost use Rattle.session.specs.Sessions.{kept_of, stock_of, stop_of, waiting_of, EndsInFault, FaultsOn, HasTaken, KeepsSetup, KeepsWaiting, KeepsWaitingAtEnd, TakesOn};
 ghost use Rattle.running.specs.Starts.{Start};
 ghost use Rattle.session.specs.Replies.{KeepsReplies, NumberedReply};
 ghost use Rattle.session.specs.Works.{next_number};
@@ -47,7 +47,7 @@ pub extern "C" fn calvin_c_end(alloc: Global, handle: &mut Handle) -> i32
         (¬ (result ≡ done)) × (session_of handle.new ≡ session_of handle.old) }
     ensures kept { KeepsWaitingAtEnd (session_of handle.old) (session_of handle.new) }
     ensures replies { KeepsReplies (kept_of (session_of handle.old)) (kept_of (session_of handle.new)) }
-    ensures place { LiesStill handle.old handle.new }
+    ensures stays { LiesStill handle.old handle.new × KeepsSetup (session_of handle.old) (session_of handle.new) }
 {
     match handle.opened().session.end(alloc) {
         Ok(_) => DONE,

@@ -1,7 +1,6 @@
 //! What C has a pointer to.
 
-use crate::pieces::Pieces;
-use session::Session;
+use session::{Pieces, Session};
 
 /// A session, and what waits of a rows document that was asked for.
 #[derive(Drop)]

@@ -10,10 +10,9 @@ ghost use Rattle.calvin_c.specs.Statuses.{done, misused, no_memory};
 
 use crate::handle::{Opaque, pointer_to};
 use crate::opened::Opened;
-use crate::pieces::Pieces;
 use crate::status::{DONE, MISUSED, NO_MEMORY, setup_status};
 use engine::Settings;
-use session::Session;
+use session::{Pieces, Session};
 use setup::{SetupDocument, SetupFault, read_setup, read_setup_with_rows};
 use std::alloc::{AllocError, Global};
 

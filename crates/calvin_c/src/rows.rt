@@ -10,8 +10,8 @@ ghost use Rattle.calvin_c.specs.Statuses.{done, no_table, Says};
 
 use crate::cells::{ValueCell, write_values};
 use crate::handle::Handle;
-use crate::pieces::Pieces;
 use crate::status::{DONE, NO_TABLE, NONE, rows_status};
+use session::Pieces;
 use std::alloc::Global;
 use std::str;
 
@@ -116,7 +116,7 @@ pub extern "C" fn calvin_c_rows_document(
 }
 
 /// Moves bytes of the rows document that waits to the front of `into`, as many as there are or as fit, and gives how
-/// many.
+/// many. Once none waits their memory is freed.
 #[unsafe(no_mangle)]
 pub extern "C" fn calvin_c_drain_rows(alloc: Global, handle: &mut Handle, into: &mut [u8]) -> usize
     ensures count { result ≡ min (length (document_of handle.old)) (length into.old) }
@@ -126,7 +126,10 @@ pub extern "C" fn calvin_c_drain_rows(alloc: Global, handle: &mut Handle, into: 
     ensures stays { session_of handle.new ≡ session_of handle.old }
     ensures place { handle.new.at ≡ handle.old.at }
 {
-    handle.opened().document.drain(alloc, into)
+    let document = &mut handle.opened().document;
+    let count = document.drain(into);
+    document.shrink(alloc);
+    count
 }
 
 /// How many calls are carried to the next batch, in `count`. 1 and 3: a fault has stopped the session, and `count` is

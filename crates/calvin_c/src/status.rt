@@ -5,8 +5,6 @@ ghost use Rattle.calvin_c.specs.Openings.{setup_status};
 ghost use Rattle.calvin_c.specs.Statuses.{call_status, fault_number, kind_status, line_status, rows_status, session_status, taken_status};
 
 use batch_log::LogFaultKind;
-use catalogue::CatalogueFault;
-use proclang::ProcFault;
 use session::{CallFault, RowsFault, SessionFault};
 use setup::SetupFault;
 
@@ -27,11 +25,10 @@ pub(crate) const NO_TABLE: i32 = 5;
 pub(crate) fn setup_status(fault: &SetupFault) -> i32
     ensures { result ≡ setup_status fault.now }
 {
-    match fault {
-        SetupFault::Memory
-        | SetupFault::Catalogue(CatalogueFault::Memory)
-        | SetupFault::Procedure(ProcFault::Memory) => NO_MEMORY,
-        _ => REFUSED,
+    if fault.is_memory() {
+        NO_MEMORY
+    } else {
+        REFUSED
     }
 }
 

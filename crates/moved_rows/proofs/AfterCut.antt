@@ -10,6 +10,7 @@ use Rattle.sequencer.specs.declared.attempts.Carried.{Carried}
 use Rattle.retries.specs.Moved.{raised, raised_request}
 use Rattle.retries.specs.Standings.{Standing, after_batch, after_batches, closed, closing_within, replies_at, start_of, while_carried}
 use Rattle.retries.proofs.Followed.{after_batches-append, closed-append}
+use Rattle.retries.proofs.Ended.{none_closing}
 use Rattle.retries.proofs.Moved.{goes_on_from_rows, replies_from_rows}
 use Rattle.running.specs.Reports.{fault_in, rows_after}
 use Rattle.running.specs.Starts.{Start}
@@ -27,10 +28,6 @@ Batches = List (List Call)
 while_map : (n : ℕ) (carried : List Carried) (rest : Batches) → while_carried (map (raised_request n) carried) rest ≡ while_carried carried rest
 while_map n [] rest = refl
 while_map n (c ∷ cs) rest = refl
-
-none_closing : (retries most : ℕ) (s : Standing) → s.carried ≡ [] → closing_within retries most s ≡ []
-none_closing retries zero s h = refl
-none_closing retries (suc most) s h = ap (λ (carried : List Carried). while_carried carried (closing_within retries most (after_batch retries s []))) h
 
 -- ---- outcomes of batches and of more batches
 

@@ -21,11 +21,12 @@ mode_word Shared = codes "S"
 mode_word SharedIntentionExclusive = codes "SIX"
 mode_word Exclusive = codes "X"
 
--- db, acct, acct/0, acct/0/2: the database, a table, a partition, a row by its key
+-- what comes after a partition's number: nothing for the whole partition, /KEY for a row
 unfoldable pub in_part_text : InPart → List ℕ
 in_part_text WholePart = []
 in_part_text (Row key) = codes "/" ++ decimal key
 
+-- what comes after a table's name: nothing for the whole table, /PART and more for what is in it
 unfoldable pub in_table_text : InTable → List ℕ
 in_table_text WholeTable = []
 in_table_text (Part part below) = (codes "/" ++ decimal part) ++ in_part_text below

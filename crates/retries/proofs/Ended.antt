@@ -66,11 +66,12 @@ closed_ends retries s (calls ∷ batches) h = closed_ends retries (after_batch r
 
 -- ---- closing batch by batch
 
--- more batches that might close a log change nothing where so many are enough
-none_closing : (retries most : ℕ) (s : Standing) → s.carried ≡ [] → closing_within retries most s ≡ []
+-- where nothing is carried, no batch closes a log, however many might
+pub none_closing : (retries most : ℕ) (s : Standing) → s.carried ≡ [] → closing_within retries most s ≡ []
 none_closing retries zero s h = refl
 none_closing retries (suc most) s h = ap (λ (carried : List Carried). while_carried carried (closing_within retries most (after_batch retries s []))) h
 
+-- more batches that might close a log change nothing where fewer are enough
 enough : (retries most extra : ℕ) (s : Standing) → AreTried retries most s.carried → closing_within retries (most + extra) s ≡ closing_within retries most s
 enough retries zero extra s h = ap (λ n. closing_within retries n s) (none_before extra) ∙ none_closing retries extra s (none_more retries s.carried h)
   where

@@ -1,5 +1,5 @@
 -- A log is closed batch by batch.
-use Rattle.std.proofs.Common.{◌≡◌, ℕ, ◌+◌, List, [], ◌∷◌, ◌++◌, append_assoc, append-nil, length, false, Option, Some, None, Result, Ok, Err, IfOk, IfErr, OnOk, refl, sym, ◌∙◌, ap, subst}
+use Rattle.std.proofs.Common.{◌≡◌, ℕ, ◌+◌, List, [], ◌∷◌, ◌++◌, append_assoc, append-nil, length, false, Option, Result, Ok, Err, IfOk, IfErr, OnOk, refl, sym, ◌∙◌, ap}
 use Rattle.std.specs.Io.KnownBytes.{Appends}
 use Rattle.std.proofs.KnownBytes.{Appends-trans}
 use Rattle.sha2.specs.Hashers.{Holds256}
@@ -20,38 +20,13 @@ use Rattle.running.specs.declared.run_fault.RunFault.TheVariants as runs
 use Rattle.running.specs.declared.transcript.Transcript.{Transcript}
 use Rattle.running.specs.Batches.{due_text, IsReported}
 use Rattle.running.specs.Hashers.{form_of, said_of}
-use Rattle.running.specs.Reported.{lines_of, with_closing, with_drained, HasClosed, HasReported, IsClosing, IsCutAt}
+use Rattle.running.specs.Reported.{lines_of, with_closing, HasClosed, HasReported, IsClosing, IsCutAt}
 use Rattle.running.specs.Standings.{standing_of}
 use Rattle.running.specs.Starts.{Start}
 use Rattle.running.specs.Stops.{IfOfThread, IsMachineFault, IsNotOfThread}
 use Rattle.running.specs.Stopped.{at_end, in_closing, standing_after}
 use Rattle.running.proofs.ClosingBatches.{closing_further, closing_none, next_closing}
 use Rattle.running.proofs.Reported.{next_text_is, HasReported-next}
-
--- ---- what a sink has given on before
-
-drained_before : (drained : List ℕ) (old new : Option (List ℕ)) (text : List ℕ) → Appends old new text → Appends (with_drained drained old) (with_drained drained new) text
-drained_before drained None new text h = tt
-drained_before drained (Some old) None text h = h
-drained_before drained (Some old) (Some new) text h = ap (λ (bytes : List ℕ). drained ++ bytes) h ∙ sym (append_assoc drained old text)
-
-pub none_drained : (taken : Option (List ℕ)) → with_drained [] taken ≡ taken
-none_drained None = refl
-none_drained (Some taken) = refl
-
-pub IsReported-drained : (drained : List ℕ) (sink filled : Option (List ℕ)) (old new : EngineParts) (before after : Transcript) (calls : List Call) → IsReported old new before after sink filled calls →
-    IsReported old new before after (with_drained drained sink) (with_drained drained filled) calls
-IsReported-drained drained sink filled old new before after calls h = record {
-  idle = h.idle;
-  standing = h.standing;
-  batch = h.batch;
-  said = h.said;
-  text = drained_before drained sink filled (due_text old before calls) h.text;
-  digest_kept = h.digest_kept;
-}
-
-pub AppendsFront-drained : (drained : List ℕ) (sink filled : Option (List ℕ)) (text : List ℕ) → AppendsFront sink filled text → AppendsFront (with_drained drained sink) (with_drained drained filled) text
-AppendsFront-drained drained sink filled text f = (f.0, f.1, f.2, drained_before drained sink filled f.0 f.3)
 
 -- ---- batch by batch
 
@@ -168,28 +143,16 @@ IsClosing-end r start ran engine transcript sink gave given h count text front t
     ended r start ran engine transcript sink gave given h count
     (on_ok r gave given _ _ line (text (lines_of start.retries start.rows batches) h.said_is)) (rw line at (front (lines_of start.retries start.rows batches) h.said_is)) threadless
 
--- ---- nothing was given on
-
-pub undrained : (start : Start) (ran : List (List Call)) (engine : EngineParts) (transcript : Transcript) (sink gave : Option (List ℕ)) →
-    HasReported start ran engine transcript sink gave → HasReported start ran engine transcript sink (with_drained [] gave)
-undrained start ran engine transcript sink gave h =
-    subst (λ (o : Option (List ℕ)). HasReported start ran engine transcript sink o) (sym (none_drained gave)) h
-
-pub reported_undrained : (start : Start) (ran : List (List Call)) (engine : EngineParts) (transcript : Transcript) (sink gave : Option (List ℕ)) →
-    HasReported start ran engine transcript sink (with_drained [] gave) → HasReported start ran engine transcript sink gave
-reported_undrained start ran engine transcript sink gave h =
-    subst (λ (o : Option (List ℕ)). HasReported start ran engine transcript sink o) (none_drained gave) h
-
 -- a fault stopped the batches that close the log
 pub IsClosing-cut : (start : Start) (ran : List (List Call)) (sink gave : Option (List ℕ)) (fault : RunFault) →
-    IsCutAt in_closing start ran sink (with_drained [] gave) fault → IsClosing start ran sink gave (Err fault)
+    IsCutAt in_closing start ran sink gave fault → IsClosing start ran sink gave (Err fault)
 IsClosing-cut start ran sink gave fault cut = record {
   count = tt;
   text = tt;
   stop = record {
     stage = in_closing;
     all_read = tt;
-    cut = subst (λ (o : Option (List ℕ)). IsCutAt in_closing start ran sink o fault) (none_drained gave) cut;
+    cut = cut;
   };
 }
 

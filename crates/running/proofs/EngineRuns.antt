@@ -15,7 +15,7 @@ use Rattle.running.specs.declared.run_fault.RunFault.TheVariants as runs
 use Rattle.running.specs.Followed.{LeavesBetween}
 use Rattle.running.specs.Reports.{rows_after}
 use Rattle.running.specs.Runs.{device_with, Device, IsRunOfLog}
-use Rattle.running.specs.Starts.{start_of}
+use Rattle.running.specs.Starts.{start_on}
 use Rattle.running.proofs.RunEnds.{nothing_run}
 use Rattle.running.proofs.Runs.{keeps_still}
 use Rattle.running.specs.declared.reading.Ended.{Ended}
@@ -28,7 +28,7 @@ module _ {S K : Type 0} (left : S → Option (List ℕ)) (failed : S → Bool) (
   pub nothing_done : (engine : EngineParts) (source : S) (sink : K) (ended : Ended) → ended ≡ record { result = Err (runs.Log (record { kind = Memory; line = 0 })); feed = None } →
       IsEngineRun left failed taken broken reading engine engine source source sink sink ended
   nothing_done engine source sink ended is = subst (λ (e : Ended). IsEngineRun left failed taken broken reading engine engine source source sink sink e) (sym is) (record {
-    run = nothing_run (runs.Log (record { kind = Memory; line = 0 })) (start_of engine reading.digest) (left_for reading.feed (left source)) (taken sink) (failed source) (broken sink) refl;
+    run = nothing_run (runs.Log (record { kind = Memory; line = 0 })) (start_on engine reading.digest) (left_for reading.feed (left source)) (taken sink) (failed source) (broken sink) refl;
     setting = keeps_still engine;
     idle = tt;
     rows = tt;
@@ -40,10 +40,10 @@ module _ {S K : Type 0} (left : S → Option (List ℕ)) (failed : S → Bool) (
   pub of_reader : (old new : EngineParts) (begun given : S) (reader spent : LogReader S) (name : GName) (sink filled : K) (result : Result ℕ RunFault) (feed : Option ℕ) →
       origin_of reader ≡ record { name = name; is_feed = reading.feed } → source_of reader ≡ begun → unread left reader ≡ left_for reading.feed (left begun) → readers.has_ended reader ≡ false →
       origin_of spent ≡ origin_of reader → given ≡ source_of spent → is_some feed ≡ readers.has_ended spent →
-      IsRunOfLog (start_of old reading.digest) (device_with (unread left reader) (failed_in failed reader)) (device_with (left_in left spent) (failed_in failed spent))
+      IsRunOfLog (start_on old reading.digest) (device_with (unread left reader) (failed_in failed reader)) (device_with (left_in left spent) (failed_in failed spent))
       (device_with (taken sink) (broken sink)) (device_with (taken filled) (broken filled)) result →
-      KeepsSetting old new → OnOk result (is_busy new ≡ false) → OnOk result (IfSome (unread left reader) (λ log. new.rows ≡ rows_after (start_of old reading.digest) log)) →
-      (readers.has_ended spent ≡ true → LeavesBetween (start_of old reading.digest) (unread left reader) (left_in left spent) (taken sink) (taken filled) new) →
+      KeepsSetting old new → OnOk result (is_busy new ≡ false) → OnOk result (IfSome (unread left reader) (λ log. new.rows ≡ rows_after (start_on old reading.digest) log)) →
+      (readers.has_ended spent ≡ true → LeavesBetween (start_on old reading.digest) (unread left reader) (left_in left spent) (taken sink) (taken filled) new) →
       (readers.has_ended spent ≡ true → IfSome (left (source_of spent)) (λ bytes. bytes ≡ [])) →
       IsEngineRun left failed taken broken reading old new begun given sink filled (record { result = result; feed = feed })
   of_reader old new begun given reader spent name sink filled result feed same source unread_is goes_on still gives flag run setting idle rows followed ends =
@@ -51,12 +51,12 @@ module _ {S K : Type 0} (left : S → Option (List ℕ)) (failed : S → Bool) (
       let later = last left failed reading.feed begun given reader spent name same source unread_is goes_on still gives in
       let rest_is = rest left failed reading.feed begun given reader spent name same source unread_is goes_on still gives in
       record {
-        run = subst (λ (d : Device × Device). IsRunOfLog (start_of old reading.digest) d.0 d.1 (device_with (taken sink) (broken sink)) (device_with (taken filled) (broken filled)) result)
+        run = subst (λ (d : Device × Device). IsRunOfLog (start_on old reading.digest) d.0 d.1 (device_with (taken sink) (broken sink)) (device_with (taken filled) (broken filled)) result)
             (λ i. (before i, (later ∙ ap (λ b. device_with (left_for reading.feed (left given)) (b || failed given)) (sym flag)) i)) run;
         setting = setting;
         idle = idle;
-        rows = subst (λ (o : Option (List ℕ)). OnOk result (IfSome o (λ log. new.rows ≡ rows_after (start_of old reading.digest) log))) unread_is rows;
-        followed = λ e. subst (λ (d : Option (List ℕ) × Option (List ℕ)). LeavesBetween (start_of old reading.digest) d.0 d.1 (taken sink) (taken filled) new)
+        rows = subst (λ (o : Option (List ℕ)). OnOk result (IfSome o (λ log. new.rows ≡ rows_after (start_on old reading.digest) log))) unread_is rows;
+        followed = λ e. subst (λ (d : Option (List ℕ) × Option (List ℕ)). LeavesBetween (start_on old reading.digest) d.0 d.1 (taken sink) (taken filled) new)
             (λ i. (unread_is i, rest_is i)) (followed (sym flag ∙ e));
         feed = λ e. (
           is_feed left failed reading.feed begun given reader spent name same source unread_is goes_on still gives (sym flag ∙ e),
@@ -66,10 +66,10 @@ module _ {S K : Type 0} (left : S → Option (List ℕ)) (failed : S → Bool) (
 
   -- a log that is no feed
   pub of_log : (old new : EngineParts) (source spent : S) (sink filled : K) (ended : Ended) → reading.feed ≡ false → IsEngineRun left failed taken broken reading old new source spent sink filled ended →
-      IsRunOfLog (start_of old reading.digest) (device_with (left source) (failed source)) (device_with (left spent) (failed spent)) (device_with (taken sink) (broken sink)) (device_with (taken filled) (broken filled)) ended.result
+      IsRunOfLog (start_on old reading.digest) (device_with (left source) (failed source)) (device_with (left spent) (failed spent)) (device_with (taken sink) (broken sink)) (device_with (taken filled) (broken filled)) ended.result
   of_log old new source spent sink filled ended none run =
       let goes_on : has_ended ended ≡ false = not_ended (has_ended ended) (λ e. (run.feed e).0) in
-      subst (λ (d : Device × Device). IsRunOfLog (start_of old reading.digest) d.0 d.1 (device_with (taken sink) (broken sink)) (device_with (taken filled) (broken filled)) ended.result)
+      subst (λ (d : Device × Device). IsRunOfLog (start_on old reading.digest) d.0 d.1 (device_with (taken sink) (broken sink)) (device_with (taken filled) (broken filled)) ended.result)
       (λ i. (device_with (left_for (none i) (left source)) (failed source), device_with (left_for (none i) (left spent)) (goes_on i || failed spent))) run.run
     where
       not_ended : (b : Bool) → (b ≡ true → reading.feed ≡ true) → b ≡ false

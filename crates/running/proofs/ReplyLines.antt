@@ -37,7 +37,8 @@ use Rattle.running.specs.Transcripts.{said_lines, with_batch_line}
 pub attempts_are : (engine : EngineParts) (batch : Batch) (calls : List Call) → items_of batch ≡ items_from 0 calls → next_attempts engine batch ≡ attempts_at (standing_of engine) calls
 attempts_are engine batch calls e = ap (λ (items : List RequestItem). attempts_of engine.carried items) e
 
-entries_are : (db : Database) (attempts : List Attempt) → entries_of db attempts ≡ entries_in (map (transaction_of db) attempts)
+-- the entries of attempts are those of their transactions
+pub entries_are : (db : Database) (attempts : List Attempt) → entries_of db attempts ≡ entries_in (map (transaction_of db) attempts)
 entries_are db [] = refl
 entries_are db (a ∷ attempts) = ap (λ rest. prepared db a.request ∷ rest) (entries_are db attempts)
 
@@ -94,9 +95,9 @@ batch_text_is old new batch run calls form number given rows replies r same e t 
     (t ∙ ap (λ (p : ProcsParts). p.tables) same.procs) (s ∙ rows_are old new batch run calls r e) (ap said_lines f ∙ lines_are old new batch run calls r e)
 
 -- the digest that is kept is that of the rows
-pub digest_of_rows : (new : EngineParts) (transcript : Transcript) (form : DigestForm) (given : List TableShape) (rows : Database) → rows_digest_of transcript ≡ Some (digest (digested_text form given rows)) →
+pub keeps_digest : (new : EngineParts) (transcript : Transcript) (form : DigestForm) (given : List TableShape) (rows : Database) → rows_digest_of transcript ≡ Some (digest (digested_text form given rows)) →
     form_of transcript ≡ form → given ≡ tables_of new → rows ≡ new.rows → KeepsDigest new transcript
-digest_of_rows new transcript form given rows kept f t s =
+keeps_digest new transcript form given rows kept f t s =
     let text : List ℕ = digested_text (form_of transcript) (tables_of new) new.rows in
     let same : digest (digested_text form given rows) ≡ digest text = rw (f, t, s) refl in
     subst (λ (o : Option (List ℕ)). IfSome o (λ made. made ≡ digest text)) (sym kept) same

@@ -22,7 +22,7 @@ use Rattle.running.specs.Batches.{due_text, IsReported}
 use Rattle.running.specs.Hashers.{batch_of, form_of, said_of}
 use Rattle.running.specs.Reported.{lines_of, HasReported, IsAfterLog}
 use Rattle.running.specs.Standings.{standing_of}
-use Rattle.running.specs.Starts.{start_of as start_with, Start}
+use Rattle.running.specs.Starts.{start_on, Start}
 use Rattle.running.specs.Stopped.{next_text, standing_after, texts_of}
 
 -- ---- nothing has run
@@ -34,7 +34,7 @@ at_start : (engine : EngineParts) → engine.next ≡ 0 → engine.carried ≡ [
 at_start engine e f = rw (e, f) refl
 
 pub HasReported-none : (engine : EngineParts) (form : DigestForm) (transcript : Transcript) (sink : Option (List ℕ)) → engine.next ≡ 0 → engine.carried ≡ [] → batch_of transcript ≡ 1 → Holds256 (said_of transcript) [] →
-    form_of transcript ≡ form → HasReported (start_with engine form) [] engine transcript sink sink
+    form_of transcript ≡ form → HasReported (start_on engine form) [] engine transcript sink sink
 HasReported-none engine form transcript sink e f b h is = record {
   procs_are = refl;
   retries_are = refl;

@@ -17,7 +17,7 @@ use Rattle.running.specs.Batches.{IsReported}
 use Rattle.running.specs.Hashers.{batch_of, form_of, said_of}
 use Rattle.running.specs.Reported.{with_closing, HasReported}
 use Rattle.running.specs.Reports.{calls_in_turn, fault_in, report_of, whole_log}
-use Rattle.running.specs.Starts.{start_of as start_with, Start}
+use Rattle.running.specs.Starts.{start_on, Start}
 use Rattle.running.specs.Stopped.{standing_after, texts_of}
 use Rattle.running.proofs.Reported.{calls_grown, HasReported-next, HasReported-none}
 
@@ -88,7 +88,7 @@ pub record SoFar (start : Start) (m total : ℕ) (engine : EngineParts) (transcr
 
 pub SoFar-start : (m total : ℕ) (engine : EngineParts) (form : DigestForm) (transcript : Transcript) (left now taken : Option (List ℕ)) → m ≡ 0 → total ≡ 0 → now ≡ left → engine.next ≡ 0 → engine.carried ≡ [] →
     batch_of transcript ≡ 1 → Holds256 (said_of transcript) [] → form_of transcript ≡ form →
-    SoFar (start_with engine form) m total engine transcript left now taken taken
+    SoFar (start_on engine form) m total engine transcript left now taken taken
 SoFar-start m total engine form transcript left now taken e f g n c b h is =
     let none : Passes (After engine.procs engine.retries 0 0 []) left left = Passes-refl _ left (λ x. After-start engine.procs engine.retries x) in
     record {

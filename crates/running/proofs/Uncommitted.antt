@@ -19,7 +19,7 @@ use Rattle.engine.specs.Replies.{reply_of}
 use Rattle.running.specs.declared.transcript.Transcript.{Transcript}
 use Rattle.running.specs.Batches.{KeepsDigest}
 use Rattle.running.specs.Hashers.{form_of, rows_digest_of}
-use Rattle.running.specs.Transcripts.{has_commit, AreRowsAfter}
+use Rattle.running.specs.Transcripts.{has_commit, KeepsDigestAfter}
 
 -- whether an outcome is a commit, by the reply that it stands for
 abbrev says_commit : meant.Reply → Bool
@@ -61,7 +61,7 @@ serial_leaves (r ∷ rs) (x ∷ xs) db e f =
 -- the rows after a batch are reported with the digest that was kept where it has no commit
 pub rows_after : (old new : EngineParts) (transcript : Transcript) (attempts : List Attempt) (run : BatchDone) (replies : List Reply) →
     IsExecutionOf old new attempts run → KeepsSetting old new → KeepsDigest old transcript → replies ≡ run.replies.items → is_busy new ≡ false →
-    AreRowsAfter (form_of transcript) replies (rows_digest_of transcript) new
+    KeepsDigestAfter (form_of transcript) replies (rows_digest_of transcript) new
 rows_after old new transcript attempts run replies r same kept f idle = record {
   idle = idle;
   digest_kept = λ none.

@@ -5,8 +5,6 @@ use Rattle.std.specs.List.{AllByRecursion}
 use Rattle.std.specs.Io.KnownBytes.{Appends}
 use Rattle.sha2.specs.Hashers.{Holds256}
 use Rattle.requests.specs.Requests.{Call}
-use Rattle.row_text.specs.Partitions.{digested_text}
-use Rattle.row_text.specs.Texts.{digest}
 use Rattle.report_text.specs.Report.{batch_text, next_batch, reply_lines}
 use Rattle.retries.specs.Standings.{attempts_at, after_batch, replies_at, transactions_at}
 use Rattle.engine.specs.declared.replies.Reply.{Reply}
@@ -14,7 +12,7 @@ use Rattle.engine.specs.Engines.{EngineParts, is_busy, tables_of}
 use Rattle.running.specs.declared.transcript.Transcript.{Transcript}
 use Rattle.running.specs.Hashers.{batch_of, form_of, rows_digest_of, said_of}
 use Rattle.running.specs.Standings.{standing_of}
-use Rattle.running.specs.Transcripts.{said_lines, with_batch_line}
+use Rattle.running.specs.Transcripts.{digest_of_rows, said_lines, with_batch_line}
 
 -- the text of a batch of these calls, the next one after what was reported
 abbrev pub due_text : EngineParts → Transcript → List Call → List ℕ
@@ -25,8 +23,7 @@ due_text engine transcript calls =
 -- The digest that the transcript keeps, if it keeps one, is that of the engine's rows.
 abbrev pub KeepsDigest : EngineParts → Transcript → Type 0
 KeepsDigest engine transcript =
-    IfSome (rows_digest_of transcript) (λ text.
-    text ≡ digest (digested_text (form_of transcript) (tables_of engine) engine.rows))
+    IfSome (rows_digest_of transcript) (λ text. text ≡ digest_of_rows (form_of transcript) engine)
 
 -- reply lines were reported, and the batch line after them
 pub record HasAdded (old new : Transcript) (lines : List ℕ) : Type 0 where
@@ -39,7 +36,7 @@ pub record IsWritten (engine : EngineParts) (replies : List Reply) (before after
   pub added : HasAdded before after (said_lines replies)
   pub text : Appends sink filled
       (with_batch_line (form_of before) (batch_of before) (tables_of engine) engine.rows (said_lines replies))
-  pub rows : rows_digest_of after ≡ Some (digest (digested_text (form_of before) (tables_of engine) engine.rows))
+  pub rows : rows_digest_of after ≡ Some (digest_of_rows (form_of before) engine)
 
 -- An idle engine can run these calls as its next batch: they are over its tables, no more than a batch may have, and
 -- with what is carried to them they have numbers. The digest that the transcript keeps, if it keeps one, is that of the

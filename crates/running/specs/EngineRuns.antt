@@ -11,7 +11,7 @@ use Rattle.engine.specs.Executions.{KeepsSetting}
 use Rattle.running.specs.Followed.{LeavesBetween}
 use Rattle.running.specs.Reports.{rows_after}
 use Rattle.running.specs.Runs.{device_with, IsRunOfLog}
-use Rattle.running.specs.Starts.{start_of}
+use Rattle.running.specs.Starts.{start_on}
 use Rattle.running.specs.declared.reading.Ended.{Ended}
 use Rattle.running.specs.declared.reading.Reading.{Reading}
 
@@ -41,7 +41,7 @@ has_ended ended = is_some ended.feed
 pub record IsEngineRun {S K : Type 0} (left : S → Option (List ℕ)) (failed : S → Bool) (taken : K → Option (List ℕ))
     (broken : K → Bool) (reading : Reading) (old new : EngineParts) (source spent : S) (sink filled : K)
     (ended : Ended) : Type 0 where
-  pub run : IsRunOfLog (start_of old reading.digest)
+  pub run : IsRunOfLog (start_on old reading.digest)
       (device_with (left_for reading.feed (left source)) (failed source))
       (device_with (left_for reading.feed (left spent)) (has_ended ended || failed spent))
       (device_with (taken sink) (broken sink)) (device_with (taken filled) (broken filled)) ended.result
@@ -49,9 +49,9 @@ pub record IsEngineRun {S K : Type 0} (left : S → Option (List ℕ)) (failed :
   -- After a whole run the engine holds no batch, and its rows are those that the log leaves.
   pub idle : OnOk ended.result (is_busy new ≡ false)
   pub rows : OnOk ended.result (IfSome (left_for reading.feed (left source)) (λ log.
-      new.rows ≡ rows_after (start_of old reading.digest) log))
+      new.rows ≡ rows_after (start_on old reading.digest) log))
   -- After the end of a feed it holds none either, and has run those that are reported.
-  pub followed : has_ended ended ≡ true → LeavesBetween (start_of old reading.digest)
+  pub followed : has_ended ended ≡ true → LeavesBetween (start_on old reading.digest)
       (left_for reading.feed (left source)) (left_for reading.feed (left spent)) (taken sink) (taken filled) new
   -- Only a feed ends so, once all that had come is read.
   pub feed : has_ended ended ≡ true → (reading.feed ≡ true) × IfSome (left spent) (λ bytes. bytes ≡ [])

@@ -1,6 +1,6 @@
 -- Claimed: what contracts promise to a reader rests on these words.
 -- What was reported of batches one after another, and how a log is closed after them.
-use Rattle.std.specs.Prelude.{◌≡◌, ℕ, ◌≤◌, List, ◌++◌, length, false, Option, Some, None, Result, IfOk, IfErr, OnOk, ⊤}
+use Rattle.std.specs.Prelude.{◌≡◌, ℕ, ◌≤◌, List, ◌++◌, length, false, Option, Result, IfOk, IfErr, OnOk, ⊤}
 use Rattle.std.specs.Io.KnownBytes.{Appends}
 use Rattle.sha2.specs.Hashers.{Holds256}
 use Rattle.values.specs.Database.{Database}
@@ -34,11 +34,6 @@ pub record HasReported (start : Start) (ran : List (List Call)) (engine : Engine
   pub batch_is : batch_of transcript ≡ next_batch (length ran)
   pub said_is : Holds256 (said_of transcript) (lines_of start.retries start.rows ran)
   pub text_is : Appends sink filled (texts_of start ran)
-
--- what a sink has taken, where it has given these bytes on before
-abbrev pub with_drained : List ℕ → Option (List ℕ) → Option (List ℕ)
-with_drained drained None = None
-with_drained drained (Some waiting) = Some (drained ++ waiting)
 
 -- a standing is that after batches that have no more calls than a log may have
 pub record IsAfterLog (retries : ℕ) (standing : Standing) : Type 0 where

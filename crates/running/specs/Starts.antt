@@ -27,5 +27,5 @@ start_in document =
     start_at document.setup.procs document.setup.retries (with_rows empty document.setup.rows.items) document.digest
 
 -- what an engine goes on from, where digests are of this text of the rows
-abbrev pub start_of : EngineParts → DigestForm → Start
-start_of engine digest = start_at engine.procs engine.retries engine.rows digest
+abbrev pub start_on : EngineParts → DigestForm → Start
+start_on engine digest = start_at engine.procs engine.retries engine.rows digest

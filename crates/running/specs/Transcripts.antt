@@ -26,17 +26,21 @@ unfoldable pub with_batch_line : DigestForm → ℕ → List TableShape → Data
 with_batch_line form batch tables db lines =
     lines ++ batch_line batch (digest (digested_text form tables db)) (digest lines)
 
+-- the digest of an engine's rows, in this form
+abbrev pub digest_of_rows : DigestForm → EngineParts → List ℕ
+digest_of_rows form engine = digest (digested_text form (tables_of engine) engine.rows)
+
 -- whether one of these replies is a commit
 abbrev pub has_commit : List Reply → Bool
 has_commit replies = list_any (λ reply. is_commit reply.outcome) replies
 
 -- The engine is idle, and where no reply of a batch is a commit, the digest that was kept before the batch, if one was,
 -- is that of the engine's rows after it, in this form.
-pub record AreRowsAfter (form : DigestForm) (replies : List Reply) (kept : Option (List ℕ)) (engine : EngineParts)
+pub record KeepsDigestAfter (form : DigestForm) (replies : List Reply) (kept : Option (List ℕ)) (engine : EngineParts)
     : Type 0 where
   pub idle : is_busy engine ≡ false
   pub digest_kept : has_commit replies ≡ false →
-      IfSome kept (λ text. text ≡ digest (digested_text form (tables_of engine) engine.rows))
+      IfSome kept (λ text. text ≡ digest_of_rows form engine)
 
 -- whether a write failed
 abbrev pub write_failed : {T : Type 0} → Result T LogFaultKind → Bool

@@ -5,17 +5,17 @@ ghost use Rattle.std.specs.Io.KnownBytes.{Appends};
 ghost use Rattle.sha2.specs.Hashers.{Holds256};
 ghost use Rattle.requests.specs.Requests.{Call};
 ghost use Rattle.devices.specs.Devices.{AppendsFront};
-ghost use Rattle.row_text.specs.Partitions.{digested_text};
 ghost use Rattle.row_text.specs.Texts.{digest};
 ghost use Rattle.report_text.specs.Texts.{end_line};
-ghost use Rattle.engine.specs.Engines.{tables_of, is_busy};
+ghost use Rattle.engine.specs.Engines.{is_busy};
 ghost use Rattle.engine.specs.Executions.{KeepsSetting};
 ghost use Rattle.running.specs.Batches.{KeepsDigest};
 ghost use Rattle.running.specs.Executors.{Executes, HasAnswered};
 ghost use Rattle.running.specs.Hashers.{form_of, said_of};
-ghost use Rattle.running.specs.Reported.{with_closing, with_drained, HasReported, IsBetweenBatches, IsClosing, ReportsClosing};
+ghost use Rattle.running.specs.Reported.{with_closing, HasReported, IsBetweenBatches, IsClosing, ReportsClosing};
 ghost use Rattle.running.specs.Starts.{Start};
 ghost use Rattle.running.specs.Stopped.{standing_after};
+ghost use Rattle.running.specs.Transcripts.{digest_of_rows};
 ghost use Rattle.running.specs.Stops.{ends_in_io, IfOfThread, IsMachineFault, IsNotOfThread};
 
 use crate::batch::run_batch;
@@ -29,7 +29,7 @@ use std::alloc::Global;
 /// Runs the batches without calls that close a log after its last batch, as long as requests are carried, and writes
 /// their reports. Each fault is a failed write (36), a failed allocation (37) or a refused thread (38), at this line,
 /// the last one read.
-pub fn run_closing_batches<
+fn run_closing_batches<
     E: BatchEngine,
     X: Fn(&mut E, Batch) -> Result<BatchDone, ExecFault>,
     K: Sink,
@@ -44,12 +44,10 @@ pub fn run_closing_batches<
     requires executes { Executes E.parts X.Fn executor.now }
     requires between { IsBetweenBatches (E.parts engine.old) transcript.old }
     ensures same { KeepsSetting (E.parts engine.old) (E.parts engine.new) }
-    ensures closed { (start : Start) (ran : List (List Call)) (before : Option (List ℕ)) (drained : List ℕ) →
-        HasReported start ran (E.parts engine.old) transcript.old before (with_drained drained (K.taken sink.old)) →
-        ReportsClosing start ran (E.parts engine.new) transcript.new
-        before (with_drained drained (K.taken sink.new)) result }
+    ensures closed { (start : Start) (ran : List (List Call)) (before : Option (List ℕ)) →
+        HasReported start ran (E.parts engine.old) transcript.old before (K.taken sink.old) →
+        ReportsClosing start ran (E.parts engine.new) transcript.new before (K.taken sink.new) result }
     ensures between { OnOk result (IsBetweenBatches (E.parts engine.new) transcript.new) }
-    ensures grows { (bytes : List ℕ) × Appends (K.taken sink.old) (K.taken sink.new) bytes }
     ensures stops { IfErr result (λ e.
         IsMachineFault line e × IfOfThread e (HasAnswered X.Fn executor.now ExecFault.Spawn)) }
     ensures fails { K.broken sink.new ≡ (K.broken sink.old || ends_in_io result) }
@@ -71,29 +69,26 @@ pub fn run_closing_batches<
 /// Writes the end line, after the report of each batch. The line is the last one read.
 pub fn finish<E: BatchEngine, K: Sink>(
     alloc: Global,
-    engine: &E,
+    engine: &mut E,
     transcript: Transcript,
     sink: &mut K,
     line: u64,
 ) -> Result<u64, RunFault>
-    requires idle { is_busy (E.parts engine.now) ≡ false }
-    requires digest { KeepsDigest (E.parts engine.now) transcript }
-    ensures count { IfOk result (λ n. n ≡ (E.parts engine.now).next) }
+    requires idle { is_busy (E.parts engine.old) ≡ false }
+    requires digest { KeepsDigest (E.parts engine.old) transcript }
+    ensures count { IfOk result (λ n. n ≡ (E.parts engine.old).next) }
     ensures text { (m : List ℕ) → Holds256 (said_of transcript) m →
         OnOk result (Appends (K.taken sink.old) (K.taken sink.new)
-        (end_line (E.parts engine.now).next
-        (digest (digested_text (form_of transcript) (tables_of (E.parts engine.now)) (E.parts engine.now).rows))
-        (digest m))) }
+        (end_line (E.parts engine.old).next (digest_of_rows (form_of transcript) (E.parts engine.old)) (digest m))) }
     ensures front { (m : List ℕ) → Holds256 (said_of transcript) m → AppendsFront (K.taken sink.old) (K.taken sink.new)
-        (end_line (E.parts engine.now).next
-        (digest (digested_text (form_of transcript) (tables_of (E.parts engine.now)) (E.parts engine.now).rows))
-        (digest m)) }
+        (end_line (E.parts engine.old).next (digest_of_rows (form_of transcript) (E.parts engine.old)) (digest m)) }
     ensures stops { IfErr result (IsMachineFault line) }
     ensures threadless { IsNotOfThread result }
     ensures fails { K.broken sink.new ≡ (K.broken sink.old || ends_in_io result) }
+    ensures same { engine.new ≡ engine.old }
 {
     let count = engine.core().transactions();
-    match transcript.write_last(alloc, sink, engine.core().rows(), count) {
+    match transcript.write_last(alloc, sink, engine, count) {
         Ok(()) => Ok(count),
         Err(kind) => Err(RunFault::at(kind, line)),
     }

@@ -37,7 +37,7 @@ mod telling;
 mod transcript;
 
 pub use batch::run_batch;
-pub use closing::{finish, run_closing_batches};
+pub use closing::finish;
 pub use executing::{engine_on, run_text};
 pub use laws::engine_goes_on_as_the_serial_run;
 pub use leaving::let_go;

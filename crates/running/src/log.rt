@@ -1,6 +1,6 @@
 //! Running a log: from its bytes to the bytes of its report.
 
-ghost use Rattle.std.specs.Prelude.{◌≡◌, [], IfErr, IfSome, OnOk, false, true};
+ghost use Rattle.std.specs.Prelude.{◌≡◌, ◌≤◌, [], IfErr, IfSome, OnOk, false, true};
 ghost use Rattle.batch_log.specs.Reader.{failed_in, has_ended, left_in, origin_of, source_of, unread, IsUnread};
 ghost use Rattle.engine.specs.Engines.{is_busy};
 ghost use Rattle.running.specs.EngineRuns.{IsFresh};
@@ -9,8 +9,7 @@ ghost use Rattle.running.specs.Executors.{core_of, Executes, HasAnswered};
 ghost use Rattle.running.specs.Followed.{LeavesBetween};
 ghost use Rattle.running.specs.Reports.{rows_after};
 ghost use Rattle.running.specs.Runs.{IsRunOfLog, RunsLog, device_with};
-ghost use Rattle.running.specs.Standings.{IsUnused};
-ghost use Rattle.running.specs.Starts.{start_in, start_of};
+ghost use Rattle.running.specs.Starts.{start_in, start_on};
 ghost use Rattle.running.specs.Stops.{IfOfThread};
 
 use crate::batch::run_batch;
@@ -28,7 +27,8 @@ use std::sync::Wait;
 /// Does nothing. An engine that has run no transaction carries no request, and tries one again at most twice.
 fn observe_unused(engine: &Engine)
     requires fresh { IsFresh engine.now.core }
-    ensures { IsUnused engine.now.core }
+    ensures none { engine.now.core.carried ≡ [] }
+    ensures few { engine.now.core.retries ≤ 2 }
 {
     let carried = engine.carried();
     let _retries = engine.retries();
@@ -56,7 +56,7 @@ pub(crate) fn run_reader<
     requires executes { Executes core_of X.Fn executor.now }
     requires fresh { IsFresh engine.old.core }
     requires unread { IsUnread engine.old.core.retries reader.old }
-    ensures run { IsRunOfLog (start_of engine.old.core form)
+    ensures run { IsRunOfLog (start_on engine.old.core form)
         (device_with (unread S.left reader.old) (failed_in S.failed reader.old))
         (device_with (left_in S.left reader.new) (failed_in S.failed reader.new))
         (device_with (K.taken sink.old) (K.broken sink.old))
@@ -67,9 +67,9 @@ pub(crate) fn run_reader<
     // After a whole run the engine holds no batch, and its rows are those that the log leaves.
     ensures ended { OnOk result (is_busy engine.new.core ≡ false) }
     ensures rows { OnOk result (IfSome (unread S.left reader.old) (λ log.
-        engine.new.core.rows ≡ rows_after (start_of engine.old.core form) log)) }
+        engine.new.core.rows ≡ rows_after (start_on engine.old.core form) log)) }
     // After the end of a feed it holds none either, and has run those that are reported.
-    ensures followed { has_ended reader.new ≡ true → LeavesBetween (start_of engine.old.core form)
+    ensures followed { has_ended reader.new ≡ true → LeavesBetween (start_on engine.old.core form)
         (unread S.left reader.old) (left_in S.left reader.new) (K.taken sink.old) (K.taken sink.new) engine.new.core }
     // A feed ends once all that had come is read.
     ensures feed { has_ended reader.new ≡ true → IfSome (S.left (source_of reader.new)) (λ bytes. bytes ≡ []) }

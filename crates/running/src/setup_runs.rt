@@ -30,7 +30,7 @@ pub struct RunOptions {
     pub feed: bool,
     /// How the lines follow one another that tell how far the run is, where it is asked for any.
     pub lines: Option<Lines>,
-    /// The workers and lanes, and how many rows a call locks one by one.
+    /// How many workers, lanes and lock requests there are, and how many entries below one parent are locked apart.
     pub settings: Settings,
     /// The process ends after the run, so the memory of its rows is left to the system.
     pub process_ends: bool,

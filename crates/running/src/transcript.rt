@@ -1,7 +1,6 @@
 //! The report of a run, as it is written.
 
 ghost use Rattle.std.specs.Prelude.{◌≡◌, ◌||◌, List, ℕ, [], Some, None, IfOk, IfErr, IfSome, OnErr, OnOk, string_bytes, false};
-ghost use Rattle.std.specs.FinMap as map_of;
 ghost use Rattle.std.specs.Io.KnownBytes.{Appends};
 ghost use Rattle.sha2.specs.Hashers.{Holds256};
 ghost use Rattle.devices.specs.Devices.{AppendsFront};
@@ -13,15 +12,14 @@ ghost use Rattle.row_text.specs.Partitions.{digested_text};
 ghost use Rattle.row_text.specs.Texts.{digest};
 ghost use Rattle.report_text.specs.Texts.{end_line};
 ghost use Rattle.meaning.specs.Outcomes.{is_commit};
-ghost use Rattle.running.specs.Transcripts.{has_commit, said_lines, with_batch_line, write_failed};
-ghost use Rattle.running.specs.Transcripts.{AreRowsAfter, IsOfMachine};
+ghost use Rattle.running.specs.Transcripts.{digest_of_rows, has_commit, said_lines, with_batch_line, write_failed};
+ghost use Rattle.running.specs.Transcripts.{KeepsDigestAfter, IsOfMachine};
 
 use batch_log::{LogFaultKind, Sink, write_all};
 use engine::{BatchEngine, Reply};
 use meaning::Outcome;
 use report_text::{push_batch_line, push_end_line, push_reply_line};
-use row_store::{RowStore, all_is_free_with_nothing_lent};
-use row_text::{DigestForm, digest_of, digest_text, rows_digest};
+use row_text::{DigestForm, digest_of, digest_text};
 use sha2::{Digest, Sha256};
 use std::alloc::{AllocError, Global};
 
@@ -49,35 +47,6 @@ fn reply_lines(alloc: Global, replies: &[Reply]) -> Result<String, AllocError>
     Ok(lines)
 }
 
-/// The digest of all rows, in that form.
-fn digest_of_rows(alloc: Global, rows: &RowStore, form: DigestForm) -> Result<String, AllocError>
-    requires { rows.now.lent ≡ map_of.empty }
-    ensures { IfOk result (λ text.
-        string_bytes text ≡ digest (digested_text form rows.now.tables rows.now.rows)) }
-{
-    all_is_free_with_nothing_lent();
-    rows_digest(alloc, rows.catalogue(), rows, form)
-}
-
-/// The digest that was kept, or else that of the rows, in that form.
-fn kept_or_made(
-    alloc: Global,
-    kept: Option<String>,
-    rows: &RowStore,
-    form: DigestForm,
-) -> Result<String, AllocError>
-    requires unlent { rows.now.lent ≡ map_of.empty }
-    requires kept { IfSome kept (λ text.
-        string_bytes text ≡ digest (digested_text form rows.now.tables rows.now.rows)) }
-    ensures { IfOk result (λ text.
-        string_bytes text ≡ digest (digested_text form rows.now.tables rows.now.rows)) }
-{
-    match kept {
-        Some(text) => Ok(text),
-        None => digest_of_rows(alloc, rows, form),
-    }
-}
-
 fn is_commit(reply: &Reply) -> bool
     ensures { result ≡ is_commit reply.now.outcome }
 {
@@ -98,10 +67,8 @@ fn kept_or_told<E: BatchEngine>(
     form: DigestForm,
 ) -> Result<String, AllocError>
     requires idle { is_busy (E.parts engine.old) ≡ false }
-    requires kept { IfSome kept (λ text.
-        string_bytes text ≡ digest (digested_text form (tables_of (E.parts engine.old)) (E.parts engine.old).rows)) }
-    ensures digest { IfOk result (λ text.
-        string_bytes text ≡ digest (digested_text form (tables_of (E.parts engine.old)) (E.parts engine.old).rows)) }
+    requires kept { IfSome kept (λ text. string_bytes text ≡ digest_of_rows form (E.parts engine.old)) }
+    ensures digest { IfOk result (λ text. string_bytes text ≡ digest_of_rows form (E.parts engine.old)) }
     ensures same { engine.new ≡ engine.old }
 {
     match kept {
@@ -148,7 +115,7 @@ fn write_text<K: Sink>(sink: &mut K, text: &str) -> Result<(), LogFaultKind>
 }
 
 impl Transcript {
-    ghost use Rattle.running.specs.Batches.{IsWritten};
+    ghost use Rattle.running.specs.Batches.{IsWritten, KeepsDigest};
     ghost use Rattle.running.specs.Hashers.{batch_of, form_of, rows_digest_of, said_of};
 
     /// Nothing was reported. Digests are to be of that text of the rows.
@@ -184,7 +151,7 @@ impl Transcript {
         engine: &mut E,
         replies: &[Reply],
     ) -> Result<(), LogFaultKind>
-        requires { AreRowsAfter (form_of self.old) replies.now (rows_digest_of self.old) (E.parts engine.old) }
+        requires { KeepsDigestAfter (form_of self.old) replies.now (rows_digest_of self.old) (E.parts engine.old) }
         ensures written { OnOk result
             (IsWritten (E.parts engine.old) replies.now self.old self.new (K.taken sink.old) (K.taken sink.new)) }
         ensures front { AppendsFront (K.taken sink.old) (K.taken sink.new)
@@ -219,24 +186,24 @@ impl Transcript {
 
     /// Writes the end line, for `count` transactions, over the rows that the last batch left, if there was one: their
     /// digest is then the one in its batch line, and is not made anew.
-    pub(crate) fn write_last<K: Sink>(
+    pub(crate) fn write_last<E: BatchEngine, K: Sink>(
         self,
         alloc: Global,
         sink: &mut K,
-        rows: &RowStore,
+        engine: &mut E,
         count: u64,
     ) -> Result<(), LogFaultKind>
-        requires unlent { rows.now.lent ≡ map_of.empty }
-        requires kept { IfSome (rows_digest_of self) (λ text.
-            text ≡ digest (digested_text (form_of self) rows.now.tables rows.now.rows)) }
+        requires idle { is_busy (E.parts engine.old) ≡ false }
+        requires kept { KeepsDigest (E.parts engine.old) self }
         ensures text { (m : List ℕ) → Holds256 (said_of self) m →
             OnOk result (Appends (K.taken sink.old) (K.taken sink.new)
-            (end_line count (digest (digested_text (form_of self) rows.now.tables rows.now.rows)) (digest m))) }
+            (end_line count (digest_of_rows (form_of self) (E.parts engine.old)) (digest m))) }
         ensures front { (m : List ℕ) → Holds256 (said_of self) m →
             AppendsFront (K.taken sink.old) (K.taken sink.new)
-            (end_line count (digest (digested_text (form_of self) rows.now.tables rows.now.rows)) (digest m)) }
+            (end_line count (digest_of_rows (form_of self) (E.parts engine.old)) (digest m)) }
         ensures kind { IfErr result IsOfMachine }
         ensures fails { K.broken sink.new ≡ (K.broken sink.old || write_failed result) }
+        ensures same { engine.new ≡ engine.old }
     {
         let Transcript {
             batch: _,
@@ -244,7 +211,7 @@ impl Transcript {
             rows: kept,
             form,
         } = self;
-        let Ok(rows) = kept_or_made(alloc, kept, rows, form) else {
+        let Ok(rows) = kept_or_told(kept, engine, form) else {
             return Err(LogFaultKind::Memory);
         };
         let Ok(text) = end_text(alloc, count, &rows, said) else {

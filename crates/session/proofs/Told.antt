@@ -2,7 +2,6 @@
 use Rattle.std.proofs.Common.{◌≡◌, ℕ, ◌+◌, List, [], ◌∷◌, ◌++◌, append_assoc, append-nil, map, Option, None, Some, is_some, IsSome, option_map, option_to_list, unwrap_or, Result, Ok, Err, OnOk, OnErr, refl, sym, ◌∙◌, ap, subst}
 use Rattle.std.specs.List.{zip}
 use Rattle.requests.specs.Requests.{Call}
-use Rattle.values.specs.Database.{Database}
 use Rattle.meaning.specs.Entries as meant
 use Rattle.meaning.specs.Entries.{EntryShape}
 use Rattle.meaning.specs.Serial.{serial_replies}
@@ -10,12 +9,9 @@ use Rattle.batch_log.specs.declared.fault.LogFault.{LogFault}
 use Rattle.batch_log.specs.Log.{batches_of}
 use Rattle.batch_log.specs.Places.{IsAt, IsFaulty, IsWhole, Place}
 use Rattle.sequencer.specs.Attempts.{first_of, numbered_from, Attempt, Earlier}
-use Rattle.sequencer.specs.Entries.{prepared}
-use Rattle.report_text.specs.Report.{entries_in}
-use Rattle.retries.specs.Standings.{after_batch, after_batches, attempts_at, closed, replies_at, start_of, transaction_of, Standing}
+use Rattle.retries.specs.Standings.{after_batch, after_batches, attempts_at, closed, replies_at, start_of, Standing}
 use Rattle.engine.specs.declared.replies.BatchDone.{BatchDone}
 use Rattle.engine.specs.declared.replies.Reply.{Reply as EngineReply}
-use Rattle.engine.specs.Batches.{entries_of}
 use Rattle.engine.specs.Engines.{EngineParts}
 use Rattle.engine.specs.Executions.{IsExecutionOf}
 use Rattle.engine.specs.Replies.{first_attempt, reply_of, sent_from, sent_of, Sent}
@@ -24,6 +20,7 @@ use Rattle.running.specs.Reports.{calls_in_turn, fault_in, whole_log}
 use Rattle.running.specs.Standings.{standing_of}
 use Rattle.running.specs.Starts.{Start}
 use Rattle.running.specs.Stopped.{standing_after}
+use Rattle.running.proofs.ReplyLines.{entries_are}
 use Rattle.running.proofs.SoFar.{calls_are}
 use Rattle.session.specs.declared.replies.Replies.{Replies}
 use Rattle.session.specs.declared.replies.Reply.{Reply}
@@ -63,10 +60,6 @@ told_as n (r ∷ rs) (a ∷ as_) (p ∷ ps) e f =
     let rest : map numbered rs ≡ map reply_to (zip (numbered_from (n + 1) as_) ps) = told_as (n + 1) rs as_ ps sent replied in
     ap (λ (x : NumberedReply). x ∷ map numbered rs) (one_is n a r p (ap (λ (s : Sent). s.transaction) head) (ap (λ (s : Sent). s.of) head) reply)
     ∙ ap (λ (xs : List NumberedReply). reply_to (record { no = n; attempt = a }, p) ∷ xs) rest
-
-entries_are : (db : Database) (attempts : List Attempt) → entries_of db attempts ≡ entries_in (map (transaction_of db) attempts)
-entries_are db [] = refl
-entries_are db (a ∷ attempts) = ap (λ rest. prepared db a.request ∷ rest) (entries_are db attempts)
 
 -- the replies of a batch that was executed
 pub batch_told : (old new : EngineParts) (calls : List Call) (run : BatchDone) → IsExecutionOf old new (attempts_at (standing_of old) calls) run → map numbered run.replies.items ≡ batch_replies (standing_of old) calls

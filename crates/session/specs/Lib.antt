@@ -1,3 +1,4 @@
+pub mod Pieces
 pub mod Reports
 pub mod Writes
 pub mod Replies

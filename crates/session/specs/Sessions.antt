@@ -6,6 +6,7 @@ use Rattle.values.specs.Database.{Database}
 use Rattle.batch_log.specs.declared.fault.LogFault.{LogFault}
 use Rattle.row_text.specs.declared.form.DigestForm.{DigestForm}
 use Rattle.engine.specs.Engines as engines
+use Rattle.engine.specs.Executions.{KeepsSetting}
 use Rattle.running.specs.Hashers as reports
 use Rattle.running.specs.Starts.{Start}
 use Rattle.session.specs.declared.session.Session.{Session}
@@ -40,6 +41,10 @@ tables_of session = engines.tables_of session.work.engine
 -- of which text of the rows digests are
 abbrev pub form_of : Session → DigestForm
 form_of session = reports.form_of session.work.transcript
+
+-- its procedures and their tables, its settings and its retries stay, and so does the form of digests
+abbrev pub KeepsSetup : Session → Session → Type 0
+KeepsSetup old new = KeepsSetting old.work.engine new.work.engine × (form_of new ≡ form_of old)
 
 -- the rows, their tables, and of which text of them digests are: what calls about the rows tell of
 pub record Stock : Type 0 where

@@ -23,6 +23,7 @@
 #![tactic(auto)]
 
 mod call;
+mod pieces;
 mod replies;
 mod report;
 mod rows;
@@ -30,6 +31,7 @@ mod session;
 mod work;
 
 pub use call::CallFault;
+pub use pieces::Pieces;
 pub use replies::Reply;
 pub use rows::RowsFault;
 pub use session::{Session, SessionFault};

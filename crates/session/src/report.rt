@@ -2,18 +2,16 @@
 
 ghost use Rattle.std.specs.Prelude.{◌≡◌, ◌++◌, ◌≤◌, [], length, drop, min, take};
 
+use crate::pieces::Pieces;
 use batch_log::{DeviceFailed, Sink};
 use std::alloc::Global;
 
 /// The report bytes that were written and not yet taken.
 #[derive(Drop)]
 pub(crate) struct Report {
-    bytes: Vec<u8>,
-    // How many of them were taken.
-    taken: usize,
+    bytes: Pieces,
     // A write wanted memory.
     failed: bool,
-    ghost in_bounds: { taken ≤ length bytes.items },
 }
 
 impl Report {
@@ -24,8 +22,7 @@ impl Report {
         ensures { waiting_in result ≡ [] }
     {
         Report {
-            bytes: Vec::new(alloc),
-            taken: 0,
+            bytes: Pieces::new(Vec::new(alloc)),
             failed: false,
         }
     }
@@ -34,7 +31,7 @@ impl Report {
     pub(crate) fn waiting(&self) -> usize
         ensures { result ≡ length (waiting_in self.now) }
     {
-        self.bytes.len() - self.taken
+        self.bytes.waiting()
     }
 
     /// Moves bytes that wait to the front of `into`, as many as there are or as fit, and answers how many.
@@ -45,14 +42,7 @@ impl Report {
         ensures moved { waiting_in self.old ≡ take result into.new ++ waiting_in self.new }
         ensures rest { drop result into.new ≡ drop result into.old }
     {
-        let count = self.waiting().min(into.len());
-        into[..count].copy_from_slice(&self.bytes[self.taken..self.taken + count]);
-        self.taken += count;
-        if self.taken == self.bytes.len() {
-            self.bytes.clear();
-            self.taken = 0;
-        }
-        count
+        self.bytes.drain(into)
     }
 }
 
@@ -65,7 +55,7 @@ impl Sink for Report {
     ghost broken = { λ r. has_failed r };
 
     fn write(&mut self, piece: &[u8]) -> Result<usize, DeviceFailed> {
-        if self.bytes.extend_from_slice(piece).is_err() {
+        if self.bytes.extend(piece).is_err() {
             self.failed = true;
             return Err(DeviceFailed);
         }

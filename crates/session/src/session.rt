@@ -51,7 +51,7 @@ pub struct Session {
 
 impl Session {
     ghost use Rattle.session.specs.Calls.{at_line_of, call_said, cut_line, stop_at_cut, Answers, HasStopped};
-    ghost use Rattle.session.specs.Sessions.{form_of, kept_of, stock_of, stop_at_end, stop_in, stop_of, tables_of, waiting_of, EndsInFault, EndsWhole, FaultsOn, HasTaken, KeepsWaiting, KeepsWaitingAtEnd, TakesOn};
+    ghost use Rattle.session.specs.Sessions.{kept_of, stock_of, stop_at_end, stop_in, stop_of, waiting_of, EndsInFault, EndsWhole, FaultsOn, HasTaken, KeepsSetup, KeepsWaiting, KeepsWaitingAtEnd, TakesOn};
 
     /// A run on a setup document, of whose log nothing was fed. No reply is kept.
     pub fn new(
@@ -173,7 +173,7 @@ impl Session {
         ensures kept { KeepsWaitingAtEnd self.old self.new }
         // Replies that waited wait still.
         ensures replies { KeepsReplies (kept_of self.old) (kept_of self.new) }
-        ensures setting { (tables_of self.new ≡ tables_of self.old) × (form_of self.new ≡ form_of self.old) }
+        ensures setup { KeepsSetup self.old self.new }
         ensures stops { IsSome (stop_of self.new) }
         ensures over { stop_of self.old ≡ None → stop_of self.new ≡ stop_at_end result }
         ensures again { IfSome (stop_of self.old) (λ fault. (result ≡ Err fault) × (self.new ≡ self.old)) }

@@ -272,7 +272,7 @@ impl Work {
         let form = self.transcript.form();
         let transcript = mem::replace(&mut self.transcript, Transcript::new(form));
         let line = self.feed.lines();
-        match finish(alloc, &self.engine, transcript, &mut self.report, line) {
+        match finish(alloc, &mut self.engine, transcript, &mut self.report, line) {
             Ok(count) => Ok(count),
             Err(_) => Err(no_memory(line)),
         }

@@ -13,7 +13,7 @@ use Rattle.setup.specs.Setups.{SetupParts, SetupShape}
 use Rattle.setup.proofs.SaidRows.{rows_read}
 use Rattle.setup.proofs.SaidSetups.{form_again}
 
-some_is : {X : Type 0} (x y : X) → Some x ≡ Some y → x ≡ y
+pub some_is : {X : Type 0} (x y : X) → Some x ≡ Some y → x ≡ y
 some_is x y e = cc
 
 ok_is : (x y : List RowAt) → ◌≡◌ {A = Result (List RowAt) SetupFault} (Ok x) (Ok y) → x ≡ y
@@ -23,7 +23,8 @@ same_shape : (ts us : List TableShape) (ps qs : List ProcSyntax) (rows others : 
     → ◌≡◌ {A = SetupShape} (record { tables = ts; procs = ps; rows = rows; retries = m; digest = a }) (record { tables = us; procs = qs; rows = others; retries = n; digest = b })
 same_shape ts us ps qs rows others m n a b e f g h i = rw (e, f, g, h, i) refl
 
-one_document : OneCatalogueIsSaid → OneListOfProceduresIsSaid → (d : Data) (s t : SetupShape) → SaysDocument d s → SaysDocument d t → s ≡ t
+-- a document says one setup
+pub one_document : OneCatalogueIsSaid → OneListOfProceduresIsSaid → (d : Data) (s t : SetupShape) → SaysDocument d s → SaysDocument d t → s ≡ t
 one_document one_catalogue one_list d s t a b =
     let forms : a.form ≡ b.form = some_is a.form b.form (sym (form_again d a.form a.is_form) ∙ form_again d b.form b.is_form) in
     let tables : s.tables ≡ t.tables = one_catalogue a.form.catalogue s.tables t.tables a.catalogue a.is_catalogue

@@ -18,8 +18,8 @@ use Rattle.setup.specs.Faults.{is_memory}
 use Rattle.setup.specs.FirstFault.{InDocument, BreaksFirst}
 use Rattle.setup.specs.Rows.{RowAt}
 use Rattle.setup.specs.Says.{IsJson, IsNotJson, SaysDocument, SaysRows, SaysSetup, SpellsSetup}
-use Rattle.setup.specs.Setups.{SetupParts, SetupShape, setup_at, setup_said, setup_view}
-use Rattle.setup.specs.WithRows.{with_rows_document, json_said, setup_with_rows_said, SaysSetupWithRows, BreaksFirstWithRows}
+use Rattle.setup.specs.Setups.{SetupParts, SetupShape, json_said, setup_at, setup_said, setup_view}
+use Rattle.setup.specs.WithRows.{with_rows_document, setup_with_rows_said, SaysSetupWithRows, BreaksFirstWithRows}
 
 -- ---- the document of a text
 
@@ -43,19 +43,6 @@ not_both : {B : Type 0} (text : List ℕ) (d : Data) → IsNotJson text → IsJs
 not_both text d (inl e) h = absurd (let g = sym h.utf8 ∙ e in cc)
 not_both text d (inr e) h = absurd (let g = sym h.json ∙ e in cc)
 
-text_said : (text : List ℕ) (d : Data) → IsJson text d → setup_said text ≡ setup_at d
-unfolding setup_said
-text_said text d h = rw (h.utf8, h.json) refl
-
-no_text_said : (text : List ℕ) → IsNotJson text → setup_said text ≡ Err NotJson
-unfolding setup_said
-no_text_said text (inl e) = rw e refl
-no_text_said text (inr e) = by (is_utf8 text) refl
-  where
-    by : (b : Bool) → is_utf8 text ≡ b → setup_said text ≡ Err NotJson
-    by true p = rw (p, e) refl
-    by false p = rw p refl
-
 json_is : (text : List ℕ) (d : Data) → IsJson text d → json_said text ≡ Some d
 unfolding json_said
 json_is text d h = rw (h.utf8, h.json) refl
@@ -68,6 +55,14 @@ no_json text (inr e) = by (is_utf8 text) refl
     by : (b : Bool) → is_utf8 text ≡ b → json_said text ≡ None
     by true p = rw (p, e) refl
     by false p = rw p refl
+
+text_said : (text : List ℕ) (d : Data) → IsJson text d → setup_said text ≡ setup_at d
+unfolding setup_said
+text_said text d h = rw (json_is text d h) refl
+
+no_text_said : (text : List ℕ) → IsNotJson text → setup_said text ≡ Err NotJson
+unfolding setup_said
+no_text_said text h = rw (no_json text h) refl
 
 -- what is known of a text that was refused
 abbrev pub IsRefused : List ℕ → SetupFault → Type 0

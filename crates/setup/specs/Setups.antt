@@ -6,6 +6,7 @@ use Rattle.std.specs.Str.{bytes_eq, is_utf8}
 use Rattle.serde_json.specs.Data.{Data}
 use Rattle.serde_json.specs.Find.{as_str}
 use Rattle.serde_json.specs.Read.{read}
+use Rattle.serde_json.specs.View.{view}
 use Rattle.documents.specs.Json.{elements, five, six, integer, is_one}
 use Rattle.documents.specs.Reading.{◌>>=◌, formed}
 use Rattle.catalogue.specs.Shapes.{TableShape}
@@ -17,6 +18,7 @@ use Rattle.setup.specs.declared.fault.SetupFault.{SetupFault}
 use Rattle.setup.specs.declared.fault.SetupFault.TheVariants.{NotJson, Shape, Catalogue, Procedure}
 use Rattle.row_text.specs.declared.form.DigestForm.{DigestForm}
 use Rattle.row_text.specs.declared.form.DigestForm.TheVariants.{Rows, Partitions}
+use Rattle.setup.specs.declared.form.Parts.{Parts}
 use Rattle.setup.specs.declared.document.SetupDocument.{SetupDocument}
 use Rattle.setup.specs.Rows.{RowAt, rows_at}
 
@@ -27,6 +29,16 @@ pub record SetupParts : Type 0 where
   pub rows : Data
   pub retries : ℕ
   pub digest : DigestForm
+
+-- what the parts of the code's documents say
+abbrev pub parts_view : Parts → SetupParts
+parts_view parts = record {
+  catalogue = view parts.catalogue.now;
+  procs = view parts.procs.now;
+  rows = view parts.rows.now;
+  retries = parts.retries;
+  digest = parts.digest;
+}
 
 -- what comes after the head word and the version 1: nothing is tried again, and digests are of row texts
 abbrev pub first_parts : Data × Data × Data × Data × Data → Option SetupParts
@@ -128,14 +140,13 @@ setup_at d = do
   rows ← rows_at tables form.rows
   Ok (record { tables = tables; procs = procs; rows = rows; retries = form.retries; digest = form.digest })
 
--- the setup that a document says, if there is one, or the first fault
-abbrev pub document_said : Option Data → Result SetupShape SetupFault
-document_said None = Err NotJson
-document_said (Some d) = setup_at d
+-- the document that a text is, where it is UTF-8 and JSON
+unfoldable pub json_said : List ℕ → Option Data
+json_said text = if is_utf8 text then read text else None
 
 -- the setup that a text says, or its first fault
 unfoldable pub setup_said : List ℕ → Result SetupShape SetupFault
-setup_said text = if is_utf8 text then document_said (read text) else Err NotJson
+setup_said text = formed NotJson (json_said text) >>= setup_at
 
 -- what a setup document of the code means
 abbrev pub setup_view : SetupDocument → SetupShape

@@ -1,9 +1,7 @@
 -- Claimed: what contracts promise to a reader rests on these words.
 -- A setup document whose starting rows another document says.
-use Rattle.std.specs.Prelude.{◌≡◌, ◌⊎◌, ℕ, List, Option, None, Result, slice_set, if◌then◌else◌}
-use Rattle.std.specs.Str.{is_utf8}
+use Rattle.std.specs.Prelude.{◌≡◌, ◌⊎◌, ℕ, List, Result, slice_set}
 use Rattle.serde_json.specs.Data.{Data, array}
-use Rattle.serde_json.specs.Read.{read}
 use Rattle.serde_json.specs.View.{items_of}
 use Rattle.documents.specs.Json.{list_of}
 use Rattle.documents.specs.Reading.{◌>>=◌, formed}
@@ -11,7 +9,7 @@ use Rattle.setup.specs.declared.fault.SetupFault.{SetupFault}
 use Rattle.setup.specs.declared.fault.SetupFault.TheVariants.{NotJson}
 use Rattle.setup.specs.FirstFault.{InDocument}
 use Rattle.setup.specs.Says.{IsJson, IsNotJson, SaysDocument}
-use Rattle.setup.specs.Setups.{SetupShape, setup_at}
+use Rattle.setup.specs.Setups.{SetupShape, json_said, setup_at}
 
 -- an array with other rows as its fifth element; a shorter array, or what is no array, is itself
 abbrev pub with_rows_document : Data → Data → Data
@@ -38,10 +36,6 @@ pub record InDocumentWithRows (text rows : List ℕ) (fault : SetupFault) : Type
 abbrev pub BreaksFirstWithRows : List ℕ → List ℕ → SetupFault → Type 0
 BreaksFirstWithRows text rows fault =
     ((fault ≡ NotJson) × (IsNotJson text ⊎ IsNotJson rows)) ⊎ InDocumentWithRows text rows fault
-
--- the document that a text is, where it is UTF-8 and JSON
-unfoldable pub json_said : List ℕ → Option Data
-json_said text = if is_utf8 text then read text else None
 
 -- the setup that a text says with the rows that another text says, or the first fault
 unfoldable pub setup_with_rows_said : List ℕ → List ℕ → Result SetupShape SetupFault

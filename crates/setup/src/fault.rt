@@ -1,6 +1,7 @@
 //! Why a setup could not be read.
 
 ghost use Rattle.std.specs.Prelude.{◌≡◌};
+ghost use Rattle.setup.specs.Faults.{is_memory};
 ghost use Rattle.setup.specs.declared.fault.SetupFault.TheVariants.{Memory, Catalogue, Procedure};
 
 use catalogue::CatalogueFault;
@@ -39,6 +40,20 @@ pub enum SetupFault {
     /// The procedures break a rule, or allocation failed while they were read.
     #[error("{0}")]
     Procedure(ProcFault),
+}
+
+impl SetupFault {
+    /// Whether allocation failed: of the setup itself, of its catalogue or of its procedures.
+    pub fn is_memory(&self) -> bool
+        ensures { result ≡ is_memory self.now }
+    {
+        matches!(
+            self,
+            SetupFault::Memory
+                | SetupFault::Catalogue(CatalogueFault::Memory)
+                | SetupFault::Procedure(ProcFault::Memory)
+        )
+    }
 }
 
 impl From<NoMemory> for SetupFault {

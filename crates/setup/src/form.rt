@@ -3,34 +3,43 @@
 ghost use Rattle.std.specs.Prelude.{◌≡◌, ◌≤◌, option_map, option_and_then, IfSome};
 ghost use Rattle.serde_json.specs.View.{view};
 ghost use Rattle.documents.specs.Json.{elements, five, six};
-ghost use Rattle.setup.specs.Setups.{setup_form, first_parts, second_parts, third_parts, form_named, retries_of, seven};
+ghost use Rattle.setup.specs.Setups.{setup_form, first_parts, second_parts, third_parts, parts_view, form_named, retries_of, seven};
 
 use documents::{elements, five, six};
 use row_text::DigestForm;
 use serde_json::Value;
 
-/// The documents of the catalogue, of the procedures and of the rows, how often a stale request is tried again, and of
-/// which text of the rows digests are.
-type Parts<'a> = (&'a Value, &'a Value, &'a Value, u8, DigestForm);
+/// The parts of a setup's document, before they are read.
+#[derive(Clone, Copy)]
+pub(crate) struct Parts<'a> {
+    /// The document of the catalogue.
+    pub catalogue: &'a Value,
+    /// The document of the procedures.
+    pub procs: &'a Value,
+    /// The document of the rows.
+    pub rows: &'a Value,
+    /// How often a stale request is tried again.
+    pub retries: u8,
+    /// Of which text of the rows digests are.
+    pub digest: DigestForm,
+}
 
 /// The parts of a document `["setup", 1, CATALOGUE, PROCEDURES, ROWS]`: nothing is tried again, and digests are of row
 /// texts.
 fn first_parts<'a>(document: &'a Value) -> Option<Parts<'a>>
-    ensures form { option_map
-        (λ p. record {
-          catalogue = view p.0.now;
-          procs = view p.1.now;
-          rows = view p.2.now;
-          retries = p.3;
-          digest = p.4;
-        })
-        result
+    ensures form { option_map parts_view result
         ≡ option_and_then first_parts (option_and_then five (elements (view document.now))) }
-    ensures few { IfSome result (λ p. p.3 ≤ 2) }
+    ensures few { IfSome result (λ p. p.retries ≤ 2) }
 {
     let (word, version, catalogue, procs, rows) = five(document)?;
     if word.as_str()? == "setup" && version.as_i64()? == 1 {
-        Some((catalogue, procs, rows, 0, DigestForm::Rows))
+        Some(Parts {
+            catalogue,
+            procs,
+            rows,
+            retries: 0,
+            digest: DigestForm::Rows,
+        })
     } else {
         None
     }
@@ -51,24 +60,22 @@ fn retries_of(number: i64) -> Option<u8>
 
 /// The parts of a document `["setup", 2, CATALOGUE, PROCEDURES, ROWS, RETRIES]`: digests are of row texts.
 fn second_parts<'a>(document: &'a Value) -> Option<Parts<'a>>
-    ensures form { option_map
-        (λ p. record {
-          catalogue = view p.0.now;
-          procs = view p.1.now;
-          rows = view p.2.now;
-          retries = p.3;
-          digest = p.4;
-        })
-        result
+    ensures form { option_map parts_view result
         ≡ option_and_then second_parts (option_and_then six (elements (view document.now))) }
-    ensures few { IfSome result (λ p. p.3 ≤ 2) }
+    ensures few { IfSome result (λ p. p.retries ≤ 2) }
 {
     let (word, version, catalogue, procs, rows, number) = six(document)?;
     let word = word.as_str()?;
     let version = version.as_i64()?;
     let retries = retries_of(number.as_i64()?)?;
     if word == "setup" && version == 2 {
-        Some((catalogue, procs, rows, retries, DigestForm::Rows))
+        Some(Parts {
+            catalogue,
+            procs,
+            rows,
+            retries,
+            digest: DigestForm::Rows,
+        })
     } else {
         None
     }
@@ -105,17 +112,9 @@ fn form_named(name: &str) -> Option<DigestForm>
 
 /// The parts of a document `["setup", 3, CATALOGUE, PROCEDURES, ROWS, RETRIES, DIGEST]`.
 fn third_parts<'a>(document: &'a Value) -> Option<Parts<'a>>
-    ensures form { option_map
-        (λ p. record {
-          catalogue = view p.0.now;
-          procs = view p.1.now;
-          rows = view p.2.now;
-          retries = p.3;
-          digest = p.4;
-        })
-        result
+    ensures form { option_map parts_view result
         ≡ option_and_then third_parts (option_and_then seven (elements (view document.now))) }
-    ensures few { IfSome result (λ p. p.3 ≤ 2) }
+    ensures few { IfSome result (λ p. p.retries ≤ 2) }
 {
     let (word, version, catalogue, procs, rows, number, name) = seven(document)?;
     let word = word.as_str()?;
@@ -123,7 +122,13 @@ fn third_parts<'a>(document: &'a Value) -> Option<Parts<'a>>
     let retries = retries_of(number.as_i64()?)?;
     let digest = form_named(name.as_str()?)?;
     if word == "setup" && version == 3 {
-        Some((catalogue, procs, rows, retries, digest))
+        Some(Parts {
+            catalogue,
+            procs,
+            rows,
+            retries,
+            digest,
+        })
     } else {
         None
     }
@@ -133,17 +138,8 @@ fn third_parts<'a>(document: &'a Value) -> Option<Parts<'a>>
 /// The parts of a setup's document, of version 1, 2 or 3.
 #[tactic(auto, unfolding(crate::specs::Setups::setup_form))]
 pub(crate) fn setup_form<'a>(document: &'a Value) -> Option<Parts<'a>>
-    ensures form { option_map
-        (λ p. record {
-          catalogue = view p.0.now;
-          procs = view p.1.now;
-          rows = view p.2.now;
-          retries = p.3;
-          digest = p.4;
-        })
-        result
-        ≡ setup_form (view document.now) }
-    ensures few { IfSome result (λ p. p.3 ≤ 2) }
+    ensures form { option_map parts_view result ≡ setup_form (view document.now) }
+    ensures few { IfSome result (λ p. p.retries ≤ 2) }
 {
     if let Some(parts) = first_parts(document) {
         return Some(parts);

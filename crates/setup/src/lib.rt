@@ -12,7 +12,7 @@
 mod document;
 mod fault;
 mod form;
-pub mod laws;
+mod laws;
 mod names;
 mod reading;
 mod rows;

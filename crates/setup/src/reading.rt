@@ -31,17 +31,20 @@ fn read_document(alloc: Global, document: &Value) -> Result<SetupDocument, Setup
     ensures unbroken { OnOk result ((e : SetupFault) → InDocument (view document.now) e → ⊥) }
     ensures exact { Reads is_memory setup_view result (setup_at (view document.now)) }
 {
-    let (catalogue, procs, rows, retries, digest) = setup_form(document).ok_or(SetupFault::Shape)?;
-    let catalogue = Catalogue::read(alloc, catalogue)?;
-    let procs = read_procs(alloc, procs, &catalogue)?;
-    let rows = read_rows(alloc, &catalogue, rows)?;
+    let form = setup_form(document).ok_or(SetupFault::Shape)?;
+    let catalogue = Catalogue::read(alloc, form.catalogue)?;
+    let procs = read_procs(alloc, form.procs, &catalogue)?;
+    let rows = read_rows(alloc, &catalogue, form.rows)?;
     let setup = Setup {
         catalogue,
         procs,
         rows,
-        retries,
+        retries: form.retries,
     };
-    Ok(SetupDocument { setup, digest })
+    Ok(SetupDocument {
+        setup,
+        digest: form.digest,
+    })
 }
 
 /// The document that a text is.

@@ -1,2 +1,2 @@
-pub mod Below
+pub mod Less
 pub mod Firsts

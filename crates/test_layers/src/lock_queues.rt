@@ -49,7 +49,7 @@ fn some_plan(alloc: Global, chance: &mut Chance) -> Result<Plan, Fail> {
 }
 
 /// Enqueues a transaction in both.
-#[tactic(auto, using(crate::proofs::Below::below_next, crate::proofs::Below::below_end))]
+#[tactic(auto, using(crate::proofs::Less::next, crate::proofs::Less::appended))]
 fn add(
     rt: &impl Abort,
     alloc: Global,
@@ -70,7 +70,7 @@ fn add(
 }
 
 /// Marks, unmarks or releases a ready transaction in both.
-#[tactic(auto, using(lock_tree::proofs::Below::ready_there, crate::proofs::Below::below_marked, crate::proofs::Below::below_without))]
+#[tactic(auto, using(lock_tree::proofs::Below::ready_there, crate::proofs::Less::marked, crate::proofs::Less::removed))]
 fn change(tree: &mut LockTree, plain: &mut Plain, no: u64, kind: u64)
     ensures { (above : ℕ) → AreBelow above tree.old.waiting → AreBelow above tree.new.waiting }
 {

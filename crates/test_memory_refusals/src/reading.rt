@@ -2,8 +2,7 @@
 
 use crate::executing::runs_on;
 use calvin::{LogFaultKind, LogReader, ReadSource, SetupFault, read_setup};
-use catalogue::CatalogueFault;
-use proclang::{ProcFault, Request};
+use proclang::Request;
 use std::alloc::{AllocError, Global};
 use std::sync::Wait;
 use test_refusal_steps::{Answer, BANK, Refusal, bank, log_text};
@@ -23,12 +22,7 @@ pub(crate) fn try_setup<R: Wait + AllocGlobal>(rt: &R, refusal: &mut Refusal) ->
 
 /// What the fault of a setup says that has none.
 pub(crate) fn unread(fault: &SetupFault) -> Answer {
-    match fault {
-        SetupFault::Memory
-        | SetupFault::Catalogue(CatalogueFault::Memory)
-        | SetupFault::Procedure(ProcFault::Memory) => Answer::Refused,
-        _ => Answer::Wrong,
-    }
+    Answer::Refused.if_right(fault.is_memory())
 }
 
 /// Appends the line of a request.

@@ -20,7 +20,7 @@ use Rattle.running.specs.Standings.{standing_of}
 use Rattle.running.specs.Transcripts.{said_lines, with_batch_line}
 use Rattle.running.specs.Executors.{HasAnswered}
 use Rattle.running.proofs.Runs.{held_fault, told_of_thread}
-use Rattle.running.proofs.ReplyLines.{attempts_are, digest_of_rows, lines_are, standing_is, batch_text_is}
+use Rattle.running.proofs.ReplyLines.{attempts_are, keeps_digest, lines_are, standing_is, batch_text_is}
 use Rattle.running.proofs.Uncommitted.{rows_after}
 use Rattle.running.proofs.batch.run_batch.Goals as goal
 
@@ -52,7 +52,7 @@ returns-in-Ok-write_batch-clause-reported g c =
         batch = written.added.batch;
         said = λ m h. rw (← lines) (written.added.said m h);
         text = rw (← text) written.text;
-        digest_kept = digest_of_rows new c.write_batch.new.self _ _ _ written.rows c.in-Ok-write_batch.ensures.form refl refl;
+        digest_kept = keeps_digest new c.write_batch.new.self _ _ _ written.rows c.in-Ok-write_batch.ensures.form refl refl;
       },
       rw (attempts_are old c.in-Ok.batch requests items) at run,
     )

@@ -1,11 +1,10 @@
-use Rattle.std.proofs.Common.{◌≡◌, ℕ, ◌+◌, ◌-◌, ◌∙◌, ◌++◌, ◌≤◌, ◌<◌, [], length, refl, sym, arith, ap, subst}
+use Rattle.std.proofs.Common.{◌≡◌, ℕ, ◌+◌, ◌-◌, ◌∙◌, ◌≤◌, ◌<◌, length, refl, sym, arith, ap, subst}
 use Rattle.std.proofs.Math.Bridge.{le_prop}
 use Rattle.std.proofs.Math.Logic.{∥∥₁_elim, ∥∥₁_map}
-use Rattle.std.proofs.KnownBytes.{Appends-nil, Appends-trans}
 use Rattle.engine.specs.Engines.{EngineParts}
 use Rattle.running.specs.Reported.{IsAfterLog}
 use Rattle.running.specs.Standings.{standing_of}
-use Rattle.running.proofs.Closers.{AppendsFront-drained, HasClosed-cut, HasClosed-next, HasClosed-none, HasClosed-spent, HasClosed-uncarried, IsReported-drained}
+use Rattle.running.proofs.Closers.{HasClosed-cut, HasClosed-next, HasClosed-none, HasClosed-spent, HasClosed-uncarried}
 use Rattle.running.proofs.Reported.{room_after_log, IsAfterLog-next}
 use Rattle.running.proofs.RunEnds.{or_nothing}
 use Rattle.running.proofs.closing.run_closing_batches.Goals as goal
@@ -15,8 +14,7 @@ loop-turn-init g c = record {
   same = record { procs = refl; settings = refl; retries = refl };
   between = c.requires.between;
   sink_works = refl;
-  grows = ([], Appends-nil _);
-  closed = λ start ran before drained h. HasClosed-none _ _ _ _ _ _ _ (let same = h.retries_are in omega (arith, same)) h;
+  closed = λ start ran before h. HasClosed-none _ _ _ _ _ _ _ (let same = h.retries_are in omega (arith, same)) h;
 }
 
 few_retries : (core old now : EngineParts) → core ≡ old → now.retries ≡ old.retries → core.retries ≤ 2 → now.retries ≤ 2
@@ -61,38 +59,31 @@ loop-turn-preserved g c =
         log = ∥∥₁_map was.between.log (λ log. subst (λ k. IsAfterLog k (standing_of new)) (sym same.retries) (IsAfterLog-next now.retries (standing_of now) (standing_of new) log reported.standing));
       };
       sink_works = c.in-Ok.ensures.fails ∙ sym (or_nothing _) ∙ was.sink_works;
-      grows = (was.grows.0 ++ _, Appends-trans _ _ _ _ _ was.grows.1 reported.text);
-      closed = λ start ran before drained h.
-          HasClosed-next start _ _ _ ran now c.loop-turn.transcript before _ (was.closed start ran before drained h) (carries _ now _ c.core-in-loop-turn.ensures c.carried.ensures.same) c.if-carried-eq0.false
+      closed = λ start ran before h.
+          HasClosed-next start _ _ _ ran now c.loop-turn.transcript before _ (was.closed start ran before h) (carries _ now _ c.core-in-loop-turn.ensures c.carried.ensures.same) c.if-carried-eq0.false
           (one_less _ _ _ _ c.core.ensures c.retries-turn-end.ensures.same c.loop-turn-test.true) new c.run_batch.new.transcript _ same.procs same.retries c.in-Ok.ensures.form
-          (IsReported-drained drained _ _ _ _ _ _ _ reported);
+          reported;
     }
 
 pub returns-then-carried-eq0-clause-closed : goal.returns-then-carried-eq0-clause-closed
-returns-then-carried-eq0-clause-closed g c = λ start ran before drained h. record {
-  reported = HasClosed-uncarried _ _ _ _ _ _ _ _ (c.loop-turn.invariant.closed start ran before drained h) (carries _ (g.E.BatchEngine.parts c.loop-turn.engine) _ c.core-in-loop-turn.ensures c.carried.ensures.same) c.if-carried-eq0.true;
+returns-then-carried-eq0-clause-closed g c = λ start ran before h. record {
+  reported = HasClosed-uncarried _ _ _ _ _ _ _ _ (c.loop-turn.invariant.closed start ran before h) (carries _ (g.E.BatchEngine.parts c.loop-turn.engine) _ c.core-in-loop-turn.ensures c.carried.ensures.same) c.if-carried-eq0.true;
   stop = tt;
 }
 
 pub returns-in-Err-clause-closed : goal.returns-in-Err-clause-closed
-returns-in-Err-clause-closed g c = λ start ran before drained h. record {
+returns-in-Err-clause-closed g c = λ start ran before h. record {
   reported = tt;
-  stop = HasClosed-cut start _ _ _ ran (g.E.BatchEngine.parts c.loop-turn.engine) c.loop-turn.transcript before _ (c.loop-turn.invariant.closed start ran before drained h) (carries _ (g.E.BatchEngine.parts c.loop-turn.engine) _ c.core-in-loop-turn.ensures c.carried.ensures.same) c.if-carried-eq0.false
+  stop = HasClosed-cut start _ _ _ ran (g.E.BatchEngine.parts c.loop-turn.engine) c.loop-turn.transcript before _ (c.loop-turn.invariant.closed start ran before h) (carries _ (g.E.BatchEngine.parts c.loop-turn.engine) _ c.core-in-loop-turn.ensures c.carried.ensures.same) c.if-carried-eq0.false
       (one_less _ _ _ _ c.core.ensures c.retries-turn-end.ensures.same c.loop-turn-test.true) _ c.in-Err.fault
-      (AppendsFront-drained drained _ _ _ (rw c.new-none.ensures.items at c.run_batch.ensures.front));
+      (rw c.new-none.ensures.items at c.run_batch.ensures.front);
 }
-
-pub returns-in-Err-clause-grows : goal.returns-in-Err-clause-grows
-returns-in-Err-clause-grows g c =
-    let was = c.loop-turn.invariant.grows in
-    let front = c.run_batch.ensures.front in
-    (was.0 ++ front.0, Appends-trans _ _ _ _ _ was.1 front.3)
 
 spent : (core old : EngineParts) (end turn : ℕ) → core ≡ old → end ≡ core.retries → end ≤ turn → old.retries - turn ≡ 0
 spent core old end turn e f above = let own = ap (λ (engine : EngineParts). engine.retries) e in omega (arith, own, f, above)
 
 pub returns-clause-closed : goal.returns-clause-closed
-returns-clause-closed g c = λ start ran before drained h. record {
-  reported = HasClosed-spent _ _ _ _ _ _ _ (c.loop-turn.invariant.closed start ran before drained h) (spent _ _ _ _ c.core.ensures c.retries-turn-end.ensures.same c.loop-turn-test.false);
+returns-clause-closed g c = λ start ran before h. record {
+  reported = HasClosed-spent _ _ _ _ _ _ _ (c.loop-turn.invariant.closed start ran before h) (spent _ _ _ _ c.core.ensures c.retries-turn-end.ensures.same c.loop-turn-test.false);
   stop = tt;
 }

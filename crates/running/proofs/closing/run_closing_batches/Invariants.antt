@@ -1,8 +1,7 @@
 use Rattle.std.proofs.Common.{◌≡◌, ◌-◌, List, Option, ℕ}
-use Rattle.std.specs.Io.KnownBytes.{Appends}
 use Rattle.requests.specs.Requests.{Call}
 use Rattle.engine.specs.Executions.{KeepsSetting}
-use Rattle.running.specs.Reported.{with_drained, HasClosed, HasReported, IsBetweenBatches}
+use Rattle.running.specs.Reported.{HasClosed, HasReported, IsBetweenBatches}
 use Rattle.running.specs.Starts.{Start}
 use Rattle.running.proofs.closing.run_closing_batches.Given as goal
 
@@ -13,8 +12,7 @@ invariant-loop-turn g l = record {
   same : KeepsSetting (g.E.BatchEngine.parts l.fn.engine) (g.E.BatchEngine.parts l.engine);
   between : IsBetweenBatches (g.E.BatchEngine.parts l.engine) l.transcript;
   sink_works : g.K.Sink.broken l.sink ≡ g.K.Sink.broken l.fn.sink;
-  grows : (bytes : List ℕ) × Appends (g.K.Sink.taken l.fn.sink) (g.K.Sink.taken l.sink) bytes;
-  closed : (start : Start) (ran : List (List Call)) (before : Option (List ℕ)) (drained : List ℕ) →
-      HasReported start ran (g.E.BatchEngine.parts l.fn.engine) l.fn.transcript before (with_drained drained (g.K.Sink.taken l.fn.sink)) →
-      HasClosed start ran ((g.E.BatchEngine.parts l.fn.engine).retries - l._turn) (g.E.BatchEngine.parts l.engine) l.transcript before (with_drained drained (g.K.Sink.taken l.sink));
+  closed : (start : Start) (ran : List (List Call)) (before : Option (List ℕ)) →
+      HasReported start ran (g.E.BatchEngine.parts l.fn.engine) l.fn.transcript before (g.K.Sink.taken l.fn.sink) →
+      HasClosed start ran ((g.E.BatchEngine.parts l.fn.engine).retries - l._turn) (g.E.BatchEngine.parts l.engine) l.transcript before (g.K.Sink.taken l.sink);
 }

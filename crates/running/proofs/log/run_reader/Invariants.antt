@@ -4,7 +4,7 @@ use Rattle.batch_log.specs.Moves.{Moves}
 use Rattle.engine.specs.Engines.{is_busy}
 use Rattle.engine.specs.Executions.{KeepsSetting}
 use Rattle.running.specs.Batches.{KeepsDigest}
-use Rattle.running.specs.Starts.{start_of}
+use Rattle.running.specs.Starts.{start_on}
 use Rattle.running.proofs.SoFar.{SoFar}
 use Rattle.running.proofs.Stopping.{nothing_taken}
 use Rattle.running.proofs.log.run_reader.Given as goal
@@ -22,7 +22,7 @@ invariant-batches g l = record {
   source_works : failed_in g.S.Source.failed l.reader ≡ failed_in g.S.Source.failed l.fn.reader;
   sink_works : g.K.Sink.broken l.sink ≡ g.K.Sink.broken l.fn.sink;
   digest : KeepsDigest l.engine.core l.transcript;
-  so_far : SoFar (start_of l.fn.engine.core l.fn.form) (newlines_taken l.reader) (calls_read l.reader)
+  so_far : SoFar (start_on l.fn.engine.core l.fn.form) (newlines_taken l.reader) (calls_read l.reader)
       l.engine.core l.transcript
       (unread g.S.Source.left l.fn.reader) (unread g.S.Source.left l.reader)
       (g.K.Sink.taken l.fn.sink) (g.K.Sink.taken l.sink);

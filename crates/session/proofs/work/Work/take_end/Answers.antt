@@ -9,8 +9,9 @@ pub returns-in-Ok-finish-clause-whole : goal.returns-in-Ok-finish-clause-whole
 returns-in-Ok-finish-clause-whole c = λ start fed drained passed h.
     let run = c.in-Ok.ensures.whole start fed drained passed h in
     let m : List ℕ = lines_of start.retries start.rows (with_closing start.retries start.rows run.ended) in
-    whole_where_written start fed drained run.ended _ _ c.take_rest.new.self.report c.finish.new.sink run.reported run.whole passed c.take_rest.new.self.replies c.in-Ok-finish.count c.in-Ok-finish.ensures.count run.replied
-    (rw c.replace-transcript.ensures.value at (c.in-Ok-finish.ensures.text m (rw c.replace-transcript.ensures.value run.reported.said_is)))
+    rw c.finish.ensures.same
+    (whole_where_written start fed drained run.ended _ _ c.take_rest.new.self.report c.finish.new.sink run.reported run.whole passed c.take_rest.new.self.replies c.in-Ok-finish.count c.in-Ok-finish.ensures.count run.replied
+    (rw c.replace-transcript.ensures.value at (c.in-Ok-finish.ensures.text m (rw c.replace-transcript.ensures.value run.reported.said_is))))
 
 pub returns-in-Ok-finish-clause-kept : goal.returns-in-Ok-finish-clause-kept
 returns-in-Ok-finish-clause-kept c = λ start fed drained passed h.

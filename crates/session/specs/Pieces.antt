@@ -1,8 +1,8 @@
 -- Claimed: what contracts promise to a reader rests on these words.
 -- Bytes that are taken in pieces.
 use Rattle.std.specs.Prelude.{ℕ, List, drop}
-use Rattle.calvin_c.specs.declared.pieces.Pieces.{Pieces}
+use Rattle.session.specs.declared.pieces.Pieces.{Pieces}
 
 -- the bytes that were not yet taken
-abbrev pub waiting_in : Pieces → List ℕ
-waiting_in pieces = drop pieces.taken pieces.bytes.items
+abbrev pub untaken : Pieces → List ℕ
+untaken pieces = drop pieces.taken pieces.bytes.items
