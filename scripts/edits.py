@@ -40,7 +40,8 @@ SAID = re.compile(r"^fn (\S+): ", re.MULTILINE)
 OPEN = re.compile(r"^fn (\S+): no proof: expected answers in \S*/\w+/Answers", re.MULTILINE)
 OPEN_AT = re.compile(r"^note: (src/\S+):(\d+):\d+: (?:it is not proved |`search` found no proof )", re.MULTILINE)
 NOT_READ = re.compile(
-    r"^(?:\./)?proofs/(\S+)/(?:Answers|Invariants|Proof)\.antt:\d+:\d+: error: (?:`(\w+)-)?", re.MULTILINE
+    r"^(?:\./)?proofs/(\S+)/(?:Answers|Invariants|Proof)\.antt:\d+:\d+: error: "
+    r"(?:`(?:decreases-|invariant-)?(\w+)(?=[-`]))?", re.MULTILINE
 )
 WAITING = re.compile(r"^fn (\S+): no proof: it calls ", re.MULTILINE)
 VERDICT = re.compile(r"logic=not-proved|only=\d+ proved=\d+$")
@@ -89,6 +90,12 @@ def attributes_of(text, first):
     return list(takewhile(lambda line: line.lstrip().startswith("#["), reversed(text.split("\n")[: first - 1])))
 
 
+def cycles_of(folder, texts):
+    """The names of the cycles of more than one function in the sources of a crate with these texts."""
+    files = [path.relative_to(folder) for path in Path(folder, "src").rglob("*.rt")]
+    return {name for file in files for name in CYCLE.findall(texts.get(str(file)) or Path(folder, file).read_text())}
+
+
 def named_in(output, said):
     """The functions of which a check says this; what it says of a closure it says of its function."""
     names = [re.sub(r"::fn::(\w+)::.*", r"::\1", name) for name in said.findall(output)]
@@ -107,10 +114,11 @@ def opened_in(folder, texts, output):
         for first, last, name in functions_of(file, text):
             if first - len(attributes_of(text, first)) <= int(line) <= last:
                 found.add(name)
-    for folder, goal in NOT_READ.findall(output):
-        *_, owner, function = ["lib", *folder.split("/")]
-        # In the folder of a cycle of functions a goal begins with the name of its own.
-        function = goal or function[1:] if function.startswith("+") else function
+    for proof, goal in NOT_READ.findall(output):
+        *_, owner, function = ["lib", *proof.split("/")]
+        # Where a cycle has more than one function, a goal names its own.
+        is_of_cycle = function.startswith("+") and function[1:] in cycles_of(folder, texts)
+        function = goal if goal and is_of_cycle else function.lstrip("+")
         found.add(f"{owner.partition('+')[0]}::{function}")
     return found
 

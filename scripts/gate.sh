@@ -1,27 +1,32 @@
 #!/usr/bin/env bash
 # Runs the gate: `rt ci`; then, on the programs that it left built,
 #
-# - `scripts/examples.py`, `scripts/manual.py --check` and `scripts/crates.py --check`, which compare what comes out, and the crates,
-#   with what the documents say, `scripts/definitions.py --check` with its tests, which compares the list of definitions with the
-#   comments in `specs/`, `scripts/pages.py --check` with its tests, which looks at the documents' lengths, words, links and names
-#   of files, `scripts/figures.py --check` with its tests, which compares the figures with their texts, `scripts/rules.py --check`
-#   with its tests, which compares the index of rules with what names them, `scripts/unsafe.py` with its tests, which refuses
-#   words that let a value go without its end, `scripts/build_tests.py`, which tries the script of the first build, and the
-#   tests of `./calvin try` and `scripts/explain.sh`,
-# - `scripts/cases.py`, which runs the stored cases, `scripts/moved_rows.py`, which goes on from their rows at each cut, and
-#   `scripts/hostile_documents.py`, which runs 1,000 setups and logs made at random, each on the program as either compiler makes it,
-# - `tools/notation/tests.py`, which tries the notation of setups, `workloads/cases.py --check`, which compares the stored cases of
-#   the workloads with what their models say, and `bench/tests.py`, which tries the benchmarks that are built,
+# - `scripts/examples.py`, `scripts/manual.py --check` and `scripts/crates.py --check`, which compare what comes out,
+#   and the crates, with what the documents say, `scripts/definitions.py --check` with its tests, which compares the
+#   list of definitions with the comments in `specs/`, `scripts/pages.py --check` with its tests, which looks at the
+#   documents' lengths, words, links and names of files, `scripts/figures.py --check` with its tests, which compares the
+#   figures with their texts, `scripts/rules.py --check` with its tests, which compares the index of rules with what
+#   names them, `scripts/unsafe.py` with its tests, which refuses words that let a value go without its end,
+#   `scripts/build_tests.py`, which tries the script of the first build, and the tests of `./calvin try` and
+#   `scripts/explain.sh`,
+# - `scripts/cases.py`, which runs the stored cases, `scripts/moved_rows.py`, which goes on from their rows at each cut,
+#   and `scripts/hostile_documents.py`, which runs 1,000 setups and logs made at random, each on the program as either
+#   compiler makes it,
+# - `tools/notation/tests.py`, which tries the notation of setups, `workloads/cases.py --check`, which compares the
+#   stored cases of the workloads with what their models say, and `bench/tests.py`, which tries the benchmarks that are
+#   built,
 # - `scripts/refuse_memory.sh`, which refuses each 40th allocation;
 #
-# and then `scripts/edits.py together`, which tries the edits that must be refused, many in one check. It says before its last line how much of a
-# processor's time it took, and what each crate took of it. The last line counts what `rt ci` and the edits passed, and each other
-# run of a script as one more; the lines before it name the scripts that failed and the edits that were not refused.
+# and then, after the script's own tests, `scripts/edits.py together`, which tries the edits that must be refused, many
+# in one check. It says before its last line how much of a processor's time it took, and what each crate took of it. The
+# last line counts what `rt ci` and the edits passed, and each other run of a script as one more; the lines before it
+# name the scripts that failed and the edits that were not refused.
 #
-# One check runs on each processor; each takes less than 5 GB of memory. The time of the whole is exact. The shares of the crates,
-# for their own proof, for their tests and for their edits, are read off the checks every two seconds, so that each lacks the
-# end of its checks. Checks of other process sessions count for nothing. It ends with 0 only where all of these do. Where it does on
-# a checkout without changes, it leaves out/gate.passed, for scripts/release.sh: the commit, the toolchain and the last line.
+# One check runs on each processor; each takes less than 5 GB of memory. The time of the whole is exact. The shares of
+# the crates, for their own proof, for their tests and for their edits, are read off the checks every two seconds, so
+# that each lacks the end of its checks. Checks of other process sessions count for nothing. It ends with 0 only where
+# all of these do. Where it does on a checkout without changes, it leaves out/gate.passed, for scripts/release.sh: the
+# commit, the toolchain and the last line.
 set -uo pipefail
 cd -- "$(dirname -- "$0")/.."
 
@@ -94,6 +99,7 @@ gate() {
         counted scripts/hostile_documents.py 1000 1 "$program" || status=1
     done
     EVERY=40 counted scripts/refuse_memory.sh --left || status=1
+    counted scripts/edits_tests.py || status=1
     : > "$edited"
     scripts/edits.py together || status=1
     return "$status"

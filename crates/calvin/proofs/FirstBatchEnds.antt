@@ -15,10 +15,11 @@ use Rattle.meaning.specs.Entries.{EntryShape}
 use Rattle.sequencer.specs.Attempts.{own}
 use Rattle.sequencer.specs.Batches.{items_from}
 use Rattle.sequencer.specs.Entries.{prepared}
+use Rattle.batch_log.specs.Places.{batches_said, fault_said}
 use Rattle.batch_log.specs.declared.fault.LogFaultKind.TheVariants.{Memory}
 use Rattle.batch_log.specs.declared.fault.LogFault.{LogFault}
 use Rattle.batch_log.specs.Faults.{is_io, IsOfLine, line_named}
-use Rattle.batch_log.specs.Log.{batches_of, first_fault, log_said, IsEnd, IsFault, IsNextBatch}
+use Rattle.batch_log.specs.Log.{batches_of, log_said, IsEnd, IsFault, IsNextBatch}
 use Rattle.batch_log.specs.Moves.{Moves}
 use Rattle.batch_log.specs.declared.reader.LogReader.{LogReader}
 use Rattle.batch_log.specs.Reader.{failed_in, left_in, origin_of, source_of, unread}
@@ -28,7 +29,6 @@ use Rattle.running.specs.declared.run_fault.RunFault.{RunFault}
 use Rattle.running.specs.declared.run_fault.RunFault.TheVariants as runs
 use Rattle.report_text.specs.Report.{entries_in}
 use Rattle.retries.specs.Standings.{closed, closing_within, in_turn, start_of, transaction_of}
-use Rattle.running.specs.Reports.{whole_log}
 use Rattle.running.specs.Runs.{device_with, Device}
 use Rattle.running.proofs.RunEnds.{or_nothing}
 use Rattle.running.proofs.Stopping.{line_begun_is, line_of_fault, not_of_line, nothing_taken, taken_and_came}
@@ -53,10 +53,10 @@ batch_entries db number (call ∷ calls) = ap (λ (rest : List EntryShape). prep
 abbrev all_of : ℕ → Database → List (List Call) → Option LogFault → List (List EntryShape)
 all_of retries db batches fault = map entries_in (in_turn retries (start_of db) (closed retries (is_some fault) (start_of db) batches))
 
-first_is : (procs : ProcsParts) (retries : ℕ) (db : Database) (log : List ℕ) (batches : List (List Call)) (fault : Option LogFault) → batches_of (whole_log procs retries log) ≡ batches → first_fault (whole_log procs retries log) ≡ fault →
+first_is : (procs : ProcsParts) (retries : ℕ) (db : Database) (log : List ℕ) (batches : List (List Call)) (fault : Option LogFault) → batches_said procs retries log ≡ batches → fault_said procs retries log ≡ fault →
     first_batch procs retries db log ≡ first_of (all_of retries db batches fault) fault
 first_is procs retries db log batches fault b f =
-    ap (λ (bs : List (List Call)). first_of (all_of retries db bs (first_fault (whole_log procs retries log))) (first_fault (whole_log procs retries log))) b
+    ap (λ (bs : List (List Call)). first_of (all_of retries db bs (fault_said procs retries log)) (fault_said procs retries log)) b
     ∙ ap (λ (e : Option LogFault). first_of (all_of retries db batches e) e) f
 
 -- without a batch, with one, and with a fault alone
@@ -92,7 +92,7 @@ pub batch_first : (procs : ProcsParts) (retries : ℕ) (db : Database) (settings
     IfSome left (λ log. IsOkAnd (first_batch procs retries db log) (λ entries. IsPlansText procs.tables settings entries text))
 batch_first procs retries db settings left now newlines calls newlines2 calls2 requests tables text n k p t h =
     Passes-first _ _ left now (rw (n, k) at p)
-    (λ xs ys e. text_as procs.tables settings _ (map (prepared db) requests) text (first_is procs retries db xs _ _ e.batches refl ∙ first_of_some retries db requests (batches_of (log_said retries procs.procs newlines2 calls2 ys)) (first_fault (whole_log procs retries xs))) (subst (λ ts. IsPlansText ts settings (map (prepared db) requests) text) (sym t) h))
+    (λ xs ys e. text_as procs.tables settings _ (map (prepared db) requests) text (first_is procs retries db xs _ _ e.batches refl ∙ first_of_some retries db requests (batches_of (log_said retries procs.procs newlines2 calls2 ys)) (fault_said procs retries xs)) (subst (λ ts. IsPlansText ts settings (map (prepared db) requests) text) (sym t) h))
 
 -- it has a fault first
 pub fault_first : (procs : ProcsParts) (retries : ℕ) (db : Database) (left now : Option (List ℕ)) (newlines calls : ℕ) (fault : LogFault) → newlines ≡ 0 → calls ≡ 0 →

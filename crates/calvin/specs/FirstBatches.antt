@@ -10,15 +10,18 @@ use Rattle.requests.specs.ProcLists.{ProcsParts}
 use Rattle.coarsen.specs.Subtrees.{Requests}
 use Rattle.meaning.specs.Entries.{EntryShape}
 use Rattle.scheduler.specs.Logs.{ArePlansOf}
+use Rattle.batch_log.specs.Places.{fault_said}
 use Rattle.batch_log.specs.declared.fault.LogFault.{LogFault}
 use Rattle.batch_log.specs.Taken.{TakesCalls}
 use Rattle.report_text.specs.PlanTexts.{plan_lines}
 use Rattle.report_text.specs.Report.{entries_in}
 use Rattle.dispatcher.specs.declared.settings.Settings.{Settings}
+use Rattle.running.specs.Starts.{start_at}
 use Rattle.running.specs.declared.run_fault.RunFault.{RunFault}
-use Rattle.running.specs.Reports.{batches_in, fault_in}
+use Rattle.running.specs.Reports.{batches_in}
 use Rattle.running.specs.Runs.{Device}
 use Rattle.running.specs.Stops.{ends_in_io, IfOfLine, IfOfMachine, IsLineOf, IsNotOfThread}
+use Rattle.row_text.specs.declared.form.DigestForm.TheVariants.{Rows}
 
 -- ---- plans
 
@@ -49,10 +52,10 @@ first_of [] (Some fault) = Err fault
 first_of [] None = Ok []
 
 -- the entries of a log's first batch, on procedures and starting rows, or the fault that comes before its end; none
--- where the log ends before either
+-- where the log ends before either, and the same whatever digests are of
 abbrev pub first_batch : ProcsParts → ℕ → Database → List ℕ → Result (List EntryShape) LogFault
 first_batch procs retries db log =
-    first_of (map entries_in (batches_in procs retries db log)) (fault_in procs retries log)
+    first_of (map entries_in (batches_in (start_at procs retries db Rows) log)) (fault_said procs retries log)
 
 -- rule: command.locks
 -- The plans of the first batch of the log that a source has left, on procedures and starting rows: the source before

@@ -46,13 +46,8 @@ fault_number Memory = pos 37
 
 -- a fault of the log is told by its number elsewhere: the status says whether an allocation failed
 abbrev pub kind_status : LogFaultKind → ℤ
-kind_status NotJson = refused
-kind_status Shape = refused
-kind_status UnknownProc = refused
-kind_status Args = refused
-kind_status BatchTooLong = refused
-kind_status Io = refused
 kind_status Memory = no_memory
+kind_status kind = refused
 
 -- nothing more is taken of the log
 abbrev pub session_status : SessionFault → ℤ
@@ -66,13 +61,8 @@ stop_status (Some fault) = session_status fault
 
 -- a line was not taken: a fault of the line is its number
 abbrev pub line_status : LogFaultKind → ℤ
-line_status NotJson = pos 31
-line_status Shape = pos 32
-line_status UnknownProc = pos 33
-line_status Args = pos 34
-line_status BatchTooLong = pos 35
-line_status Io = pos 36
 line_status Memory = no_memory
+line_status kind = fault_number kind
 
 -- a call or a cut was not taken
 abbrev pub call_status : CallFault → ℤ

@@ -1,8 +1,9 @@
 //! The log of a session, and its report.
 
-ghost use Rattle.std.specs.Prelude.{◌≡◌, ◌++◌, ◌≤◌, ◌∷◌, [], ℕ, List, drop, length, min, take, None, Some, IfErr, IfSome, IsSome, Ok};
+ghost use Rattle.std.specs.Prelude.{◌≡◌, ◌++◌, ◌∷◌, [], ℕ, List, take, None, Some, IfErr, IfSome, IsSome, Ok};
 ghost use Rattle.devices.specs.Lines.{newline};
 ghost use Rattle.session.specs.Calls.{at_line_of, call_said, cut_line};
+ghost use Rattle.session.specs.Pieces.{IsDrained};
 ghost use Rattle.session.specs.Sessions.{kept_of, stock_of, stop_of, waiting_of, EndsInFault, FaultsOn, HasTaken, KeepsSetup, KeepsWaiting, KeepsWaitingAtEnd, TakesOn};
 ghost use Rattle.running.specs.Starts.{Start};
 ghost use Rattle.session.specs.Replies.{KeepsReplies, NumberedReply};
@@ -118,10 +119,8 @@ pub extern "C" fn calvin_c_cut(alloc: Global, handle: &mut Handle) -> i32
 /// Moves report bytes that wait to the front of `into`, as many as there are or as fit, and gives how many.
 #[unsafe(no_mangle)]
 pub extern "C" fn calvin_c_drain(handle: &mut Handle, into: &mut [u8]) -> usize
-    ensures count { result ≡ min (length (waiting_of (session_of handle.old))) (length into.old) }
-    ensures bound { result ≤ length into.new }
-    ensures moved { waiting_of (session_of handle.old) ≡ take result into.new ++ waiting_of (session_of handle.new) }
-    ensures rest { drop result into.new ≡ drop result into.old }
+    ensures drained { IsDrained (waiting_of (session_of handle.old)) (waiting_of (session_of handle.new))
+        into.old into.new result }
     ensures taken { (start : Start) (fed drained : List ℕ) (passed : List NumberedReply) →
         HasTaken start fed drained passed (session_of handle.old) →
         HasTaken start fed (drained ++ take result into.new) passed (session_of handle.new) }

@@ -1,7 +1,8 @@
 //! The rows of a session, after the batches that have ended.
 
-ghost use Rattle.std.specs.Prelude.{◌≡◌, ◌≤◌, ◌++◌, [], drop, length, min, take, IfOk};
+ghost use Rattle.std.specs.Prelude.{◌≡◌, [], length, min, take, IfOk};
 ghost use Rattle.std.specs.Str.{IsUtf8};
+ghost use Rattle.session.specs.Pieces.{IsDrained};
 ghost use Rattle.session.specs.Rows.{carried_said, digest_said, document_said, table_said};
 ghost use Rattle.session.specs.Sessions.{rows_of};
 ghost use Rattle.calvin_c.specs.Rows.{key_before, row_said, text_status, TellsCarried, TellsNextOf, TellsRow};
@@ -119,10 +120,7 @@ pub extern "C" fn calvin_c_rows_document(
 /// many. Once none waits their memory is freed.
 #[unsafe(no_mangle)]
 pub extern "C" fn calvin_c_drain_rows(alloc: Global, handle: &mut Handle, into: &mut [u8]) -> usize
-    ensures count { result ≡ min (length (document_of handle.old)) (length into.old) }
-    ensures bound { result ≤ length into.new }
-    ensures moved { document_of handle.old ≡ take result into.new ++ document_of handle.new }
-    ensures rest { drop result into.new ≡ drop result into.old }
+    ensures drained { IsDrained (document_of handle.old) (document_of handle.new) into.old into.new result }
     ensures stays { session_of handle.new ≡ session_of handle.old }
     ensures place { handle.new.at ≡ handle.old.at }
 {

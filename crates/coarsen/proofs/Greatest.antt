@@ -1,16 +1,18 @@
 -- The greatest value at the resources that pass a test.
-use Rattle.std.proofs.Common.{◌≡◌, T, ◌&&◌, ℕ, ◌<◌, ◌≤◌, suc, zero, Bool, true, false, cond, max, List, [], ◌∷◌, refl, sym, ap, ◌∙◌, arith, Option, Some, None, inl, inr, ◌⊎◌}
+use Rattle.std.proofs.Common.{◌≡◌, T, ◌&&◌, ℕ, ◌<◌, ◌≤◌, suc, zero, Bool, true, false, cond, max, List, [], ◌∷◌, refl, sym, ap, ◌∙◌, arith, Option, Some, None, inl, inr, ◌⊎◌, nat_le, Ordering, Less, Equal, Greater, get_or, set}
 use Rattle.std.proofs.Math.Nat.{le-max_left, le-max_right, max-le}
-use Rattle.std.specs.List.{Contains}
+use Rattle.std.specs.List.{Contains, insert}
 use Rattle.footprint.specs.declared.resource.Resource.{Resource}
 use Rattle.std.proofs.lemmas.Bool.Decides.{nat_tests}
-use Rattle.std.proofs.Common.{nat_le, Ordering, Less, Equal, Greater}
 use Rattle.std.specs.Ordering.{is_eq, is_lt}
 use Rattle.std.specs.FinMap.Entries.{find, put, is_sorted, below_all, by_order}
 use Rattle.footprint.specs.Tree.{resource_cmp}
 use Rattle.footprint.proofs.Resources.{exact_resources}
 use Rattle.coarsen.proofs.Tree.{same_resource, is_same_itself, ties_same}
-use Rattle.coarsen.specs.Subtrees.{greatest, is_same}
+use Rattle.coarsen.specs.Subtrees.{greatest, is_same, Requests}
+use Rattle.footprint.specs.InTreeOrder.{IsAt}
+use Rattle.footprint.proofs.Placing.{at_tail}
+use Rattle.modes.specs.declared.mode.Mode.{Mode}
 
 -- the value of what may be there, 0 where it isn't
 abbrev pub number_or_none : {X : Type 0} → (X → ℕ) → Option X → ℕ
@@ -162,3 +164,30 @@ any_test f g es fs h test = elim (zero_or (greatest f test es)) [
       let there = has_greatest g test fs d.0 d.1 (ap test (sym (same_resource e.0.0 d.0.0 d.2)) ∙ e.2) in
       omega (arith, there, d.3)
 ]
+
+-- ---- a request in place of another, and one more
+
+module _ (f : Mode → ℕ) (test : Resource → Bool) where
+  -- a request takes another mode
+  pub greatest-set : (es : Requests) (i : ℕ) (d : Resource × Mode) (r : Resource) (v : Mode) (w : ℕ)
+      → IsAt es r i → f v ≡ max (f (get_or es i d).1) w
+      → greatest f test (set es i (r, v)) ≡ max (greatest f test es) (cond (test r) w 0)
+  greatest-set [] i d r v w at h = absurd (let l = at.in_range in omega (arith, l))
+  greatest-set (e ∷ es) zero d r v w at h =
+      raise (test r) (f v) (f e.1) w (greatest f test es) h
+      ∙ ap (λ q. max (max (cond (test q) (f e.1) 0) (greatest f test es)) (cond (test r) w 0)) (sym (at.on e))
+  greatest-set (e ∷ es) (suc i) d r v w at h =
+      ap (λ n. max (cond (test e.0) (f e.1) 0) n) (greatest-set es i d r v w (at_tail e es r i at) h)
+      ∙ max_on (cond (test e.0) (f e.1) 0) (greatest f test es) (cond (test r) w 0)
+
+  turned : (a b : ℕ) → max a b ≡ max b a
+  turned a b = omega arith
+
+  -- a request is put into the list
+  pub greatest-inserted : (es : Requests) (i : ℕ) (r : Resource) (v : Mode)
+      → greatest f test (insert es i (r, v)) ≡ max (greatest f test es) (cond (test r) (f v) 0)
+  greatest-inserted es zero r v = turned (cond (test r) (f v) 0) (greatest f test es)
+  greatest-inserted [] (suc i) r v = turned (cond (test r) (f v) 0) 0
+  greatest-inserted (e ∷ es) (suc i) r v =
+      ap (λ n. max (cond (test e.0) (f e.1) 0) n) (greatest-inserted es i r v)
+      ∙ max_on (cond (test e.0) (f e.1) 0) (greatest f test es) (cond (test r) (f v) 0)

@@ -15,5 +15,4 @@ pub mod Children
 pub mod Coarsened
 pub mod PlanLaws
 pub mod Apart
-pub mod Placing
 pub mod ThePlan

@@ -13,6 +13,7 @@ use Rattle.modes.specs.Modes.{are_compatible}
 use Rattle.coarsen.specs.Subtrees.{Requests}
 use Rattle.coarsen.specs.Clashes.{ModesClash}
 use Rattle.footprint.proofs.Resources.{resources_total, exact_resources}
+use Rattle.footprint.specs.InTreeOrder.{IsInTreeOrder}
 
 either_way : (a b : Mode) → are_compatible a b ≡ are_compatible b a
 either_way IntentionShared IntentionShared = refl
@@ -55,9 +56,9 @@ contains_head s rest e is = subst (λ l. Contains l e) (sym is) (0, omega arith,
 pub contains_tail : (s rest : Requests) (e x : Resource × Mode) → s ≡ e ∷ rest → Contains rest x → Contains s x
 contains_tail s rest e x is (k, l, at) = subst (λ q. Contains q x) (sym is) (suc k, omega (arith, l), at)
 
-pub ordered_tail : (s rest : Requests) (e : Resource × Mode) → s ≡ e ∷ rest → IsStrictlySortedBy resource_cmp (keys_of s) → IsStrictlySortedBy resource_cmp (keys_of rest)
+pub ordered_tail : (s rest : Requests) (e : Resource × Mode) → s ≡ e ∷ rest → IsInTreeOrder s → IsInTreeOrder rest
 unfolding IsStrictlySortedBy
-ordered_tail s rest e is o = let p = subst (λ (q : Requests). IsStrictlySortedBy resource_cmp (keys_of q)) is o in p.1
+ordered_tail s rest e is o = let p = subst (λ (q : Requests). IsInTreeOrder q) is o in p.1
 
 all_keys : (P : Resource → Type 0) (es : Requests) (x : Resource × Mode) → AllByRecursion P (keys_of es) → Contains es x → P x.0
 all_keys P [] x h k = absurd (let l = k.1 in omega (arith, l))
@@ -67,10 +68,10 @@ all_keys P (e ∷ es) x h k = elim (contains_cases e es x k) [
 ]
 
 -- the first request is before the others
-pub less_than_later : (s rest : Requests) (e x : Resource × Mode) → s ≡ e ∷ rest → IsStrictlySortedBy resource_cmp (keys_of s) → Contains rest x → resource_cmp e.0 x.0 ≡ Less
+pub less_than_later : (s rest : Requests) (e x : Resource × Mode) → s ≡ e ∷ rest → IsInTreeOrder s → Contains rest x → resource_cmp e.0 x.0 ≡ Less
 unfolding IsStrictlySortedBy
 less_than_later s rest e x is o k =
-    let p = subst (λ (q : Requests). IsStrictlySortedBy resource_cmp (keys_of q)) is o in
+    let p = subst (λ (q : Requests). IsInTreeOrder q) is o in
     all_keys (λ y. resource_cmp e.0 y ≡ Less) rest x p.0 k
 
 pub not_itself : (a b : Resource) → resource_cmp a b ≡ Less → a ≡ b → ⊥
@@ -80,7 +81,7 @@ not_itself a b h e =
 
 -- a request that is before all requests of the other list is in no conflict
 pub past_first : (s t rest more : Requests) (e f : Resource × Mode) → s ≡ e ∷ rest → t ≡ f ∷ more
-    → IsStrictlySortedBy resource_cmp (keys_of t) → resource_cmp e.0 f.0 ≡ Less → ModesClash s t → ModesClash rest t
+    → IsInTreeOrder t → resource_cmp e.0 f.0 ≡ Less → ModesClash s t → ModesClash rest t
 past_first s t rest more e f is it o less (r, m, n, i, j, h) =
     elim (contains_cases e rest (r, m) (subst (λ l. Contains l (r, m)) is i)) [
       | inr k ↦ (r, m, n, k, j, h)
@@ -93,13 +94,13 @@ past_first s t rest more e f is it o less (r, m, n, i, j, h) =
     ]
 
 pub past_second : (s t rest more : Requests) (e f : Resource × Mode) → s ≡ e ∷ rest → t ≡ f ∷ more
-    → IsStrictlySortedBy resource_cmp (keys_of s) → resource_cmp e.0 f.0 ≡ Greater → ModesClash s t → ModesClash s more
+    → IsInTreeOrder s → resource_cmp e.0 f.0 ≡ Greater → ModesClash s t → ModesClash s more
 past_second s t rest more e f is it o greater c =
     conflict_turned more s (past_first t s more rest f e it is o (resources_total.antisymm f.0 e.0 ∙ ap ordering_reverse greater) (conflict_turned s t c))
 
 -- nor are two on one resource whose modes are compatible
 pub past_both : (s t rest more : Requests) (e f : Resource × Mode) → s ≡ e ∷ rest → t ≡ f ∷ more
-    → IsStrictlySortedBy resource_cmp (keys_of s) → IsStrictlySortedBy resource_cmp (keys_of t) → resource_cmp e.0 f.0 ≡ Equal → are_compatible e.1 f.1 ≡ true
+    → IsInTreeOrder s → IsInTreeOrder t → resource_cmp e.0 f.0 ≡ Equal → are_compatible e.1 f.1 ≡ true
     → ModesClash s t → ModesClash rest more
 past_both s t rest more e f is it o p equal fine (r, m, n, i, j, h) =
     let one = exact_resources e.0 f.0 equal in

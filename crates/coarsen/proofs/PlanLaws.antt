@@ -1,10 +1,7 @@
 -- Which requests a plan has.
 use Rattle.std.proofs.Common.{◌≡◌, ℕ, true, [], ◌∷◌, refl, sym, ap, ◌∙◌, subst, arith, inl, inr}
 use Rattle.std.specs.List.{Contains}
-use Rattle.std.specs.Map.{keys_of}
-use Rattle.std.specs.List.Sorted.{IsStrictlySortedBy}
 use Rattle.footprint.specs.declared.resource.Resource.{Resource}
-use Rattle.footprint.specs.Tree.{resource_cmp}
 use Rattle.footprint.specs.Rights.{FootprintOf}
 use Rattle.modes.specs.declared.mode.Mode.{Mode}
 use Rattle.modes.specs.declared.mode.Mode.TheVariants.{IntentionShared, IntentionExclusive, Shared, SharedIntentionExclusive, Exclusive}
@@ -13,6 +10,7 @@ use Rattle.coarsen.specs.Subtrees.{Requests, is_same, greatest, right_on, right_
 use Rattle.coarsen.specs.Plans.{IsPlanOf}
 use Rattle.coarsen.specs.Laws.{PlansAreExact, ClashEitherWay}
 use Rattle.footprint.proofs.Resources.{resources_total}
+use Rattle.footprint.specs.InTreeOrder.{IsInTreeOrder}
 use Rattle.coarsen.proofs.Tree.{same_resource, is_same_itself}
 use Rattle.coarsen.proofs.Greatest.{has_greatest, some_greatest, greatest_least, first_or_later, later}
 use Rattle.coarsen.proofs.Planning.{subtree_some}
@@ -48,7 +46,7 @@ one_mode Exclusive SharedIntentionExclusive h k = absurd (omega (arith, h))
 one_mode Exclusive Exclusive h k = refl
 
 -- a resource stands once
-one_request : (es : Requests) (a b : Resource × Mode) → IsStrictlySortedBy resource_cmp (keys_of es) → Contains es a → Contains es b → is_same a.0 b.0 ≡ true → b ≡ a
+one_request : (es : Requests) (a b : Resource × Mode) → IsInTreeOrder es → Contains es a → Contains es b → is_same a.0 b.0 ≡ true → b ≡ a
 one_request [] a b o i j t = absurd (let l = i.1 in omega (arith, l))
 one_request (e ∷ es) a b o i j t =
     let at = same_resource a.0 b.0 t in
@@ -64,7 +62,7 @@ one_request (e ∷ es) a b o i j t =
     ]
 
 -- so the rights of a resource are those of its request
-rights_of : (f : Mode → ℕ) (es : Requests) (a : Resource × Mode) → IsStrictlySortedBy resource_cmp (keys_of es) → Contains es a → greatest f (is_same a.0) es ≡ f a.1
+rights_of : (f : Mode → ℕ) (es : Requests) (a : Resource × Mode) → IsInTreeOrder es → Contains es a → greatest f (is_same a.0) es ≡ f a.1
 rights_of f es a o i =
     let low = has_greatest f (is_same a.0) es a i (is_same_itself a.0) in
     let high = greatest_least f (is_same a.0) es (f a.1) (λ b j t. let e : f b.1 ≡ f a.1 = ap (λ (q : Resource × Mode). f q.1) (one_request es a b o i j t) in omega (arith, e)) in
@@ -83,7 +81,7 @@ request_there f plan is r m h k =
     let rights = request_is f plan is r e.0.1 there in
     subst (λ (n : Mode). Contains plan (r, n)) (one_mode e.0.1 m (rights.0 ∙ sym h) (rights.1 ∙ sym k)) there
 
-before : (e d : Resource × Mode) (es ds : Requests) → IsStrictlySortedBy resource_cmp (keys_of (e ∷ es)) → IsStrictlySortedBy resource_cmp (keys_of (d ∷ ds))
+before : (e d : Resource × Mode) (es ds : Requests) → IsInTreeOrder (e ∷ es) → IsInTreeOrder (d ∷ ds)
     → Contains (d ∷ ds) e → Contains (e ∷ es) d → e ≡ d
 before e d es ds o p i j = elim (first_or_later d ds e i) [
   | inl same ↦ sym same
@@ -97,7 +95,7 @@ before e d es ds o p i j = elim (first_or_later d ds e i) [
 ]
 
 -- lists in order with the same requests are one
-one_list : (es ds : Requests) → IsStrictlySortedBy resource_cmp (keys_of es) → IsStrictlySortedBy resource_cmp (keys_of ds)
+one_list : (es ds : Requests) → IsInTreeOrder es → IsInTreeOrder ds
     → ((x : Resource × Mode) → Contains es x → Contains ds x) → ((x : Resource × Mode) → Contains ds x → Contains es x) → es ≡ ds
 one_list [] [] o p f g = refl
 one_list [] (d ∷ ds) o p f g = absurd (let l = (g d (0, omega arith, refl)).1 in omega (arith, l))

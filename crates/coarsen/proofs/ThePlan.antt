@@ -16,6 +16,7 @@ use Rattle.footprint.specs.declared.resource.Resource.TheVariants.{Db, Table}
 use Rattle.footprint.specs.Tree.{resource_cmp, parent_of}
 use Rattle.footprint.specs.Rights.{FootprintOf}
 use Rattle.footprint.proofs.Resources.{resources_total, exact_resources}
+use Rattle.footprint.specs.InTreeOrder.{IsInTreeOrder}
 use Rattle.modes.specs.declared.mode.Mode.{Mode}
 use Rattle.modes.specs.declared.mode.Mode.TheVariants.{IntentionShared, IntentionExclusive, Shared, SharedIntentionExclusive, Exclusive}
 use Rattle.modes.specs.Modes.{own, subtree}
@@ -156,14 +157,14 @@ after : (a b : Resource) → resource_cmp a b ≡ Greater → resource_cmp b a �
 after a b h = resources_total.antisymm b a ∙ ap ordering_reverse h
 
 put_sorted : (o : Ordering) (r : Resource) (m : Mode) (e : Resource × Mode) (es : Requests) → resource_cmp r e.0 ≡ o
-    → IsStrictlySortedBy resource_cmp (keys_of (e ∷ es)) → IsStrictlySortedBy resource_cmp (keys_of (request r m es))
-    → IsStrictlySortedBy resource_cmp (keys_of (at_head o r m e es (request r m es)))
+    → IsInTreeOrder (e ∷ es) → IsInTreeOrder (request r m es)
+    → IsInTreeOrder (at_head o r m e es (request r m es))
 unfolding IsStrictlySortedBy
 put_sorted Less r m e es is o h = ((is, less_than_all r e.0 is (keys_of es) o.0), o)
 put_sorted Equal r m e es is o h = o
 put_sorted Greater r m e es is o h = (all_request (λ q. resource_cmp e.0 q ≡ Less) r m es o.0 (after r e.0 is), h)
 
-sorted_request : (r : Resource) (m : Mode) (es : Requests) → IsStrictlySortedBy resource_cmp (keys_of es) → IsStrictlySortedBy resource_cmp (keys_of (request r m es))
+sorted_request : (r : Resource) (m : Mode) (es : Requests) → IsInTreeOrder es → IsInTreeOrder (request r m es)
 unfolding IsStrictlySortedBy
 sorted_request r m [] o = (tt, tt)
 sorted_request r m (e ∷ es) o = put_sorted (resource_cmp r e.0) r m e es refl o (sorted_request r m es o.1)
@@ -174,7 +175,7 @@ sorted_request r m (e ∷ es) o = put_sorted (resource_cmp r e.0) r m e es refl 
 record Adds (resource : Resource) (m : Mode) (es new : Requests) : Type 0 where
   owns : (q : Resource) → own_on new q ≡ max (own_on es q) (cond (is_same q resource) (own m) 0)
   subtrees : (q : Resource) → subtree_on new q ≡ max (subtree_on es q) (cond (holds q resource) (subtree m) 0)
-  sorted : IsStrictlySortedBy resource_cmp (keys_of es) → IsStrictlySortedBy resource_cmp (keys_of new)
+  sorted : IsInTreeOrder es → IsInTreeOrder new
 
 adds_top : (m : Mode) (es : Requests) → Adds Db m es (request Db m es)
 adds_top m es = record {
@@ -221,7 +222,7 @@ subtrees_all [] q = refl
 subtrees_all (e ∷ es) q = one_more (holds q e.0) (rank_of e.1) (subtree (whole e.1)) (subtree_on (requests_for es) q) (greatest rank_of (holds q) es) _
     (subtree_whole e.1) (subtrees_all es q) ((adds e.0 (whole e.1) (requests_for es)).subtrees q)
 
-sorted_all : (es : List (Resource × Right)) → IsStrictlySortedBy resource_cmp (keys_of (requests_for es))
+sorted_all : (es : List (Resource × Right)) → IsInTreeOrder (requests_for es)
 unfolding IsStrictlySortedBy
 sorted_all [] = tt
 sorted_all (e ∷ es) = (adds e.0 (whole e.1) (requests_for es)).sorted (sorted_all es)

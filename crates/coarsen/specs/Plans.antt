@@ -2,13 +2,11 @@
 -- Plans: the lock requests for a footprint.
 use Rattle.std.specs.Prelude.{◌≡◌, ◌≤◌, ◌<◌, ℕ, Bool, true, false, List, length}
 use Rattle.std.specs.List.{Contains}
-use Rattle.std.specs.Map.{keys_of}
-use Rattle.std.specs.List.Sorted.{IsStrictlySortedBy}
 use Rattle.catalogue.specs.Shapes.{TableShape}
 use Rattle.footprint.specs.declared.resource.Resource.{Resource}
-use Rattle.footprint.specs.Tree.{resource_cmp}
 use Rattle.footprint.specs.Rights.{FootprintOf}
 use Rattle.footprint.specs.OfCatalogue.{IsResourceOf}
+use Rattle.footprint.specs.InTreeOrder.{IsInTreeOrder}
 use Rattle.modes.specs.declared.mode.Mode.{Mode}
 use Rattle.modes.specs.declared.mode.Mode.TheVariants.{IntentionShared, IntentionExclusive, Shared, SharedIntentionExclusive, Exclusive}
 use Rattle.modes.specs.Modes.{own, subtree}
@@ -18,7 +16,7 @@ use Rattle.coarsen.specs.Coarsening.{coarsened, on_database}
 -- a request for each resource whose subtree has an entry: its own right is that of the resource's entry, its subtree
 -- right the greatest right in the subtree. Requests are in tree order, and each resource is there once
 pub record IsPlanOf (footprint : FootprintOf) (requests : Requests) : Type 0 where
-  pub ordered : IsStrictlySortedBy resource_cmp (keys_of requests)
+  pub ordered : IsInTreeOrder requests
   pub owns : (resource : Resource) → own_on requests resource ≡ right_on footprint resource
   pub subtrees : (resource : Resource) → subtree_on requests resource ≡ right_under footprint resource
 
@@ -56,7 +54,7 @@ IsBacked requests =
 
 -- what holds of each plan
 pub record IsWellFormed (requests : Requests) : Type 0 where
-  pub ordered : IsStrictlySortedBy resource_cmp (keys_of requests)
+  pub ordered : IsInTreeOrder requests
   pub protocol : KeepsProtocol requests
   pub backed : IsBacked requests
 

@@ -1,11 +1,9 @@
 //! Whether two plans clash.
 
 ghost use Rattle.std.specs.Prelude.{◌≡◌, ◌↔◌, true, List};
-ghost use Rattle.std.specs.Map.{keys_of};
-ghost use Rattle.std.specs.List.Sorted.{IsStrictlySortedBy};
-ghost use Rattle.footprint.specs.Tree.{resource_cmp};
 ghost use Rattle.catalogue.specs.Shapes.{TableShape};
 ghost use Rattle.catalogue.specs.Rules.{IsCatalogue};
+ghost use Rattle.footprint.specs.InTreeOrder.{IsInTreeOrder};
 ghost use Rattle.coarsen.specs.Plans.{IsPlanOver};
 ghost use Rattle.coarsen.specs.Clashes.{Clash, ModesClash};
 
@@ -17,8 +15,8 @@ use std::cmp::Ordering;
 /// Whether two lists of requests in tree order have requests on some resource whose modes are not compatible. Both
 /// lists are gone through once, side by side.
 fn conflict(first: &[(Resource, Mode)], second: &[(Resource, Mode)]) -> bool
-    requires first { IsStrictlySortedBy resource_cmp (keys_of first.now) }
-    requires second { IsStrictlySortedBy resource_cmp (keys_of second.now) }
+    requires first { IsInTreeOrder first.now }
+    requires second { IsInTreeOrder second.now }
     ensures { (result ≡ true) ↔ ModesClash first.entry.now second.entry.now }
 {
     let mut first = first;

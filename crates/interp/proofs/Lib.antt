@@ -1,3 +1,3 @@
 pub mod Everywhere
-pub mod LeftNumbers
+pub mod Left
 pub mod Finding

@@ -108,7 +108,7 @@ fn scoped_block<V: RowView>(
 // rule: statement.for
 /// A turn for each number from one to another, both included.
 #[cycle(run)]
-#[tactic(auto, using(crate::proofs::LeftNumbers::first_left, crate::proofs::LeftNumbers::next_left, crate::proofs::LeftNumbers::fewer_left))]
+#[tactic(auto, using(crate::proofs::Left::first_left, crate::proofs::Left::next_left, crate::proofs::Left::fewer_left))]
 fn for_each_number<V: RowView>(
     alloc: Global,
     shown: &Shown<'_, V>,

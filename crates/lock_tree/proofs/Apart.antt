@@ -10,6 +10,7 @@ use Rattle.std.proofs.lemmas.Bool.Decides.{nat_tests}
 use Rattle.footprint.specs.declared.resource.Resource.{Resource}
 use Rattle.footprint.specs.Tree.{resource_cmp}
 use Rattle.footprint.proofs.Resources.{resources_total}
+use Rattle.footprint.specs.InTreeOrder.{IsInTreeOrder}
 use Rattle.modes.specs.declared.mode.Mode.{Mode}
 use Rattle.modes.specs.Modes.{are_compatible}
 use Rattle.coarsen.specs.Subtrees.{Requests}
@@ -60,7 +61,7 @@ keys P (e ∷ es) x h (zero, l, is) = let at : e.0 ≡ x.0 = ap (λ (y : Resourc
 keys P (e ∷ es) x h (suc n, l, is) = keys P es x h.1 (n, omega (arith, l), is)
 
 -- a request of a plan is what the plan asks for on its resource
-pub asked : (es : Requests) (x : Resource × Mode) → IsStrictlySortedBy resource_cmp (keys_of es) → Contains es x → mode_on x.0 es ≡ Some x.1
+pub asked : (es : Requests) (x : Resource × Mode) → IsInTreeOrder es → Contains es x → mode_on x.0 es ≡ Some x.1
 unfolding IsStrictlySortedBy
 asked [] x o k = absurd (let l = k.1 in omega (arith, l))
 asked (e ∷ es) x o (zero, l, is) =

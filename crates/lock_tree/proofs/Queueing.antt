@@ -18,6 +18,7 @@ use Rattle.lock_tree.specs.Lines.{is_same, numbers_of, AllUnder}
 use Rattle.lock_tree.specs.Known.{granted_in, Knows, AreKnown}
 use Rattle.lock_tree.specs.Views.{all_waiting}
 use Rattle.footprint.proofs.Resources.{resources_total}
+use Rattle.footprint.specs.InTreeOrder.{IsInTreeOrder}
 use Rattle.lock_tree.proofs.Resources.{same_resource}
 
 -- ---- the resources of a plan stand once each
@@ -43,24 +44,24 @@ one_joined number mode true now new target found is none before =
     ap (λ o. new ++ asks number o []) (none refl) ∙ nothing_added new ∙ is ∙ before
 one_joined number mode false now new target found is none before = ap (λ xs. xs ++ asks number found []) is ∙ before
 
-sorted_first : (e : Resource × Mode) (plan : Requests) → IsStrictlySortedBy resource_cmp (keys_of (e ∷ plan)) → AllByRecursion (λ x. resource_cmp e.0 x ≡ Less) (keys_of plan)
+sorted_first : (e : Resource × Mode) (plan : Requests) → IsInTreeOrder (e ∷ plan) → AllByRecursion (λ x. resource_cmp e.0 x ≡ Less) (keys_of plan)
 unfolding IsStrictlySortedBy
 sorted_first e plan h = h.0
 
-sorted_rest : (e : Resource × Mode) (plan : Requests) → IsStrictlySortedBy resource_cmp (keys_of (e ∷ plan)) → IsStrictlySortedBy resource_cmp (keys_of plan)
+sorted_rest : (e : Resource × Mode) (plan : Requests) → IsInTreeOrder (e ∷ plan) → IsInTreeOrder plan
 unfolding IsStrictlySortedBy
 sorted_rest e plan h = h.1
 
 -- a request joined, and the others are still to join
-pub more_joined : (number : ℕ) (other : Resource) (e : Resource × Mode) (this rest : Requests) (now new target : Queue) → this ≡ e ∷ rest → IsStrictlySortedBy resource_cmp (keys_of this)
+pub more_joined : (number : ℕ) (other : Resource) (e : Resource × Mode) (this rest : Requests) (now new target : Queue) → this ≡ e ∷ rest → IsInTreeOrder this
     → new ≡ cond (is_same other e.0) (now ++ (number, e.1) ∷ []) now → now ++ asks number (mode_on other this) [] ≡ target → new ++ asks number (mode_on other rest) [] ≡ target
 more_joined number other e this rest now new target front sorted is before =
-    let later = sorted_first e rest (subst (λ (p : Requests). IsStrictlySortedBy resource_cmp (keys_of p)) front sorted) in
+    let later = sorted_first e rest (subst (λ (p : Requests). IsInTreeOrder p) front sorted) in
     one_joined number e.1 (is_same other e.0) now new target (mode_on other rest) is (λ same. none_later e.0 other rest same later)
     (sym (ap (λ (p : Requests). now ++ asks number (mode_on other p) []) front) ∙ before)
 
-pub still_apart : (e : Resource × Mode) (this rest : Requests) → this ≡ e ∷ rest → IsStrictlySortedBy resource_cmp (keys_of this) → IsStrictlySortedBy resource_cmp (keys_of rest)
-still_apart e this rest front sorted = sorted_rest e rest (subst (λ (p : Requests). IsStrictlySortedBy resource_cmp (keys_of p)) front sorted)
+pub still_apart : (e : Resource × Mode) (this rest : Requests) → this ≡ e ∷ rest → IsInTreeOrder this → IsInTreeOrder rest
+still_apart e this rest front sorted = sorted_rest e rest (subst (λ (p : Requests). IsInTreeOrder p) front sorted)
 
 -- what holds of all other resources goes on holding of the later ones
 module _ (before after : Resource → Type 0) where
@@ -69,10 +70,10 @@ module _ (before after : Resource → Type 0) where
   kept_later r [] later kept all = tt
   kept_later r (e ∷ plan) later kept all = (kept e.0 (other_later r e.0 later.0) all.0, kept_later r plan later.1 kept all.1)
 
-  pub still_of_later : (e : Resource × Mode) (this rest : Requests) → this ≡ e ∷ rest → IsStrictlySortedBy resource_cmp (keys_of this)
+  pub still_of_later : (e : Resource × Mode) (this rest : Requests) → this ≡ e ∷ rest → IsInTreeOrder this
       → ((other : Resource) → is_same other e.0 ≡ false → before other → after other) → AllByRecursion (λ x. before x.0) this → AllByRecursion (λ x. after x.0) rest
   still_of_later e this rest front sorted kept all =
-      let later = sorted_first e rest (subst (λ (p : Requests). IsStrictlySortedBy resource_cmp (keys_of p)) front sorted) in
+      let later = sorted_first e rest (subst (λ (p : Requests). IsInTreeOrder p) front sorted) in
       kept_later e.0 rest later kept (subst (λ (p : Requests). AllByRecursion (λ x. before x.0) p) front all).1
 
 -- a queue whose numbers are less, where another one changed

@@ -2,8 +2,6 @@
 -- What a step of the code leaves of the queues.
 use Rattle.std.specs.Prelude.{◌≡◌, ◌≢◌, ◌<◌, ◌≤◌, ◌+◌, ℕ, false, List, [], ◌∷◌, ◌++◌, length, if◌then◌else◌, Option, Some, None, slice_get}
 use Rattle.std.specs.List.{AllByRecursion}
-use Rattle.std.specs.List.Sorted.{IsStrictlySortedBy}
-use Rattle.std.specs.Map.{keys_of}
 use Rattle.footprint.specs.declared.resource.Resource.{Resource}
 use Rattle.modes.specs.declared.mode.Mode.{Mode}
 use Rattle.coarsen.specs.Subtrees.{Requests}
@@ -11,7 +9,7 @@ use Rattle.request_arena.specs.declared.node.Request.{Request}
 use Rattle.request_arena.specs.Lists.{Lists, IsLive, free_nodes}
 use Rattle.request_arena.specs.Pushes.{Pushed}
 use Rattle.request_arena.specs.Removals.{IsRemoved}
-use Rattle.footprint.specs.Tree.{resource_cmp}
+use Rattle.footprint.specs.InTreeOrder.{IsInTreeOrder}
 use Rattle.lock_tree.specs.Entered.{Enqueued}
 use Rattle.lock_tree.specs.Queues.{asks, mode_on}
 use Rattle.lock_tree.specs.Lines.{Lines, line, number_of, nodes_of, in_order, others, is_same, HasRoom, AllUnder, numbers_of}
@@ -115,7 +113,7 @@ pub record IsTakenOff (was : Lines) (resource : Resource) (owner : ℕ) (now : L
 pub record HasRoomFor (queues : Lines) (owner : ℕ) (plan : Requests) : Type 0 where
   pub free : length plan ≤ free_nodes queues.nodes.held
   pub numbers : HasRoom queues (length plan)
-  pub apart : IsStrictlySortedBy resource_cmp (keys_of plan)
+  pub apart : IsInTreeOrder plan
   pub above : AllByRecursion (λ request. AllUnder owner (numbers_of (line queues request.0))) plan
 
 -- the requests of a plan came to the back of their queues

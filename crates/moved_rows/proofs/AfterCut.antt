@@ -12,12 +12,12 @@ use Rattle.retries.specs.Standings.{Standing, after_batch, after_batches, closed
 use Rattle.retries.proofs.Followed.{after_batches-append, closed-append}
 use Rattle.retries.proofs.Ended.{none_closing}
 use Rattle.retries.proofs.Moved.{goes_on_from_rows, replies_from_rows}
-use Rattle.running.specs.Reports.{fault_in, rows_after}
+use Rattle.running.specs.Reports.{calls_in_turn, log_fault, rows_after}
+use Rattle.running.specs.Standings.{standing_after}
 use Rattle.running.specs.Starts.{Start}
-use Rattle.running.specs.Stopped.{standing_after}
 use Rattle.moved_rows.specs.CutLogs.{EndsWithCut}
 use Rattle.moved_rows.specs.GoingOn.{on_rows, outcomes_from, outcomes_of}
-use Rattle.moved_rows.specs.Starts.{batches_from, rows_left}
+use Rattle.moved_rows.specs.Starts.{rows_left}
 use Rattle.moved_rows.proofs.CutLogs.{in_two}
 
 abbrev Batches : Type 0
@@ -106,37 +106,37 @@ module _ (retries : ℕ) (db : Database) (front : Batches) (none : (after_batche
 -- ---- a log in two
 
 -- the batches of a run of a log without a fault
-run_of : (start : Start) (log : List ℕ) → fault_in start.procs start.retries log ≡ None → batches_from start log ≡ closed start.retries false (start_of start.rows) (batches_said start.procs start.retries log)
+run_of : (start : Start) (log : List ℕ) → log_fault start log ≡ None → calls_in_turn start log ≡ closed start.retries false (start_of start.rows) (batches_said start.procs start.retries log)
 run_of start log none = ap (λ (fault : Option LogFault). closed start.retries (is_some fault) (start_of start.rows) (batches_said start.procs start.retries log)) none
 
 -- what becomes of a log that is cut in two
 pub record IsRunInTwo (start : Start) (first rest : List ℕ) : Type 0 where
-  pub batches : batches_from start (first ++ rest) ≡ batches_from start first ++ batches_from (on_rows start (rows_after start first)) rest
+  pub batches : calls_in_turn start (first ++ rest) ≡ calls_in_turn start first ++ calls_in_turn (on_rows start (rows_after start first)) rest
   pub outcomes : outcomes_of start (first ++ rest) ≡ outcomes_of start first ++ outcomes_of (on_rows start (rows_after start first)) rest
   pub rows : rows_after start (first ++ rest) ≡ rows_after (on_rows start (rows_after start first)) rest
 
-pub run_in_two : (start : Start) (first rest : List ℕ) → EndsWithCut start.procs.procs first → fault_in start.procs start.retries (first ++ rest) ≡ None
-    → (standing_after start.retries start.rows (batches_said start.procs start.retries first)).carried ≡ [] → IsRunInTwo start first rest
+pub run_in_two : (start : Start) (first rest : List ℕ) → EndsWithCut start.procs.procs first → log_fault start (first ++ rest) ≡ None
+    → (standing_after start (batches_said start.procs start.retries first)).carried ≡ [] → IsRunInTwo start first rest
 run_in_two start first rest ends fine none =
     let retries = start.retries in
     let two = in_two start.procs.procs retries first rest ends fine in
     let front : Batches = batches_said start.procs retries first in
     let later : Batches = batches_said start.procs retries rest in
     let db = (after_batches retries (start_of start.rows) front).rows in
-    let first_run : batches_from start first ≡ front = run_of start first two.first_fine ∙ closed_front retries start.rows front none in
+    let first_run : calls_in_turn start first ≡ front = run_of start first two.first_fine ∙ closed_front retries start.rows front none in
     let rows_are : rows_after start first ≡ db = ap (rows_left start) first_run in
-    let rest_run : batches_from (on_rows start db) rest ≡ closed retries false (start_of db) later = run_of (on_rows start db) rest two.rest_fine in
-    let whole_run : batches_from start (first ++ rest) ≡ front ++ batches_from (on_rows start db) rest =
+    let rest_run : calls_in_turn (on_rows start db) rest ≡ closed retries false (start_of db) later = run_of (on_rows start db) rest two.rest_fine in
+    let whole_run : calls_in_turn start (first ++ rest) ≡ front ++ calls_in_turn (on_rows start db) rest =
     run_of start (first ++ rest) fine ∙ ap (closed retries false (start_of start.rows)) two.batches ∙ closed_rest retries start.rows front none later ∙ ap (λ (x : Batches). front ++ x) (sym rest_run) in
     record {
       batches =
-          whole_run ∙ ap (λ (x : Batches). x ++ batches_from (on_rows start db) rest) (sym first_run)
-          ∙ ap (λ (x : Database). batches_from start first ++ batches_from (on_rows start x) rest) (sym rows_are);
+          whole_run ∙ ap (λ (x : Batches). x ++ calls_in_turn (on_rows start db) rest) (sym first_run)
+          ∙ ap (λ (x : Database). calls_in_turn start first ++ calls_in_turn (on_rows start x) rest) (sym rows_are);
       outcomes =
-          ap (outcomes_from retries (start_of start.rows)) whole_run ∙ outcomes_rest retries start.rows front none (batches_from (on_rows start db) rest)
+          ap (outcomes_from retries (start_of start.rows)) whole_run ∙ outcomes_rest retries start.rows front none (calls_in_turn (on_rows start db) rest)
           ∙ ap (λ (x : Batches). outcomes_from retries (start_of start.rows) x ++ outcomes_of (on_rows start db) rest) (sym first_run)
           ∙ ap (λ (x : Database). outcomes_of start first ++ outcomes_of (on_rows start x) rest) (sym rows_are);
       rows =
-          ap (rows_left start) whole_run ∙ ap (λ (s : Standing). s.rows) (goes_on_from_rows retries start.rows front (batches_from (on_rows start db) rest) none)
+          ap (rows_left start) whole_run ∙ ap (λ (s : Standing). s.rows) (goes_on_from_rows retries start.rows front (calls_in_turn (on_rows start db) rest) none)
           ∙ ap (λ (x : Database). rows_after (on_rows start x) rest) (sym rows_are);
     }

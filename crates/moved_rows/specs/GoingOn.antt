@@ -8,12 +8,12 @@ use Rattle.setup.specs.Setups.{SetupShape}
 use Rattle.setup.specs.WithRows.{SaysSetupWithRows}
 use Rattle.retries.specs.Moved.{raised}
 use Rattle.retries.specs.Standings.{Standing, after_batch, replies_at, start_of}
-use Rattle.running.specs.Reports.{fault_in, rows_after}
+use Rattle.running.specs.Reports.{calls_in_turn, log_fault, rows_after}
+use Rattle.running.specs.Standings.{standing_after}
 use Rattle.running.specs.Starts.{Start}
-use Rattle.running.specs.Stopped.{standing_after}
 use Rattle.rows_document.specs.Said.{row_list, with_row_list}
 use Rattle.rows_document.specs.Texts.{rows_document}
-use Rattle.moved_rows.specs.Starts.{IsStartOf, batches_from, rows_left}
+use Rattle.moved_rows.specs.Starts.{IsStartOf, rows_left}
 
 -- a start on other rows
 abbrev pub on_rows : Start → Database → Start
@@ -32,11 +32,11 @@ pub record GoesOnFrom (text : List ℕ) (s : SetupShape) (start : Start) (before
       (with_rows_of s (rows_left start before))
   pub starts : IsStartOf (with_rows_of s (rows_left start before)) (on_rows start (rows_left start before))
   pub replies : (later : List (List Call)) (calls : List Call) →
-      replies_at (standing_after start.retries start.rows (before ++ later)) calls
-      ≡ replies_at (standing_after start.retries (rows_left start before) later) calls
-  pub standings : (later : List (List Call)) → standing_after start.retries start.rows (before ++ later)
-      ≡ raised (standing_after start.retries start.rows before).next
-      (standing_after start.retries (rows_left start before) later)
+      replies_at (standing_after start (before ++ later)) calls
+      ≡ replies_at (standing_after (on_rows start (rows_left start before)) later) calls
+  pub standings : (later : List (List Call)) → standing_after start (before ++ later)
+      ≡ raised (standing_after start before).next
+      (standing_after (on_rows start (rows_left start before)) later)
 
 -- ---- two runs as one
 
@@ -48,7 +48,7 @@ outcomes_from retries s (calls ∷ rest) =
 
 -- the outcomes of the batches of a log's run from a start
 abbrev pub outcomes_of : Start → List ℕ → List (List Reply × Database)
-outcomes_of start log = outcomes_from start.retries (start_of start.rows) (batches_from start log)
+outcomes_of start log = outcomes_from start.retries (start_of start.rows) (calls_in_turn start log)
 
 -- The run of a log's beginning from one start, and then the run of the rest from another, are together the run of the
 -- whole log: the second begins with the rows that the first leaves, has no fault, and leaves the rows that the log
@@ -58,6 +58,6 @@ pub record AreOneRun (start : Start) (first : List ℕ) (again : Start) (rest : 
   pub begins : again.rows ≡ rows_after start first
   pub tables : again.procs.tables ≡ start.procs.tables
   pub digest : again.digest ≡ start.digest
-  pub fault : fault_in again.procs again.retries rest ≡ None
+  pub fault : log_fault again rest ≡ None
   pub outcomes : outcomes_of start (first ++ rest) ≡ outcomes_of start first ++ outcomes_of again rest
   pub rows : rows_after start (first ++ rest) ≡ rows_after again rest

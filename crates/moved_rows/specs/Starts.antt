@@ -10,9 +10,8 @@ use Rattle.shelves.specs.Rows.{with_rows}
 use Rattle.setup.specs.Says.{SaysSetup}
 use Rattle.setup.specs.Setups.{SetupShape}
 use Rattle.setup.specs.WithRows.{SaysSetupWithRows}
-use Rattle.running.specs.Reports.{calls_in_turn}
+use Rattle.running.specs.Standings.{standing_after}
 use Rattle.running.specs.Starts.{Start}
-use Rattle.running.specs.Stopped.{standing_after}
 
 -- a text says a setup, with its own starting rows or with those that another text says
 abbrev pub IsSaidSetup : List ℕ → SetupShape → Type 0
@@ -28,10 +27,6 @@ pub record IsStartOf (s : SetupShape) (start : Start) : Type 0 where
   pub rows : start.rows ≡ with_rows empty s.rows
   pub digest : start.digest ≡ s.digest
 
--- the calls of the batches of a log's run from a start, with those without calls that close it
-abbrev pub batches_from : Start → List ℕ → List (List Call)
-batches_from start log = calls_in_turn start.procs start.retries start.rows log
-
 -- the rows that batches leave from a start
 abbrev pub rows_left : Start → List (List Call) → Database
-rows_left start batches = (standing_after start.retries start.rows batches).rows
+rows_left start batches = (standing_after start batches).rows

@@ -20,14 +20,14 @@ ghost use Rattle.shelves.specs.Rows.{with_rows};
 ghost use Rattle.setup.specs.declared.document.SetupDocument.{SetupDocument};
 ghost use Rattle.setup.specs.Setups.{SetupShape, setup_view};
 ghost use Rattle.setup.specs.WithRows.{SaysSetupWithRows};
-ghost use Rattle.running.specs.Reports.{fault_in, report_of, rows_after};
+ghost use Rattle.running.specs.Reports.{calls_in_turn, log_fault, report_of, rows_after};
+ghost use Rattle.running.specs.Standings.{standing_after};
 ghost use Rattle.running.specs.Starts.{Start, start_in};
-ghost use Rattle.running.specs.Stopped.{standing_after};
 ghost use Rattle.rows_document.specs.Said.{AreRowsIn};
 ghost use Rattle.rows_document.specs.Texts.{rows_document};
 ghost use Rattle.moved_rows.specs.CutLogs.{EndsWithCut};
 ghost use Rattle.moved_rows.specs.GoingOn.{AreOneRun, GoesOnFrom, on_rows, outcomes_of, with_rows_of};
-ghost use Rattle.moved_rows.specs.Starts.{IsSaidSetup, IsStartOf, batches_from, rows_left};
+ghost use Rattle.moved_rows.specs.Starts.{IsSaidSetup, IsStartOf, rows_left};
 ghost use Rattle.moved_rows.specs.Stored.{AllStoreValues, IsValueCall};
 
 use catalogue::one_catalogue_is_said;
@@ -82,7 +82,7 @@ pub fn rows_of_a_run_are_of_the_tables()
         IsStartOf s start → AreRowsIn s.tables (rows_after start log) }
     ensures batches { (text : List ℕ) (s : SetupShape) (start : Start) (log : List ℕ)
         (before later : List (List requests.Call)) → IsSaidSetup text s → IsStartOf s start →
-        batches_from start log ≡ before ++ later → AreRowsIn s.tables (rows_left start before) }
+        calls_in_turn start log ≡ before ++ later → AreRowsIn s.tables (rows_left start before) }
     ensures cuts { (text : List ℕ) (s : SetupShape) (start : Start) (log : List ℕ)
         (before later : List (List requests.Call)) → IsSaidSetup text s → IsStartOf s start →
         batches_said start.procs start.retries log ≡ before ++ later → AreRowsIn s.tables (rows_left start before) }
@@ -96,16 +96,16 @@ pub fn rows_of_a_run_are_of_the_tables()
 /// after which nothing is carried.
 pub fn a_run_goes_on_from_written_rows()
     ensures whole { (text : List ℕ) (s : SetupShape) (start : Start) (log : List ℕ) → IsSaidSetup text s →
-        IsStartOf s start → fault_in start.procs start.retries log ≡ None →
-        GoesOnFrom text s start (batches_from start log) }
+        IsStartOf s start → log_fault start log ≡ None →
+        GoesOnFrom text s start (calls_in_turn start log) }
     ensures batches { (text : List ℕ) (s : SetupShape) (start : Start) (log : List ℕ)
         (before later : List (List requests.Call)) → IsSaidSetup text s → IsStartOf s start →
-        batches_from start log ≡ before ++ later → (standing_after start.retries start.rows before).carried ≡ [] →
+        calls_in_turn start log ≡ before ++ later → (standing_after start before).carried ≡ [] →
         GoesOnFrom text s start before }
     ensures cuts { (text : List ℕ) (s : SetupShape) (start : Start) (log : List ℕ)
         (before later : List (List requests.Call)) → IsSaidSetup text s → IsStartOf s start →
         batches_said start.procs start.retries log ≡ before ++ later →
-        (standing_after start.retries start.rows before).carried ≡ [] → GoesOnFrom text s start before }
+        (standing_after start before).carried ≡ [] → GoesOnFrom text s start before }
 {
     rows_of_a_run_are_of_the_tables();
     rows_are_read_as_written();
@@ -121,21 +121,21 @@ pub fn a_run_goes_on_from_written_rows()
 /// the rest has from there the same replies, and leaves the same rows, as in the log.
 pub fn a_log_goes_on_after_a_cut()
     ensures faults { (start : Start) (first rest : List ℕ) → EndsWithCut start.procs.procs first →
-        fault_in start.procs start.retries (first ++ rest) ≡ None →
-        (fault_in start.procs start.retries first ≡ None) × (fault_in start.procs start.retries rest ≡ None) }
+        log_fault start (first ++ rest) ≡ None →
+        (log_fault start first ≡ None) × (log_fault start rest ≡ None) }
     ensures batches { (start : Start) (first rest : List ℕ) → EndsWithCut start.procs.procs first →
-        fault_in start.procs start.retries (first ++ rest) ≡ None →
-        (standing_after start.retries start.rows (batches_said start.procs start.retries first)).carried ≡ [] →
-        batches_from start (first ++ rest)
-        ≡ batches_from start first ++ batches_from (on_rows start (rows_after start first)) rest }
+        log_fault start (first ++ rest) ≡ None →
+        (standing_after start (batches_said start.procs start.retries first)).carried ≡ [] →
+        calls_in_turn start (first ++ rest)
+        ≡ calls_in_turn start first ++ calls_in_turn (on_rows start (rows_after start first)) rest }
     ensures outcomes { (start : Start) (first rest : List ℕ) → EndsWithCut start.procs.procs first →
-        fault_in start.procs start.retries (first ++ rest) ≡ None →
-        (standing_after start.retries start.rows (batches_said start.procs start.retries first)).carried ≡ [] →
+        log_fault start (first ++ rest) ≡ None →
+        (standing_after start (batches_said start.procs start.retries first)).carried ≡ [] →
         outcomes_of start (first ++ rest)
         ≡ outcomes_of start first ++ outcomes_of (on_rows start (rows_after start first)) rest }
     ensures rows { (start : Start) (first rest : List ℕ) → EndsWithCut start.procs.procs first →
-        fault_in start.procs start.retries (first ++ rest) ≡ None →
-        (standing_after start.retries start.rows (batches_said start.procs start.retries first)).carried ≡ [] →
+        log_fault start (first ++ rest) ≡ None →
+        (standing_after start (batches_said start.procs start.retries first)).carried ≡ [] →
         rows_after start (first ++ rest) ≡ rows_after (on_rows start (rows_after start first)) rest }
 {}
 
@@ -143,7 +143,7 @@ pub fn a_log_goes_on_after_a_cut()
 /// and batch by batch the same replies and rows. Starts differ at most in how the code keeps their procedures.
 pub fn one_setup_has_one_run()
     ensures fault { (s : SetupShape) (a b : Start) (log : List ℕ) → IsStartOf s a → IsStartOf s b →
-        fault_in a.procs a.retries log ≡ fault_in b.procs b.retries log }
+        log_fault a log ≡ log_fault b log }
     ensures report { (s : SetupShape) (a b : Start) (log : List ℕ) → IsStartOf s a → IsStartOf s b →
         report_of a log ≡ report_of b log }
     ensures rows { (s : SetupShape) (a b : Start) (log : List ℕ) → IsStartOf s a → IsStartOf s b →
@@ -170,13 +170,13 @@ pub fn one_setup_is_said_with_rows()
 /// the same digest of rows. That what is read is such a start says `documents_start_their_setups`.
 pub fn a_second_run_goes_on_with_the_log()
     ensures says { (text : List ℕ) (s : SetupShape) (start : Start) (first : List ℕ) → IsSaidSetup text s →
-        IsStartOf s start → fault_in start.procs start.retries first ≡ None →
+        IsStartOf s start → log_fault start first ≡ None →
         SaysSetupWithRows text (rows_document s.tables (rows_after start first))
         (with_rows_of s (rows_after start first)) }
     ensures one { (text : List ℕ) (s : SetupShape) (start : Start) (first rest : List ℕ) (t : SetupShape)
         (again : Start) → IsSaidSetup text s → IsStartOf s start → EndsWithCut start.procs.procs first →
-        fault_in start.procs start.retries (first ++ rest) ≡ None →
-        (standing_after start.retries start.rows (batches_said start.procs start.retries first)).carried ≡ [] →
+        log_fault start (first ++ rest) ≡ None →
+        (standing_after start (batches_said start.procs start.retries first)).carried ≡ [] →
         SaysSetupWithRows text (rows_document s.tables (rows_after start first)) t → IsStartOf t again →
         AreOneRun start first again rest }
 {

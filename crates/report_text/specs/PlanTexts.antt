@@ -26,7 +26,7 @@ unfoldable pub in_part_text : InPart → List ℕ
 in_part_text WholePart = []
 in_part_text (Row key) = codes "/" ++ decimal key
 
--- what comes after a table's name: nothing for the whole table, /PART and more for what is in it
+-- what comes after a table's name: nothing for the whole table, /PART for a partition, /PART/KEY for a row
 unfoldable pub in_table_text : InTable → List ℕ
 in_table_text WholeTable = []
 in_table_text (Part part below) = (codes "/" ++ decimal part) ++ in_part_text below

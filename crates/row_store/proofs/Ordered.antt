@@ -18,6 +18,7 @@ use Rattle.footprint.specs.declared.resource.InPart.TheVariants.{WholePart, Row}
 use Rattle.footprint.specs.Tree.{resource_cmp}
 use Rattle.footprint.specs.OfCatalogue.{IsResourceOf}
 use Rattle.footprint.proofs.Resources.{resources_total}
+use Rattle.footprint.specs.InTreeOrder.{IsInTreeOrder}
 use Rattle.modes.specs.declared.mode.Mode.{Mode}
 use Rattle.coarsen.specs.Subtrees.{Requests}
 use Rattle.coarsen.specs.Plans.{IsPlanOver}
@@ -67,16 +68,16 @@ two_off g true b f h = absurd (f refl)
 two_off true false b f h = h
 two_off false false b f h = h
 
-sorted_head : (e : Resource × Mode) (es : Requests) → IsStrictlySortedBy resource_cmp (keys_of (e ∷ es)) → AllByRecursion (λ y. resource_cmp e.0 y ≡ Less) (keys_of es)
+sorted_head : (e : Resource × Mode) (es : Requests) → IsInTreeOrder (e ∷ es) → AllByRecursion (λ y. resource_cmp e.0 y ≡ Less) (keys_of es)
 unfolding IsStrictlySortedBy
 sorted_head e es s = s.0
 
-sorted_rest : (e : Resource × Mode) (es : Requests) → IsStrictlySortedBy resource_cmp (keys_of (e ∷ es)) → IsStrictlySortedBy resource_cmp (keys_of es)
+sorted_rest : (e : Resource × Mode) (es : Requests) → IsInTreeOrder (e ∷ es) → IsInTreeOrder es
 unfolding IsStrictlySortedBy
 sorted_rest e es s = s.1
 
 -- no earlier request locks the row name of a request
-pub fresh : (tables : List TableShape) (requests : Requests) → IsPlanOver tables requests → IsStrictlySortedBy resource_cmp (keys_of requests)
+pub fresh : (tables : List TableShape) (requests : Requests) → IsPlanOver tables requests → IsInTreeOrder requests
     → (i : ℕ) (e : Resource × Mode) → i < length requests → e ≡ get_or requests i e → IsResourceOf tables e.0 → (n : RowName) → is_of (name_of e.0) n ≡ true
     → locks_itself (take i requests) Write n ≡ false
 fresh tables [] over sorted i e l is of n named = absurd (omega (arith, l))

@@ -1,12 +1,10 @@
 //! Rows that are lent by their names, and given back.
 
 ghost use Rattle.std.specs.Prelude.{◌≡◌, true, false, ◌&&◌, if◌then◌else◌, None, IfOk};
-ghost use Rattle.std.specs.Map.{keys_of};
-ghost use Rattle.std.specs.List.Sorted.{IsStrictlySortedBy};
 ghost use Rattle.values.specs.declared.name.RowName.{RowName as AnyName};
 ghost use Rattle.footprint.specs.declared.resource.Resource.{Resource as AnyResource};
-ghost use Rattle.footprint.specs.Tree.{resource_cmp};
 ghost use Rattle.proclang_types.specs.declared.right.Right.TheVariants.{Read, Write};
+ghost use Rattle.footprint.specs.InTreeOrder.{IsInTreeOrder};
 ghost use Rattle.coarsen.specs.Plans.{IsPlanOver};
 ghost use Rattle.shelves.specs.Places.{seen_at, has_shelf, is_away, has_place, written};
 ghost use Rattle.shelves.specs.Shelving.{shelf_of};
@@ -54,7 +52,7 @@ pub(crate) fn written_rows(
     requests: &[(Resource, Mode)],
 ) -> Result<Vec<NamedRow>, NoMemory>
     requires over { IsPlanOver catalogue.now requests.now }
-    requires sorted { IsStrictlySortedBy resource_cmp (keys_of requests.now) }
+    requires sorted { IsInTreeOrder requests.now }
     ensures seen { (d : AnyResource) (q : AnyName) → seen_at shelves.new d q ≡ seen_at shelves.old d q }
     ensures kept { (d : AnyResource) (q : AnyName) → has_place shelves.old d q ≡ true →
         has_place shelves.new d q ≡ true }

@@ -1,12 +1,10 @@
 //! What a loan holds, made ready in a store, taken out of it and put back.
 
 ghost use Rattle.std.specs.Prelude.{◌≡◌, true, false, if◌then◌else◌, IfOk};
-ghost use Rattle.std.specs.Map.{keys_of};
-ghost use Rattle.std.specs.List.Sorted.{IsStrictlySortedBy};
 ghost use Rattle.values.specs.declared.name.RowName.{RowName as AnyName};
 ghost use Rattle.proclang_types.specs.declared.right.Right.TheVariants.{Read, Write};
 ghost use Rattle.footprint.specs.declared.resource.Resource.{Resource as AnyResource};
-ghost use Rattle.footprint.specs.Tree.{resource_cmp};
+ghost use Rattle.footprint.specs.InTreeOrder.{IsInTreeOrder};
 ghost use Rattle.coarsen.specs.Plans.{IsPlanOver};
 ghost use Rattle.coarsen.specs.Clashes.{locks_row};
 ghost use Rattle.shelves.specs.Places.{seen_at, full, as_it_stands, has_shelf, is_away, has_place, among, is_named};
@@ -120,7 +118,7 @@ fn hold_rows(
     requests: &[(Resource, Mode)],
 ) -> Result<HeldRows, NoMemory>
     requires over { IsPlanOver catalogue.now requests.now }
-    requires sorted { IsStrictlySortedBy resource_cmp (keys_of requests.now) }
+    requires sorted { IsInTreeOrder requests.now }
     ensures seen { (d : AnyResource) (q : AnyName) → seen_at shelves.new d q ≡ seen_at shelves.old d q }
     ensures kept { (d : AnyResource) (q : AnyName) → has_place shelves.old d q ≡ true →
         has_place shelves.new d q ≡ true }

@@ -8,8 +8,8 @@ use values::{Key, Row, Value};
 pub(crate) const MOST_NEAR: usize = 1 << 15;
 
 /// How many lines are appended at a time. If their rows may be far, room is made for them first. To know how much it
-/// is, their values are looked at, one row right after the other: they lie anywhere in memory, and the processor fetches
-/// many of them at once if it has little else to do in between.
+/// is, their values are looked at, one row right after the other: they lie anywhere in memory, and the processor
+/// fetches many of them at once if it has little else to do in between.
 pub(crate) const TOGETHER: usize = 16;
 
 /// The most bytes that a value takes, with the space before it.

@@ -20,11 +20,11 @@ use Rattle.running.specs.declared.run_fault.RunFault.TheVariants as runs
 use Rattle.running.specs.declared.transcript.Transcript.{Transcript}
 use Rattle.running.specs.Batches.{due_text, IsReported}
 use Rattle.running.specs.Hashers.{form_of, said_of}
-use Rattle.running.specs.Reported.{lines_of, with_closing, HasClosed, HasReported, IsClosing, IsCutAt}
-use Rattle.running.specs.Standings.{standing_of}
+use Rattle.running.specs.Reported.{reply_text, with_closing, HasClosed, HasReported, IsClosing, IsCutAt}
+use Rattle.running.specs.Standings.{standing_after, standing_of}
 use Rattle.running.specs.Starts.{Start}
 use Rattle.running.specs.Stops.{IfOfThread, IsMachineFault, IsNotOfThread}
-use Rattle.running.specs.Stopped.{at_end, in_closing, standing_after}
+use Rattle.running.specs.Stopped.{at_end, in_closing}
 use Rattle.running.proofs.ClosingBatches.{closing_further, closing_none, next_closing}
 use Rattle.running.proofs.Reported.{next_text_is, HasReported-next}
 
@@ -35,7 +35,7 @@ pub HasClosed-none : (start : Start) (most : ℕ) (ran : List (List Call)) (engi
 HasClosed-none start most ran engine transcript sink gave e h = record {
   closers = [];
   reported = rw (append-nil ran) h;
-  first = ap (λ n. closing_within start.retries n (standing_after start.retries start.rows ran)) (sym e) ∙ ap (λ (batches : List (List Call)). closing_within start.retries most (standing_after start.retries start.rows batches)) (sym (append-nil ran));
+  first = ap (λ n. closing_within start.retries n (standing_after start ran)) (sym e) ∙ ap (λ (batches : List (List Call)). closing_within start.retries most (standing_after start batches)) (sym (append-nil ran));
 }
 
 -- after the first of the batches that close a log, something is carried, so that one without calls is next
@@ -44,13 +44,13 @@ module _ (start : Start) (most left n : ℕ) (ran : List (List Call)) (engine : 
   abbrev before : List (List Call)
   before = ran ++ h.closers
 
-  carries : ¬ (length (standing_after start.retries start.rows before).carried ≡ 0)
+  carries : ¬ (length (standing_after start before).carried ≡ 0)
   carries none = some (e ∙ ap (λ (s : Standing). length s.carried) h.reported.standing_is ∙ none)
 
   all : before ++ [] ∷ [] ≡ ran ++ (h.closers ++ [] ∷ [])
   all = append_assoc ran h.closers ([] ∷ [])
 
-  next : closing_within start.retries most (standing_after start.retries start.rows before) ≡ [] ∷ closing_within start.retries left (standing_after start.retries start.rows (before ++ [] ∷ []))
+  next : closing_within start.retries most (standing_after start before) ≡ [] ∷ closing_within start.retries left (standing_after start (before ++ [] ∷ []))
   next = next_closing start ran h.closers most left carries more
 
   -- it was run and reported
@@ -68,7 +68,7 @@ module _ (start : Start) (most left n : ℕ) (ran : List (List Call)) (engine : 
     closers = h.closers;
     ends = refl;
     closed = (
-      closing_within start.retries left (standing_after start.retries start.rows (before ++ [] ∷ [])),
+      closing_within start.retries left (standing_after start (before ++ [] ∷ [])),
       h.first ∙ ap (λ (rest : List (List Call)). h.closers ++ rest) next,
     );
     written = (gave, h.reported.text_is, rw (next_text_is start before [] engine transcript sink gave h.reported) at front);
@@ -76,30 +76,30 @@ module _ (start : Start) (most left n : ℕ) (ran : List (List Call)) (engine : 
 
 -- nothing is carried any more, or no batch may be to come
 pub HasClosed-end : (start : Start) (most : ℕ) (ran : List (List Call)) (engine : EngineParts) (transcript : Transcript) (sink gave : Option (List ℕ))
-    (h : HasClosed start ran most engine transcript sink gave) → closing_within start.retries most (standing_after start.retries start.rows (ran ++ h.closers)) ≡ [] →
-    HasReported start (with_closing start.retries start.rows ran) engine transcript sink gave
+    (h : HasClosed start ran most engine transcript sink gave) → closing_within start.retries most (standing_after start (ran ++ h.closers)) ≡ [] →
+    HasReported start (with_closing start ran) engine transcript sink gave
 HasClosed-end start most ran engine transcript sink gave h none =
-    let closers : closing start.retries (standing_after start.retries start.rows ran) ≡ h.closers = h.first ∙ ap (λ (rest : List (List Call)). h.closers ++ rest) none ∙ append-nil h.closers in
+    let closers : closing start.retries (standing_after start ran) ≡ h.closers = h.first ∙ ap (λ (rest : List (List Call)). h.closers ++ rest) none ∙ append-nil h.closers in
     rw closers h.reported
 
 pub HasClosed-uncarried : (start : Start) (most n : ℕ) (ran : List (List Call)) (engine : EngineParts) (transcript : Transcript) (sink gave : Option (List ℕ)) →
-    HasClosed start ran most engine transcript sink gave → n ≡ length engine.carried → n ≡ 0 → HasReported start (with_closing start.retries start.rows ran) engine transcript sink gave
+    HasClosed start ran most engine transcript sink gave → n ≡ length engine.carried → n ≡ 0 → HasReported start (with_closing start ran) engine transcript sink gave
 HasClosed-uncarried start most n ran engine transcript sink gave h e none =
     HasClosed-end start most ran engine transcript sink gave h
-    (closing_none start.retries most (standing_after start.retries start.rows (ran ++ h.closers)) (sym (e ∙ ap (λ (s : Standing). length s.carried) h.reported.standing_is) ∙ none))
+    (closing_none start.retries most (standing_after start (ran ++ h.closers)) (sym (e ∙ ap (λ (s : Standing). length s.carried) h.reported.standing_is) ∙ none))
 
 pub HasClosed-spent : (start : Start) (most : ℕ) (ran : List (List Call)) (engine : EngineParts) (transcript : Transcript) (sink gave : Option (List ℕ)) →
-    HasClosed start ran most engine transcript sink gave → most ≡ 0 → HasReported start (with_closing start.retries start.rows ran) engine transcript sink gave
+    HasClosed start ran most engine transcript sink gave → most ≡ 0 → HasReported start (with_closing start ran) engine transcript sink gave
 HasClosed-spent start most ran engine transcript sink gave h none =
-    HasClosed-end start most ran engine transcript sink gave h (ap (λ n. closing_within start.retries n (standing_after start.retries start.rows (ran ++ h.closers))) none)
+    HasClosed-end start most ran engine transcript sink gave h (ap (λ n. closing_within start.retries n (standing_after start (ran ++ h.closers))) none)
 
 -- ---- the end line
 
 pub end_line_is : (start : Start) (ran : List (List Call)) (engine : EngineParts) (transcript : Transcript) (sink gave : Option (List ℕ)) →
     HasReported start ran engine transcript sink gave →
-    end_line engine.next (digest (digested_text (form_of transcript) (tables_of engine) engine.rows)) (digest (lines_of start.retries start.rows ran)) ≡ end_text false start.digest start.procs.tables start.rows (transactions_in start.retries start.rows ran)
+    end_line engine.next (digest (digested_text (form_of transcript) (tables_of engine) engine.rows)) (digest (reply_text start ran)) ≡ end_text false start.digest start.procs.tables start.rows (transactions_in start.retries start.rows ran)
 end_line_is start ran engine transcript sink gave h =
-    let line : DigestForm → List TableShape → Standing → List ℕ = λ form tables s. end_line s.next (digest (digested_text form tables s.rows)) (digest (lines_of start.retries start.rows ran)) in
+    let line : DigestForm → List TableShape → Standing → List ℕ = λ form tables s. end_line s.next (digest (digested_text form tables s.rows)) (digest (reply_text start ran)) in
     ap (λ (form : DigestForm). line form (tables_of engine) (standing_of engine)) h.form_is
     ∙ ap (λ (p : ProcsParts). line start.digest p.tables (standing_of engine)) h.procs_are ∙ ap (line start.digest start.procs.tables) h.standing_is ∙ sym (end_is start.digest start.procs.tables start.retries start.rows ran)
 
@@ -109,9 +109,9 @@ on_ok (Err fault) gave given text same e h = tt
 
 -- all batches that close the log are reported, and the end line is written or not
 ended : (r : Result ℕ RunFault) (start : Start) (ran : List (List Call)) (engine : EngineParts) (transcript : Transcript) (sink gave given : Option (List ℕ)) →
-    HasReported start (with_closing start.retries start.rows ran) engine transcript sink gave → IfOk r (λ n. n ≡ engine.next) →
-    OnOk r (Appends gave given (end_text false start.digest start.procs.tables start.rows (transactions_in start.retries start.rows (with_closing start.retries start.rows ran)))) →
-    AppendsFront gave given (end_text false start.digest start.procs.tables start.rows (transactions_in start.retries start.rows (with_closing start.retries start.rows ran))) → IsNotOfThread r → IsClosing start ran sink given r
+    HasReported start (with_closing start ran) engine transcript sink gave → IfOk r (λ n. n ≡ engine.next) →
+    OnOk r (Appends gave given (end_text false start.digest start.procs.tables start.rows (transactions_in start.retries start.rows (with_closing start ran)))) →
+    AppendsFront gave given (end_text false start.digest start.procs.tables start.rows (transactions_in start.retries start.rows (with_closing start ran))) → IsNotOfThread r → IsClosing start ran sink given r
 ended (Ok n) start ran engine transcript sink gave given h count text front threadless = record {
   count = count ∙ ap (λ (s : Standing). s.next) h.standing_is;
   text = Appends-trans sink gave given _ _ h.text_is text;
@@ -124,7 +124,7 @@ ended (Err fault) start ran engine transcript sink gave given h count text front
     stage = at_end;
     all_read = tt;
     cut = record {
-      closers = closing start.retries (standing_after start.retries start.rows ran);
+      closers = closing start.retries (standing_after start ran);
       ends = (refl, threadless);
       closed = refl;
       written = (gave, h.text_is, front);
@@ -133,15 +133,15 @@ ended (Err fault) start ran engine transcript sink gave given h count text front
 }
 
 pub IsClosing-end : (r : Result ℕ RunFault) (start : Start) (ran : List (List Call)) (engine : EngineParts) (transcript : Transcript) (sink gave given : Option (List ℕ)) →
-    HasReported start (with_closing start.retries start.rows ran) engine transcript sink gave → IfOk r (λ n. n ≡ engine.next) →
+    HasReported start (with_closing start ran) engine transcript sink gave → IfOk r (λ n. n ≡ engine.next) →
     ((m : List ℕ) → Holds256 (said_of transcript) m → OnOk r (Appends gave given (end_line engine.next (digest (digested_text (form_of transcript) (tables_of engine) engine.rows)) (digest m)))) →
     ((m : List ℕ) → Holds256 (said_of transcript) m → AppendsFront gave given (end_line engine.next (digest (digested_text (form_of transcript) (tables_of engine) engine.rows)) (digest m))) →
     IsNotOfThread r → IsClosing start ran sink given r
 IsClosing-end r start ran engine transcript sink gave given h count text front threadless =
-    let batches : List (List Call) = with_closing start.retries start.rows ran in
+    let batches : List (List Call) = with_closing start ran in
     let line = end_line_is start batches engine transcript sink gave h in
     ended r start ran engine transcript sink gave given h count
-    (on_ok r gave given _ _ line (text (lines_of start.retries start.rows batches) h.said_is)) (rw line at (front (lines_of start.retries start.rows batches) h.said_is)) threadless
+    (on_ok r gave given _ _ line (text (reply_text start batches) h.said_is)) (rw line at (front (reply_text start batches) h.said_is)) threadless
 
 -- a fault stopped the batches that close the log
 pub IsClosing-cut : (start : Start) (ran : List (List Call)) (sink gave : Option (List ℕ)) (fault : RunFault) →

@@ -32,7 +32,7 @@ between start m total engine transcript (Some log) (Some xs) None taken gave p q
 between start m total engine transcript (Some log) (Some xs) (Some ys) taken gave p q s h t em takes =
     let en : m ≡ line_number (newlines_in h.bytes) = em ∙ ap (λ (r : Position). r.newlines) h.takes.1 ∙ newlines_after h.bytes in
     let read : xs ≡ t.bytes ++ ys = t.takes.0 in
-    let after : After start.procs start.retries (line_number (newlines_in h.bytes)) (call_count s.ran) s.ran log (t.bytes ++ ys) = rw (read, en, s.total_is) at s.after in
+    let after : After start (line_number (newlines_in h.bytes)) (call_count s.ran) s.ran log (t.bytes ++ ys) = rw (read, en, s.total_is) at s.after in
     record {
       reported = s.ran;
       bytes = h.bytes;

@@ -9,10 +9,11 @@ use Rattle.batch_log.specs.Lines.{Lines}
 use Rattle.batch_log.specs.declared.fault.LogFault.{LogFault}
 use Rattle.batch_log.specs.Log.{batches_of, first_fault, IsEnd}
 use Rattle.report_text.specs.Report.{end_text}
-use Rattle.retries.specs.Standings.{after_batch, closed, closing, transactions_in, Standing}
+use Rattle.retries.specs.Standings.{after_batch, after_batches, closed, closing, start_of, transactions_in, Standing}
 use Rattle.running.specs.Reports.{report_of}
+use Rattle.running.specs.Standings.{standing_after}
 use Rattle.running.specs.Starts.{Start}
-use Rattle.running.specs.Stopped.{at_end, in_batch, in_closing, next_text, reading, said_after, standing_after, text_at, texts_of, AppendsAndFront, HaveClosed, IsStoppedAt, IsTakenAt, Stage}
+use Rattle.running.specs.Stopped.{at_end, in_batch, in_closing, next_text, reading, said_after, text_at, texts_of, AppendsAndFront, HaveClosed, IsStoppedAt, IsTakenAt, Stage}
 use Rattle.running.proofs.Reported.{texts_further, texts_next}
 use Rattle.running.proofs.SoFar.{calls_are, report_is}
 
@@ -45,7 +46,7 @@ begins_next start faulty ran calls more all e =
 
 -- the batches of a log, where its lines after some batches are these
 abbrev after_with : ℕ → Database → List (List Call) → Lines → List (List Call)
-after_with retries db reported lines = reported ++ closed retries (is_some (first_fault lines)) (standing_after retries db reported) (batches_of lines)
+after_with retries db reported lines = reported ++ closed retries (is_some (first_fault lines)) (after_batches retries (start_of db) reported) (batches_of lines)
 
 abbrev report_after : Start → List (List Call) → Lines → List ℕ
 report_after start reported lines = whole_text start (is_some (first_fault lines)) (after_with start.retries start.rows reported lines)
@@ -56,27 +57,27 @@ closes retries lines s h = ap (λ (bs : List (List Call)). closed retries (is_so
 
 -- the report begins with what is written by each stage
 begins_at : (stage : Stage) (start : Start) (reported closers : List (List Call)) (bytes taken rest : List ℕ) →
-    IsTakenAt stage start.procs start.retries reported bytes taken rest → HaveClosed stage start.retries (standing_after start.retries start.rows reported) closers →
-    Begins (report_after start reported (said_after start.procs start.retries bytes reported (taken ++ rest))) (texts_of start (reported ++ closers) ++ text_at stage start (reported ++ closers))
+    IsTakenAt stage start reported bytes taken rest → HaveClosed stage start reported closers →
+    Begins (report_after start reported (said_after start bytes reported (taken ++ rest))) (texts_of start (reported ++ closers) ++ text_at stage start (reported ++ closers))
 begins_at reading start reported closers bytes taken rest at none =
-    let lines : Lines = said_after start.procs start.retries bytes reported (taken ++ rest) in
-    let more : List (List Call) = closed start.retries (is_some (first_fault lines)) (standing_after start.retries start.rows reported) (batches_of lines) in
+    let lines : Lines = said_after start bytes reported (taken ++ rest) in
+    let more : List (List Call) = closed start.retries (is_some (first_fault lines)) (standing_after start reported) (batches_of lines) in
     rw (none, append-nil reported) (begins_further start (is_some (first_fault lines)) reported more (after_with start.retries start.rows reported lines) refl)
 begins_at (in_batch calls) start reported closers bytes taken rest at none =
-    let lines : Lines = said_after start.procs start.retries bytes reported (taken ++ rest) in
+    let lines : Lines = said_after start bytes reported (taken ++ rest) in
     let f : Bool = is_some (first_fault lines) in
-    let s : Standing = standing_after start.retries start.rows reported in
-    let left : List (List Call) = batches_of (said_after start.procs start.retries (bytes ++ taken) (reported ++ calls ∷ []) rest) in
+    let s : Standing = standing_after start reported in
+    let left : List (List Call) = batches_of (said_after start (bytes ++ taken) (reported ++ calls ∷ []) rest) in
     rw (none, append-nil reported)
     (begins_next start f reported calls (closed start.retries f (after_batch start.retries s calls) left) (after_with start.retries start.rows reported lines)
     (ap (λ (bs : List (List Call)). reported ++ closed start.retries f s bs) at.batches))
 begins_at in_closing start reported closers bytes taken rest at closing_is =
-    let lines : Lines = said_after start.procs start.retries bytes reported (taken ++ rest) in
+    let lines : Lines = said_after start bytes reported (taken ++ rest) in
     begins_next start (is_some (first_fault lines)) (reported ++ closers) [] closing_is.0 (after_with start.retries start.rows reported lines)
-    (ap (λ (bs : List (List Call)). reported ++ bs) (closes start.retries lines (standing_after start.retries start.rows reported) at.0 ∙ closing_is.1) ∙ sym (append_assoc reported closers ([] ∷ closing_is.0)))
+    (ap (λ (bs : List (List Call)). reported ++ bs) (closes start.retries lines (standing_after start reported) at.0 ∙ closing_is.1) ∙ sym (append_assoc reported closers ([] ∷ closing_is.0)))
 begins_at at_end start reported closers bytes taken rest at closing_is =
-    let lines : Lines = said_after start.procs start.retries bytes reported (taken ++ rest) in
-    let all : after_with start.retries start.rows reported lines ≡ reported ++ closers = ap (λ (bs : List (List Call)). reported ++ bs) (closes start.retries lines (standing_after start.retries start.rows reported) at.0 ∙ closing_is) in (
+    let lines : Lines = said_after start bytes reported (taken ++ rest) in
+    let all : after_with start.retries start.rows reported lines ≡ reported ++ closers = ap (λ (bs : List (List Call)). reported ++ bs) (closes start.retries lines (standing_after start reported) at.0 ∙ closing_is) in (
       [],
       ap (λ (o : Option LogFault). whole_text start (is_some o) (after_with start.retries start.rows reported lines)) at.0.fault
           ∙ ap (whole_text start false) all ∙ sym (append-nil (whole_text start false (reported ++ closers))),
@@ -93,7 +94,7 @@ front_of sink filled front text all h b = (
 front_known : (stage : Stage) (start : Start) (failed : Bool) (log : List ℕ) (sink filled : Option (List ℕ)) (line : ℕ) →
     IsStoppedAt stage start failed log sink filled line → AppendsFront sink filled (report_of start log)
 front_known stage start failed log sink filled line s =
-    let lines : Lines = said_after start.procs start.retries s.bytes s.reported (s.taken ++ s.rest) in
+    let lines : Lines = said_after start s.bytes s.reported (s.taken ++ s.rest) in
     let begins = begins_at stage start s.reported s.closers s.bytes s.taken s.rest s.at s.closed in
     let report : report_of start log ≡ (texts_of start (s.reported ++ s.closers) ++ text_at stage start (s.reported ++ s.closers)) ++ begins.0 =
     report_is start log _ (first_fault lines) (calls_are start log s.reported (batches_of lines) (first_fault lines) s.batches s.fault) s.fault ∙ begins.1 in

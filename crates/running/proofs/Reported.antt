@@ -11,7 +11,7 @@ use Rattle.requests.specs.ProcLists.{ProcsParts}
 use Rattle.requests.specs.Requests.{Call}
 use Rattle.batch_log.specs.Log.{most_calls}
 use Rattle.report_text.specs.Report.{batch_text, next_batch, reply_lines}
-use Rattle.retries.specs.Standings.{attempts_at, after_batch, call_count, replies_at, start_of, transactions_at, Standing}
+use Rattle.retries.specs.Standings.{attempts_at, after_batch, call_count, replies_at, start_of, transactions_at, after_batches, Standing}
 use Rattle.retries.proofs.Followed.{after_batches-append}
 use Rattle.retries.proofs.Reported.{texts_grown}
 use Rattle.retries.proofs.Serial.{lines_grown}
@@ -20,10 +20,10 @@ use Rattle.engine.specs.Engines.{EngineParts}
 use Rattle.running.specs.declared.transcript.Transcript.{Transcript}
 use Rattle.running.specs.Batches.{due_text, IsReported}
 use Rattle.running.specs.Hashers.{batch_of, form_of, said_of}
-use Rattle.running.specs.Reported.{lines_of, HasReported, IsAfterLog}
+use Rattle.running.specs.Reported.{reply_text, HasReported, IsAfterLog}
 use Rattle.running.specs.Standings.{standing_of}
 use Rattle.running.specs.Starts.{start_on, Start}
-use Rattle.running.specs.Stopped.{next_text, standing_after, texts_of}
+use Rattle.running.specs.Stopped.{next_text, texts_of}
 
 -- ---- nothing has run
 
@@ -50,7 +50,7 @@ HasReported-none engine form transcript sink e f b h is = record {
 number_next : (b n m : ℕ) → b ≡ next_batch n → m ≡ n + 1 → next_batch b ≡ next_batch m
 number_next b n m e f = omega arith
 
-pub standing_next : (retries : ℕ) (db : Database) (ran : List (List Call)) (calls : List Call) → standing_after retries db (ran ++ calls ∷ []) ≡ after_batch retries (standing_after retries db ran) calls
+pub standing_next : (retries : ℕ) (db : Database) (ran : List (List Call)) (calls : List Call) → after_batches retries (start_of db) (ran ++ calls ∷ []) ≡ after_batch retries (after_batches retries (start_of db) ran) calls
 standing_next retries db ran calls = after_batches-append retries (start_of db) ran (calls ∷ [])
 
 abbrev text_from : DigestForm → List TableShape → ℕ → Standing → List Call → List ℕ
@@ -73,8 +73,8 @@ pub HasReported-next : (start : Start) (ran : List (List Call)) (calls : List Ca
     HasReported start ran engine transcript sink gave → after.procs ≡ engine.procs → after.retries ≡ engine.retries → form_of after_it ≡ form_of transcript →
     IsReported engine after transcript after_it gave given calls → HasReported start (ran ++ calls ∷ []) after after_it sink given
 HasReported-next start ran calls engine after transcript after_it sink gave given h e r f reported =
-    let grown : lines_of start.retries start.rows ran ++ reply_lines engine.next (transactions_at (standing_of engine) calls) (replies_at (standing_of engine) calls) ≡ lines_of start.retries start.rows (ran ++ calls ∷ []) =
-    ap (λ (s : Standing). lines_of start.retries start.rows ran ++ lines_from s calls) h.standing_is ∙ sym (lines_grown start.retries start.rows ran calls) in
+    let grown : reply_text start ran ++ reply_lines engine.next (transactions_at (standing_of engine) calls) (replies_at (standing_of engine) calls) ≡ reply_text start (ran ++ calls ∷ []) =
+    ap (λ (s : Standing). reply_text start ran ++ lines_from s calls) h.standing_is ∙ sym (lines_grown start.retries start.rows ran calls) in
     let texts : texts_of start ran ++ due_text engine transcript calls ≡ texts_of start (ran ++ calls ∷ []) =
     ap (λ t. texts_of start ran ++ t) (next_text_is start ran calls engine transcript sink gave h) ∙ sym (texts_grown start.digest start.procs.tables start.retries start.rows ran calls) in
     record {
@@ -113,11 +113,11 @@ calls_grown ran calls = sum_by-append (λ (calls : List Call). length calls) ran
 
 -- a log has room for its next batch, whatever is carried to it
 pub room_after : (retries : ℕ) (db : Database) (ran : List (List Call)) (calls : List Call) → retries ≤ 2 → call_count ran + length calls ≤ most_calls retries →
-    (standing_after retries db ran).next + length (attempts_at (standing_after retries db ran) calls) ≤ 2 ^ 48
+    (after_batches retries (start_of db) ran).next + length (attempts_at (after_batches retries (start_of db) ran) calls) ≤ 2 ^ 48
 room_after zero db ran calls few h = let most = at_most_next 0 db ran calls in omega (arith, most, h)
 room_after (suc retries) db ran calls few h = fits (suc retries) db ran calls (omega arith) h
 
-pub room_at : (retries : ℕ) (standing : Standing) (db : Database) (ran : List (List Call)) (calls : List Call) → standing ≡ standing_after retries db ran → retries ≤ 2 →
+pub room_at : (retries : ℕ) (standing : Standing) (db : Database) (ran : List (List Call)) (calls : List Call) → standing ≡ after_batches retries (start_of db) ran → retries ≤ 2 →
     call_count ran + length calls ≤ most_calls retries → standing.next + length (attempts_at standing calls) ≤ 2 ^ 48
 room_at retries standing db ran calls e few h = rw e (room_after retries db ran calls few h)
 
@@ -134,9 +134,9 @@ IsAfterLog-next retries standing after h e = record {
 }
 
 -- the log's own batches
-pub log_after : (retries total most : ℕ) (standing : Standing) (db : Database) (ran : List (List Call)) → standing ≡ standing_after retries db ran → total ≡ call_count ran → total ≤ most → most ≡ most_calls retries → IsAfterLog retries standing
+pub log_after : (retries total most : ℕ) (standing : Standing) (db : Database) (ran : List (List Call)) → standing ≡ after_batches retries (start_of db) ran → total ≡ call_count ran → total ≤ most → most ≡ most_calls retries → IsAfterLog retries standing
 log_after retries total most standing db ran e f few g = record { db = db; ran = ran; standing_is = e; few = omega arith }
 
-pub room_in_log : (retries total total2 most : ℕ) (standing : Standing) (db : Database) (ran : List (List Call)) (calls : List Call) → standing ≡ standing_after retries db ran → retries ≤ 2 → total ≡ call_count ran →
+pub room_in_log : (retries total total2 most : ℕ) (standing : Standing) (db : Database) (ran : List (List Call)) (calls : List Call) → standing ≡ after_batches retries (start_of db) ran → retries ≤ 2 → total ≡ call_count ran →
     total2 ≡ total + length calls → total2 ≤ most → most ≡ most_calls retries → standing.next + length (attempts_at standing calls) ≤ 2 ^ 48
 room_in_log retries total total2 most standing db ran calls e tries f n few g = room_at retries standing db ran calls e tries (omega arith)

@@ -18,15 +18,16 @@ use Rattle.report_text.specs.Report.{all_transactions}
 use Rattle.retries.specs.Standings.{in_turn, start_of}
 use Rattle.retries.proofs.Serial.{next_is}
 use Rattle.engine.specs.Engines.{EngineParts}
+use Rattle.running.specs.Standings.{standing_after}
 use Rattle.running.specs.declared.run_fault.RunFault.{RunFault}
 use Rattle.running.specs.declared.run_fault.RunFault.TheVariants as runs
 use Rattle.running.specs.declared.transcript.Transcript.{Transcript}
 use Rattle.running.specs.Reported.{with_closing, IsClosing}
-use Rattle.running.specs.Reports.{batches_in, fault_in, report_of, rows_after}
+use Rattle.running.specs.Reports.{batches_in, log_fault, report_of, rows_after}
 use Rattle.running.specs.Runs.{device_with, Device, IsRunOfLog}
 use Rattle.running.specs.Stops.{ends_in_io, is_of_device, IsMachineFault}
 use Rattle.running.specs.Starts.{Start}
-use Rattle.running.specs.Stopped.{standing_after, IsEndedBy, IsStoppedAt, reading, Stage}
+use Rattle.running.specs.Stopped.{IsEndedBy, IsStoppedAt, reading, Stage}
 use Rattle.running.proofs.Fronts.{front_of_stopped}
 use Rattle.running.proofs.SoFar.{calls_at_end, report_at_end, report_at_fault, SoFar}
 use Rattle.running.proofs.Stopped.{none_at_end, nothing_stopped, reads_end, stop_of_machine, SoFar-stopped}
@@ -59,9 +60,9 @@ run_stops stage e start left last taken given came at line f f2 k mid k2 stops e
 -- it is the log's first, and the report up to it was written
 fault_of_line : (fault : LogFault) (start : Start) (m total : ℕ) (engine : EngineParts) (transcript : Transcript) (left now after taken gave : Option (List ℕ)) →
     SoFar start m total engine transcript left now taken gave → Passes (λ xs ys. IsFault (log_said start.retries start.procs.procs m total xs) fault) now after →
-    IfSome left (λ log. fault_in start.procs start.retries log ≡ Some fault) × IfSome left (λ log. Appends taken gave (report_of start log))
+    IfSome left (λ log. log_fault start log ≡ Some fault) × IfSome left (λ log. Appends taken gave (report_of start log))
 fault_of_line fault start m total engine transcript left now after taken gave s p =
-    let P : List ℕ → List ℕ → Type 0 = λ x y. (fault_in start.procs start.retries x ≡ Some fault) × Appends taken gave (report_of start x) in
+    let P : List ℕ → List ℕ → Type 0 = λ x y. (log_fault start x ≡ Some fault) × Appends taken gave (report_of start x) in
     let joined : Passes P left after = Passes-trans _ _ P left now after s.after p
     (λ x y z g h. (g.fault ∙ h.first, rw (report_at_fault start m total s.ran x y fault g h) s.reported.text_is)) in
     (Passes-first P _ left after joined (λ x y g. g.0), Passes-first P _ left after joined (λ x y g. g.1))
@@ -104,10 +105,10 @@ nothing_run e start left taken f k is =
 closed_well : (n : ℕ) (start : Start) (m total : ℕ) (engine : EngineParts) (transcript : Transcript) (left now after taken gave given : Option (List ℕ)) →
     (s : SoFar start m total engine transcript left now taken gave) → IsClosing start s.ran taken given (Ok n) →
     Passes (λ xs ys. IsEnd (log_said start.retries start.procs.procs m total xs) × (ys ≡ [])) now after →
-    Passes (λ x y. (n ≡ length (all_transactions (batches_in start.procs start.retries start.rows x))) × (fault_in start.procs start.retries x ≡ None) × Appends taken given (report_of start x) × (y ≡ [])) left after
+    Passes (λ x y. (n ≡ length (all_transactions (batches_in start x))) × (log_fault start x ≡ None) × Appends taken given (report_of start x) × (y ≡ [])) left after
 closed_well n start m total engine transcript left now after taken gave given s h p =
     Passes-trans _ _ _ left now after s.after p (λ x y z g e. (
-      h.count ∙ next_is start.retries start.rows (with_closing start.retries start.rows s.ran)
+      h.count ∙ next_is start.retries start.rows (with_closing start s.ran)
           ∙ ap (λ (bs : List (List Call)). length (all_transactions (in_turn start.retries (start_of start.rows) bs))) (sym (calls_at_end start m total s.ran x y g e.0)),
       g.fault ∙ e.0.fault,
       rw (report_at_end start m total s.ran x y g e.0) h.text,
@@ -128,7 +129,7 @@ pub run_closes : (r : Result ℕ RunFault) (start : Start) (m total next total2 
     IsRunOfLog start (device_with left f) (device_with last f2) (device_with taken k) (device_with given k2) r
 run_closes (Ok n) start m total next total2 line engine transcript left now last taken gave given came p at f f2 k mid k2 s h end takes em en ec before after moves stops same_f same_k fails begun =
     let P : List ℕ → List ℕ → Type 0 = λ x y.
-    (n ≡ length (all_transactions (batches_in start.procs start.retries start.rows x))) × (fault_in start.procs start.retries x ≡ None) × Appends taken given (report_of start x) × (y ≡ []) in
+    (n ≡ length (all_transactions (batches_in start x))) × (log_fault start x ≡ None) × Appends taken given (report_of start x) × (y ≡ []) in
     let known : Passes P left (prepend_known came last) = closed_well n start m total engine transcript left now (prepend_known came last) taken gave given s h end in
     let ok : IfSome left (λ log. Appends taken given (report_of start log)) = Passes-first P _ left _ known (λ x y g. g.2) in
     record {
@@ -150,18 +151,18 @@ run_closes (Err e) start m total next total2 line engine transcript left now las
     run_stops stage e start left last taken given came at line f f2 k mid k2 stops cut.ends same_f same_k fails begun moves
     (SoFar-stopped stage false start m total next total2 line engine transcript cut.closers left now (prepend_known came last) taken gave given p at s before after em en
     (none_at_end stage total total2 read ec) takes
-    (Passes-weaken _ _ now (prepend_known came last) end (λ xs ys e. reads_end stage start.procs start.retries m total next total2 xs ys read e))
+    (Passes-weaken _ _ now (prepend_known came last) end (λ xs ys e. reads_end stage start m total next total2 xs ys read e))
     cut.closed cut.written begun)
 
 -- the rows are then those that the log leaves
 pub rows_at_end : (r : Result ℕ RunFault) (start : Start) (m total : ℕ) (engine after : EngineParts) (transcript : Transcript) (left now last taken gave : Option (List ℕ)) →
     (s : SoFar start m total engine transcript left now taken gave) →
-    OnOk r (after.rows ≡ (standing_after start.retries start.rows (with_closing start.retries start.rows s.ran)).rows) →
+    OnOk r (after.rows ≡ (standing_after start (with_closing start s.ran)).rows) →
     Passes (λ xs ys. IsEnd (log_said start.retries start.procs.procs m total xs) × (ys ≡ [])) now last → OnOk r (IfSome left (λ log. after.rows ≡ rows_after start log))
 rows_at_end (Ok n) start m total engine after transcript left now last taken gave s h end =
     let P : List ℕ → List ℕ → Type 0 = λ x y. after.rows ≡ rows_after start x in
     let known : Passes P left last = Passes-trans _ _ _ left now last s.after end
-    (λ x y z g e. h ∙ ap (λ (bs : List (List Call)). (standing_after start.retries start.rows bs).rows) (sym (calls_at_end start m total s.ran x y g e.0))) in
+    (λ x y z g e. h ∙ ap (λ (bs : List (List Call)). (standing_after start bs).rows) (sym (calls_at_end start m total s.ran x y g e.0))) in
     Passes-first P _ left last known (λ x y g. g)
 rows_at_end (Err e) start m total engine after transcript left now last taken gave s h end = tt
 

@@ -8,7 +8,6 @@ use Rattle.devices.specs.Devices.{AppendsFront, Passes}
 use Rattle.devices.specs.Lines.{line_number, newlines_in, next_number}
 use Rattle.devices.specs.LineReader.{Position}
 use Rattle.devices.proofs.Passing.{Passes-weaken}
-use Rattle.requests.specs.ProcLists.{ProcsParts}
 use Rattle.requests.specs.Requests.{Call}
 use Rattle.batch_log.specs.Log.{log_said, IsEnd, IsNextBatch}
 use Rattle.batch_log.specs.Moves.{Moves}
@@ -23,7 +22,7 @@ use Rattle.running.specs.Batches.{due_text}
 use Rattle.running.specs.Reported.{HasReadAll}
 use Rattle.running.specs.Starts.{Start}
 use Rattle.running.specs.Stops.{IfOfMachine, IsMachineFault, last_line}
-use Rattle.running.specs.Stopped.{at_end, in_batch, in_closing, line_after, reading, standing_after, text_at, texts_of, AppendsAndFront, HaveClosed, IsEndedBy, IsStop, IsStoppedAt, IsTakenAt, Stage}
+use Rattle.running.specs.Stopped.{at_end, in_batch, in_closing, line_after, reading, text_at, texts_of, AppendsAndFront, HaveClosed, IsEndedBy, IsStop, IsStoppedAt, IsTakenAt, Stage}
 use Rattle.running.proofs.Reported.{calls_grown, next_text_is}
 use Rattle.running.proofs.SoFar.{After, After-start, SoFar}
 use Rattle.running.proofs.Stopping.{at_line, begun_after, newlines_after, next_of_number, nothing_taken}
@@ -52,19 +51,19 @@ calls_at in_closing = 0
 calls_at at_end = 0
 
 -- what the reader promises of a stage: from a place after so many newlines and calls to another
-abbrev pub Reads : Stage → ProcsParts → ℕ → ℕ → ℕ → ℕ → ℕ → List ℕ → List ℕ → Type 0
-Reads reading procs retries m total next total2 xs ys = ⊤
-Reads (in_batch calls) procs retries m total next total2 xs ys = IsNextBatch (log_said retries procs.procs m total xs) calls (log_said retries procs.procs next total2 ys)
-Reads in_closing procs retries m total next total2 xs ys = IsEnd (log_said retries procs.procs m total xs) × (ys ≡ [])
-Reads at_end procs retries m total next total2 xs ys = IsEnd (log_said retries procs.procs m total xs) × (ys ≡ [])
+abbrev pub Reads : Stage → Start → ℕ → ℕ → ℕ → ℕ → List ℕ → List ℕ → Type 0
+Reads reading start m total next total2 xs ys = ⊤
+Reads (in_batch calls) start m total next total2 xs ys = IsNextBatch (log_said start.retries start.procs.procs m total xs) calls (log_said start.retries start.procs.procs next total2 ys)
+Reads in_closing start m total next total2 xs ys = IsEnd (log_said start.retries start.procs.procs m total xs) × (ys ≡ [])
+Reads at_end start m total next total2 xs ys = IsEnd (log_said start.retries start.procs.procs m total xs) × (ys ≡ [])
 
 -- at the end of a log
-pub reads_end : (stage : Stage) (procs : ProcsParts) (retries m total next total2 : ℕ) (xs ys : List ℕ) → HasReadAll stage → IsEnd (log_said retries procs.procs m total xs) × (ys ≡ []) →
-    Reads stage procs retries m total next total2 xs ys
-reads_end reading procs retries m total next total2 xs ys all h = absurd all
-reads_end (in_batch calls) procs retries m total next total2 xs ys all h = absurd all
-reads_end in_closing procs retries m total next total2 xs ys all h = h
-reads_end at_end procs retries m total next total2 xs ys all h = h
+pub reads_end : (stage : Stage) (start : Start) (m total next total2 : ℕ) (xs ys : List ℕ) → HasReadAll stage → IsEnd (log_said start.retries start.procs.procs m total xs) × (ys ≡ []) →
+    Reads stage start m total next total2 xs ys
+reads_end reading start m total next total2 xs ys all h = absurd all
+reads_end (in_batch calls) start m total next total2 xs ys all h = absurd all
+reads_end in_closing start m total next total2 xs ys all h = h
+reads_end at_end start m total next total2 xs ys all h = h
 
 pub none_at_end : (stage : Stage) (total total2 : ℕ) → HasReadAll stage → total2 ≡ total + 0 → total2 ≡ total + calls_at stage
 none_at_end reading total total2 all e = absurd all
@@ -72,26 +71,26 @@ none_at_end (in_batch calls) total total2 all e = absurd all
 none_at_end in_closing total total2 all e = e
 none_at_end at_end total total2 all e = e
 
-taken_at : (stage : Stage) (procs : ProcsParts) (retries m total next total2 : ℕ) (ran : List (List Call)) (bytes taken rest xs : List ℕ) →
+taken_at : (stage : Stage) (start : Start) (m total next total2 : ℕ) (ran : List (List Call)) (bytes taken rest xs : List ℕ) →
     xs ≡ taken ++ rest → m ≡ line_number (newlines_in bytes) → total ≡ call_count ran → next ≡ line_number (newlines_in (bytes ++ taken)) → total2 ≡ total + calls_at stage →
-    Reads stage procs retries m total next total2 xs rest → IsTakenAt stage procs retries ran bytes taken rest
-taken_at reading procs retries m total next total2 ran bytes taken rest xs e0 e1 e2 e3 e4 h = tt
-taken_at (in_batch calls) procs retries m total next total2 ran bytes taken rest xs e0 e1 e2 e3 e4 h =
+    Reads stage start m total next total2 xs rest → IsTakenAt stage start ran bytes taken rest
+taken_at reading start m total next total2 ran bytes taken rest xs e0 e1 e2 e3 e4 h = tt
+taken_at (in_batch calls) start m total next total2 ran bytes taken rest xs e0 e1 e2 e3 e4 h =
     let counted : total2 ≡ call_count (ran ++ calls ∷ []) = e4 ∙ ap (λ n. n + length calls) e2 ∙ sym (calls_grown ran calls) in
     rw (e0, e1, e2, e3, counted) at h
-taken_at in_closing procs retries m total next total2 ran bytes taken rest xs e0 e1 e2 e3 e4 h = rw (e0, e1, e2) at h
-taken_at at_end procs retries m total next total2 ran bytes taken rest xs e0 e1 e2 e3 e4 h = rw (e0, e1, e2) at h
+taken_at in_closing start m total next total2 ran bytes taken rest xs e0 e1 e2 e3 e4 h = rw (e0, e1, e2) at h
+taken_at at_end start m total next total2 ran bytes taken rest xs e0 e1 e2 e3 e4 h = rw (e0, e1, e2) at h
 
 -- ---- where a run stopped
 
 stopped_known : (stage : Stage) (start : Start) (failed : Bool) (m total next total2 line : ℕ) (ran closers : List (List Call)) (log xs ys bytes taken : List ℕ) (sink filled : Option (List ℕ)) →
-    After start.procs start.retries m total ran log xs → log ≡ bytes ++ xs → xs ≡ taken ++ ys →
+    After start m total ran log xs → log ≡ bytes ++ xs → xs ≡ taken ++ ys →
     m ≡ line_number (newlines_in bytes) → next ≡ line_number (newlines_in (bytes ++ taken)) → total ≡ call_count ran → total2 ≡ total + calls_at stage →
-    TakesCalls start.retries start.procs.procs total failed xs ys → Reads stage start.procs start.retries m total next total2 xs ys → HaveClosed stage start.retries (standing_after start.retries start.rows ran) closers →
+    TakesCalls start.retries start.procs.procs total failed xs ys → Reads stage start m total next total2 xs ys → HaveClosed stage start ran closers →
     AppendsAndFront sink filled (texts_of start (ran ++ closers)) (text_at stage start (ran ++ closers)) → line ≡ line_after failed (bytes ++ taken) →
     IsStoppedAt stage start failed log sink filled line
 stopped_known stage start failed m total next total2 line ran closers log xs ys bytes taken sink filled g e f en ex et ec takes reads closed written line_is =
-    let after : After start.procs start.retries (line_number (newlines_in bytes)) (call_count ran) ran log (taken ++ ys) = rw (f, en, et) at g in
+    let after : After start (line_number (newlines_in bytes)) (call_count ran) ran log (taken ++ ys) = rw (f, en, et) at g in
     record {
       reported = ran;
       closers = closers;
@@ -102,7 +101,7 @@ stopped_known stage start failed m total next total2 line ran closers log xs ys 
       batches = after.batches;
       fault = after.fault;
       calls = rw (f, et) at takes;
-      at = taken_at stage start.procs start.retries m total next total2 ran bytes taken ys xs f en et ex ec reads;
+      at = taken_at stage start m total next total2 ran bytes taken ys xs f en et ex ec reads;
       closed = closed;
       written = written;
       line_is = line_is;
@@ -112,8 +111,8 @@ stopped_known stage start failed m total next total2 line ran closers log xs ys 
 pub SoFar-stopped : (stage : Stage) (failed : Bool) (start : Start) (m total next total2 line : ℕ) (engine : EngineParts) (transcript : Transcript) (closers : List (List Call))
     (left now after taken gave given : Option (List ℕ)) (p q : Position) →
     (s : SoFar start m total engine transcript left now taken gave) → Moves left now nothing_taken p → Moves now after p q → m ≡ p.newlines → next ≡ q.newlines →
-    total2 ≡ total + calls_at stage → Passes (TakesCalls start.retries start.procs.procs total failed) now after → Passes (Reads stage start.procs start.retries m total next total2) now after →
-    HaveClosed stage start.retries (standing_after start.retries start.rows s.ran) closers →
+    total2 ≡ total + calls_at stage → Passes (TakesCalls start.retries start.procs.procs total failed) now after → Passes (Reads stage start m total next total2) now after →
+    HaveClosed stage start s.ran closers →
     AppendsAndFront taken given (texts_of start (s.ran ++ closers)) (text_at stage start (s.ran ++ closers)) → line ≡ line_at failed q →
     IfSome left (λ log. IsStoppedAt stage start failed log taken given line)
 unfolding Passes
@@ -168,7 +167,7 @@ SoFar-stopped_in_batch start m total next total2 line calls engine transcript le
 pub nothing_stopped : (start : Start) (left taken : Option (List ℕ)) → IfSome left (λ log. IsStoppedAt reading start false log taken taken 0)
 nothing_stopped start None taken = tt
 nothing_stopped start (Some log) taken =
-    stopped_known reading start false 0 0 0 0 0 [] [] log log log [] [] taken taken (After-start start.procs start.retries log) refl refl refl refl refl refl
+    stopped_known reading start false 0 0 0 0 0 [] [] log log log [] [] taken taken (After-start start log) refl refl refl refl refl refl
     (TakesCalls-none start.procs.procs 0 false log (omega arith)) tt refl (taken, Appends-nil taken, nothing_at taken) refl
 
 -- ---- the fault that it stopped with

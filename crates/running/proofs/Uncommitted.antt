@@ -13,13 +13,12 @@ use Rattle.meaning.specs.Serial.{serial_end, serial_replies}
 use Rattle.sequencer.specs.Attempts.{Attempt}
 use Rattle.engine.specs.declared.replies.BatchDone.{BatchDone}
 use Rattle.engine.specs.declared.replies.Reply.{Reply}
-use Rattle.engine.specs.Engines.{EngineParts, is_busy, tables_of}
+use Rattle.engine.specs.Engines.{EngineParts, tables_of}
 use Rattle.engine.specs.Executions.{IsExecutionOf, KeepsSetting}
 use Rattle.engine.specs.Replies.{reply_of}
 use Rattle.running.specs.declared.transcript.Transcript.{Transcript}
 use Rattle.running.specs.Batches.{KeepsDigest}
-use Rattle.running.specs.Hashers.{form_of, rows_digest_of}
-use Rattle.running.specs.Transcripts.{has_commit, KeepsDigestAfter}
+use Rattle.running.specs.Transcripts.{has_commit}
 
 -- whether an outcome is a commit, by the reply that it stands for
 abbrev says_commit : meant.Reply → Bool
@@ -58,14 +57,11 @@ serial_leaves (r ∷ rs) (x ∷ xs) db e f =
     let none : says_commit (meaning x db).0 ≡ false = sym (ap says_commit head) ∙ sym (said_commit r.outcome) ∙ both.0 in
     serial_leaves rs xs (meaning x db).1 rest both.1 ∙ meaning_leaves x x.footing db none
 
--- the rows after a batch are reported with the digest that was kept where it has no commit
-pub rows_after : (old new : EngineParts) (transcript : Transcript) (attempts : List Attempt) (run : BatchDone) (replies : List Reply) →
-    IsExecutionOf old new attempts run → KeepsSetting old new → KeepsDigest old transcript → replies ≡ run.replies.items → is_busy new ≡ false →
-    KeepsDigestAfter (form_of transcript) replies (rows_digest_of transcript) new
-rows_after old new transcript attempts run replies r same kept f idle = record {
-  idle = idle;
-  digest_kept = λ none.
-      let rows : new.rows ≡ old.rows = r.rows ∙ serial_leaves replies _ old.rows (ap (map reply_of) f ∙ r.replies) none in
-      let tables : tables_of new ≡ tables_of old = ap (λ (p : ProcsParts). p.tables) same.procs in
-      rw (tables, rows) kept;
-}
+-- the digest that was kept before a batch without a commit is that of the rows after it
+pub keeps_digest_after : (old new : EngineParts) (transcript : Transcript) (attempts : List Attempt) (run : BatchDone) (replies : List Reply) →
+    IsExecutionOf old new attempts run → KeepsSetting old new → KeepsDigest old transcript → replies ≡ run.replies.items →
+    has_commit replies ≡ false → KeepsDigest new transcript
+keeps_digest_after old new transcript attempts run replies r same kept f none =
+    let rows : new.rows ≡ old.rows = r.rows ∙ serial_leaves replies _ old.rows (ap (map reply_of) f ∙ r.replies) none in
+    let tables : tables_of new ≡ tables_of old = ap (λ (p : ProcsParts). p.tables) same.procs in
+    rw (tables, rows) kept

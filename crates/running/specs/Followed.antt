@@ -5,13 +5,14 @@ use Rattle.std.specs.Io.KnownBytes.{Appends}
 use Rattle.devices.specs.Devices.{Passes}
 use Rattle.requests.specs.Requests.{Call}
 use Rattle.batch_log.specs.Log.{batches_of, first_fault}
+use Rattle.batch_log.specs.Places.{batches_said}
 use Rattle.batch_log.specs.Taken.{TakesCalls}
 use Rattle.retries.specs.Standings.{call_count, Standing}
 use Rattle.engine.specs.Engines.{EngineParts, is_busy}
-use Rattle.running.specs.Reports.{fault_in, whole_log}
-use Rattle.running.specs.Standings.{standing_of}
+use Rattle.running.specs.Reports.{log_fault}
+use Rattle.running.specs.Standings.{standing_after, standing_of}
 use Rattle.running.specs.Starts.{Start}
-use Rattle.running.specs.Stopped.{said_after, standing_after, texts_of}
+use Rattle.running.specs.Stopped.{said_after, texts_of}
 
 -- Of a log these batches were reported, and nothing else was written. After their bytes whole lines were read, each a
 -- call, and then a beginning of a line, or nothing; this rest was not read. The rows, the next number and the requests
@@ -22,13 +23,12 @@ pub record IsFollowedTo (start : Start) (sink filled : Option (List ℕ)) (stand
   pub bytes : List ℕ
   pub taken : List ℕ
   pub whole : log ≡ bytes ++ (taken ++ rest)
-  pub batches : batches_of (whole_log start.procs start.retries log)
-      ≡ reported ++ batches_of (said_after start.procs start.retries bytes reported (taken ++ rest))
-  pub fault : fault_in start.procs start.retries log
-      ≡ first_fault (said_after start.procs start.retries bytes reported (taken ++ rest))
+  pub batches : batches_said start.procs start.retries log
+      ≡ reported ++ batches_of (said_after start bytes reported (taken ++ rest))
+  pub fault : log_fault start log ≡ first_fault (said_after start bytes reported (taken ++ rest))
   pub calls : TakesCalls start.retries start.procs.procs (call_count reported) true (taken ++ rest) rest
   pub written : Appends sink filled (texts_of start reported)
-  pub standing_is : standing ≡ standing_after start.retries start.rows reported
+  pub standing_is : standing ≡ standing_after start reported
 
 -- the engine holds no batch, and has run those that are reported of a log that a source tells
 pub record LeavesBetween (start : Start) (left rest sink filled : Option (List ℕ)) (engine : EngineParts)

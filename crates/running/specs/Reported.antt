@@ -8,38 +8,38 @@ use Rattle.requests.specs.Requests.{Call}
 use Rattle.meaning.specs.Serial.{serial_replies}
 use Rattle.batch_log.specs.Log.{most_calls}
 use Rattle.report_text.specs.Report.{end_text, entries_in, next_batch, reply_lines}
-use Rattle.retries.specs.Standings.{call_count, closing, closing_within, transactions_in, Standing}
+use Rattle.retries.specs.Standings.{after_batches, call_count, closing, closing_within, start_of, transactions_in, Standing}
 use Rattle.engine.specs.Engines.{EngineParts, is_busy}
 use Rattle.running.specs.declared.run_fault.RunFault.{RunFault}
 use Rattle.running.specs.declared.transcript.Transcript.{Transcript}
 use Rattle.running.specs.Batches.{KeepsDigest}
 use Rattle.running.specs.Hashers.{batch_of, form_of, said_of}
-use Rattle.running.specs.Standings.{standing_of}
+use Rattle.running.specs.Standings.{standing_after, standing_of}
 use Rattle.running.specs.Starts.{Start}
-use Rattle.running.specs.Stopped.{at_end, in_batch, in_closing, reading, standing_after, text_at, texts_of, AppendsAndFront, HaveClosed, IsEndedBy, Stage}
+use Rattle.running.specs.Stopped.{at_end, in_batch, in_closing, reading, text_at, texts_of, AppendsAndFront, HaveClosed, IsEndedBy, Stage}
 
--- all reply lines of batches from starting rows
-abbrev pub lines_of : ℕ → Database → List (List Call) → List ℕ
-lines_of retries db batches =
-    reply_lines 0 (transactions_in retries db batches)
-    (serial_replies (entries_in (transactions_in retries db batches)) db)
+-- all reply lines of batches from a start
+abbrev pub reply_text : Start → List (List Call) → List ℕ
+reply_text start batches =
+    reply_lines 0 (transactions_in start.retries start.rows batches)
+    (serial_replies (entries_in (transactions_in start.retries start.rows batches)) start.rows)
 
 -- These batches have run on the engine from a start, and each of them was reported.
 pub record HasReported (start : Start) (ran : List (List Call)) (engine : EngineParts) (transcript : Transcript)
     (sink filled : Option (List ℕ)) : Type 0 where
   pub procs_are : engine.procs ≡ start.procs
   pub retries_are : engine.retries ≡ start.retries
-  pub standing_is : standing_of engine ≡ standing_after start.retries start.rows ran
+  pub standing_is : standing_of engine ≡ standing_after start ran
   pub form_is : form_of transcript ≡ start.digest
   pub batch_is : batch_of transcript ≡ next_batch (length ran)
-  pub said_is : Holds256 (said_of transcript) (lines_of start.retries start.rows ran)
+  pub said_is : Holds256 (said_of transcript) (reply_text start ran)
   pub text_is : Appends sink filled (texts_of start ran)
 
 -- a standing is that after batches that have no more calls than a log may have
 pub record IsAfterLog (retries : ℕ) (standing : Standing) : Type 0 where
   pub db : Database
   pub ran : List (List Call)
-  pub standing_is : standing ≡ standing_after retries db ran
+  pub standing_is : standing ≡ after_batches retries (start_of db) ran
   pub few : call_count ran ≤ most_calls retries
 
 -- an engine that has run such batches of a log, whichever these are, and what was reported of them
@@ -49,16 +49,16 @@ pub record IsBetweenBatches (engine : EngineParts) (transcript : Transcript) : T
   pub log : ∥ IsAfterLog engine.retries (standing_of engine) ∥₁
 
 -- batches, and after them those that close a log
-abbrev pub with_closing : ℕ → Database → List (List Call) → List (List Call)
-with_closing retries db ran = ran ++ closing retries (standing_after retries db ran)
+abbrev pub with_closing : Start → List (List Call) → List (List Call)
+with_closing start ran = ran ++ closing start.retries (standing_after start ran)
 
 -- Of the batches that close a log after these, the first ones are reported too, and at most n are left.
 pub record HasClosed (start : Start) (ran : List (List Call)) (most : ℕ) (engine : EngineParts)
     (transcript : Transcript) (sink filled : Option (List ℕ)) : Type 0 where
   pub closers : List (List Call)
   pub reported : HasReported start (ran ++ closers) engine transcript sink filled
-  pub first : closing start.retries (standing_after start.retries start.rows ran)
-      ≡ closers ++ closing_within start.retries most (standing_after start.retries start.rows (ran ++ closers))
+  pub first : closing start.retries (standing_after start ran)
+      ≡ closers ++ closing_within start.retries most (standing_after start (ran ++ closers))
 
 -- all of the log is read
 abbrev pub HasReadAll : Stage → Type 0
@@ -72,7 +72,7 @@ pub record IsCutAt (stage : Stage) (start : Start) (ran : List (List Call)) (sin
     (fault : RunFault) : Type 0 where
   pub closers : List (List Call)
   pub ends : IsEndedBy stage false fault
-  pub closed : HaveClosed stage start.retries (standing_after start.retries start.rows ran) closers
+  pub closed : HaveClosed stage start ran closers
   pub written : AppendsAndFront sink filled (texts_of start (ran ++ closers)) (text_at stage start (ran ++ closers))
 
 -- A fault stopped a run that had read its log and was closing it after these batches.
@@ -87,17 +87,15 @@ pub record IsCutShort (start : Start) (ran : List (List Call)) (sink filled : Op
 pub record ReportsClosing (start : Start) (ran : List (List Call)) (engine : EngineParts) (transcript : Transcript)
     (sink filled : Option (List ℕ)) (result : Result (Unit {0}) RunFault)
     : Type 0 where
-  pub reported : OnOk result
-      (HasReported start (with_closing start.retries start.rows ran) engine transcript sink filled)
+  pub reported : OnOk result (HasReported start (with_closing start ran) engine transcript sink filled)
   pub stop : IfErr result (IsCutAt in_closing start ran sink filled)
 
 -- What comes of closing a log after these batches: the batches without calls that close it were reported and the end
 -- line was written, or a fault stopped it.
 pub record IsClosing (start : Start) (ran : List (List Call)) (sink filled : Option (List ℕ))
     (result : Result ℕ RunFault) : Type 0 where
-  pub count : IfOk result (λ n.
-      n ≡ (standing_after start.retries start.rows (with_closing start.retries start.rows ran)).next)
-  pub text : OnOk result (Appends sink filled (texts_of start (with_closing start.retries start.rows ran)
+  pub count : IfOk result (λ n. n ≡ (standing_after start (with_closing start ran)).next)
+  pub text : OnOk result (Appends sink filled (texts_of start (with_closing start ran)
       ++ end_text false start.digest start.procs.tables start.rows
-      (transactions_in start.retries start.rows (with_closing start.retries start.rows ran))))
+      (transactions_in start.retries start.rows (with_closing start ran))))
   pub stop : IfErr result (IsCutShort start ran sink filled)

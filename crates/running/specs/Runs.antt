@@ -5,7 +5,7 @@ use Rattle.std.specs.Io.KnownBytes.{Appends}
 use Rattle.devices.specs.Devices.{AppendsFront}
 use Rattle.report_text.specs.Report.{all_transactions}
 use Rattle.running.specs.declared.run_fault.RunFault.{RunFault}
-use Rattle.running.specs.Reports.{batches_in, fault_in, report_of}
+use Rattle.running.specs.Reports.{batches_in, log_fault, report_of}
 use Rattle.running.specs.Starts.{Start}
 use Rattle.running.specs.Stops.{ends_in_io, IfOfLine, IfOfMachine, IsLineOf}
 use Rattle.running.specs.Stopped.{IsStop}
@@ -23,15 +23,14 @@ device_with bytes failed = record { bytes = bytes; failed = failed }
 pub record IsRunOfLog (start : Start) (source spent sink filled : Device) (result : Result ℕ RunFault) : Type 0 where
   -- Where it ended well, the log has no fault, all of it was read, its report was written, and the transactions were
   -- counted.
-  pub count : IfOk result (λ n. IfSome source.bytes (λ log.
-      n ≡ length (all_transactions (batches_in start.procs start.retries start.rows log))))
-  pub sound : OnOk result (IfSome source.bytes (λ log. fault_in start.procs start.retries log ≡ None))
+  pub count : IfOk result (λ n. IfSome source.bytes (λ log. n ≡ length (all_transactions (batches_in start log))))
+  pub sound : OnOk result (IfSome source.bytes (λ log. log_fault start log ≡ None))
   pub read : OnOk result (IfSome source.bytes (λ log. spent.bytes ≡ Some []))
   pub ok : OnOk result (IfSome source.bytes (λ log.
       Appends sink.bytes filled.bytes (report_of start log)))
   -- A fault of a line is the log's first, and the report of the batches before it was written.
   pub fault : IfErr result (λ e. IfOfLine e (λ fault. IfSome source.bytes (λ log.
-      fault_in start.procs start.retries log ≡ Some fault)))
+      log_fault start log ≡ Some fault)))
   pub until : IfErr result (λ e. IfOfLine e (λ fault. IfSome source.bytes (λ log.
       Appends sink.bytes filled.bytes (report_of start log))))
   -- However it ended, what was written is a beginning of the report.

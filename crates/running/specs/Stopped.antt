@@ -4,24 +4,20 @@ use Rattle.std.specs.Prelude.{◌≡◌, ℕ, List, [], ◌∷◌, ◌++◌, len
 use Rattle.std.specs.Io.KnownBytes.{Appends}
 use Rattle.devices.specs.Devices.{AppendsFront}
 use Rattle.devices.specs.Lines.{line_number, newlines_in}
-use Rattle.values.specs.Database.{Database}
-use Rattle.requests.specs.ProcLists.{ProcsParts}
 use Rattle.requests.specs.Requests.{Call}
 use Rattle.batch_log.specs.Lines.{Lines}
 use Rattle.batch_log.specs.Log.{batches_of, first_fault, log_said, IsEnd, IsNextBatch}
+use Rattle.batch_log.specs.Places.{batches_said}
 use Rattle.batch_log.specs.Taken.{TakesCalls}
 use Rattle.report_text.specs.Report.{all_transactions, batch_text, batch_texts, end_text, next_batch}
-use Rattle.retries.specs.Standings.{after_batches, closing, call_count, in_turn, start_of, transactions_at, Standing}
+use Rattle.retries.specs.Standings.{closing, call_count, in_turn, start_of, transactions_at}
+use Rattle.running.specs.Reports.{log_fault}
+use Rattle.running.specs.Standings.{standing_after}
 use Rattle.running.specs.declared.run_fault.RunFault.{RunFault}
-use Rattle.running.specs.Reports.{fault_in, whole_log}
 use Rattle.running.specs.Starts.{Start}
 use Rattle.running.specs.Stops.{is_of_device, IfOfThread, last_line, line_of_read}
 
 -- ---- after some batches
-
--- what batches leave, one after another, from starting rows
-abbrev pub standing_after : ℕ → Database → List (List Call) → Standing
-standing_after retries db batches = after_batches retries (start_of db) batches
 
 -- the texts of batches from a start
 abbrev pub texts_of : Start → List (List Call) → List ℕ
@@ -31,15 +27,13 @@ texts_of start batches =
 -- the text of the next batch after some, of these calls
 abbrev pub next_text : Start → List (List Call) → List Call → List ℕ
 next_text start batches calls =
-    batch_text start.digest start.procs.tables (next_batch (length batches))
-    (standing_after start.retries start.rows batches).next
-    (standing_after start.retries start.rows batches).rows
-    (transactions_at (standing_after start.retries start.rows batches) calls)
+    batch_text start.digest start.procs.tables (next_batch (length batches)) (standing_after start batches).next
+    (standing_after start batches).rows (transactions_at (standing_after start batches) calls)
 
 -- what the rest of a log says after the bytes and the calls of some batches
-abbrev pub said_after : ProcsParts → ℕ → List ℕ → List (List Call) → List ℕ → Lines
-said_after procs retries bytes batches rest =
-    log_said retries procs.procs (line_number (newlines_in bytes)) (call_count batches) rest
+abbrev pub said_after : Start → List ℕ → List (List Call) → List ℕ → Lines
+said_after start bytes batches rest =
+    log_said start.retries start.procs.procs (line_number (newlines_in bytes)) (call_count batches) rest
 
 -- ---- what a run was at
 
@@ -63,24 +57,24 @@ IsEndedBy at_end failed fault = (failed ≡ false) × IfOfThread fault ⊥
 
 -- What is taken of a log after the batches that are reported: where a batch was read, that whole batch and no more,
 -- and at the end all.
-abbrev pub IsTakenAt : Stage → ProcsParts → ℕ → List (List Call) → List ℕ → List ℕ → List ℕ → Type 0
-IsTakenAt reading procs retries reported bytes taken rest = ⊤
-IsTakenAt (in_batch calls) procs retries reported bytes taken rest =
-    IsNextBatch (said_after procs retries bytes reported (taken ++ rest)) calls
-    (said_after procs retries (bytes ++ taken) (reported ++ calls ∷ []) rest)
-IsTakenAt in_closing procs retries reported bytes taken rest =
-    IsEnd (said_after procs retries bytes reported (taken ++ rest)) × (rest ≡ [])
-IsTakenAt at_end procs retries reported bytes taken rest =
-    IsEnd (said_after procs retries bytes reported (taken ++ rest)) × (rest ≡ [])
+abbrev pub IsTakenAt : Stage → Start → List (List Call) → List ℕ → List ℕ → List ℕ → Type 0
+IsTakenAt reading start reported bytes taken rest = ⊤
+IsTakenAt (in_batch calls) start reported bytes taken rest =
+    IsNextBatch (said_after start bytes reported (taken ++ rest)) calls
+    (said_after start (bytes ++ taken) (reported ++ calls ∷ []) rest)
+IsTakenAt in_closing start reported bytes taken rest =
+    IsEnd (said_after start bytes reported (taken ++ rest)) × (rest ≡ [])
+IsTakenAt at_end start reported bytes taken rest =
+    IsEnd (said_after start bytes reported (taken ++ rest)) × (rest ≡ [])
 
 -- The batches without calls that are reported after those of a log: none before its end is read; while one of them
 -- runs, those before it; and before the end line all that close the log.
-abbrev pub HaveClosed : Stage → ℕ → Standing → List (List Call) → Type 0
-HaveClosed reading retries s closers = closers ≡ []
-HaveClosed (in_batch calls) retries s closers = closers ≡ []
-HaveClosed in_closing retries s closers =
-    (later : List (List Call)) × (closing retries s ≡ closers ++ [] ∷ later)
-HaveClosed at_end retries s closers = closing retries s ≡ closers
+abbrev pub HaveClosed : Stage → Start → List (List Call) → List (List Call) → Type 0
+HaveClosed reading start reported closers = closers ≡ []
+HaveClosed (in_batch calls) start reported closers = closers ≡ []
+HaveClosed in_closing start reported closers =
+    (later : List (List Call)) × (closing start.retries (standing_after start reported) ≡ closers ++ [] ∷ later)
+HaveClosed at_end start reported closers = closing start.retries (standing_after start reported) ≡ closers
 
 -- what a stage writes after the reports of some batches: the text of its batch, or the end line
 abbrev pub text_at : Stage → Start → List (List Call) → List ℕ
@@ -116,14 +110,13 @@ pub record IsStoppedAt (stage : Stage) (start : Start) (failed : Bool) (log : Li
   pub taken : List ℕ
   pub rest : List ℕ
   pub whole : log ≡ bytes ++ (taken ++ rest)
-  pub batches : batches_of (whole_log start.procs start.retries log)
-      ≡ reported ++ batches_of (said_after start.procs start.retries bytes reported (taken ++ rest))
-  pub fault : fault_in start.procs start.retries log
-      ≡ first_fault (said_after start.procs start.retries bytes reported (taken ++ rest))
+  pub batches : batches_said start.procs start.retries log
+      ≡ reported ++ batches_of (said_after start bytes reported (taken ++ rest))
+  pub fault : log_fault start log ≡ first_fault (said_after start bytes reported (taken ++ rest))
   -- After them whole lines of calls were taken, and then one more line, or a beginning of it.
   pub calls : TakesCalls start.retries start.procs.procs (call_count reported) failed (taken ++ rest) rest
-  pub at : IsTakenAt stage start.procs start.retries reported bytes taken rest
-  pub closed : HaveClosed stage start.retries (standing_after start.retries start.rows reported) closers
+  pub at : IsTakenAt stage start reported bytes taken rest
+  pub closed : HaveClosed stage start reported closers
   pub written : AppendsAndFront sink filled (texts_of start (reported ++ closers))
       (text_at stage start (reported ++ closers))
   pub line_is : line ≡ line_after failed (bytes ++ taken)

@@ -1,6 +1,6 @@
 -- Claimed: what contracts promise to a reader rests on these words.
 -- What is written of a batch, and how a write ends.
-use Rattle.std.specs.Prelude.{◌≡◌, ℕ, List, [], ◌∷◌, ◌++◌, Bool, false, Option, IfSome, Result, Ok, Err, ⊤}
+use Rattle.std.specs.Prelude.{ℕ, List, [], ◌∷◌, ◌++◌, Bool, false, Result, Ok, Err, ⊤}
 use Rattle.std.specs.List.{list_any}
 use Rattle.catalogue.specs.Shapes.{TableShape}
 use Rattle.values.specs.Database.{Database}
@@ -13,7 +13,7 @@ use Rattle.row_text.specs.Partitions.{digested_text}
 use Rattle.row_text.specs.Texts.{digest}
 use Rattle.report_text.specs.Texts.{reply_line, batch_line}
 use Rattle.engine.specs.declared.replies.Reply.{Reply}
-use Rattle.engine.specs.Engines.{is_busy, tables_of, EngineParts}
+use Rattle.engine.specs.Engines.{tables_of, EngineParts}
 use Rattle.engine.specs.Replies.{reply_of}
 
 -- the reply lines of replies
@@ -33,14 +33,6 @@ digest_of_rows form engine = digest (digested_text form (tables_of engine) engin
 -- whether one of these replies is a commit
 abbrev pub has_commit : List Reply → Bool
 has_commit replies = list_any (λ reply. is_commit reply.outcome) replies
-
--- The engine is idle, and where no reply of a batch is a commit, the digest that was kept before the batch, if one was,
--- is that of the engine's rows after it, in this form.
-pub record KeepsDigestAfter (form : DigestForm) (replies : List Reply) (kept : Option (List ℕ)) (engine : EngineParts)
-    : Type 0 where
-  pub idle : is_busy engine ≡ false
-  pub digest_kept : has_commit replies ≡ false →
-      IfSome kept (λ text. text ≡ digest_of_rows form engine)
 
 -- whether a write failed
 abbrev pub write_failed : {T : Type 0} → Result T LogFaultKind → Bool

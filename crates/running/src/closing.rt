@@ -13,8 +13,8 @@ ghost use Rattle.running.specs.Batches.{KeepsDigest};
 ghost use Rattle.running.specs.Executors.{Executes, HasAnswered};
 ghost use Rattle.running.specs.Hashers.{form_of, said_of};
 ghost use Rattle.running.specs.Reported.{with_closing, HasReported, IsBetweenBatches, IsClosing, ReportsClosing};
+ghost use Rattle.running.specs.Standings.{standing_after};
 ghost use Rattle.running.specs.Starts.{Start};
-ghost use Rattle.running.specs.Stopped.{standing_after};
 ghost use Rattle.running.specs.Transcripts.{digest_of_rows};
 ghost use Rattle.running.specs.Stops.{ends_in_io, IfOfThread, IsMachineFault, IsNotOfThread};
 
@@ -114,7 +114,7 @@ pub(crate) fn close<E: BatchEngine, X: Fn(&mut E, Batch) -> Result<BatchDone, Ex
     ensures rows { (start : Start) (ran : List (List Call)) (before : Option (List ℕ)) →
         HasReported start ran (E.parts engine.old) transcript before (K.taken sink.old) →
         OnOk result ((E.parts engine.new).rows
-        ≡ (standing_after start.retries start.rows (with_closing start.retries start.rows ran)).rows) }
+        ≡ (standing_after start (with_closing start ran)).rows) }
     ensures idle { OnOk result (is_busy (E.parts engine.new) ≡ false) }
     ensures stops { IfErr result (λ e.
         IsMachineFault line e × IfOfThread e (HasAnswered X.Fn executor.now ExecFault.Spawn)) }

@@ -25,7 +25,7 @@ use std::alloc::Global;
 use std::sync::Wait;
 
 /// Does nothing. An engine that has run no transaction carries no request, and tries one again at most twice.
-fn observe_unused(engine: &Engine)
+fn observe_fresh(engine: &Engine)
     requires fresh { IsFresh engine.now.core }
     ensures none { engine.now.core.carried ≡ [] }
     ensures few { engine.now.core.retries ≤ 2 }
@@ -74,7 +74,7 @@ pub(crate) fn run_reader<
     // A feed ends once all that had come is read.
     ensures feed { has_ended reader.new ≡ true → IfSome (S.left (source_of reader.new)) (λ bytes. bytes ≡ []) }
 {
-    observe_unused(engine);
+    observe_fresh(engine);
     let mut transcript = Transcript::new(form);
     'batches: for _ in rt.forever() {
         let requests = match reader.next_batch(alloc, engine.procs()) {

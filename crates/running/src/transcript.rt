@@ -1,6 +1,6 @@
 //! The report of a run, as it is written.
 
-ghost use Rattle.std.specs.Prelude.{◌≡◌, ◌||◌, List, ℕ, [], Some, None, IfOk, IfErr, IfSome, OnErr, OnOk, string_bytes, false};
+ghost use Rattle.std.specs.Prelude.{◌≡◌, ◌||◌, List, ℕ, [], None, IfOk, IfErr, IfSome, OnErr, OnOk, string_bytes, false};
 ghost use Rattle.std.specs.Io.KnownBytes.{Appends};
 ghost use Rattle.sha2.specs.Hashers.{Holds256};
 ghost use Rattle.devices.specs.Devices.{AppendsFront};
@@ -12,8 +12,7 @@ ghost use Rattle.row_text.specs.Partitions.{digested_text};
 ghost use Rattle.row_text.specs.Texts.{digest};
 ghost use Rattle.report_text.specs.Texts.{end_line};
 ghost use Rattle.meaning.specs.Outcomes.{is_commit};
-ghost use Rattle.running.specs.Transcripts.{digest_of_rows, has_commit, said_lines, with_batch_line, write_failed};
-ghost use Rattle.running.specs.Transcripts.{KeepsDigestAfter, IsOfMachine};
+ghost use Rattle.running.specs.Transcripts.{digest_of_rows, has_commit, said_lines, with_batch_line, write_failed, IsOfMachine};
 
 use batch_log::{LogFaultKind, Sink, write_all};
 use engine::{BatchEngine, Reply};
@@ -151,7 +150,8 @@ impl Transcript {
         engine: &mut E,
         replies: &[Reply],
     ) -> Result<(), LogFaultKind>
-        requires { KeepsDigestAfter (form_of self.old) replies.now (rows_digest_of self.old) (E.parts engine.old) }
+        requires idle { is_busy (E.parts engine.old) ≡ false }
+        requires kept { has_commit replies.now ≡ false → KeepsDigest (E.parts engine.old) self.old }
         ensures written { OnOk result
             (IsWritten (E.parts engine.old) replies.now self.old self.new (K.taken sink.old) (K.taken sink.new)) }
         ensures front { AppendsFront (K.taken sink.old) (K.taken sink.new)

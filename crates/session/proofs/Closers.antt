@@ -11,9 +11,9 @@ use Rattle.running.specs.Batches.{due_text, IsReported}
 use Rattle.running.specs.Hashers.{form_of}
 use Rattle.running.specs.Reported.{with_closing}
 use Rattle.running.specs.Reports.{report_of}
-use Rattle.running.specs.Standings.{standing_of}
+use Rattle.running.specs.Standings.{standing_after, standing_of}
 use Rattle.running.specs.Starts.{Start}
-use Rattle.running.specs.Stopped.{standing_after, texts_of}
+use Rattle.running.specs.Stopped.{texts_of}
 use Rattle.running.proofs.ClosingBatches.{closing_further, closing_none, next_closing}
 use Rattle.running.proofs.Reported.{texts_further}
 use Rattle.session.specs.declared.work.Work.{Work}
@@ -34,7 +34,7 @@ closed_none start drained passed ran most work e reported replied = record {
   closers = [];
   reported = rw (append-nil ran) reported;
   replied = rw (append-nil ran) replied;
-  first = ap (λ n. closing_within start.retries n (standing_after start.retries start.rows ran)) (sym e) ∙ ap (λ (batches : List (List Call)). closing_within start.retries most (standing_after start.retries start.rows batches)) (sym (append-nil ran));
+  first = ap (λ n. closing_within start.retries n (standing_after start ran)) (sym e) ∙ ap (λ (batches : List (List Call)). closing_within start.retries most (standing_after start batches)) (sym (append-nil ran));
 }
 
 -- after the first of the batches that close a log, something is carried, so that one without calls is next
@@ -44,19 +44,19 @@ module _ (start : Start) (drained : List ℕ) (passed : List NumberedReply) (ran
   before = ran ++ h.closers
 
   abbrev later : List (List Call)
-  later = closing_within start.retries left (standing_after start.retries start.rows (before ++ [] ∷ []))
+  later = closing_within start.retries left (standing_after start (before ++ [] ∷ []))
 
-  carries : ¬ (length (standing_after start.retries start.rows before).carried ≡ 0)
+  carries : ¬ (length (standing_after start before).carried ≡ 0)
   carries none = some (e ∙ ap (λ (s : Standing). length s.carried) h.reported.standing_is ∙ none)
 
   all : before ++ [] ∷ [] ≡ ran ++ (h.closers ++ [] ∷ [])
   all = append_assoc ran h.closers ([] ∷ [])
 
-  next : closing_within start.retries most (standing_after start.retries start.rows before) ≡ [] ∷ later
+  next : closing_within start.retries most (standing_after start before) ≡ [] ∷ later
   next = next_closing start ran h.closers most left carries more
 
   -- all batches of the log are these, the next one, and those that are left
-  whole_is : with_closing start.retries start.rows ran ≡ (before ++ [] ∷ []) ++ later
+  whole_is : with_closing start ran ≡ (before ++ [] ∷ []) ++ later
   whole_is =
       ap (λ (batches : List (List Call)). ran ++ batches) (h.first ∙ ap (λ (rest : List (List Call)). h.closers ++ rest) next)
       ∙ sym (append_assoc ran h.closers ([] ∷ later)) ∙ sym (append_assoc before ([] ∷ []) later)
@@ -81,28 +81,28 @@ module _ (start : Start) (drained : List ℕ) (passed : List NumberedReply) (ran
   closed_cut log new fault w kind front same =
       let texts = texts_further start (before ++ [] ∷ []) later in
       let replies = replies_further start before ([] ∷ later) in
-      let whole : with_closing start.retries start.rows ran ≡ before ++ [] ∷ later = whole_is ∙ append_assoc before ([] ∷ []) later in
+      let whole : with_closing start ran ≡ before ++ [] ∷ later = whole_is ∙ append_assoc before ([] ∷ []) later in
       stopped_in_batch start log (drained ++ waiting_in new.report) (all_replies passed (kept_in new.replies)) before (before ++ [] ∷ []) fault kind
       (front-next start before [] drained work.engine work.transcript work.report new.report h.reported front)
-      (begins_onward (texts_of start (before ++ [] ∷ [])) (texts_of start (with_closing start.retries start.rows ran)) (report_of start log) (texts.0, ap (texts_of start) whole_is ∙ texts.1) (closing-begins start log ran w))
+      (begins_onward (texts_of start (before ++ [] ∷ [])) (texts_of start (with_closing start ran)) (report_of start log) (texts.0, ap (texts_of start) whole_is ∙ texts.1) (closing-begins start log ran w))
       (replied_still start before passed work.replies new.replies h.replied same)
       (replies.0, sym (replies-whole start log ran w) ∙ ap (replies_after start) whole ∙ replies.1)
 
 -- ---- all of them
 
 closers_are : (start : Start) (drained : List ℕ) (passed : List NumberedReply) (ran : List (List Call)) (most : ℕ) (work : Work) (h : HasClosed start drained passed ran most work) →
-    closing_within start.retries most (standing_after start.retries start.rows (ran ++ h.closers)) ≡ [] → ran ++ h.closers ≡ with_closing start.retries start.rows ran
+    closing_within start.retries most (standing_after start (ran ++ h.closers)) ≡ [] → ran ++ h.closers ≡ with_closing start ran
 closers_are start drained passed ran most work h none =
     ap (λ (batches : List (List Call)). ran ++ batches) (sym (h.first ∙ ap (λ (rest : List (List Call)). h.closers ++ rest) none ∙ append-nil h.closers))
 
 -- nothing is carried any more, or no batch may be to come
 pub none_left : (start : Start) (drained : List ℕ) (passed : List NumberedReply) (ran : List (List Call)) (most n : ℕ) (work : Work) (h : HasClosed start drained passed ran most work) →
-    n ≡ length work.engine.carried → n ≡ 0 → ran ++ h.closers ≡ with_closing start.retries start.rows ran
+    n ≡ length work.engine.carried → n ≡ 0 → ran ++ h.closers ≡ with_closing start ran
 none_left start drained passed ran most n work h e none =
     closers_are start drained passed ran most work h
-    (closing_none start.retries most (standing_after start.retries start.rows (ran ++ h.closers)) (sym (e ∙ ap (λ (s : Standing). length s.carried) h.reported.standing_is) ∙ none))
+    (closing_none start.retries most (standing_after start (ran ++ h.closers)) (sym (e ∙ ap (λ (s : Standing). length s.carried) h.reported.standing_is) ∙ none))
 
 pub none_may_come : (start : Start) (drained : List ℕ) (passed : List NumberedReply) (ran : List (List Call)) (most : ℕ) (work : Work) (h : HasClosed start drained passed ran most work) →
-    most ≡ 0 → ran ++ h.closers ≡ with_closing start.retries start.rows ran
+    most ≡ 0 → ran ++ h.closers ≡ with_closing start ran
 none_may_come start drained passed ran most work h none =
-    closers_are start drained passed ran most work h (ap (λ n. closing_within start.retries n (standing_after start.retries start.rows (ran ++ h.closers))) none)
+    closers_are start drained passed ran most work h (ap (λ n. closing_within start.retries n (standing_after start (ran ++ h.closers))) none)

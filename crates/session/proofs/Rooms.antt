@@ -5,7 +5,7 @@ use Rattle.std.proofs.Math.Logic.{∥∥₁_elim, ∥∥₁_map}
 use Rattle.std.specs.List.{AllByRecursion}
 use Rattle.requests.specs.Requests.{Call}
 use Rattle.batch_log.specs.Log.{most_calls}
-use Rattle.retries.specs.Standings.{attempts_at, after_batch, call_count, Standing}
+use Rattle.retries.specs.Standings.{attempts_at, after_batch, call_count, after_batches, start_of, Standing}
 use Rattle.engine.specs.Engines.{tables_of, EngineParts, Unfinished}
 use Rattle.engine.specs.Executions.{KeepsSetting}
 use Rattle.batch_log.specs.declared.feed.LogFeed.{LogFeed}
@@ -15,7 +15,6 @@ use Rattle.running.specs.Batches.{IsDue, IsReported}
 use Rattle.running.specs.Reported.{IsBetweenBatches}
 use Rattle.running.specs.Hashers.{rows_digest_of}
 use Rattle.running.specs.Standings.{standing_of}
-use Rattle.running.specs.Stopped.{standing_after}
 use Rattle.running.proofs.Reported.{calls_grown, room_at, standing_next}
 use Rattle.session.specs.declared.work.Work.{Work}
 use Rattle.session.specs.Works.{IsAfterCalls, IsReady}
@@ -56,10 +55,10 @@ waiting_few work batch e = let few = work.feed.room in omega (arith, few, ap (λ
 
 -- what a batch of these calls left
 stands_after : (old new : EngineParts) (batch : List Call) (place : Place) (h : IsAfterCalls old.retries (standing_of old) place) → new.retries ≡ old.retries →
-    standing_of new ≡ after_batch old.retries (standing_of old) batch → standing_of new ≡ standing_after new.retries h.db (h.ran ++ batch ∷ [])
+    standing_of new ≡ after_batch old.retries (standing_of old) batch → standing_of new ≡ after_batches new.retries (start_of h.db) (h.ran ++ batch ∷ [])
 stands_after old new batch place h e s =
     s ∙ ap (λ (t : Standing). after_batch old.retries t batch) h.standing_is ∙ sym (standing_next old.retries h.db h.ran batch)
-    ∙ ap (λ k. standing_after k h.db (h.ran ++ batch ∷ [])) (sym e)
+    ∙ ap (λ k. after_batches k (start_of h.db) (h.ran ++ batch ∷ [])) (sym e)
 
 waited_none : (ran waiting total batch calls now more : ℕ) → ran + waiting ≡ total → batch ≡ waiting → calls ≡ ran + batch → now ≡ 0 → more ≡ total → calls + now ≡ more
 waited_none ran waiting total batch calls now more counted waited grown none same = omega (arith, counted, waited, grown, none, same)

@@ -19,13 +19,14 @@ use Rattle.retries.specs.Standings.{start_of, transactions_in, Standing}
 use Rattle.retries.proofs.Reported.{texts_grown}
 use Rattle.engine.specs.Engines.{EngineParts, tables_of}
 use Rattle.engine.specs.Executions.{KeepsSetting}
+use Rattle.running.specs.Standings.{standing_after}
 use Rattle.running.specs.declared.transcript.Transcript.{Transcript}
 use Rattle.running.specs.Batches.{due_text, IsReported}
 use Rattle.running.specs.Hashers.{batch_of, form_of, said_of}
-use Rattle.running.specs.Reported.{lines_of, with_closing}
+use Rattle.running.specs.Reported.{reply_text, with_closing}
 use Rattle.running.specs.Reports.{report_of}
 use Rattle.running.specs.Starts.{Start}
-use Rattle.running.specs.Stopped.{next_text, standing_after, texts_of}
+use Rattle.running.specs.Stopped.{next_text, texts_of}
 use Rattle.running.proofs.Closers.{end_line_is}
 use Rattle.running.proofs.Reported as running
 use Rattle.session.specs.declared.report.Report.{Report}
@@ -179,12 +180,12 @@ end_over engine t lines = end_line engine.next (digest (digested_text (form_of t
 
 -- all batches of a whole log, and those that close it, were executed and reported
 module _ (start : Start) (log drained : List ℕ) (ended : List (List Call)) (engine : EngineParts) (t : Transcript) (r s : Report)
-    (h : HasReported start (with_closing start.retries start.rows ended) drained engine t r) (w : IsWhole start.procs start.retries [] ended log) where
+    (h : HasReported start (with_closing start ended) drained engine t r) (w : IsWhole start.procs start.retries [] ended log) where
   abbrev closed : List (List Call)
-  closed = with_closing start.retries start.rows ended
+  closed = with_closing start ended
 
   abbrev due : List ℕ
-  due = end_over engine t (lines_of start.retries start.rows closed)
+  due = end_over engine t (reply_text start closed)
 
   report_is_due : report_of start log ≡ (drained ++ waiting_in r) ++ due
   report_is_due =
@@ -198,7 +199,7 @@ module _ (start : Start) (log drained : List ℕ) (ended : List (List Call)) (en
     sound = w.fault;
     report = drained_before drained (waiting_in r) (waiting_in s) due text ∙ sym report_is_due;
     replied = all_of _ _ _ told (replies-whole start log ended w);
-    left = ap (λ (x : Standing). x.rows) h.standing_is ∙ sym (ap (λ (bs : List (List Call)). (standing_after start.retries start.rows bs).rows) (calls-whole start log ended w));
+    left = ap (λ (x : Standing). x.rows) h.standing_is ∙ sym (ap (λ (bs : List (List Call)). (standing_after start bs).rows) (calls-whole start log ended w));
     counted = c ∙ ap (λ (x : Standing). x.next) h.standing_is ∙ sym (counted-whole start log ended w);
   }
 

@@ -6,8 +6,7 @@ use Rattle.meaning.specs.Entries as meant
 use Rattle.meaning.specs.Entries.{EntryShape}
 use Rattle.meaning.specs.Serial.{serial_replies}
 use Rattle.batch_log.specs.declared.fault.LogFault.{LogFault}
-use Rattle.batch_log.specs.Log.{batches_of}
-use Rattle.batch_log.specs.Places.{IsAt, IsFaulty, IsWhole, Place}
+use Rattle.batch_log.specs.Places.{batches_said, IsAt, IsFaulty, IsWhole, Place}
 use Rattle.sequencer.specs.Attempts.{first_of, numbered_from, Attempt, Earlier}
 use Rattle.retries.specs.Standings.{after_batch, after_batches, attempts_at, closed, replies_at, start_of, Standing}
 use Rattle.engine.specs.declared.replies.BatchDone.{BatchDone}
@@ -16,10 +15,9 @@ use Rattle.engine.specs.Engines.{EngineParts}
 use Rattle.engine.specs.Executions.{IsExecutionOf}
 use Rattle.engine.specs.Replies.{first_attempt, reply_of, sent_from, sent_of, Sent}
 use Rattle.running.specs.Reported.{with_closing}
-use Rattle.running.specs.Reports.{calls_in_turn, fault_in, whole_log}
-use Rattle.running.specs.Standings.{standing_of}
+use Rattle.running.specs.Reports.{calls_in_turn, log_fault}
+use Rattle.running.specs.Standings.{standing_after, standing_of}
 use Rattle.running.specs.Starts.{Start}
-use Rattle.running.specs.Stopped.{standing_after}
 use Rattle.running.proofs.ReplyLines.{entries_are}
 use Rattle.running.proofs.SoFar.{calls_are}
 use Rattle.session.specs.declared.replies.Replies.{Replies}
@@ -76,26 +74,26 @@ in_turn_grown retries s (calls ∷ batches) more =
     ap (λ (rs : List NumberedReply). batch_replies s calls ++ rs) (in_turn_grown retries after batches more)
     ∙ sym (append_assoc (batch_replies s calls) (replies_in_turn retries after batches) (replies_in_turn retries (after_batches retries after batches) more))
 
-pub replies_grown : (start : Start) (ended more : List (List Call)) → replies_after start (ended ++ more) ≡ replies_after start ended ++ replies_in_turn start.retries (standing_after start.retries start.rows ended) more
+pub replies_grown : (start : Start) (ended more : List (List Call)) → replies_after start (ended ++ more) ≡ replies_after start ended ++ replies_in_turn start.retries (standing_after start ended) more
 replies_grown start ended more = in_turn_grown start.retries (start_of start.rows) ended more
 
-pub replies_next : (start : Start) (ended : List (List Call)) (calls : List Call) → replies_after start (ended ++ calls ∷ []) ≡ replies_after start ended ++ batch_replies (standing_after start.retries start.rows ended) calls
+pub replies_next : (start : Start) (ended : List (List Call)) (calls : List Call) → replies_after start (ended ++ calls ∷ []) ≡ replies_after start ended ++ batch_replies (standing_after start ended) calls
 replies_next start ended calls =
     replies_grown start ended (calls ∷ [])
-    ∙ ap (λ (rs : List NumberedReply). replies_after start ended ++ rs) (append-nil (batch_replies (standing_after start.retries start.rows ended) calls))
+    ∙ ap (λ (rs : List NumberedReply). replies_after start ended ++ rs) (append-nil (batch_replies (standing_after start ended) calls))
 
 -- the replies of some batches come before those of more
 pub replies_further : (start : Start) (ended more : List (List Call)) → IsBeginning (replies_after start ended) (replies_after start (ended ++ more))
-replies_further start ended more = (replies_in_turn start.retries (standing_after start.retries start.rows ended) more, replies_grown start ended more)
+replies_further start ended more = (replies_in_turn start.retries (standing_after start ended) more, replies_grown start ended more)
 
 -- ---- the replies of a log
 
 -- they begin with those of its first batches
-pub replies-begin : (start : Start) (log : List ℕ) (ended left : List (List Call)) → batches_of (whole_log start.procs start.retries log) ≡ ended ++ left →
+pub replies-begin : (start : Start) (log : List ℕ) (ended left : List (List Call)) → batches_said start.procs start.retries log ≡ ended ++ left →
     IsBeginning (replies_after start ended) (replies_of start log)
 replies-begin start log ended left h =
-    let fault : Option LogFault = fault_in start.procs start.retries log in
-    let more : List (List Call) = closed start.retries (is_some fault) (standing_after start.retries start.rows ended) left in
+    let fault : Option LogFault = log_fault start log in
+    let more : List (List Call) = closed start.retries (is_some fault) (standing_after start ended) left in
     let further = replies_further start ended more in
     (further.0, ap (replies_after start) (calls_are start log ended left fault h refl) ∙ further.1)
 
@@ -109,12 +107,12 @@ at-replies-begin start place ended fed more e at =
 pub replies-faulty : (start : Start) (log : List ℕ) (ended : List (List Call)) (found : LogFault) → IsFaulty start.procs start.retries found ended log →
     replies_after start ended ≡ replies_of start log
 replies-faulty start log ended found h =
-    let calls : calls_in_turn start.procs start.retries start.rows log ≡ ended = calls_are start log ended [] (Some found) (h.batches ∙ sym (append-nil ended)) h.first ∙ append-nil ended in
+    let calls : calls_in_turn start log ≡ ended = calls_are start log ended [] (Some found) (h.batches ∙ sym (append-nil ended)) h.first ∙ append-nil ended in
     sym (ap (replies_after start) calls)
 
 -- without a fault those of the batches that close the log are among them
 pub replies-whole : (start : Start) (log : List ℕ) (ended : List (List Call)) → IsWhole start.procs start.retries [] ended log →
-    replies_after start (with_closing start.retries start.rows ended) ≡ replies_of start log
+    replies_after start (with_closing start ended) ≡ replies_of start log
 replies-whole start log ended h = sym (ap (replies_after start) (calls-whole start log ended h))
 
 -- ---- replies that are kept
@@ -127,7 +125,7 @@ next_of (Some waiting) new passed all more whole h e f =
     subst (λ (k : Option (List NumberedReply)). AreReplies (all_replies passed k) whole) (sym e)
     (sym (append_assoc passed waiting more) ∙ ap (λ (rs : List NumberedReply). rs ++ more) h ∙ f)
 
-pub replied_next : (start : Start) (ended : List (List Call)) (calls : List Call) (passed : List NumberedReply) (s : Standing) (old new : Replies) → s ≡ standing_after start.retries start.rows ended →
+pub replied_next : (start : Start) (ended : List (List Call)) (calls : List Call) (passed : List NumberedReply) (s : Standing) (old new : Replies) → s ≡ standing_after start ended →
     HasReplied start ended passed old → kept_in new ≡ kept_with (kept_in old) (batch_replies s calls) → HasReplied start (ended ++ calls ∷ []) passed new
 replied_next start ended calls passed s old new e h more =
     next_of (kept_in old) (kept_in new) passed (replies_after start ended) (batch_replies s calls) (replies_after start (ended ++ calls ∷ [])) h more

@@ -47,7 +47,7 @@ replies_after start batches = replies_in_turn start.retries (start_of start.rows
 -- the replies of a log from a start: of the batches that are whole before its first fault, and where it has none, of
 -- those that close it, too
 abbrev pub replies_of : Start → List ℕ → List NumberedReply
-replies_of start log = replies_after start (calls_in_turn start.procs start.retries start.rows log)
+replies_of start log = replies_after start (calls_in_turn start log)
 
 -- ---- replies that wait
 

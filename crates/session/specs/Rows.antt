@@ -11,8 +11,8 @@ use Rattle.batch_log.specs.Places.{IsAt, Place}
 use Rattle.row_text.specs.Partitions.{digested_text}
 use Rattle.row_text.specs.Texts.{digest}
 use Rattle.rows_document.specs.Texts.{rows_document}
+use Rattle.running.specs.Standings.{standing_after}
 use Rattle.running.specs.Starts.{Start}
-use Rattle.running.specs.Stopped.{standing_after}
 use Rattle.session.specs.declared.rows.RowsFault.{RowsFault}
 use Rattle.session.specs.declared.rows.RowsFault.TheVariants.{NoMemory, NoTable, Stopped}
 use Rattle.session.specs.declared.session.Session.{Session}
@@ -30,13 +30,13 @@ pub record AreEndedIn (start : Start) (fed : List ℕ) (ended : List (List Call)
 abbrev pub AreRowsAfter : Start → List ℕ → Database → Type 0
 AreRowsAfter start fed rows =
     (ended : List (List Call)) × AreEndedIn start fed ended ×
-    (rows ≡ (standing_after start.retries start.rows ended).rows)
+    (rows ≡ (standing_after start ended).rows)
 
 -- how many requests are carried after the batches that end in these bytes
 abbrev pub IsCarriedAfter : Start → List ℕ → ℕ → Type 0
 IsCarriedAfter start fed count =
     (ended : List (List Call)) × AreEndedIn start fed ended ×
-    (count ≡ length (standing_after start.retries start.rows ended).carried)
+    (count ≡ length (standing_after start ended).carried)
 
 -- ---- whether anything is told
 

@@ -7,15 +7,14 @@ use Rattle.requests.specs.Requests.{Call}
 use Rattle.batch_log.specs.declared.fault.LogFault.{LogFault}
 use Rattle.batch_log.specs.Feeds.{place_of}
 use Rattle.batch_log.specs.Places.{IsAt, IsWhole, Place}
-use Rattle.retries.specs.Standings.{attempts_at, call_count, closing, closing_within, Standing}
+use Rattle.retries.specs.Standings.{after_batches, attempts_at, call_count, closing, closing_within, start_of, Standing}
 use Rattle.engine.specs.Engines.{is_busy, tables_of, EngineParts}
 use Rattle.running.specs.declared.transcript.Transcript.{Transcript}
 use Rattle.running.specs.Batches.{KeepsDigest}
 use Rattle.running.specs.Reported as running
 use Rattle.running.specs.Reported.{with_closing}
-use Rattle.running.specs.Standings.{standing_of}
+use Rattle.running.specs.Standings.{standing_after, standing_of}
 use Rattle.running.specs.Starts.{Start}
-use Rattle.running.specs.Stopped.{standing_after}
 use Rattle.session.specs.declared.report.Report.{Report}
 use Rattle.session.specs.declared.work.Work.{Work}
 use Rattle.session.specs.declared.replies.Replies.{Replies}
@@ -27,7 +26,7 @@ use Rattle.session.specs.Reports.{waiting_in}
 pub record IsAfterCalls (retries : ℕ) (standing : Standing) (place : Place) : Type 0 where
   pub db : Database
   pub ran : List (List Call)
-  pub standing_is : standing ≡ standing_after retries db ran
+  pub standing_is : standing ≡ after_batches retries (start_of db) ran
   pub counted : call_count ran + length place.calls ≡ place.total
 
 -- No batch is unfinished, and the calls that wait are over the engine's tables. The feed and the engine know of the
@@ -76,17 +75,17 @@ pub record HasClosed (start : Start) (drained : List ℕ) (passed : List Numbere
   pub closers : List (List Call)
   pub reported : HasReported start (ran ++ closers) drained work.engine work.transcript work.report
   pub replied : HasReplied start (ran ++ closers) passed work.replies
-  pub first : closing start.retries (standing_after start.retries start.rows ran)
-      ≡ closers ++ closing_within start.retries most (standing_after start.retries start.rows (ran ++ closers))
+  pub first : closing start.retries (standing_after start ran)
+      ≡ closers ++ closing_within start.retries most (standing_after start (ran ++ closers))
 
 -- A whole log without a fault was taken, and each batch of it was executed and reported, and so were the batches
 -- without calls that close it. The end line was not.
 pub record HasRunWhole (start : Start) (log drained : List ℕ) (passed : List NumberedReply) (work : Work) : Type 0 where
   pub ended : List (List Call)
   pub whole : IsWhole start.procs start.retries [] ended log
-  pub reported : HasReported start (with_closing start.retries start.rows ended) drained
+  pub reported : HasReported start (with_closing start ended) drained
       work.engine work.transcript work.report
-  pub replied : HasReplied start (with_closing start.retries start.rows ended) passed work.replies
+  pub replied : HasReplied start (with_closing start ended) passed work.replies
 
 -- a log at work goes on by these bytes
 abbrev pub Continues : Work → List ℕ → Work → Type 0

@@ -1,6 +1,6 @@
 //! Bytes that are taken in pieces.
 
-ghost use Rattle.std.specs.Prelude.{◌≡◌, ◌++◌, ◌≤◌, length, drop, min, take, OnErr, OnOk};
+ghost use Rattle.std.specs.Prelude.{◌≡◌, ◌++◌, ◌≤◌, length, OnErr, OnOk};
 
 use std::alloc::{AllocError, Global};
 
@@ -14,7 +14,7 @@ pub struct Pieces {
 }
 
 impl Pieces {
-    ghost use Rattle.session.specs.Pieces.{untaken};
+    ghost use Rattle.session.specs.Pieces.{untaken, IsDrained};
 
     /// These bytes, of which none was taken.
     pub fn new(bytes: Vec<u8>) -> Pieces
@@ -41,11 +41,7 @@ impl Pieces {
 
     /// Moves bytes that wait to the front of `into`, as many as there are or as fit, and answers how many.
     pub fn drain(&mut self, into: &mut [u8]) -> usize
-        ensures count { result ≡ min (length (untaken self.old)) (length into.old) }
-        ensures bound { result ≤ length into.new }
-        ensures room { length into.new ≡ length into.old }
-        ensures moved { untaken self.old ≡ take result into.new ++ untaken self.new }
-        ensures rest { drop result into.new ≡ drop result into.old }
+        ensures drained { IsDrained (untaken self.old) (untaken self.new) into.old into.new result }
     {
         let count = self.waiting().min(into.len());
         into[..count].copy_from_slice(&self.bytes[self.taken..self.taken + count]);

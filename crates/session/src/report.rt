@@ -1,6 +1,6 @@
 //! Report bytes that wait to be taken.
 
-ghost use Rattle.std.specs.Prelude.{◌≡◌, ◌++◌, ◌≤◌, [], length, drop, min, take};
+ghost use Rattle.std.specs.Prelude.{◌≡◌, [], length};
 
 use crate::pieces::Pieces;
 use batch_log::{DeviceFailed, Sink};
@@ -15,6 +15,7 @@ pub(crate) struct Report {
 }
 
 impl Report {
+    ghost use Rattle.session.specs.Pieces.{IsDrained};
     ghost use Rattle.session.specs.Reports.{waiting_in};
 
     /// Nothing was written.
@@ -36,11 +37,7 @@ impl Report {
 
     /// Moves bytes that wait to the front of `into`, as many as there are or as fit, and answers how many.
     pub(crate) fn drain(&mut self, into: &mut [u8]) -> usize
-        ensures count { result ≡ min (length (waiting_in self.old)) (length into.old) }
-        ensures bound { result ≤ length into.new }
-        ensures room { length into.new ≡ length into.old }
-        ensures moved { waiting_in self.old ≡ take result into.new ++ waiting_in self.new }
-        ensures rest { drop result into.new ≡ drop result into.old }
+        ensures drained { IsDrained (waiting_in self.old) (waiting_in self.new) into.old into.new result }
     {
         self.bytes.drain(into)
     }

@@ -1,10 +1,11 @@
 //! A run of a log, piece by piece.
 
-ghost use Rattle.std.specs.Prelude.{◌≡◌, ◌++◌, ◌≤◌, [], ◌∷◌, ℕ, List, length, take, None, Ok, Err, IfOk, IfErr, IfSome, IsSome, OnOk, OnErr, Some, drop, false, min};
+ghost use Rattle.std.specs.Prelude.{◌≡◌, ◌++◌, [], ◌∷◌, ℕ, List, length, take, None, Ok, Err, IfOk, IfErr, IfSome, IsSome, OnOk, OnErr, Some, false};
 ghost use Rattle.std.proofs.Props.{props};
 ghost use Rattle.running.specs.Starts.{start_in, Start};
 ghost use Rattle.devices.specs.Lines.{newline};
 ghost use Rattle.engine.specs.Engines.{is_busy};
+ghost use Rattle.session.specs.Pieces.{IsDrained};
 ghost use Rattle.session.specs.declared.session.SessionFault.TheVariants.{Over};
 ghost use Rattle.session.specs.declared.call.CallFault.{CallFault as AnyFault};
 ghost use Rattle.session.specs.Replies.{KeepsReplies, NumberedReply};
@@ -196,11 +197,7 @@ impl Session {
 
     /// Moves report bytes that wait to the front of `into`, as many as there are or as fit, and answers how many.
     pub fn drain(&mut self, into: &mut [u8]) -> usize
-        ensures count { result ≡ min (length (waiting_of self.old)) (length into.old) }
-        ensures bound { result ≤ length into.new }
-        ensures room { length into.new ≡ length into.old }
-        ensures moved { waiting_of self.old ≡ take result into.new ++ waiting_of self.new }
-        ensures rest { drop result into.new ≡ drop result into.old }
+        ensures drained { IsDrained (waiting_of self.old) (waiting_of self.new) into.old into.new result }
         ensures taken { (start : Start) (fed drained : List ℕ) (passed : List NumberedReply) →
             HasTaken start fed drained passed self.old →
             HasTaken start fed (drained ++ take result into.new) passed self.new }

@@ -24,8 +24,8 @@ same_shape : (ts us : List TableShape) (ps qs : List ProcSyntax) (rows others : 
 same_shape ts us ps qs rows others m n a b e f g h i = rw (e, f, g, h, i) refl
 
 -- a document says one setup
-pub one_document : OneCatalogueIsSaid → OneListOfProceduresIsSaid → (d : Data) (s t : SetupShape) → SaysDocument d s → SaysDocument d t → s ≡ t
-one_document one_catalogue one_list d s t a b =
+pub one_setup_in : OneCatalogueIsSaid → OneListOfProceduresIsSaid → (d : Data) (s t : SetupShape) → SaysDocument d s → SaysDocument d t → s ≡ t
+one_setup_in one_catalogue one_list d s t a b =
     let forms : a.form ≡ b.form = some_is a.form b.form (sym (form_again d a.form a.is_form) ∙ form_again d b.form b.is_form) in
     let tables : s.tables ≡ t.tables = one_catalogue a.form.catalogue s.tables t.tables a.catalogue a.is_catalogue
     (subst (λ (f : SetupParts). SaysCatalogue f.catalogue t.tables) (sym forms) b.catalogue) b.is_catalogue in
@@ -43,4 +43,4 @@ one_document one_catalogue one_list d s t a b =
 pub one_setup : OneCatalogueIsSaid → OneListOfProceduresIsSaid → OneSetupIsSaid
 one_setup one_catalogue one_list text s t a b =
     let documents : a.0 ≡ b.0 = some_is a.0 b.0 (sym a.1.json ∙ b.1.json) in
-    one_document one_catalogue one_list a.0 s t a.2 (subst (λ (d : Data). SaysDocument d t) (sym documents) b.2)
+    one_setup_in one_catalogue one_list a.0 s t a.2 (subst (λ (d : Data). SaysDocument d t) (sym documents) b.2)

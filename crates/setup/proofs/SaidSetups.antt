@@ -2,7 +2,6 @@
 use Rattle.std.proofs.Common.{◌≡◌, ◌≤◌, nat_le, ◌⊎◌, inl, inr, ℕ, ℤ, pos, negsuc, Bool, true, false, if◌then◌else◌, ◌&&◌, List, [], ◌∷◌, Option, Some, None, option_and_then, Result, Ok, Err, refl, sym, ap, ◌∙◌, subst}
 use Rattle.std.specs.Prelude.{codes}
 use Rattle.std.specs.Option.{option_or}
-use Rattle.std.specs.Result.{IsErrAnd, IfErr}
 use Rattle.std.specs.Str.{bytes_eq}
 use Rattle.std.proofs.lemmas.Bool.{eqb-true, leb-true, le-leb}
 use Rattle.std.proofs.lemmas.Slice.Eq.{bytes_eq-Decides}
@@ -11,7 +10,6 @@ use Rattle.serde_json.specs.Find.{as_str}
 use Rattle.serde_json.specs.View.{items_of}
 use Rattle.documents.specs.Json.{elements, five, six, integer, is_one}
 use Rattle.documents.specs.FirstFault.{first}
-use Rattle.documents.specs.Reading.{Reads}
 use Rattle.documents.proofs.Said.{string_said, elements_said}
 use Rattle.documents.proofs.Steps.{and_then_ok}
 use Rattle.catalogue.specs.Broken as catalogue_rules
@@ -19,22 +17,24 @@ use Rattle.catalogue.specs.Reading as catalogues
 use Rattle.catalogue.specs.Rules.{SaysCatalogue, IsCatalogue}
 use Rattle.catalogue.specs.Shapes.{TableShape}
 use Rattle.catalogue.specs.declared.fault.CatalogueFault.{CatalogueFault}
+use Rattle.catalogue.specs.declared.fault.CatalogueFault.TheVariants as catalogue_faults
+use Rattle.catalogue.specs.Reading.{catalogue_at}
 use Rattle.proclang_types.specs.Syntax.{ProcSyntax}
 use Rattle.proclang.specs.BrokenProcs as procedure_rules
 use Rattle.proclang_expressions.specs.Faults as procedures
+use Rattle.proclang.specs.Procs.{procs_at}
 use Rattle.proclang.specs.Says.{SaysProcs}
 use Rattle.proclang_expressions.specs.declared.fault.ProcFault.{ProcFault}
 use Rattle.proclang_expressions.specs.declared.fault.ProcFault.TheVariants as proc_faults
 use Rattle.setup.specs.declared.fault.SetupFault.{SetupFault}
-use Rattle.setup.specs.declared.fault.SetupFault.TheVariants.{Procedure}
+use Rattle.setup.specs.declared.fault.SetupFault.TheVariants.{Catalogue, Procedure, Shape}
 use Rattle.row_text.specs.declared.form.DigestForm.{DigestForm}
 use Rattle.row_text.specs.declared.form.DigestForm.TheVariants.{Rows, Partitions}
-use Rattle.setup.specs.declared.document.SetupDocument.{SetupDocument}
 use Rattle.setup.specs.Faults.{is_memory}
 use Rattle.setup.specs.FirstFault.{InForm, InDocument, rows_faults}
-use Rattle.setup.specs.Rows.{RowAt}
+use Rattle.setup.specs.Rows.{RowAt, rows_at}
 use Rattle.setup.specs.Says.{name_of, SaysRows, SpellsFirst, SpellsSecond, SpellsThird, SpellsSetup, SaysDocument}
-use Rattle.setup.specs.Setups.{SetupParts, SetupShape, first_parts, second_parts, third_parts, form_named, is_two, is_three, retries_of, seven, setup_form, setup_view}
+use Rattle.setup.specs.Setups.{SetupParts, SetupShape, first_parts, second_parts, third_parts, form_named, is_two, is_three, retries_of, seven, setup_at, setup_form}
 
 -- ---- the outer form
 
@@ -220,15 +220,6 @@ form_is d form s e h = some_is h.form form (sym (form_again d h.form h.is_form) 
 
 -- ---- answers
 
--- an answer for want of memory alone says nothing of the document
-pub refused : (r : Result SetupDocument SetupFault) (e : SetupFault) (s : SetupShape) → IsErrAnd r (λ x. x ≡ e) → (is_memory e ≡ false → ⊥) → Reads is_memory setup_view r (Ok s)
-refused (Ok x) e s h none = absurd h
-refused (Err x) e s h none = λ known. absurd (none (subst (λ (y : SetupFault). is_memory y ≡ false) h known))
-
-pub breaks : (r : Result SetupDocument SetupFault) (e : SetupFault) (d : Data) → IsErrAnd r (λ x. x ≡ e) → (is_memory e ≡ false → InDocument d e) → IfErr r (λ x. is_memory x ≡ false → InDocument d x)
-breaks (Ok x) e d h there = absurd h
-breaks (Err x) e d h there = λ known. subst (InDocument d) (sym h) (there (subst (λ (y : SetupFault). is_memory y ≡ false) h known))
-
 pub none_is : {A B : Type 0} {x : A} → ◌≡◌ {A = Option A} None (Some x) → B
 none_is e = absurd cc
 
@@ -295,6 +286,11 @@ module _ (d : Data) (form : SetupParts) (s : SetupShape) where
 
 -- ---- the first fault
 
+pub in_catalogue : (d : Data) (form : SetupParts) (f : CatalogueFault) → setup_form d ≡ Some form → (f ≡ catalogue_faults.Memory) ⊎ (first (catalogue_rules.catalogue_faults form.catalogue) ≡ Some f)
+    → catalogues.is_memory f ≡ false → InDocument d (Catalogue f)
+in_catalogue d form f e (inl m) known = absurd (let g = sym (ap catalogues.is_memory m) ∙ known in cc)
+in_catalogue d form f e (inr h) known = inr (form, e, inl (record { rule = f; is = refl; is_first = h }))
+
 module _ (d : Data) (form : SetupParts) (tables : List TableShape) where
   pub in_procs : (f : ProcFault) → setup_form d ≡ Some form → SaysCatalogue form.catalogue tables → IsCatalogue tables → (f ≡ proc_faults.Memory) ⊎ (first (procedure_rules.procedures_faults tables form.procs) ≡ Some f)
       → procedures.is_memory f ≡ false → InDocument d (Procedure f)
@@ -333,6 +329,30 @@ no_break d form tables e only c p r fault (inr (other, is, h)) = by (subst (λ (
         (ap (λ (ts : List TableShape). procedure_rules.procedures_faults ts form.procs) (are h.tables h.is_catalogue h.catalogue) ∙ p) h.is_first
     by (inr (inr h)) =
         nothing_first (rows_faults h.tables form.rows) fault (ap (λ (ts : List TableShape). rows_faults ts form.rows) (are h.tables h.is_catalogue h.catalogue) ∙ r) h.is_first
+
+-- ---- what a document says in all, by its parts
+
+pub at_no_form : (d : Data) → setup_form d ≡ None → setup_at d ≡ Err Shape
+unfolding setup_at
+at_no_form d e = rw e refl
+
+module _ (d : Data) (form : SetupParts) (e : setup_form d ≡ Some form) where
+  pub at_catalogue : (f : CatalogueFault) → catalogue_at form.catalogue ≡ Err f → setup_at d ≡ Err (Catalogue f)
+  unfolding setup_at
+  at_catalogue f h = rw (e, h) refl
+
+  pub at_procs : (tables : List TableShape) (f : ProcFault) → catalogue_at form.catalogue ≡ Ok tables → procs_at tables form.procs ≡ Err f → setup_at d ≡ Err (Procedure f)
+  unfolding setup_at
+  at_procs tables f h i = rw (e, h, i) refl
+
+  pub at_rows : (tables : List TableShape) (procs : List ProcSyntax) (f : SetupFault) → catalogue_at form.catalogue ≡ Ok tables → procs_at tables form.procs ≡ Ok procs → rows_at tables form.rows ≡ Err f → setup_at d ≡ Err f
+  unfolding setup_at
+  at_rows tables procs f h i j = rw (e, h, i, j) refl
+
+  pub at_end : (tables : List TableShape) (procs : List ProcSyntax) (rows : List RowAt) → catalogue_at form.catalogue ≡ Ok tables → procs_at tables form.procs ≡ Ok procs → rows_at tables form.rows ≡ Ok rows
+      → setup_at d ≡ Ok (record { tables = tables; procs = procs; rows = rows; retries = form.retries; digest = form.digest })
+  unfolding setup_at
+  at_end tables procs rows h i j = rw (e, h, i, j) refl
 
 -- ---- faults
 

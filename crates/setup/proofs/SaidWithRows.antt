@@ -1,6 +1,6 @@
 -- What a setup's text and a rows' text say together, and where they break a rule first, from what is read of each.
-use Rattle.std.proofs.Common.{◌≡◌, inl, inr, ℕ, Bool, true, false, List, map, set, Some, None, Result, Ok, Err, Vec, Global, refl, sym, ap, ◌∙◌, subst, set-set}
-use Rattle.std.specs.Result.{IsErrAnd, IfOk, IfErr, OnOk}
+use Rattle.std.proofs.Common.{◌≡◌, inl, inr, ℕ, Bool, true, false, List, map, set, Some, None, Result, Err, Vec, Global, refl, sym, ap, ◌∙◌, subst, set-set}
+use Rattle.std.specs.Result.{IsErrAnd}
 use Rattle.std.specs.Str.{IsUtf8, is_utf8}
 use Rattle.std.proofs.lemmas.Str.{IsUtf8-from_is_utf8, is_utf8-from_IsUtf8}
 use Rattle.serde_json.specs.Data.{Data, null, boolean, number, string, array, object}
@@ -9,17 +9,18 @@ use Rattle.serde_json.specs.View.{view, items_of}
 use Rattle.serde_json.specs.declared.value.Value.{Value, Array}
 use Rattle.serde_json.proofs.Views.{view-Array}
 use Rattle.documents.specs.Json.{list_of}
-use Rattle.documents.specs.Reading.{Reads}
 use Rattle.documents.proofs.Json.{list_of-items_of}
 use Rattle.setup.specs.declared.fault.SetupFault.{SetupFault}
 use Rattle.setup.specs.declared.fault.SetupFault.TheVariants.{NotJson}
 use Rattle.setup.specs.declared.document.SetupDocument.{SetupDocument}
 use Rattle.setup.specs.Faults.{is_memory}
 use Rattle.setup.specs.FirstFault.{InDocument, BreaksFirst}
+use Rattle.setup.specs.Readings.{IsReading}
 use Rattle.setup.specs.Rows.{RowAt}
 use Rattle.setup.specs.Says.{IsJson, IsNotJson, SaysDocument, SaysRows, SaysSetup, SpellsSetup}
-use Rattle.setup.specs.Setups.{SetupParts, SetupShape, json_said, setup_at, setup_said, setup_view}
+use Rattle.setup.specs.Setups.{SetupParts, SetupShape, json_said, setup_at, setup_said}
 use Rattle.setup.specs.WithRows.{with_rows_document, setup_with_rows_said, SaysSetupWithRows, BreaksFirstWithRows}
+use Rattle.setup.proofs.Readings.{IsReading-as, IsReading-fault}
 
 -- ---- the document of a text
 
@@ -70,47 +71,20 @@ IsRefused text fault = is_memory fault ≡ false → (fault ≡ NotJson) × IsNo
 
 -- ---- a setup's text
 
-module _ (text : List ℕ) (d : Data) (json : IsJson text d) (r : Result SetupDocument SetupFault) where
-  pub text_found : IfOk r (λ s. SaysDocument d (setup_view s)) → IfOk r (λ s. SaysSetup text (setup_view s))
-  text_found h = by r h
-    where
-      by : (q : Result SetupDocument SetupFault) → IfOk q (λ s. SaysDocument d (setup_view s)) → IfOk q (λ s. SaysSetup text (setup_view s))
-      by (Ok s) h = (d, json, h)
-      by (Err f) h = tt
+-- what is read of the document is what is read of the text
+pub text_read : (text : List ℕ) (d : Data) → IsJson text d → (r : Result SetupDocument SetupFault) → IsReading (SaysDocument d) (InDocument d) (setup_at d) r → IsReading (SaysSetup text) (BreaksFirst text) (setup_said text) r
+text_read text d json r = IsReading-as (SaysDocument d) (SaysSetup text) (InDocument d) (BreaksFirst text) (setup_at d) (setup_said text) r
+    (λ s says. (d, json, says)) (λ s says. subst (λ (e : Data). SaysDocument e s) (one_document text says.0 d says.1 json) says.2)
+    (λ fault there. inr (d, json, there)) breaks_in (text_said text d json)
+  where
+    breaks_in : (fault : SetupFault) → BreaksFirst text fault → InDocument d fault
+    breaks_in fault (inl (is, not)) = not_both text d not json
+    breaks_in fault (inr (e, other, there)) = subst (λ (x : Data). InDocument x fault) (one_document text e d other json) there
 
-  pub text_only : ((s : SetupShape) → SaysDocument d s → Reads is_memory setup_view r (Ok s)) → (s : SetupShape) → SaysSetup text s → Reads is_memory setup_view r (Ok s)
-  text_only h s says = h s (subst (λ (e : Data). SaysDocument e s) (one_document text says.0 d says.1 json) says.2)
-
-  pub text_first : IfErr r (λ f. is_memory f ≡ false → InDocument d f) → IfErr r (λ f. is_memory f ≡ false → BreaksFirst text f)
-  text_first h = by r h
-    where
-      by : (q : Result SetupDocument SetupFault) → IfErr q (λ f. is_memory f ≡ false → InDocument d f) → IfErr q (λ f. is_memory f ≡ false → BreaksFirst text f)
-      by (Ok s) h = tt
-      by (Err f) h = λ known. inr (d, json, h known)
-
-  never_breaks : (fault : SetupFault) → (InDocument d fault → ⊥) → BreaksFirst text fault → ⊥
-  never_breaks fault h (inl (is, not)) = not_both text d not json
-  never_breaks fault h (inr (e, other, there)) = h (subst (λ (x : Data). InDocument x fault) (one_document text e d other json) there)
-
-  pub text_unbroken : OnOk r ((fault : SetupFault) → InDocument d fault → ⊥) → OnOk r ((fault : SetupFault) → BreaksFirst text fault → ⊥)
-  text_unbroken h = by r h
-    where
-      by : (q : Result SetupDocument SetupFault) → OnOk q ((fault : SetupFault) → InDocument d fault → ⊥) → OnOk q ((fault : SetupFault) → BreaksFirst text fault → ⊥)
-      by (Ok s) h = λ fault. never_breaks fault (h fault)
-      by (Err f) h = tt
-
-  pub text_exact : Reads is_memory setup_view r (setup_at d) → Reads is_memory setup_view r (setup_said text)
-  text_exact h = subst (Reads is_memory setup_view r) (sym (text_said text d json)) h
-
-module _ (text : List ℕ) (fault : SetupFault) (refused : IsRefused text fault) where
-  pub refused_only : (s : SetupShape) → SaysSetup text s → is_memory fault ≡ false → ◌≡◌ {A = Result SetupShape SetupFault} (Ok s) (Err fault)
-  refused_only s says known = not_both text says.0 (refused known).1 says.1
-
-  pub refused_first : is_memory fault ≡ false → BreaksFirst text fault
-  refused_first known = inl (refused known)
-
-  pub refused_exact : is_memory fault ≡ false → setup_said text ≡ Err fault
-  refused_exact known = no_text_said text (refused known).1 ∙ ap (λ (f : SetupFault). Err f) (sym (refused known).0)
+pub text_refused : (text : List ℕ) (fault : SetupFault) → IsRefused text fault → IsReading (SaysSetup text) (BreaksFirst text) (setup_said text) (Err fault)
+text_refused text fault refused = IsReading-fault (SaysSetup text) (BreaksFirst text) (setup_said text) (Err fault) fault refl
+    (λ s says known. not_both text says.0 (refused known).1 says.1) (λ known. inl (refused known))
+    (λ known. no_text_said text (refused known).1 ∙ ap (λ (f : SetupFault). Err f) (sym (refused known).0))
 
 -- ---- a setup's text and a rows' text
 
@@ -129,77 +103,34 @@ second_not_said text rows d h k = rw (json_is text d h, no_json rows k) refl
 same_document : (text rows : List ℕ) (d e x y : Data) → IsJson text d → IsJson rows e → IsJson text x → IsJson rows y → with_rows_document x y ≡ with_rows_document d e
 same_document text rows d e x y h k i j = rw (one_document text x d i h, one_document rows y e j k) refl
 
-module _ (text rows : List ℕ) (d e : Data) (json : IsJson text d) (starting : IsJson rows e) (r : Result SetupDocument SetupFault) where
-  pub both_found : IfOk r (λ s. SaysDocument (with_rows_document d e) (setup_view s)) → IfOk r (λ s. SaysSetupWithRows text rows (setup_view s))
-  both_found h = by r h
+module _ (text rows : List ℕ) (r : Result SetupDocument SetupFault) where
+  -- what comes of reading both texts
+  abbrev ReadsBoth : Type 0
+  ReadsBoth = IsReading (SaysSetupWithRows text rows) (BreaksFirstWithRows text rows) (setup_with_rows_said text rows) r
+
+  pub both_read : (d e : Data) → IsJson text d → IsJson rows e → IsReading (SaysDocument (with_rows_document d e)) (InDocument (with_rows_document d e)) (setup_at (with_rows_document d e)) r → ReadsBoth
+  both_read d e json starting = IsReading-as (SaysDocument document) (SaysSetupWithRows text rows) (InDocument document) (BreaksFirstWithRows text rows) (setup_at document) (setup_with_rows_said text rows) r
+      (λ s says. record { setup = d; is_setup = json; starting = e; is_rows = starting; says = says })
+      (λ s h. subst (λ (x : Data). SaysDocument x s) (same_document text rows d e h.setup h.starting json starting h.is_setup h.is_rows) h.says)
+      (λ fault there. inr (record { setup = d; is_setup = json; starting = e; is_rows = starting; is_first = there })) breaks_in (both_said text rows d e json starting)
     where
-      by : (q : Result SetupDocument SetupFault) → IfOk q (λ s. SaysDocument (with_rows_document d e) (setup_view s)) → IfOk q (λ s. SaysSetupWithRows text rows (setup_view s))
-      by (Ok s) h = record { setup = d; is_setup = json; starting = e; is_rows = starting; says = h }
-      by (Err f) h = tt
+      document : Data
+      document = with_rows_document d e
 
-  pub both_only : ((s : SetupShape) → SaysDocument (with_rows_document d e) s → Reads is_memory setup_view r (Ok s)) → (s : SetupShape) → SaysSetupWithRows text rows s → Reads is_memory setup_view r (Ok s)
-  both_only h s says =
-      h s (subst (λ (x : Data). SaysDocument x s) (same_document text rows d e says.setup says.starting json starting says.is_setup says.is_rows) says.says)
+      breaks_in : (fault : SetupFault) → BreaksFirstWithRows text rows fault → InDocument document fault
+      breaks_in fault (inl (is, inl not)) = not_both text d not json
+      breaks_in fault (inl (is, inr not)) = not_both rows e not starting
+      breaks_in fault (inr h) = subst (λ (x : Data). InDocument x fault) (same_document text rows d e h.setup h.starting json starting h.is_setup h.is_rows) h.is_first
 
-  pub both_first : IfErr r (λ f. is_memory f ≡ false → InDocument (with_rows_document d e) f) → IfErr r (λ f. is_memory f ≡ false → BreaksFirstWithRows text rows f)
-  both_first h = by r h
-    where
-      by : (q : Result SetupDocument SetupFault) → IfErr q (λ f. is_memory f ≡ false → InDocument (with_rows_document d e) f) → IfErr q (λ f. is_memory f ≡ false → BreaksFirstWithRows text rows f)
-      by (Ok s) h = tt
-      by (Err f) h = λ known. inr (record { setup = d; is_setup = json; starting = e; is_rows = starting; is_first = h known })
+  pub first_refused : (fault : SetupFault) → IsErrAnd r (λ x. x ≡ fault) → IsRefused text fault → ReadsBoth
+  first_refused fault is refused = IsReading-fault (SaysSetupWithRows text rows) (BreaksFirstWithRows text rows) (setup_with_rows_said text rows) r fault is
+      (λ s says known. not_both text says.setup (refused known).1 says.is_setup) (λ known. inl ((refused known).0, inl (refused known).1))
+      (λ known. first_not_said text rows (refused known).1 ∙ ap (λ (f : SetupFault). Err f) (sym (refused known).0))
 
-  never_breaks_both : (fault : SetupFault) → (InDocument (with_rows_document d e) fault → ⊥) → BreaksFirstWithRows text rows fault → ⊥
-  never_breaks_both fault h (inl (is, inl not)) = not_both text d not json
-  never_breaks_both fault h (inl (is, inr not)) = not_both rows e not starting
-  never_breaks_both fault h (inr there) =
-      h (subst (λ (x : Data). InDocument x fault) (same_document text rows d e there.setup there.starting json starting there.is_setup there.is_rows) there.is_first)
-
-  pub both_unbroken : OnOk r ((fault : SetupFault) → InDocument (with_rows_document d e) fault → ⊥) → OnOk r ((fault : SetupFault) → BreaksFirstWithRows text rows fault → ⊥)
-  both_unbroken h = by r h
-    where
-      by : (q : Result SetupDocument SetupFault) → OnOk q ((fault : SetupFault) → InDocument (with_rows_document d e) fault → ⊥) → OnOk q ((fault : SetupFault) → BreaksFirstWithRows text rows fault → ⊥)
-      by (Ok s) h = λ fault. never_breaks_both fault (h fault)
-      by (Err f) h = tt
-
-  pub both_exact : Reads is_memory setup_view r (setup_at (with_rows_document d e)) → Reads is_memory setup_view r (setup_with_rows_said text rows)
-  both_exact h = subst (Reads is_memory setup_view r) (sym (both_said text rows d e json starting)) h
-
--- an answer that is a fault
-module _ (r : Result SetupDocument SetupFault) (fault : SetupFault) (is : IsErrAnd r (λ x. x ≡ fault)) where
-  told_reads : (reading : Result SetupShape SetupFault) → (is_memory fault ≡ false → reading ≡ Err fault) → Reads is_memory setup_view r reading
-  told_reads reading h = by r is
-    where
-      by : (q : Result SetupDocument SetupFault) → IsErrAnd q (λ x. x ≡ fault) → Reads is_memory setup_view q reading
-      by (Ok x) e = absurd e
-      by (Err x) e = λ known. h (subst (λ (y : SetupFault). is_memory y ≡ false) e known) ∙ ap (λ (y : SetupFault). Err y) (sym e)
-
-  told_first : (text rows : List ℕ) → (is_memory fault ≡ false → BreaksFirstWithRows text rows fault) → IfErr r (λ x. is_memory x ≡ false → BreaksFirstWithRows text rows x)
-  told_first text rows h = by r is
-    where
-      by : (q : Result SetupDocument SetupFault) → IsErrAnd q (λ x. x ≡ fault) → IfErr q (λ x. is_memory x ≡ false → BreaksFirstWithRows text rows x)
-      by (Ok x) e = absurd e
-      by (Err x) e = λ known. subst (BreaksFirstWithRows text rows) (sym e) (h (subst (λ (y : SetupFault). is_memory y ≡ false) e known))
-
-  module _ (text rows : List ℕ) where
-    pub first_refused_only : IsRefused text fault → (s : SetupShape) → SaysSetupWithRows text rows s → Reads is_memory setup_view r (Ok s)
-    first_refused_only refused s says = told_reads (Ok s) (λ known. not_both text says.setup (refused known).1 says.is_setup)
-
-    pub first_refused_first : IsRefused text fault → IfErr r (λ x. is_memory x ≡ false → BreaksFirstWithRows text rows x)
-    first_refused_first refused = told_first text rows (λ known. inl ((refused known).0, inl (refused known).1))
-
-    pub first_refused_exact : IsRefused text fault → Reads is_memory setup_view r (setup_with_rows_said text rows)
-    first_refused_exact refused =
-        told_reads (setup_with_rows_said text rows) (λ known. first_not_said text rows (refused known).1 ∙ ap (λ (f : SetupFault). Err f) (sym (refused known).0))
-
-    pub second_refused_only : IsRefused rows fault → (s : SetupShape) → SaysSetupWithRows text rows s → Reads is_memory setup_view r (Ok s)
-    second_refused_only refused s says = told_reads (Ok s) (λ known. not_both rows says.starting (refused known).1 says.is_rows)
-
-    pub second_refused_first : IsRefused rows fault → IfErr r (λ x. is_memory x ≡ false → BreaksFirstWithRows text rows x)
-    second_refused_first refused = told_first text rows (λ known. inl ((refused known).0, inr (refused known).1))
-
-    pub second_refused_exact : (d : Data) → IsJson text d → IsRefused rows fault → Reads is_memory setup_view r (setup_with_rows_said text rows)
-    second_refused_exact d json refused =
-        told_reads (setup_with_rows_said text rows) (λ known. second_not_said text rows d json (refused known).1 ∙ ap (λ (f : SetupFault). Err f) (sym (refused known).0))
+  pub second_refused : (d : Data) (fault : SetupFault) → IsErrAnd r (λ x. x ≡ fault) → IsJson text d → IsRefused rows fault → ReadsBoth
+  second_refused d fault is json refused = IsReading-fault (SaysSetupWithRows text rows) (BreaksFirstWithRows text rows) (setup_with_rows_said text rows) r fault is
+      (λ s says known. not_both rows says.starting (refused known).1 says.is_rows) (λ known. inl ((refused known).0, inr (refused known).1))
+      (λ known. second_not_said text rows d json (refused known).1 ∙ ap (λ (f : SetupFault). Err f) (sym (refused known).0))
 
 -- ---- the document with other rows
 

@@ -2,6 +2,7 @@ pub mod Faults
 pub mod Rows
 pub mod Names
 pub mod Setups
+pub mod Readings
 pub mod WithRows
 pub mod Says
 pub mod FirstFault

@@ -30,7 +30,7 @@ pub record SetupParts : Type 0 where
   pub retries : ℕ
   pub digest : DigestForm
 
--- what the parts of the code's documents say
+-- what the parts of a setup document mean, as the code has them
 abbrev pub parts_view : Parts → SetupParts
 parts_view parts = record {
   catalogue = view parts.catalogue.now;

@@ -43,7 +43,7 @@ pub enum SetupFault {
 }
 
 impl SetupFault {
-    /// Whether allocation failed: of the setup itself, of its catalogue or of its procedures.
+    /// Whether allocation failed while the setup, its catalogue or its procedures were read.
     pub fn is_memory(&self) -> bool
         ensures { result ≡ is_memory self.now }
     {

@@ -1,14 +1,13 @@
 //! Reading setups.
 
-ghost use Rattle.std.specs.Prelude.{◌≡◌, true, false, map, slice_set, Ok, IfOk, IfErr, OnOk};
+ghost use Rattle.std.specs.Prelude.{◌≡◌, false, map, slice_set, IfErr, IfOk};
 ghost use Rattle.serde_json.specs.View.{view};
-ghost use Rattle.documents.specs.Reading.{Reads};
-ghost use Rattle.requests.specs.ProcLists.{AreOver};
 ghost use Rattle.setup.specs.declared.fault.SetupFault.TheVariants.{NotJson};
 ghost use Rattle.setup.specs.Faults.{is_memory};
 ghost use Rattle.setup.specs.FirstFault.{BreaksFirst, InDocument};
+ghost use Rattle.setup.specs.Readings.{IsReading};
 ghost use Rattle.setup.specs.Says.{IsJson, IsNotJson, SaysDocument, SaysSetup};
-ghost use Rattle.setup.specs.Setups.{SetupShape, setup_at, setup_said, setup_view};
+ghost use Rattle.setup.specs.Setups.{setup_at, setup_said};
 ghost use Rattle.setup.specs.WithRows.{with_rows_document, setup_with_rows_said, BreaksFirstWithRows, SaysSetupWithRows};
 
 use crate::document::SetupDocument;
@@ -22,14 +21,9 @@ use serde_json::Value;
 use std::alloc::Global;
 use std::str;
 
-#[tactic(auto, unfolding(crate::specs::Setups::setup_at))]
 fn read_document(alloc: Global, document: &Value) -> Result<SetupDocument, SetupFault>
-    ensures found { IfOk result (λ s. SaysDocument (view document.now) (setup_view s)) }
-    ensures over { IfOk result (λ s. AreOver s.setup.catalogue s.setup.procs.procs) }
-    ensures only { (s : SetupShape) → SaysDocument (view document.now) s → Reads is_memory setup_view result (Ok s) }
-    ensures first { IfErr result (λ e. is_memory e ≡ false → InDocument (view document.now) e) }
-    ensures unbroken { OnOk result ((e : SetupFault) → InDocument (view document.now) e → ⊥) }
-    ensures exact { Reads is_memory setup_view result (setup_at (view document.now)) }
+    ensures { IsReading (SaysDocument (view document.now)) (InDocument (view document.now))
+        (setup_at (view document.now)) result }
 {
     let form = setup_form(document).ok_or(SetupFault::Shape)?;
     let catalogue = Catalogue::read(alloc, form.catalogue)?;
@@ -62,39 +56,14 @@ fn read_json(alloc: Global, text: &[u8]) -> Result<Value, SetupFault>
     }
 }
 
-fn read_text(alloc: Global, text: &[u8]) -> Result<SetupDocument, SetupFault>
-    ensures found { IfOk result (λ s. SaysSetup text.now (setup_view s)) }
-    ensures over { IfOk result (λ s. AreOver s.setup.catalogue s.setup.procs.procs) }
-    ensures only { (s : SetupShape) → SaysSetup text.now s → Reads is_memory setup_view result (Ok s) }
-    ensures first { IfErr result (λ e. is_memory e ≡ false → BreaksFirst text.now e) }
-    ensures unbroken { OnOk result ((e : SetupFault) → BreaksFirst text.now e → ⊥) }
-    ensures exact { Reads is_memory setup_view result (setup_said text.now) }
-{
-    match read_json(alloc, text) {
-        Ok(document) => read_document(alloc, &document),
-        Err(fault) => Err(fault),
-    }
-}
-
 // rule: json.text
 /// What a JSON text says as a setup document, or the first rule that it breaks: of the text, of the document's outer
 /// form, of the catalogue, of the procedures, and of the rows, in this order.
 pub fn read_setup(alloc: Global, text: &[u8]) -> Result<SetupDocument, SetupFault>
-    // What is read is what the text says.
-    ensures found { IfOk result (λ s. SaysSetup text.now (setup_view s)) }
-    // Each procedure is over the catalogue.
-    ensures over { IfOk result (λ s. AreOver s.setup.catalogue s.setup.procs.procs) }
-    // A setup that the text says is what is read, unless memory runs out.
-    ensures only { (s : SetupShape) → SaysSetup text.now s → Reads is_memory setup_view result (Ok s) }
-    // The fault is that of the first rule that the text breaks.
-    ensures first { IfErr result (λ e. is_memory e ≡ false → BreaksFirst text.now e) }
-    // A text that is read breaks no rule, and one that breaks none is read, unless memory runs out.
-    ensures unbroken { OnOk result ((e : SetupFault) → BreaksFirst text.now e → ⊥) }
-    ensures none { ((e : SetupFault) → BreaksFirst text.now e → ⊥) → IfErr result (λ e. is_memory e ≡ true) }
-    ensures exact { Reads is_memory setup_view result (setup_said text.now) }
+    ensures { IsReading (SaysSetup text.now) (BreaksFirst text.now) (setup_said text.now) result }
 {
-    match read_text(alloc, text) {
-        Ok(setup) => Ok(setup),
+    match read_json(alloc, text) {
+        Ok(document) => read_document(alloc, &document),
         Err(fault) => Err(fault),
     }
 }
@@ -120,20 +89,6 @@ fn with_rows(elements: Vec<Value>, rows: Value) -> Vec<Value>
     elements
 }
 
-fn read_with_rows(alloc: Global, text: &[u8], rows: &[u8]) -> Result<SetupDocument, SetupFault>
-    ensures found { IfOk result (λ s. SaysSetupWithRows text.now rows.now (setup_view s)) }
-    ensures over { IfOk result (λ s. AreOver s.setup.catalogue s.setup.procs.procs) }
-    ensures only { (s : SetupShape) → SaysSetupWithRows text.now rows.now s →
-        Reads is_memory setup_view result (Ok s) }
-    ensures first { IfErr result (λ e. is_memory e ≡ false → BreaksFirstWithRows text.now rows.now e) }
-    ensures unbroken { OnOk result ((e : SetupFault) → BreaksFirstWithRows text.now rows.now e → ⊥) }
-    ensures exact { Reads is_memory setup_view result (setup_with_rows_said text.now rows.now) }
-{
-    let document = read_json(alloc, text)?;
-    let rows = read_json(alloc, rows)?;
-    read_document(alloc, &with_rows_document(document, rows))
-}
-
 /// What a JSON text says as a setup document whose starting rows another JSON text says, or the first rule that they
 /// break: of the setup's text, of the rows' text, and then of the setup document with those rows, as `read_setup` has
 /// them. The rows of the setup's own text may be any document.
@@ -142,23 +97,10 @@ pub fn read_setup_with_rows(
     text: &[u8],
     rows: &[u8],
 ) -> Result<SetupDocument, SetupFault>
-    // What is read is what the texts say.
-    ensures found { IfOk result (λ s. SaysSetupWithRows text.now rows.now (setup_view s)) }
-    // Each procedure is over the catalogue.
-    ensures over { IfOk result (λ s. AreOver s.setup.catalogue s.setup.procs.procs) }
-    // A setup that the texts say is what is read, unless memory runs out.
-    ensures only { (s : SetupShape) → SaysSetupWithRows text.now rows.now s →
-        Reads is_memory setup_view result (Ok s) }
-    // The fault is that of the first rule that the texts break.
-    ensures first { IfErr result (λ e. is_memory e ≡ false → BreaksFirstWithRows text.now rows.now e) }
-    // Texts that are read break no rule, and those that break none are read, unless memory runs out.
-    ensures unbroken { OnOk result ((e : SetupFault) → BreaksFirstWithRows text.now rows.now e → ⊥) }
-    ensures none { ((e : SetupFault) → BreaksFirstWithRows text.now rows.now e → ⊥) →
-        IfErr result (λ e. is_memory e ≡ true) }
-    ensures exact { Reads is_memory setup_view result (setup_with_rows_said text.now rows.now) }
+    ensures { IsReading (SaysSetupWithRows text.now rows.now) (BreaksFirstWithRows text.now rows.now)
+        (setup_with_rows_said text.now rows.now) result }
 {
-    match read_with_rows(alloc, text, rows) {
-        Ok(setup) => Ok(setup),
-        Err(fault) => Err(fault),
-    }
+    let document = read_json(alloc, text)?;
+    let rows = read_json(alloc, rows)?;
+    read_document(alloc, &with_rows_document(document, rows))
 }

@@ -41,9 +41,9 @@ same_table t = grind (arith, nat_tests)
 abbrev in_part_of : List TableShape → ℕ → ℕ → ℕ → Bool
 in_part_of tables table part key = unwrap_or (partition_of tables table key) 0 == part
 
-pub own_stop : (tables : List TableShape) (ws : List (RowName × Option RowOf)) (table part : ℕ) (after : Option ℕ) (key : ℕ) (live : Bool) → IsNextWriteAt ws table after key live
+pub found : (tables : List TableShape) (ws : List (RowName × Option RowOf)) (table part : ℕ) (after : Option ℕ) (key : ℕ) (live : Bool) → IsNextWriteAt ws table after key live
     → live ≡ true → in_part_of tables table part key ≡ true → IsNextKey tables (own_rows ws) table part after (Some key)
-own_stop tables ws table part after key live m l p =
+found tables ws table part after key live m l p =
     let there = live_row _ (m.write ∙ ap Some l) in (
       there.0,
       record {
@@ -57,9 +57,9 @@ not_live : (live p : Bool) → (live && p) ≡ false → p ≡ true → live ≡
 not_live true p e f = absurd (cc)
 not_live false p e f = refl
 
-pub own_skip : (tables : List TableShape) (ws : List (RowName × Option RowOf)) (table part : ℕ) (after : Option ℕ) (key : ℕ) (live : Bool) (r : Option ℕ) → IsNextWriteAt ws table after key live
+pub passed : (tables : List TableShape) (ws : List (RowName × Option RowOf)) (table part : ℕ) (after : Option ℕ) (key : ℕ) (live : Bool) (r : Option ℕ) → IsNextWriteAt ws table after key live
     → (live && in_part_of tables table part key) ≡ false → IsNextKey tables (own_rows ws) table part (Some key) r → IsNextKey tables (own_rows ws) table part after r
-own_skip tables ws table part after key live r m d = skip_past tables (own_rows ws) table part after key r m.later (λ q a.
+passed tables ws table part after key live r m d = skip_past tables (own_rows ws) table part after key r m.later (λ q a.
     let x = both_true (is_in_part tables table part q) (is_after after q.key) a in
     elim (nat_lt key q.key) as (λ b. nat_lt key q.key ≡ b → (is_ahead tables table part (Some key) q ≡ true) ⊎ (get (own_rows ws) q ≡ None)) [
       | true ↦ λ e. inl (together (is_in_part tables table part q) (nat_lt key q.key) x.0 e)
@@ -72,8 +72,8 @@ own_skip tables ws table part after key live r m d = skip_past tables (own_rows 
       ])
     ] refl)
 
-pub own_none : (tables : List TableShape) (ws : List (RowName × Option RowOf)) (table part : ℕ) (after : Option ℕ) → IsNextWrite ws table after None → IsNextKey tables (own_rows ws) table part after None
-own_none tables ws table part after h = λ q a. get_own ws q ∙ ap (λ (x : Option (Option RowOf)). after_write x None) (h q (past_ahead tables table part after q a))
+pub ended : (tables : List TableShape) (ws : List (RowName × Option RowOf)) (table part : ℕ) (after : Option ℕ) → IsNextWrite ws table after None → IsNextKey tables (own_rows ws) table part after None
+ended tables ws table part after h = λ q a. get_own ws q ∙ ap (λ (x : Option (Option RowOf)). after_write x None) (h q (past_ahead tables table part after q a))
 
 -- ---- the first write in the order of the map
 

@@ -34,7 +34,7 @@ impl Workspace {
     }
 
     /// The first key of a partition after a key, or from the start, at which a row was written.
-    #[tactic(auto, using(crate::proofs::OwnRows::own_stop, crate::proofs::OwnRows::own_skip, crate::proofs::OwnRows::own_none))]
+    #[tactic(auto, using(crate::proofs::OwnRows::found, crate::proofs::OwnRows::passed, crate::proofs::OwnRows::ended))]
     pub(crate) fn next_own(
         &self,
         catalogue: &Catalogue,

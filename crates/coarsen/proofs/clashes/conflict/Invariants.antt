@@ -1,9 +1,7 @@
 use Rattle.std.proofs.Common.{◌+◌, length}
 use Rattle.std.specs.List.{Contains}
-use Rattle.std.specs.Map.{keys_of}
-use Rattle.std.specs.List.Sorted.{IsStrictlySortedBy}
 use Rattle.footprint.specs.declared.resource.Resource.{Resource}
-use Rattle.footprint.specs.Tree.{resource_cmp}
+use Rattle.footprint.specs.InTreeOrder.{IsInTreeOrder}
 use Rattle.modes.specs.declared.mode.Mode.{Mode}
 use Rattle.coarsen.specs.Clashes.{ModesClash}
 use Rattle.coarsen.proofs.clashes.conflict.Given as goal
@@ -14,8 +12,8 @@ invariant-loop-a l = record {
   left : ModesClash l.initial.first l.initial.second → ModesClash l.first l.second;
   of_first : (x : Resource × Mode) → Contains l.first x → Contains l.initial.first x;
   of_second : (x : Resource × Mode) → Contains l.second x → Contains l.initial.second x;
-  first_ordered : IsStrictlySortedBy resource_cmp (keys_of l.first);
-  second_ordered : IsStrictlySortedBy resource_cmp (keys_of l.second);
+  first_ordered : IsInTreeOrder l.first;
+  second_ordered : IsInTreeOrder l.second;
 }
 
 abbrev pub decreases-loop-a : goal.decreases-loop-a

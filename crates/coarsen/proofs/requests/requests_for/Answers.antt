@@ -1,15 +1,13 @@
 use Rattle.std.proofs.Common.{◌≡◌, ap, arith, [], sym, subst}
 use Rattle.std.proofs.lemmas.Map.Iter.{rest_more, rest_all}
 use Rattle.std.specs.Map.Iter.{deref_pair}
-use Rattle.std.specs.Map.{keys_of}
-use Rattle.std.specs.List.Sorted.{IsStrictlySortedBy}
-use Rattle.footprint.specs.Tree.{resource_cmp}
 use Rattle.modes.specs.declared.mode.Mode.{Mode}
 use Rattle.modes.specs.Rights.{rank_of}
 use Rattle.modes.specs.Modes.{own, subtree}
 use Rattle.coarsen.specs.Subtrees.{Requests, greatest, is_same, holds, own_on, subtree_on}
 use Rattle.coarsen.proofs.Requesting.{taken}
 use Rattle.footprint.proofs.Placing.{none_sorted}
+use Rattle.footprint.specs.InTreeOrder.{IsInTreeOrder}
 use Rattle.coarsen.proofs.Entries.{right_on-entries}
 use Rattle.coarsen.proofs.requests.requests_for.Goals as goal
 
@@ -40,4 +38,4 @@ returns c =
     }
 
 pub invariant_of-draft : goal.invariant_of-draft
-invariant_of-draft c = subst (λ (es : Requests). IsStrictlySortedBy resource_cmp (keys_of es)) (sym c.in_ok-with_capacity.ensures.items) (none_sorted Mode)
+invariant_of-draft c = subst (λ (es : Requests). IsInTreeOrder es) (sym c.in_ok-with_capacity.ensures.items) (none_sorted Mode)

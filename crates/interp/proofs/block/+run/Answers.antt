@@ -1,7 +1,7 @@
 use Rattle.std.proofs.Common.{arith}
 use Rattle.std.proofs.lemmas.Int.{to_z-of_z}
 use Rattle.meaning.specs.Runs.{and_then}
-use Rattle.interp.proofs.LeftNumbers.{next_left, fewer_left}
+use Rattle.interp.proofs.Left.{next_left, fewer_left}
 use Rattle.interp.proofs.block.+run.Goals as goal
 
 pub for_each_number-returns-in_err-turn-clause-gives : goal.for_each_number-returns-in_err-turn-clause-gives

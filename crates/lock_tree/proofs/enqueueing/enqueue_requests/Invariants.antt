@@ -1,10 +1,8 @@
 use Rattle.std.proofs.Common.{◌≡◌, ◌≤◌, ◌+◌, ◌++◌, ℕ, List, [], None, length, take, drop}
 use Rattle.std.specs.List.{AllByRecursion}
-use Rattle.std.specs.Map.{keys_of}
 use Rattle.std.specs.HashMap.{spare}
-use Rattle.std.specs.List.Sorted.{IsStrictlySortedBy}
 use Rattle.footprint.specs.declared.resource.Resource.{Resource}
-use Rattle.footprint.specs.Tree.{resource_cmp}
+use Rattle.footprint.specs.InTreeOrder.{IsInTreeOrder}
 use Rattle.request_arena.specs.Lists.{free_nodes}
 use Rattle.lock_tree.specs.Queues.{asks, mode_on}
 use Rattle.lock_tree.specs.Lines.{line, AllUnder, numbers_of}
@@ -23,7 +21,7 @@ invariant-loop-resource l = record {
   joined : (other : Resource) → line l.lines other ++ asks l.no (mode_on other (drop l.resource-index l.plan)) [] ≡ line l.fn.lines other ++ asks l.no (mode_on other l.plan) [];
   room : length l.plan ≤ spare l.lines.numbers + l.resource-index;
   above : AllByRecursion (λ request. AllUnder l.no (numbers_of (line l.lines request.0))) (drop l.resource-index l.plan);
-  apart : IsStrictlySortedBy resource_cmp (keys_of (drop l.resource-index l.plan));
+  apart : IsInTreeOrder (drop l.resource-index l.plan);
   others : OthersChained l.no l.fn.lines l.lines;
   chained : (numbers : List ℕ) × Chains l.lines l.no (take l.resource-index l.plan) numbers l.head;
   tail : IsTail l.lines l.no l.head l.tail;

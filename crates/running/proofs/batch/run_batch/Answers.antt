@@ -21,16 +21,16 @@ use Rattle.running.specs.Transcripts.{said_lines, with_batch_line}
 use Rattle.running.specs.Executors.{HasAnswered}
 use Rattle.running.proofs.Runs.{held_fault, told_of_thread}
 use Rattle.running.proofs.ReplyLines.{attempts_are, keeps_digest, lines_are, standing_is, batch_text_is}
-use Rattle.running.proofs.Uncommitted.{rows_after}
+use Rattle.running.proofs.Uncommitted.{keeps_digest_after}
 use Rattle.running.proofs.batch.run_batch.Goals as goal
 
 pub execute-requires-clause-over : goal.execute-requires-clause-over
 execute-requires-clause-over g c = c.in-Ok.ensures.over (tables_of (g.E.BatchEngine.parts c.args.engine.now)) c.requires.due.over
 
-pub write_batch-requires : goal.write_batch-requires
-write_batch-requires g c =
-    rows_after (g.E.BatchEngine.parts c.args.engine.now) (g.E.BatchEngine.parts c.execute.new.engine) c.args.transcript.now _ c.in-Ok-execute.done _ c.in-Ok-execute.ensures.done c.in-Ok-execute.ensures.same
-    c.requires.due.digest_kept c.deref.ensures.value c.in-Ok-execute.ensures.idle
+pub write_batch-requires-clause-kept : goal.write_batch-requires-clause-kept
+write_batch-requires-clause-kept g c =
+    keeps_digest_after (g.E.BatchEngine.parts c.args.engine.now) (g.E.BatchEngine.parts c.execute.new.engine) c.args.transcript.now _ c.in-Ok-execute.done _ c.in-Ok-execute.ensures.done c.in-Ok-execute.ensures.same
+    c.requires.due.digest_kept c.deref.ensures.value
 
 pub returns-in-Ok-write_batch-clause-reported : goal.returns-in-Ok-write_batch-clause-reported
 returns-in-Ok-write_batch-clause-reported g c =

@@ -29,7 +29,7 @@ batches-init g c = record {
   source_works = refl;
   sink_works = refl;
   digest = search rules;
-  so_far = SoFar-start _ _ _ _ _ _ _ _ (ap (λ (p : Position). p.newlines) c.requires.unread.position) c.requires.unread.calls refl c.requires.fresh.1 c.observe_unused.ensures.none c.new-transcript.ensures.batch c.new-transcript.ensures.said c.new-transcript.ensures.form;
+  so_far = SoFar-start _ _ _ _ _ _ _ _ (ap (λ (p : Position). p.newlines) c.requires.unread.position) c.requires.unread.calls refl c.requires.fresh.1 c.observe_fresh.ensures.none c.new-transcript.ensures.batch c.new-transcript.ensures.said c.new-transcript.ensures.form;
 }
 
 pub close-requires-clause-between : goal.close-requires-clause-between
@@ -91,7 +91,7 @@ run_batch-requires-clause-due g c =
       over = rw (ap (λ (p : ProcsParts). p.tables) c.procs.ensures) at (rw c.in-Ok-Some.field-0-is at c.in-Ok-Some.ensures.batch).1;
       few = (rw c.in-Ok-Some.field-0-is at c.in-Ok-Some.ensures.batch).2;
       idle = c.batches.invariant.idle;
-      room = room_in_log c.args.engine.now.core.retries (calls_read c.batches.reader) (calls_read c.next_batch.new.self) _ (standing_of c.batches.engine.core) _ s.ran c.in-Ok-Some.requests.items s.reported.standing_is c.observe_unused.ensures.few s.total_is
+      room = room_in_log c.args.engine.now.core.retries (calls_read c.batches.reader) (calls_read c.next_batch.new.self) _ (standing_of c.batches.engine.core) _ s.ran c.in-Ok-Some.requests.items s.reported.standing_is c.observe_fresh.ensures.few s.total_is
           (rw c.in-Ok-Some.field-0-is at c.in-Ok-Some.ensures.counted.0) c.next_batch.ensures.counted.1 most;
       digest_kept = c.batches.invariant.digest;
     }

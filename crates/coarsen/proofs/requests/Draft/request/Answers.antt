@@ -4,7 +4,7 @@ use Rattle.modes.specs.declared.mode.Mode.{Mode}
 use Rattle.modes.specs.Modes.{own, subtree}
 use Rattle.coarsen.specs.Subtrees.{is_same}
 use Rattle.footprint.proofs.Placing.{sorted-set, sorted-inserted}
-use Rattle.coarsen.proofs.Placing.{greatest-set, greatest-inserted}
+use Rattle.coarsen.proofs.Greatest.{greatest-set, greatest-inserted}
 use Rattle.coarsen.proofs.requests.Draft.request.Goals as goal
 
 -- the request was there, and takes the joined mode

@@ -7,9 +7,7 @@ use Rattle.lock_tree.proofs.Queueing.{plan_under_next}
 use Rattle.lock_tree.proofs.Trees.{same_tree, known_as_before, joined_tree}
 use Rattle.lock_tree.specs.Chained.{AreChained}
 use Rattle.lock_tree.proofs.Chaining.{chained_same}
-use Rattle.std.specs.List.Sorted.{IsStrictlySortedBy}
-use Rattle.std.specs.Map.{keys_of}
-use Rattle.footprint.specs.Tree.{resource_cmp}
+use Rattle.footprint.specs.InTreeOrder.{IsInTreeOrder}
 use Rattle.coarsen.specs.Subtrees.{Requests}
 use Rattle.lock_tree.proofs.requested.Requested.enqueue.Goals as goal
 
@@ -51,7 +49,7 @@ enqueue_transaction-requires-clause-room c =
       numbers =
           let same : length c.requests.result.now ≡ length c.args.plan.now = ap length c.requests.ensures.same in
           let room = c.in_ok-make_room.ensures.room in omega (arith, plan, same, room);
-      apart = subst (λ (requests : Requests). IsStrictlySortedBy resource_cmp (keys_of requests)) (sym asked) c.requests.ensures.sound.ordered;
+      apart = subst (λ (requests : Requests). IsInTreeOrder requests) (sym asked) c.requests.ensures.sound.ordered;
       above =
           plan_under_next c.new.result.no (line c.make_room.new.self) (all_waiting (enqueued c.self.inside.transactions)) (λ r. c.make_room.ensures.same r ∙ c.self.invariant.lines r)
           (subst (AreBelow c.new.result.no) (sym (ap (λ (l : Locks). l.waiting) c.self.view_is))
