@@ -41,7 +41,7 @@ OPEN = re.compile(r"^fn (\S+): no proof: expected answers in \S*/\w+/Answers", r
 OPEN_AT = re.compile(r"^note: (src/\S+):(\d+):\d+: (?:it is not proved |`search` found no proof )", re.MULTILINE)
 NOT_READ = re.compile(
     r"^(?:\./)?proofs/(\S+)/(?:Answers|Invariants|Proof)\.antt:\d+:\d+: error: "
-    r"(?:`(?:decreases-|invariant-)?(\w+)(?=[-`]))?", re.MULTILINE
+    r"(?:`(?:(?:decreases|invariant)-(?=\w+[-`])|(?=\w+-))(\w+))?", re.MULTILINE
 )
 WAITING = re.compile(r"^fn (\S+): no proof: it calls ", re.MULTILINE)
 VERDICT = re.compile(r"logic=not-proved|only=\d+ proved=\d+$")
@@ -91,7 +91,8 @@ def attributes_of(text, first):
 
 
 def cycles_of(folder, texts):
-    """The names of the cycles of more than one function in the sources of a crate with these texts."""
+    """The names that sources of a crate, with these texts, give to cycles of functions: a function that calls itself
+    alone needs none."""
     files = [path.relative_to(folder) for path in Path(folder, "src").rglob("*.rt")]
     return {name for file in files for name in CYCLE.findall(texts.get(str(file)) or Path(folder, file).read_text())}
 
@@ -114,10 +115,11 @@ def opened_in(folder, texts, output):
         for first, last, name in functions_of(file, text):
             if first - len(attributes_of(text, first)) <= int(line) <= last:
                 found.add(name)
+    cycles = cycles_of(folder, texts)
     for proof, goal in NOT_READ.findall(output):
         *_, owner, function = ["lib", *proof.split("/")]
         # Where a cycle has more than one function, a goal names its own.
-        is_of_cycle = function.startswith("+") and function[1:] in cycles_of(folder, texts)
+        is_of_cycle = function.startswith("+") and function[1:] in cycles
         function = goal if goal and is_of_cycle else function.lstrip("+")
         found.add(f"{owner.partition('+')[0]}::{function}")
     return found

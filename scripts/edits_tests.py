@@ -87,6 +87,10 @@ class OpenGoals(OfACrate):
             line = f"./proofs/part/+walk/Invariants.antt:3:1: error: `{goal}` is not read\n"
             self.assertEqual(self.opened(line), {"part::odd"}, goal)
 
+    def test_a_word_that_is_no_goal_names_none_of_a_cycle(self):
+        line = "./proofs/part/+walk/Answers.antt:3:1: error: `odd` is not in scope\n"
+        self.assertEqual(self.opened(line), {"part::walk"})
+
     def test_a_function_named_almost_as_a_cycle_is_none(self):
         line = "proofs/part/swalk/Answers.antt:3:1: error: `returns-in_default` is no goal\n"
         self.assertEqual(self.opened(line), {"part::swalk"})
