@@ -7,7 +7,8 @@
 # The steps are the words in crates/test_memory_refusals/args; without any named here, all of them. For each step it prints how many
 # refusals were met, one a run: how many of these runs answered so, how many were right all the same, and how many were wrong.
 # The last runs of a step meet no refusal. It ends with status 1 where an answer is wrong or one is missing, or no run of a step
-# answered so. In the step `gate_before_run` a job makes these allocations while it passes the gate, and a run answers so only where
+# answered so. In the steps of `made_good` below a reading that lacks memory begins anew in another way, so each of their runs is
+# right, and none answers so. In the step `gate_before_run` a job makes these allocations while it passes the gate, and a run answers so only where
 # nothing was settled when it met the refusal: so the gate is passed before the job runs.
 #
 # All runs share one build: the program makes some allocations of its own before the step, so that the one that is refused, always
@@ -183,15 +184,20 @@ for step in "${steps[@]}"; do
 done
 answers "$folder/refusals" > "$folder/answers"
 
+# A setup whose tokens can't be read for want of memory is read as a document.
+made_good=(read_setup read_setup_of_retries)
+
 failed=0
 for step in "${steps[@]}"; do
-    awk -v step="$step" -v runs="${runs[$step]}" '
+    is_made_good=0
+    [[ " ${made_good[*]} " == *" $step "* ]] && is_made_good=1
+    awk -v step="$step" -v runs="${runs[$step]}" -v is_made_good="$is_made_good" '
         $1 == step { answered++; said[$2]++; if ($4 == "none") { met++; said_then[$2]++ } }
         END {
             wrong = runs - said["right"] - said["refused"]
             printf "%s: %d refusals met, %d answered so, %d right, %d wrong or missing; %d runs met none\n", step, met,
                 said_then["refused"], said_then["right"], wrong, answered - met
-            exit wrong != 0 || met == 0 || met == answered || said["refused"] == 0 || said["refused"] != said_then["refused"]
+            exit wrong != 0 || met == 0 || met == answered || (said["refused"] == 0) != is_made_good || said["refused"] != said_then["refused"]
         }' "$folder/answers" || failed=1
 done
 

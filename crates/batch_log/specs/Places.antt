@@ -10,8 +10,7 @@ use Rattle.batch_log.specs.declared.line.LogLine.TheVariants.{Call}
 use Rattle.batch_log.specs.Lines.{lines_said, Lines}
 use Rattle.batch_log.specs.Log.{batches_of, first_fault, last_batch, limited, log_said}
 
--- the batches of a log, whose stale requests are tried again so often, that are whole before its first fault, and that
--- fault
+-- the batches of a log that are whole before its first fault, where a stale request is tried again that number of times
 abbrev pub batches_said : ProcsParts → ℕ → List ℕ → List (List requests.Call)
 batches_said procs retries log = batches_of (log_said retries procs.procs 0 0 log)
 

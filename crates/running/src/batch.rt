@@ -78,11 +78,10 @@ pub fn run_batch<E: BatchEngine, X: Fn(&mut E, Batch) -> Result<BatchDone, ExecF
         (attempts_at (standing_of (E.parts engine.old)) requests.items) done) }
     ensures front { AppendsFront (K.taken sink.old) (K.taken sink.new)
         (due_text (E.parts engine.old) transcript.old requests.items) }
-    ensures stops { IfErr result (IsMachineFault line) }
-    ensures threads { IfErr result (λ e. IfOfThread e (HasAnswered X.Fn executor.now ExecFault.Spawn)) }
+    ensures stops { IfErr result (λ e.
+        IsMachineFault line e × IfOfThread e (HasAnswered X.Fn executor.now ExecFault.Spawn)) }
     ensures fails { K.broken sink.new ≡ (K.broken sink.old || ends_in_io result) }
-    ensures digest { KeepsDigest (E.parts engine.new) transcript.new }
-    ensures form { form_of transcript.new ≡ form_of transcript.old }
+    ensures digest { KeepsDigest (E.parts engine.new) transcript.new × (form_of transcript.new ≡ form_of transcript.old) }
 {
     let batch = match Batch::of(alloc, requests) {
         Ok(batch) => batch,

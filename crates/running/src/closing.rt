@@ -82,8 +82,7 @@ pub fn finish<E: BatchEngine, K: Sink>(
         (end_line (E.parts engine.old).next (digest_of_rows (form_of transcript) (E.parts engine.old)) (digest m))) }
     ensures front { (m : List ℕ) → Holds256 (said_of transcript) m → AppendsFront (K.taken sink.old) (K.taken sink.new)
         (end_line (E.parts engine.old).next (digest_of_rows (form_of transcript) (E.parts engine.old)) (digest m)) }
-    ensures stops { IfErr result (IsMachineFault line) }
-    ensures threadless { IsNotOfThread result }
+    ensures stops { IfErr result (IsMachineFault line) × IsNotOfThread result }
     ensures fails { K.broken sink.new ≡ (K.broken sink.old || ends_in_io result) }
     ensures same { engine.new ≡ engine.old }
 {

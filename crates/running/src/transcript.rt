@@ -160,8 +160,7 @@ impl Transcript {
         ensures kind { IfErr result IsOfMachine }
         ensures fails { K.broken sink.new ≡ (K.broken sink.old || write_failed result) }
         ensures gone { OnErr result (rows_digest_of self.new ≡ None) }
-        ensures form { form_of self.new ≡ form_of self.old }
-        ensures same { engine.new ≡ engine.old }
+        ensures same { (engine.new ≡ engine.old) × (form_of self.new ≡ form_of self.old) }
     {
         let kept = self.rows.take();
         let kept = if has_commit(replies) { None } else { kept };

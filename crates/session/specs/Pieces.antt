@@ -10,7 +10,7 @@ untaken pieces = drop pieces.taken pieces.bytes.items
 -- Of bytes that wait, as many as there are or as have room in a buffer were moved to its front, and the others are
 -- left. What comes after them in the buffer is as it was.
 pub record IsDrained (waiting left before after : List ℕ) (count : ℕ) : Type 0 where
-  pub most : count ≡ min (length waiting) (length before)
+  pub as_many : count ≡ min (length waiting) (length before)
   pub bound : count ≤ length after
   pub room : length after ≡ length before
   pub moved : waiting ≡ take count after ++ left

@@ -4,3 +4,8 @@ pub mod Readings
 pub mod SaidWithRows
 pub mod OneSetup
 pub mod ToldRows
+pub mod ReadSetups
+pub mod TokenSteps
+pub mod RowTokens
+pub mod SetupTokens
+pub mod TokenDocuments

@@ -52,11 +52,11 @@ unused (y ∷ ys) x zs d =
 
 -- ---- what is read
 
-key_found : (z : ℤ) (k : ℕ) → key_of z ≡ Some k → z ≡ pos k
+pub key_found : (z : ℤ) (k : ℕ) → key_of z ≡ Some k → z ≡ pos k
 key_found (pos n) k e = cc
 key_found (negsuc n) k e = absurd cc
 
-not_found : (b : Bool) → not b ≡ true → b ≡ false
+pub not_found : (b : Bool) → not b ≡ true → b ≡ false
 not_found false h = refl
 not_found true h = absurd cc
 

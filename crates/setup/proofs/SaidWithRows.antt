@@ -1,5 +1,6 @@
 -- What a setup's text and a rows' text say together, and where they break a rule first, from what is read of each.
-use Rattle.std.proofs.Common.{◌≡◌, inl, inr, ℕ, Bool, true, false, List, map, set, Some, None, Result, Err, Vec, Global, refl, sym, ap, ◌∙◌, subst, set-set}
+use Rattle.std.proofs.Common.{◌≡◌, inl, inr, ℕ, Bool, true, false, List, map, set, Option, Some, None, Result, Ok, Err, Vec, Global, refl, sym, ap, ◌∙◌, subst, set-set}
+use Rattle.std.specs.Prelude.{IfSome}
 use Rattle.std.specs.Result.{IsErrAnd}
 use Rattle.std.specs.Str.{IsUtf8, is_utf8}
 use Rattle.std.proofs.lemmas.Str.{IsUtf8-from_is_utf8, is_utf8-from_IsUtf8}
@@ -20,6 +21,7 @@ use Rattle.setup.specs.Rows.{RowAt}
 use Rattle.setup.specs.Says.{IsJson, IsNotJson, SaysDocument, SaysRows, SaysSetup, SpellsSetup}
 use Rattle.setup.specs.Setups.{SetupParts, SetupShape, json_said, setup_at, setup_said}
 use Rattle.setup.specs.WithRows.{with_rows_document, setup_with_rows_said, SaysSetupWithRows, BreaksFirstWithRows}
+use Rattle.setup.specs.Tokens.{IsReadByTokens}
 use Rattle.setup.proofs.Readings.{IsReading-as, IsReading-fault}
 
 -- ---- the document of a text
@@ -81,6 +83,11 @@ text_read text d json r = IsReading-as (SaysDocument d) (SaysSetup text) (InDocu
     breaks_in fault (inl (is, not)) = not_both text d not json
     breaks_in fault (inr (e, other, there)) = subst (λ (x : Data). InDocument x fault) (one_document text e d other json) there
 
+-- what is read of the tokens of a text
+pub tokens_read : (text bytes : List ℕ) (o : Option SetupDocument) → bytes ≡ text → IsUtf8 text → IfSome o (IsReadByTokens bytes) → IfSome o (λ s. IsReading (SaysSetup text) (BreaksFirst text) (setup_said text) (Ok s))
+tokens_read text bytes None same utf8 h = tt
+tokens_read text bytes (Some s) same utf8 h = text_read text h.0 (is_json text bytes h.0 same utf8 h.1) (Ok s) h.2
+
 pub text_refused : (text : List ℕ) (fault : SetupFault) → IsRefused text fault → IsReading (SaysSetup text) (BreaksFirst text) (setup_said text) (Err fault)
 text_refused text fault refused = IsReading-fault (SaysSetup text) (BreaksFirst text) (setup_said text) (Err fault) fault refl
     (λ s says known. not_both text says.0 (refused known).1 says.1) (λ known. inl (refused known))
@@ -139,10 +146,10 @@ rows_replaced v w rows e =
     view-Array w ∙ ap (λ (ds : List Data). array (items_of ds)) (e ∙ ap (λ (ds : List Data). set ds 4 (view rows)) (sym (list_of-items_of (map view v.items))))
     ∙ ap (λ (d : Data). with_rows_document d (view rows)) (sym (view-Array v))
 
-abbrev with_parts : SetupParts → Data → SetupParts
+abbrev pub with_parts : SetupParts → Data → SetupParts
 with_parts form rows = record form { rows = rows }
 
-spells_with_rows : (d rows : Data) (form : SetupParts) → SpellsSetup d form → SpellsSetup (with_rows_document d rows) (with_parts form rows)
+pub spells_with_rows : (d rows : Data) (form : SetupParts) → SpellsSetup d form → SpellsSetup (with_rows_document d rows) (with_parts form rows)
 spells_with_rows d rows form (inl h) =
     inl (record { version = h.version; is_form = ap (λ (x : Data). with_rows_document x rows) h.is_form; is_version = h.is_version; none = h.none; of_rows = h.of_rows })
 spells_with_rows d rows form (inr (inl h)) = inr (inl (record {

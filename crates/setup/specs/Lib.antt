@@ -1,6 +1,7 @@
 pub mod Faults
 pub mod Rows
 pub mod Names
+pub mod Tokens
 pub mod Setups
 pub mod Readings
 pub mod WithRows

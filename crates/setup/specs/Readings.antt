@@ -8,8 +8,8 @@ use Rattle.setup.specs.declared.fault.SetupFault.{SetupFault}
 use Rattle.setup.specs.Faults.{is_memory}
 use Rattle.setup.specs.Setups.{SetupShape, setup_view}
 
--- Of what says a setup, or breaks a rule first, or is a setup or a fault in all: that setup was read, or that fault was
--- told, or allocation failed.
+-- What comes of reading a text or a document: the setup that it says (`says`) was read, or the first rule that it
+-- breaks (`breaks`) was told, or allocation failed. `said` is the answer that reading from left to right gives.
 pub record IsReading (says : SetupShape → Type 0) (breaks : SetupFault → Type 0) (said : Result SetupShape SetupFault)
     (result : Result SetupDocument SetupFault) : Type 0 where
   -- What is read is what is said, and each procedure is over the catalogue.
@@ -22,4 +22,5 @@ pub record IsReading (says : SetupShape → Type 0) (breaks : SetupFault → Typ
   -- Where a setup is read no rule is broken, and where none is broken a setup is read, unless memory runs out.
   pub unbroken : OnOk result ((e : SetupFault) → breaks e → ⊥)
   pub none : ((e : SetupFault) → breaks e → ⊥) → IfErr result (λ e. is_memory e ≡ true)
+  -- The answer is that of reading from left to right, unless memory runs out.
   pub exact : Reads is_memory setup_view result said

@@ -9,6 +9,7 @@
 //! Tested only: fault texts.
 #![tactic(auto)]
 
+mod by_tokens;
 mod document;
 mod fault;
 mod form;
@@ -16,6 +17,7 @@ mod laws;
 mod names;
 mod reading;
 mod rows;
+mod rows_by_tokens;
 
 pub use document::SetupDocument;
 pub use fault::SetupFault;

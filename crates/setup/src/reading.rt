@@ -1,6 +1,6 @@
 //! Reading setups.
 
-ghost use Rattle.std.specs.Prelude.{◌≡◌, false, map, slice_set, IfErr, IfOk};
+ghost use Rattle.std.specs.Prelude.{◌≡◌, false, map, slice_set, IfErr, IfOk, IfSome, Ok};
 ghost use Rattle.serde_json.specs.View.{view};
 ghost use Rattle.setup.specs.declared.fault.SetupFault.TheVariants.{NotJson};
 ghost use Rattle.setup.specs.Faults.{is_memory};
@@ -10,6 +10,7 @@ ghost use Rattle.setup.specs.Says.{IsJson, IsNotJson, SaysDocument, SaysSetup};
 ghost use Rattle.setup.specs.Setups.{setup_at, setup_said};
 ghost use Rattle.setup.specs.WithRows.{with_rows_document, setup_with_rows_said, BreaksFirstWithRows, SaysSetupWithRows};
 
+use crate::by_tokens::setup_by_tokens;
 use crate::document::SetupDocument;
 use crate::fault::SetupFault;
 use crate::form::setup_form;
@@ -56,12 +57,26 @@ fn read_json(alloc: Global, text: &[u8]) -> Result<Value, SetupFault>
     }
 }
 
+/// The setup that a text says, read without a document of its rows. `None` if the text breaks a rule, or if allocation
+/// fails.
+fn read_by_tokens(alloc: Global, text: &[u8]) -> Option<SetupDocument>
+    ensures { IfSome result (λ s. IsReading (SaysSetup text.now) (BreaksFirst text.now) (setup_said text.now) (Ok s)) }
+{
+    let Ok(text) = str::from_utf8(text) else {
+        return None;
+    };
+    setup_by_tokens(alloc, text)
+}
+
 // rule: json.text
 /// What a JSON text says as a setup document, or the first rule that it breaks: of the text, of the document's outer
 /// form, of the catalogue, of the procedures, and of the rows, in this order.
 pub fn read_setup(alloc: Global, text: &[u8]) -> Result<SetupDocument, SetupFault>
     ensures { IsReading (SaysSetup text.now) (BreaksFirst text.now) (setup_said text.now) result }
 {
+    if let Some(document) = read_by_tokens(alloc, text) {
+        return Ok(document);
+    }
     match read_json(alloc, text) {
         Ok(document) => read_document(alloc, &document),
         Err(fault) => Err(fault),

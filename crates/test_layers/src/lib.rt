@@ -1,5 +1,5 @@
-//! Tests of the layers below the scheduler, by tables: lock modes, footprints, plans, queues of lock requests, the lock
-//! tree, rows, requests that are tried again, and devices.
+//! Tests of the layers below the scheduler, by tables: tokens, lock modes, footprints, plans, queues of lock requests,
+//! the lock tree, rows, requests that are tried again, and devices.
 #![tactic(auto)]
 
 #[cfg(test)]
@@ -24,6 +24,8 @@ mod request_queues;
 mod stored_rows;
 #[cfg(test)]
 mod test_world;
+#[cfg(test)]
+mod tokens;
 #[cfg(test)]
 mod tried_again;
 #[cfg(test)]

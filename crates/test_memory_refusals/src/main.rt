@@ -100,7 +100,8 @@ fn tried<R: Threads + Wait + Sync + rt::Files + AllocGlobal>(
 ) -> Option<Answer> {
     let alloc = rt.alloc();
     match step {
-        "read_setup" => reading::try_setup(rt, refusal),
+        "read_setup" => reading::try_setup(rt, refusal, None),
+        "read_setup_with_rows" => reading::try_setup(rt, refusal, Some(reading::ROWS)),
         "read_setup_of_retries" => batches::try_setup(rt, refusal, StoredLog::TriedAgain),
         "recon" => try_recon(alloc, refusal),
         "next_batch" => reading::try_log(alloc, refusal),

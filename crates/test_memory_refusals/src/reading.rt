@@ -3,16 +3,29 @@
 use crate::executing::runs_on;
 use calvin::{LogFaultKind, LogReader, ReadSource, SetupFault, read_setup};
 use proclang::Request;
+use setup::read_setup_with_rows;
 use std::alloc::{AllocError, Global};
 use std::sync::Wait;
 use test_refusal_steps::{Answer, BANK, Refusal, bank, log_text};
 use values::Value;
 
-/// The setup is read; the log is run on it as it was reckoned.
-pub(crate) fn try_setup<R: Wait + AllocGlobal>(rt: &R, refusal: &mut Refusal) -> Option<Answer> {
+/// The rows of the bank's setup.
+pub(crate) const ROWS: &str =
+    r#"["rows",1,[["acct",1,[100]],["acct",2,[100]],["acct",3,[100]],["acct",4,[100]],
+["acct",5,[100]],["note",7,[1,"paid"]],["note",8,[2,""]]]]"#;
+
+/// The setup is read, with its own rows or with those of another text; the log is run on it as it was reckoned.
+pub(crate) fn try_setup<R: Wait + AllocGlobal>(
+    rt: &R,
+    refusal: &mut Refusal,
+    rows: Option<&str>,
+) -> Option<Answer> {
     let alloc = rt.alloc();
     refusal.approach();
-    let read = read_setup(alloc, BANK.as_bytes());
+    let read = match rows {
+        Some(rows) => read_setup_with_rows(alloc, BANK.as_bytes(), rows.as_bytes()),
+        None => read_setup(alloc, BANK.as_bytes()),
+    };
     refusal.pass();
     match read {
         Ok(document) => Some(Answer::Right.if_right(runs_on(rt, document.setup)?)),

@@ -45,14 +45,14 @@ returns-in-Ok-write_batch-clause-reported g c =
     let text : with_batch_line (form_of c.args.transcript.now) (batch_of c.args.transcript.now) (tables_of new) new.rows (said_lines c.deref.result.now) ≡ due_text old c.args.transcript.now requests =
     batch_text_is _ _ c.in-Ok.batch c.in-Ok-execute.done requests _ _ _ _ _ run c.in-Ok-execute.ensures.same items refl refl c.deref.ensures.value in
     subst (λ e. IsReported old (g.E.BatchEngine.parts e) c.args.transcript.now c.write_batch.new.self (g.K.Sink.taken c.args.sink.now) (g.K.Sink.taken c.write_batch.new.sink) requests
-    × IsExecutionOf old (g.E.BatchEngine.parts e) (attempts_at (standing_of old) requests) c.in-Ok-execute.done) (sym c.write_batch.ensures.same) (
+    × IsExecutionOf old (g.E.BatchEngine.parts e) (attempts_at (standing_of old) requests) c.in-Ok-execute.done) (sym c.write_batch.ensures.same.0) (
       record {
         idle = c.in-Ok-execute.ensures.idle;
         standing = standing_is _ _ c.in-Ok.batch c.in-Ok-execute.done requests run items;
         batch = written.added.batch;
         said = λ m h. rw (← lines) (written.added.said m h);
         text = rw (← text) written.text;
-        digest_kept = keeps_digest new c.write_batch.new.self _ _ _ written.rows c.in-Ok-write_batch.ensures.form refl refl;
+        digest_kept = keeps_digest new c.write_batch.new.self _ _ _ written.rows c.in-Ok-write_batch.ensures.same.1 refl refl;
       },
       rw (attempts_are old c.in-Ok.batch requests items) at run,
     )
@@ -79,6 +79,8 @@ exec_fault-requires g c =
     held_fault old (g.E.BatchEngine.parts c.execute.new.engine) c.in-Ok.batch c.in-Err.fault c.in-Err.ensures.refused c.requires.due.idle
     (rw (ap (λ (attempts : List Attempt). length attempts) (attempts_are old c.in-Ok.batch c.args.requests.items c.in-Ok.ensures.items)) c.requires.due.room)
 
-pub returns-in-Err-clause-threads : goal.returns-in-Err-clause-threads
-returns-in-Err-clause-threads g c =
-    told_of_thread c.in-Err.fault c.exec_fault.result c.args.line (HasAnswered g.X.Fn c.args.executor.now) c.exec_fault.ensures.names c.in-Err.ensures.answered
+pub returns-in-Err-clause-stops : goal.returns-in-Err-clause-stops
+returns-in-Err-clause-stops g c = (
+  c.exec_fault.ensures.stops,
+  told_of_thread c.in-Err.fault c.exec_fault.result c.args.line (HasAnswered g.X.Fn c.args.executor.now) c.exec_fault.ensures.names c.in-Err.ensures.answered,
+)

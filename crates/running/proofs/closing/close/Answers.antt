@@ -7,7 +7,7 @@ pub returns-in-Ok-clause-closed : goal.returns-in-Ok-clause-closed
 returns-in-Ok-clause-closed g c = λ start ran before h.
     let closed = c.in-Ok.ensures.closed start ran before h in
     IsClosing-end c.finish.result _ _ _ _ _ _ _ closed.reported
-    c.finish.ensures.count c.finish.ensures.text c.finish.ensures.front c.finish.ensures.threadless
+    c.finish.ensures.count c.finish.ensures.text c.finish.ensures.front c.finish.ensures.stops.1
 
 pub returns-in-Err-clause-closed : goal.returns-in-Err-clause-closed
 returns-in-Err-clause-closed g c = λ start ran before h.
@@ -23,4 +23,4 @@ pub returns-in-Ok-clause-idle : goal.returns-in-Ok-clause-idle
 returns-in-Ok-clause-idle g c = where_ok c.finish.result (rw c.finish.ensures.same c.in-Ok.ensures.between.idle)
 
 pub returns-in-Ok-clause-stops : goal.returns-in-Ok-clause-stops
-returns-in-Ok-clause-stops g c = stops_unthreaded c.finish.result c.args.line _ c.finish.ensures.stops c.finish.ensures.threadless
+returns-in-Ok-clause-stops g c = stops_unthreaded c.finish.result c.args.line _ c.finish.ensures.stops.0 c.finish.ensures.stops.1

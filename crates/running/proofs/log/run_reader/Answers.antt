@@ -110,9 +110,9 @@ batches-preserved-in-Ok g c =
       goes_on = search rules;
       source_works = (c.in-Ok-Some.ensures.tells c.batches.invariant.no_fault).fails ∙ sym (or_nothing _) ∙ c.batches.invariant.source_works;
       sink_works = c.in-Ok.ensures.fails ∙ sym (or_nothing _) ∙ c.batches.invariant.sink_works;
-      digest = c.in-Ok.ensures.digest;
+      digest = c.in-Ok.ensures.digest.0;
       so_far = SoFar-next _ _ _ _ _ _ _ _ _ _ _ _ _ _ _ _ s (rw (pe, c.batches.invariant.retries) at (rw c.in-Ok-Some.field-0-is at c.in-Ok-Some.ensures.batch).0)
-          (rw c.in-Ok-Some.field-0-is at c.in-Ok-Some.ensures.counted.0) c.in-Ok.ensures.same.procs c.in-Ok.ensures.same.retries c.in-Ok.ensures.form c.in-Ok.ensures.reported.0;
+          (rw c.in-Ok-Some.field-0-is at c.in-Ok-Some.ensures.counted.0) c.in-Ok.ensures.same.procs c.in-Ok.ensures.same.retries c.in-Ok.ensures.digest.1 c.in-Ok.ensures.reported.0;
     }
 
 pub returns-in-Err-run_batch-clause-run : goal.returns-in-Err-run_batch-clause-run
@@ -120,7 +120,7 @@ returns-in-Err-run_batch-clause-run g c =
     let s = c.batches.invariant.so_far in
     let pe : c.procs.result.now ≡ c.args.engine.now.core.procs = c.procs.ensures ∙ s.reported.procs_are in
     run_stops (in_batch c.in-Ok-Some.requests.items) c.in-Err-run_batch.fault _ _ _ _ _ (came c.next_batch.new.self) (position_of c.next_batch.new.self) c.last_line-line.result _ _ _ _ _
-    c.in-Err-run_batch.ensures.stops refl ((c.in-Ok-Some.ensures.tells c.batches.invariant.no_fault).fails ∙ sym (or_nothing _) ∙ c.batches.invariant.source_works) c.batches.invariant.sink_works
+    c.in-Err-run_batch.ensures.stops.0 refl ((c.in-Ok-Some.ensures.tells c.batches.invariant.no_fault).fails ∙ sym (or_nothing _) ∙ c.batches.invariant.source_works) c.batches.invariant.sink_works
     c.in-Err-run_batch.ensures.fails c.last_line-line.ensures (Moves-trans _ _ _ _ _ _ c.batches.invariant.moves c.next_batch.ensures.taken.1)
     (SoFar-stopped_in_batch _ _ _ (newlines_taken c.next_batch.new.self) (calls_read c.next_batch.new.self) c.last_line-line.result c.in-Ok-Some.requests.items _ _ _ _ _ _ _ _
     (position_of c.batches.reader) (position_of c.next_batch.new.self) s c.batches.invariant.moves c.next_batch.ensures.taken.1 refl refl

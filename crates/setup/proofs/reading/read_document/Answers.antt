@@ -11,8 +11,9 @@ use Rattle.setup.specs.declared.form.Parts.{Parts}
 use Rattle.setup.specs.FirstFault.{InDocument}
 use Rattle.setup.specs.Says.{SaysDocument}
 use Rattle.setup.specs.Setups.{parts_view, setup_at, setup_form}
+use Rattle.setup.proofs.ReadSetups.{AreProcsRead, IsCatalogueRead, setup_is_said}
 use Rattle.setup.proofs.Readings.{IsReading-fault}
-use Rattle.setup.proofs.SaidSetups.{at_catalogue, at_end, at_no_form, at_procs, at_rows, form_again, found_parts, in_catalogue, in_procs, in_rows, no_break, no_catalogue, no_procs, no_rows, none_is, only_parts}
+use Rattle.setup.proofs.SaidSetups.{at_catalogue, at_no_form, at_procs, at_rows, form_again, in_catalogue, in_procs, in_rows, no_catalogue, no_procs, no_rows, none_is}
 use Rattle.setup.proofs.reading.read_document.Goals as goal
 
 no_shape : (found : Option Parts) (fault : SetupFault) → found ≡ None → ◌≡◌ {A = Result Parts SetupFault} (Err fault) (ok_or found Shape) → fault ≡ Shape
@@ -64,12 +65,18 @@ returns c =
     let procs = map proc_syntax c.in_ok-procs.procs.procs in
     let rows = c.in_ok-rows.rows.items in
     let form : setup_form d ≡ Some (parts_view c.in_ok-form.form) = rw (← c.setup_form.ensures.form, c.in_ok-form.ensures.ok_part) refl in
-    record {
-      found = found_parts d _ tables procs rows form c.in_ok-catalogue.ensures.found.0 c.in_ok-catalogue.ensures.found.1 c.in_ok-procs.ensures.found c.in_ok-rows.ensures.found;
-      over = subst (λ (ts : List TableShape). AreOver ts c.in_ok-procs.procs.procs) c.in_ok-procs.ensures.tables c.in_ok-procs.ensures.sound.over;
-      only = λ s says. only_parts d _ s tables procs rows form says c.in_ok-catalogue.ensures.only c.in_ok-procs.ensures.only c.in_ok-rows.ensures.only;
-      first = tt;
-      unbroken = no_break d _ tables form c.in_ok-catalogue.ensures.only c.in_ok-catalogue.ensures.unbroken c.in_ok-procs.ensures.unbroken c.in_ok-rows.ensures.unbroken;
-      none = λ never. tt;
-      exact = at_end d _ form tables procs rows c.in_ok-catalogue.ensures.exact c.in_ok-procs.ensures.exact c.in_ok-rows.ensures.exact;
-    }
+    let over = subst (λ (ts : List TableShape). AreOver ts c.in_ok-procs.procs.procs) c.in_ok-procs.ensures.tables c.in_ok-procs.ensures.sound.over in
+    let catalogue : IsCatalogueRead _ tables = record {
+      found = c.in_ok-catalogue.ensures.found.0;
+      is = c.in_ok-catalogue.ensures.found.1;
+      only = c.in_ok-catalogue.ensures.only;
+      unbroken = c.in_ok-catalogue.ensures.unbroken;
+      exact = c.in_ok-catalogue.ensures.exact;
+    } in
+    let are_procs : AreProcsRead tables _ procs = record {
+      found = c.in_ok-procs.ensures.found;
+      only = c.in_ok-procs.ensures.only;
+      unbroken = c.in_ok-procs.ensures.unbroken;
+      exact = c.in_ok-procs.ensures.exact;
+    } in
+    setup_is_said d _ _ tables procs rows form refl over catalogue are_procs c.in_ok-rows.ensures.exact

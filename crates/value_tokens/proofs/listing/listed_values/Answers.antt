@@ -1,7 +1,7 @@
 use Rattle.std.proofs.Common.{◌≡◌, [], ◌∷◌, ◌++◌, ap, ◌∙◌, arith, append_assoc, sym}
 use Rattle.json.specs.Reads.{token_of}
-use Rattle.batch_log.proofs.PlainLines.{one_more_value}
-use Rattle.batch_log.proofs.plain_line.listed_values.Goals as goal
+use Rattle.value_tokens.proofs.ValueLists.{one_more_value}
+use Rattle.value_tokens.proofs.listing.listed_values.Goals as goal
 
 pub values-preserved : goal.values-preserved
 values-preserved c =
