@@ -12,7 +12,7 @@ use values::Value;
 /// The rows of the bank's setup.
 pub(crate) const ROWS: &str =
     r#"["rows",1,[["acct",1,[100]],["acct",2,[100]],["acct",3,[100]],["acct",4,[100]],
-["acct",5,[100]],["note",7,[1,"paid"]],["note",8,[2,""]]]]"#;
+["acct",5,[100]],["acct",6,[100]],["note",7,[1,"paid"]],["note",8,[2,""]]]]"#;
 
 /// The setup is read, with its own rows or with those of another text; the log is run on it as it was reckoned.
 pub(crate) fn try_setup<R: Wait + AllocGlobal>(
