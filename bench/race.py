@@ -10,9 +10,10 @@ that of `--alone`, and likewise the time of the processors, each the best of the
 pay. Every second round goes backwards. A program that is named after the first one is set beside it: what it takes
 where the first one takes 1. All reports of a load must be the same; the script ends with status 1 where one isn't.
 
-With --batches there is one load more, of N batches of two transfers between a hundred accounts; in each tenth
-batch one call is long. So threads wait and are woken all the time. A run that takes longer than --limit seconds ends
-the race with status 1: it hangs.
+With --batches there are two loads more, of N batches of two and of six transfers between a hundred accounts; in each
+tenth batch the first call is long. Of six calls some are mostly run beside the long one, so it is handed over, and
+threads wait and are woken all the time; of two, few long calls are handed over. A run that takes longer than --limit
+seconds ends the race with status 1: it hangs.
 """
 import argparse
 import json
@@ -31,6 +32,7 @@ from comparing.running import Failed, run, written  # noqa: E402
 
 ALONE = "alone"
 ACCOUNTS, TENTH = 100, 10
+SIZES = {2: "twos", 6: "sixes"}
 
 
 def named_path(word):
@@ -61,26 +63,26 @@ def reader():
         help="a built program of the executor (default: calvin=crates/cli/out/cli)")
     add("--ways", type=ways, default=[ALONE, "1", "2", "4", "16"], metavar="N,..", help="numbers of workers")
     add("--rounds", type=positive, default=5, metavar="N", help="(default: 5)")
-    add("--batches", type=positive, metavar="N", help="also batches of two calls, so many")
+    add("--batches", type=positive, metavar="N", help="also N batches of two calls, and of six")
     add("--limit", type=positive, default=600, metavar="SECONDS", help="how long a run may take (default: 600)")
     add("--taken", type=Path, default=HERE / "out/taken", metavar="PATH", help="what measures (of bench/build.sh)")
     return words
 
 
-def call_at(place, draw):
-    """The call at a place of a log of batches of two: in each tenth batch the first one is long."""
-    return loads.call("spin" if place % (2 * TENTH) == 0 else "pay", ACCOUNTS, place, draw)
+def call_at(place, size, draw):
+    """The call at a place of a log of batches of `size` calls: in each tenth batch the first one is long."""
+    return loads.call("spin" if place % (size * TENTH) == 0 else "pay", ACCOUNTS, place, draw)
 
 
-def make_batches(folder, count):
-    """Writes a load of `count` batches of two."""
+def make_batches(folder, count, size):
+    """Writes a load of `count` batches of `size` calls."""
     draw = loads.random.Random("batches")
     folder.mkdir()
     (folder / "setup.json").write_text(json.dumps(loads.setup(ACCOUNTS, draw)))
     with open(folder / "log", "w") as log:
-        for place in range(2 * count):
-            log.write(json.dumps(["call", *call_at(place, draw)], separators=(",", ":")) + "\n")
-            if place % 2 == 1:
+        for place in range(size * count):
+            log.write(json.dumps(["call", *call_at(place, size, draw)], separators=(",", ":")) + "\n")
+            if place % size == size - 1:
                 log.write('["cut"]\n')
     return folder
 
@@ -157,7 +159,8 @@ def main():
         print(f"there is no {', '.join(absent)}" if absent else "there is no load: name a folder, or --batches")
         return 1
     with tempfile.TemporaryDirectory() as room:
-        folders = [*words.loads, *([make_batches(Path(room) / "batches", words.batches)] if words.batches else [])]
+        sizes = SIZES.items() if words.batches else ()
+        folders = [*words.loads, *(make_batches(Path(room) / name, words.batches, size) for size, name in sizes)]
         race = Race(words, Path(room))
         try:
             for turn in range(words.rounds):

@@ -385,33 +385,35 @@ class RaceTest(unittest.TestCase):
             run = self.race(room, "--batches", 20, "--ways", "2")
             text = run.stdout.decode()
             self.assertEqual(run.returncode, 0, text)
-            lines = [line for line in text.splitlines() if line.startswith("| batches")]
-            cells = [[cell.strip() for cell in line.split("|")[1:-1]] for line in lines]
-            self.assertEqual(cells[0], ["batches", "4.00", "0.25", "4.00", "0.25"])
-            self.assertEqual(cells[1], ["batches", "2.00", "1.50", "2.00", "1.50"])
-            self.assertEqual(cells[2], ["batches", *["1.00"] * 4])
+            for load in ("twos", "sixes"):
+                lines = [line for line in text.splitlines() if line.startswith(f"| {load}")]
+                cells = [[cell.strip() for cell in line.split("|")[1:-1]] for line in lines]
+                self.assertEqual(cells[0], [load, "4.00", "0.25", "4.00", "0.25"])
+                self.assertEqual(cells[1], [load, "2.00", "1.50", "2.00", "1.50"])
+                self.assertEqual(cells[2], [load, *["1.00"] * 4])
             self.assertIn("all reports agree", text)
 
     def test_another_report_is_found(self):
         with tempfile.TemporaryDirectory() as room:
             run = self.race(room, "--batches", 20, "--ways", "2", report="$*")
             self.assertEqual(run.returncode, 1)
-            self.assertIn("batches: the report of one 2 is another one", run.stdout.decode())
+            self.assertIn("twos: the report of one 2 is another one", run.stdout.decode())
 
     def test_run_that_hangs_is_told(self):
         with tempfile.TemporaryDirectory() as room:
             run = self.race(room, "--batches", 20, "--ways", "2", fails="--workers")
             self.assertEqual(run.returncode, 1)
-            self.assertIn("batches, one 2:", run.stdout.decode())
+            self.assertIn("twos, one 2:", run.stdout.decode())
 
     def test_one_of_ten_batches_has_a_long_call(self):
-        with tempfile.TemporaryDirectory() as room:
-            folder = race.make_batches(Path(room) / "batches", 40)
-            log = [json.loads(line) for line in (folder / "log").read_text().splitlines()]
-            batches = [log[at : at + 3] for at in range(0, len(log), 3)]
-            self.assertEqual([batch[2] for batch in batches], [["cut"]] * 40)
-            long = [at for at, batch in enumerate(batches) if "spin" in (batch[0][1], batch[1][1])]
-            self.assertEqual(long, [0, 10, 20, 30])
+        for size in (2, 6):
+            with self.subTest(size=size), tempfile.TemporaryDirectory() as room:
+                folder = race.make_batches(Path(room) / "batches", 40, size)
+                log = [json.loads(line) for line in (folder / "log").read_text().splitlines()]
+                batches = [log[at : at + size + 1] for at in range(0, len(log), size + 1)]
+                self.assertEqual([batch[size] for batch in batches], [["cut"]] * 40)
+                long = [at for at, batch in enumerate(batches) if "spin" in [call[1] for call in batch[:size]]]
+                self.assertEqual(long, [0, 10, 20, 30])
 
     def test_words_that_are_wrong_are_refused(self):
         for words in ("--batches 0", "--ways 17", "--ways alone", "--rounds x", "--program PATH"):

@@ -7,7 +7,8 @@
 cases/README.md says what a case is. A case that names no words of its own is run with `--workers 2`, with the least
 and with the greatest of all settings, with `--alone`, and with `--workers 2` where each read and write moves one byte.
 Each run of a log is made a second time, on the same setup with a loop of one turn before each body that has none: a
-call that is brief, and run in place by the scheduler's thread, is handed over to workers then. The same must come out.
+call that is brief, and run in place by the scheduler's thread, is handed over to workers then, if it is one of the
+first 65 or handing over pays. The same must come out.
 The first run of each case is also made on the setup without its rows, with `--rows` and a file that has them.
 Runs with `--alone` must start no thread, and those whose calls are handed over some, where two calls of a batch commit.
 On a log that stays open after its first batch `locks` must end: it takes no more of it.

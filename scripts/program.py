@@ -87,8 +87,8 @@ def with_loops(setup):
     """A setup without a fault, no call of which is brief: before each body of few steps is a loop of one turn.
 
     How many turns the loop has isn't known before, since it goes to a sum. So the scheduler's thread doesn't run such a
-    call in place: it gets a plan, locks, a loan and a lane, and a worker may run it. The setup means the same but for
-    two steps a call. A call may take 10,000, and one of few steps is far from that.
+    call in place, at least not the first 65: it gets a plan, locks, a loan and a lane, and a worker may run it. The
+    setup means the same but for two steps a call. A call may take 10,000, and one of few steps is far from that.
     """
     document = json.loads(setup)
     for procedure in document[3][2]:

@@ -5,7 +5,7 @@ pub mod Onward
 pub mod Told
 pub mod Steps
 pub mod InLanes
-pub mod Here
+pub mod InPlace
 pub mod EmptyLanes
 pub mod Sent
 pub mod Worked

@@ -14,6 +14,8 @@ use crate::brief::{is_better_awaiting, is_brief};
 use crate::dispatcher::Dispatcher;
 use crate::gate::Gate;
 use crate::listener::{Listener, tell};
+use interp::Entry;
+use row_store::RowStore;
 use scheduler::{AdmitFault, Scheduler, lent_jobs_come_back, run_job};
 use std::sync::Wait;
 use values::NoMemory;
@@ -24,11 +26,15 @@ use values::NoMemory;
 /// and of 4,096 show no difference beyond it.
 const AHEAD: usize = 256;
 
-/// Whether the next transaction is a brief call.
-fn is_next_brief(scheduler: &Scheduler) -> bool {
-    scheduler
-        .next_entry()
-        .is_some_and(|entry| is_brief(entry, scheduler.rows()))
+/// What becomes of a call.
+#[derive(Clone, Copy, Debug, PartialEq, Eq)]
+enum Handling {
+    /// The scheduler's thread runs it, since the call is brief and the gate is open.
+    Brief,
+    /// The scheduler's thread runs it, since the gate is open, no job is out and handing calls over doesn't pay.
+    Kept,
+    /// It becomes a job.
+    HandedOver,
 }
 
 /// Whether the next transaction is a brief call that is rather run once the jobs that are out have come back than lent
@@ -71,36 +77,63 @@ impl<'s, R: Wait, G: Gate> Dispatcher<'s, R, G> {
             || (self.gate.is_open() && is_next_awaiting(scheduler))
     }
 
-    /// Runs the next transaction here, where the gate is open, the call is brief, and it is ready as soon as it is
-    /// admitted: whatever jobs are out have nothing to do with it. A job that still waits gets a worker then, since
-    /// this thread has something else to do. Whether it did so; where it did not, nothing has changed.
-    pub(crate) fn run_brief<L: Listener>(
-        &self,
+    /// What is to become of a call.
+    fn handling_of(&self, entry: &Entry, rows: &RowStore) -> Handling {
+        if !self.gate.is_open() {
+            Handling::HandedOver
+        } else if is_brief(entry, rows) {
+            Handling::Brief
+        } else if self.out == 0 && !self.overlap.pays() {
+            Handling::Kept
+        } else {
+            Handling::HandedOver
+        }
+    }
+
+    /// Notes that a call is run here, and wakes a worker for a job that still waits, since this thread has something
+    /// else to do.
+    fn note_run(&mut self, handling: Handling)
+        ensures { self.new ≡ self.old }
+    {
+        match handling {
+            Handling::Kept => self.overlap.note_kept(),
+            Handling::Brief => self.overlap.note_brief(),
+            Handling::HandedOver => {}
+        }
+        let place = self.place;
+        place.parking.wake_worker();
+    }
+
+    /// Runs the next transaction here, where it isn't to be handed over, and is ready as soon as it is admitted:
+    /// whatever jobs are out have nothing to do with it. A job that still waits gets a worker then. Whether it did so;
+    /// where it did not, nothing has changed.
+    pub(crate) fn run_in_place<L: Listener>(
+        &mut self,
         scheduler: &mut Scheduler,
         listener: &mut L,
     ) -> Result<bool, NoMemory>
-        requires lanes { AreInLanes scheduler.old self.now }
+        requires lanes { AreInLanes scheduler.old self.old }
         requires told { AreCounted scheduler.old (L.account listener.old) }
         ensures runs { RunsOn scheduler.old (L.account listener.old) scheduler.new (L.account listener.new) }
-        ensures lanes { AreInLanes scheduler.new self.now }
+        ensures lanes { AreStillInLanes scheduler.new self.old self.new }
         ensures further { IfOk result (λ ran. ran ≡ true → GetsFurther scheduler.old scheduler.new) }
-        ensures none { IfOk result (λ ran. ran ≡ false → scheduler.new ≡ scheduler.old) }
+        ensures none { IfOk result (λ ran. ran ≡ false → (scheduler.new ≡ scheduler.old) × (self.new ≡ self.old)) }
     {
-        if !self.gate.is_open() || !is_next_brief(scheduler) {
+        let handling = match scheduler.next_entry() {
+            Some(entry) => self.handling_of(entry, scheduler.rows()),
+            None => return Ok(false),
+        };
+        if handling == Handling::HandedOver || !run_next(scheduler, listener)? {
             return Ok(false);
         }
-        let ran = run_next(scheduler, listener)?;
-        if ran {
-            let place = self.place;
-            place.parking.wake_worker();
-        }
-        Ok(ran)
+        self.note_run(handling);
+        Ok(true)
     }
 
-    /// Lends its rows to the next ready transaction. Where the gate is open and the call is brief, it is run here and
-    /// settled, and a job that waits gets a worker before that; else its job is put into a lane, and a worker is called
-    /// for it where it is not the only one that is out. `false` exactly where each lane has a job, or none is ready. An
-    /// error says that an allocation failed.
+    /// Lends its rows to the next ready transaction. Where it isn't to be handed over, it is run here and settled, and
+    /// a job that waits gets a worker before that; else its job is put into a lane, and a worker is called for it where
+    /// it is not the only one that is out. `false` exactly where each lane has a job, or none is ready. An error says
+    /// that an allocation failed.
     pub(crate) fn hand_out_next<L: Listener>(
         &mut self,
         scheduler: &mut Scheduler,
@@ -124,8 +157,9 @@ impl<'s, R: Wait, G: Gate> Dispatcher<'s, R, G> {
             return Ok(false);
         };
         self.waiting = self.waiting.saturating_sub(1);
-        if self.gate.is_open() && is_brief(job.entry(), scheduler.rows()) {
-            place.parking.wake_worker();
+        let handling = self.handling_of(job.entry(), scheduler.rows());
+        if handling != Handling::HandedOver {
+            self.note_run(handling);
             let no = job.no();
             let done = run_job(job);
             let is_run = done.is_run();
@@ -139,6 +173,7 @@ impl<'s, R: Wait, G: Gate> Dispatcher<'s, R, G> {
                 if self.out > 0 {
                     place.parking.wake_worker();
                 }
+                self.overlap.note_job(self.out);
                 self.out += 1;
                 Ok(true)
             }

@@ -4,6 +4,7 @@ ghost use Rattle.std.specs.Prelude.{◌≡◌, ◌<◌, true};
 ghost use Rattle.lanes.specs.Seats.{jobs_in};
 
 use crate::gate::Gate;
+use crate::overlap::Overlap;
 use crate::parking::Patience;
 use crate::refusal::Refusal;
 use crate::worker::{Worker, start};
@@ -25,6 +26,8 @@ pub(crate) struct Dispatcher<'s, R, G> {
     pub(crate) out: usize,
     /// How many transactions are admitted and neither out nor settled. No proof counts them.
     pub(crate) waiting: usize,
+    /// Whether it pays to hand calls over.
+    pub(crate) overlap: Overlap,
     /// How many processors there are, 1 where that is not known.
     pub(crate) processors: usize,
 }
@@ -55,6 +58,7 @@ impl<'s, R, G> Drop for Dispatcher<'s, R, G> {
             own: _,
             out: _,
             waiting: _,
+            overlap: _,
             processors: _,
         } = self;
         place.parking.end();

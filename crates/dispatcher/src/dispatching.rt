@@ -41,6 +41,7 @@ impl<'s, R: Wait, G: Gate> Dispatcher<'s, R, G> {
             return Ok(false);
         };
         self.out -= 1;
+        self.overlap.note_back(self.out);
         place.parking.take_result();
         let is_run = done.is_run();
         let no = done.no();
@@ -98,8 +99,9 @@ impl<'s, R: Wait, G: Gate> Dispatcher<'s, R, G> {
         unreachable!()
     }
 
-    /// Does what can be done without waiting: settles what was delivered, hands out a job that is ready, runs a brief
-    /// call, or, while workers may want more jobs, admits one more transaction. `false` where there was nothing to do.
+    /// Does what can be done without waiting: settles what was delivered, hands out a job that is ready, runs a call
+    /// that isn't to be handed over, or, while workers may want more jobs, admits one more transaction. `false` where
+    /// there was nothing to do.
     fn step<L: Listener>(
         &mut self,
         scheduler: &mut Scheduler,
@@ -118,7 +120,7 @@ impl<'s, R: Wait, G: Gate> Dispatcher<'s, R, G> {
         if self.hand_out_next(scheduler, listener)? {
             return Ok(true);
         }
-        if self.run_brief(scheduler, listener)? {
+        if self.run_in_place(scheduler, listener)? {
             return Ok(true);
         }
         if self.has_enough(scheduler) || !admit_next(scheduler)? {

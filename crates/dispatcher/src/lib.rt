@@ -7,8 +7,8 @@
 //! exact. Laws: `tallies_add_up`, `settled_transactions_are_counted`. Not proved: that they return, since a job may not
 //! come back; else each step of the scheduler's thread brings the run further, or leaves no transaction ready while a
 //! lane is free and none to admit while no job is out. Nor that a pool keeps its threads, how many jobs are out, how
-//! many transactions wait, which calls are brief, and how often a thread looks again before it parks. The tests are
-//! those of `engine`.
+//! many transactions wait, which calls are brief, whether it pays to hand calls over, and how often a thread looks
+//! again before it parks. The tests are those of `engine`.
 #![tactic(auto)]
 
 mod advancing;
@@ -19,6 +19,7 @@ mod dispatching;
 mod gate;
 mod laws;
 mod listener;
+mod overlap;
 mod parking;
 mod pool;
 mod refusal;

@@ -30,6 +30,11 @@ const SCHEDULER_SPINS: u32 = 4_096;
 /// How often a thread looks again where others may need all processors.
 const FEW_SPINS: u32 = 64;
 
+/// While more workers than this look for a job, each looks again few times: mostly one of them finds the next job, and
+/// another the job after it. Measured with one long call in ten, in unproved builds on an idle machine: 16 workers take
+/// 0.68 of the time of one thread, four 0.65, and 0.71 and 0.67 where all of them look on.
+const MOST_LOOKING: isize = 2;
+
 /// While more jobs than this wait for a worker, the scheduler's thread is not woken to make more, and runs one if it is
 /// awake and the gate is open. Measured of waking, on the same loads as the limit of transactions that are admitted
 /// ahead, where the noise was up to a third: 0, and no limit, show no difference beyond it. Measured of running one:
@@ -202,7 +207,8 @@ impl Parking {
     }
 
     /// Takes a worker that has found no job a step nearer to being parked, or parks it until it is woken. It announces
-    /// that it will park before it is no longer counted among those that look, and looks once more after that.
+    /// that it will park before it is no longer counted among those that look, and looks once more after that. It looks
+    /// again `spins` times at most, and a few times where enough others look.
     pub(crate) fn idle_worker<R: Wait>(
         &self,
         rt: &R,
@@ -210,6 +216,11 @@ impl Parking {
         idling: Idling,
         spins: u32,
     ) -> Idling {
+        let spins = if self.looking.load(Ordering::SeqCst) > MOST_LOOKING {
+            spins.min(FEW_SPINS)
+        } else {
+            spins
+        };
         let next = spot.idle(rt, idling, spins);
         match (idling, next) {
             (Idling::Busy, _) => {

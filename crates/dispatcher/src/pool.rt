@@ -7,9 +7,11 @@ ghost use Rattle.lanes.specs.Seats.{jobs_in};
 ghost use Rattle.dispatcher.specs.Runs.{NoneIsOut, StaysSettled};
 ghost use Rattle.dispatcher.specs.Listeners.{AreCounted, IsToldOf};
 
+use crate::brief::is_brief;
 use crate::dispatcher::Dispatcher;
 use crate::gate::Gate;
 use crate::listener::Listener;
+use crate::overlap::Overlap;
 use crate::refusal::Refusal;
 use crate::workplace::{HeadSeat, Workplace};
 use scheduler::Scheduler;
@@ -59,6 +61,7 @@ impl<'s, E, R: Threads, G> WorkerPool<'s, E, R, G> {
             own,
             out: 0,
             waiting: 0,
+            overlap: Overlap::new(),
             processors: available_parallelism(rt).map_or(1, NonZeroUsize::get),
         };
         WorkerPool {
@@ -89,9 +92,24 @@ impl<'s, E, R: Wait + Sync, G: Gate> WorkerPool<'s, E, R, G> {
         Ok(())
     }
 
+    /// How many workers a batch may want: one for each of its transactions, and none where none is started, the gate is
+    /// open and all calls are brief, since the thread that calls runs these.
+    fn wanted_workers(&self, transactions: usize, scheduler: &Scheduler) -> usize {
+        let dispatcher = &self.dispatcher;
+        let rows = scheduler.rows();
+        let mut entries = scheduler.entries().iter();
+        let may_want_none = self.started == 0 && dispatcher.gate.is_open();
+        if may_want_none && entries.all(|entry| is_brief(entry, rows)) {
+            0
+        } else {
+            transactions
+        }
+    }
+
     /// Runs the transactions of a batch that are left. It starts no more workers than there are transactions in the
-    /// batch; those that were started for an earlier one work at this one, too. If allocation fails, no job is out
-    /// then, and where a thread is refused, nothing has run. The listener hears of each transaction as it is settled.
+    /// batch, and none for brief calls alone at an open gate; those that were started for an earlier batch work at this
+    /// one, too. If allocation fails, no job is out then, and where a thread is refused, nothing has run. The listener
+    /// hears of each transaction as it is settled.
     pub fn run<L: Listener>(
         &mut self,
         transactions: usize,
@@ -107,7 +125,7 @@ impl<'s, E, R: Wait + Sync, G: Gate> WorkerPool<'s, E, R, G> {
         ensures thread { result ≡ Err Refusal.Thread → scheduler.new ≡ scheduler.old }
         ensures told { IsToldOf scheduler.new (L.account listener.old) (L.account listener.new) }
     {
-        self.start_workers(transactions)?;
+        self.start_workers(self.wanted_workers(transactions, scheduler))?;
         self.dispatcher
             .run(scheduler, listener)
             .map_err(Refusal::from)

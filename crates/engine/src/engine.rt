@@ -133,9 +133,9 @@ impl Engine {
 
     // rule: call.serial
     /// Runs a batch on worker threads and on the calling one. Where the gate is open the calling thread runs brief
-    /// calls itself, whatever jobs are out, and none of these passes the gate; every other call is a job that goes over
-    /// lanes, to a worker or back to the calling thread. Who claims a job passes the gate once for it, before it runs
-    /// it.
+    /// calls itself, whatever jobs are out, and long ones while no job is out and handing over doesn't pay. None of
+    /// these passes the gate. Every other call is a job that goes over lanes, to a worker or back to the calling
+    /// thread. Who claims a job passes the gate once for it, before it runs it.
     ///
     /// The carried requests come before the batch's calls, and an empty batch runs them alone. The replies are those
     /// of their entries one by one on the rows before it, and the rows afterwards are theirs. A stale request that was

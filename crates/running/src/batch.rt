@@ -81,7 +81,7 @@ pub fn run_batch<E: BatchEngine, X: Fn(&mut E, Batch) -> Result<BatchDone, ExecF
     ensures stops { IfErr result (λ e.
         IsMachineFault line e × IfOfThread e (HasAnswered X.Fn executor.now ExecFault.Spawn)) }
     ensures fails { K.broken sink.new ≡ (K.broken sink.old || ends_in_io result) }
-    ensures digest { KeepsDigest (E.parts engine.new) transcript.new × (form_of transcript.new ≡ form_of transcript.old) }
+    ensures kept { KeepsDigest (E.parts engine.new) transcript.new × (form_of transcript.new ≡ form_of transcript.old) }
 {
     let batch = match Batch::of(alloc, requests) {
         Ok(batch) => batch,

@@ -77,6 +77,13 @@ fn stand_aside(slots: &[Slot], plans: &Plans, from: usize, plan: &Plan) -> bool
 }
 
 impl Scheduler {
+    /// The entries of all transactions, in the order of the log.
+    pub fn entries(&self) -> &[Entry]
+        ensures { result.now ≡ self.now.work.entries }
+    {
+        self.entries.as_slice()
+    }
+
     /// The entry of the next transaction, `None` exactly where all are admitted.
     pub fn next_entry(&self) -> Option<&Entry>
         ensures { option_copied result ≡ slice_get self.now.work.entries (length self.now.slots) }

@@ -24,8 +24,8 @@ fn take_key(reader: &mut Reader<'_>) -> Option<Key>
     Key::new(take_integer(reader)?)
 }
 
-/// Takes a row `[TABLE, KEY, [VALUE ..]]`, whose name joins those of the rows before it. `None` if the row breaks a rule,
-/// or if allocation fails.
+/// Takes a row `[TABLE, KEY, [VALUE ..]]`, whose name joins those of the rows before it. `None` if the row breaks a
+/// rule, or if allocation fails.
 fn take_row(
     alloc: Global,
     catalogue: &Catalogue,

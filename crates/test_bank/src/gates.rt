@@ -5,15 +5,18 @@ use engine::Gate;
 use std::sync::atomic::{AtomicBool, AtomicU64, Ordering};
 use std::thread;
 
-/// How each call comes to be handed over as a job: the bodies of the procedures, and whether the gate is open.
+/// How each call comes to be handed over as a job: the bodies of the procedures, and whether the gate is open. At the
+/// open gate at least the first 65 of a pool are.
 pub const HANDED_OVER: [(Bodies, bool); 2] = [(Bodies::Brief, false), (Bodies::Looping, true)];
 
-/// Counts the jobs that pass, and those of them that don't have the next number. Whether it says that it is open is up
-/// to the test.
+/// Counts the jobs that pass, and those of them whose number isn't above that of the one before. Whether it says that
+/// it is open is up to the test.
 #[derive(Drop)]
 pub struct CountingGate {
     is_open: bool,
     jobs: AtomicU64,
+    /// One more than the number of the job that passed last, 0 where none has passed.
+    next: AtomicU64,
     out_of_order: AtomicU64,
 }
 
@@ -23,6 +26,7 @@ impl CountingGate {
         CountingGate {
             is_open,
             jobs: AtomicU64::new(0),
+            next: AtomicU64::new(0),
             out_of_order: AtomicU64::new(0),
         }
     }
@@ -32,7 +36,7 @@ impl CountingGate {
         self.jobs.load(Ordering::SeqCst)
     }
 
-    /// How many of them were not the next in the order of the log.
+    /// How many of them didn't come after the one before in the order of the log.
     pub fn out_of_order(&self) -> u64 {
         self.out_of_order.load(Ordering::SeqCst)
     }
@@ -40,7 +44,8 @@ impl CountingGate {
 
 impl Gate for CountingGate {
     fn enter(&self, no: u64) {
-        if self.jobs.fetch_add(1, Ordering::SeqCst) != no {
+        self.jobs.fetch_add(1, Ordering::SeqCst);
+        if self.next.swap(no.saturating_add(1), Ordering::SeqCst) > no {
             self.out_of_order.fetch_add(1, Ordering::SeqCst);
         }
     }

@@ -1,9 +1,11 @@
 //! Jobs that meet at a gate, or don't, and jobs that pass it one after another.
 
-use engine::Settings;
+use engine::{Gate, Settings};
 use std::alloc::Global;
 use std::sync::Wait;
+use std::sync::atomic::{AtomicU64, Ordering};
 use std::test::Fail;
+use std::thread;
 use std::thread::Threads;
 use test_bank::{Bodies, Call, CountingGate, HANDED_OVER, Meeting, execute};
 
@@ -147,13 +149,15 @@ fn payments(alloc: Global) -> Result<(Vec<Call<'static>>, String), Fail> {
 /// Workers and lanes, bodies, whether the gate is open, and how many of 500 calls are jobs.
 type Handed = ((usize, usize), (Bodies, bool), u64);
 
-/// At an open gate a brief call is a job of nobody.
-const HANDED: [Handed; 7] = [
+/// At an open gate a brief call is no job. Of calls that wait for one another the first 65 are jobs, beside which
+/// nothing is run, and then one in 16: of 500 calls 65 and 27.
+const HANDED: [Handed; 8] = [
     ((1, 1), (Bodies::Brief, false), 500),
     ((16, 1), (Bodies::Brief, false), 500),
     ((16, 64), (Bodies::Brief, false), 500),
-    ((16, 1), (Bodies::Looping, true), 500),
-    ((16, 64), (Bodies::Looping, true), 500),
+    ((1, 1), (Bodies::Looping, true), 92),
+    ((16, 1), (Bodies::Looping, true), 92),
+    ((16, 64), (Bodies::Looping, true), 92),
     ((1, 1), (Bodies::Brief, true), 0),
     ((16, 1), (Bodies::Brief, true), 0),
 ];
@@ -176,8 +180,82 @@ fn each_payment_in_conflict_passes_the_gate_once(rt: HostRuntime) -> Result<(), 
     Ok(())
 }
 
-/// How often four calls come: a longer one, a brief one that has nothing to do with it, and two that wait for it.
-const ROUNDS: usize = 125;
+/// For how many turns at most a job is held.
+const TURNS: u32 = 1_000_000;
+
+/// An open gate that holds each job whose number is a multiple of four until the next one comes. It counts the jobs.
+#[derive(Drop)]
+struct Pairs {
+    count: CountingGate,
+    /// The greatest number of a job that came.
+    came: AtomicU64,
+}
+
+impl Pairs {
+    fn new() -> Pairs {
+        Pairs {
+            count: CountingGate::new(true),
+            came: AtomicU64::new(0),
+        }
+    }
+
+    fn wait_for(&self, no: u64) {
+        for _ in 0..TURNS {
+            if self.came.load(Ordering::SeqCst) >= no {
+                return;
+            }
+            thread::yield_now();
+        }
+    }
+}
+
+impl Gate for Pairs {
+    fn enter(&self, no: u64) {
+        self.count.enter(no);
+        self.came.fetch_max(no, Ordering::SeqCst);
+        if no % 4 == 0 {
+            self.wait_for(no.saturating_add(1));
+        }
+    }
+
+    fn is_open(&self) -> bool {
+        true
+    }
+}
+
+/// How often two readers come, and two payments, which are brief and wait for them.
+const PAIRS: usize = 100;
+
+/// The calls, with what comes of them.
+fn readers_in_pairs(alloc: Global) -> Result<(Vec<Call<'static>>, String), Fail> {
+    let mut calls: Vec<Call<'static>> = Vec::new(alloc);
+    for _ in 0..PAIRS {
+        calls.push(PEEK)?;
+        calls.push(PEEK)?;
+        calls.push(("pay", &[1, 2, 1]))?;
+        calls.push(("pay", &[2, 1, 1]))?;
+    }
+    let outcomes = "commit 100;commit 100;commit 99;commit 100;".repeat(alloc, PAIRS)?;
+    Ok((calls, outcomes))
+}
+
+/// Jobs that are out together pay, so calls are handed over however many there were before.
+#[test]
+fn jobs_that_are_out_together_are_handed_over(rt: HostRuntime) -> Result<(), Fail> {
+    let (calls, outcomes) = readers_in_pairs(rt.alloc())?;
+    for (workers, lanes) in [(2, 8), (16, 64)] {
+        let gate = Pairs::new();
+        let settings = Settings::new(workers, lanes, 64, 65_536)?;
+        let found = execute(&rt, Bodies::LoopingPeek, settings, &calls, &gate)?;
+        assert!(rt; found == outcomes, "{workers} {lanes}");
+        assert_eq!(rt; gate.count.jobs(), 2 * PAIRS as u64, "{workers} {lanes}");
+    }
+    Ok(())
+}
+
+/// How often four calls come: a longer one, a brief one that has nothing to do with it, and two that wait for it. That
+/// is so few times that each longer call is handed over.
+const ROUNDS: usize = 60;
 
 /// The calls, with what comes of them. The balance that is read is 100 each time.
 fn longer_and_brief(alloc: Global) -> Result<(Vec<Call<'static>>, String), Fail> {

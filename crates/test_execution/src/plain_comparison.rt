@@ -24,7 +24,7 @@ use workspace::RowView;
 /// How many batches the log has.
 const BATCHES: u32 = 5;
 
-/// How many calls a batch has.
+/// How many calls a batch has: no more than 65, so that each is handed over at an open gate, too.
 const CALLS: u32 = 40;
 
 /// How many lists of choices are tried with each setting.

@@ -94,7 +94,7 @@ fn jobs_of_two<R: Threads + Wait + Sync + AllocGlobal>(rt: &R) -> Result<u64, Fa
     Ok(gate.jobs())
 }
 
-/// Each call of the four is handed over to a worker.
+/// The calls of the four are long: of each batch at least the first 65 are handed over.
 #[test]
 fn each_client_has_its_answers_once(rt: HostRuntime) -> Result<(), Fail> {
     let (is_reckoned, counts) = told_as_reckoned(&rt, rt.alloc())?;

@@ -203,10 +203,11 @@ fn read_beside_pays<R: Threads + Wait + Sync>(
     read_beside(rt, alloc, engine, watchers, batch, gate)
 }
 
-/// Of 100 on the account, 1 goes at a time.
+/// Of 100 on the account, 1 goes at a time. The gate isn't open, so each call is a job though it waits for the one
+/// before.
 #[test]
 fn watchers_read_while_the_engine_runs(rt: HostRuntime) -> Result<(), Fail> {
-    let gate = CountingGate::new(true);
+    let gate = CountingGate::new(false);
     let read = read_beside_pays(&rt, rt.alloc(), &gate)?;
     assert_eq!(rt; read, (true, tally(1_000, 100, 900, 0)));
     assert_eq!(rt; gate.jobs(), 1_000);

@@ -61,7 +61,7 @@ loop-turn-preserved g c =
       sink_works = c.in-Ok.ensures.fails ∙ sym (or_nothing _) ∙ was.sink_works;
       closed = λ start ran before h.
           HasClosed-next start _ _ _ ran now c.loop-turn.transcript before _ (was.closed start ran before h) (carries _ now _ c.core-in-loop-turn.ensures c.carried.ensures.same) c.if-carried-eq0.false
-          (one_less _ _ _ _ c.core.ensures c.retries-turn-end.ensures.same c.loop-turn-test.true) new c.run_batch.new.transcript _ same.procs same.retries c.in-Ok.ensures.digest.1
+          (one_less _ _ _ _ c.core.ensures c.retries-turn-end.ensures.same c.loop-turn-test.true) new c.run_batch.new.transcript _ same.procs same.retries c.in-Ok.ensures.kept.1
           reported;
     }
 

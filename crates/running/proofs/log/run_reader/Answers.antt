@@ -110,9 +110,9 @@ batches-preserved-in-Ok g c =
       goes_on = search rules;
       source_works = (c.in-Ok-Some.ensures.tells c.batches.invariant.no_fault).fails ∙ sym (or_nothing _) ∙ c.batches.invariant.source_works;
       sink_works = c.in-Ok.ensures.fails ∙ sym (or_nothing _) ∙ c.batches.invariant.sink_works;
-      digest = c.in-Ok.ensures.digest.0;
+      digest = c.in-Ok.ensures.kept.0;
       so_far = SoFar-next _ _ _ _ _ _ _ _ _ _ _ _ _ _ _ _ s (rw (pe, c.batches.invariant.retries) at (rw c.in-Ok-Some.field-0-is at c.in-Ok-Some.ensures.batch).0)
-          (rw c.in-Ok-Some.field-0-is at c.in-Ok-Some.ensures.counted.0) c.in-Ok.ensures.same.procs c.in-Ok.ensures.same.retries c.in-Ok.ensures.digest.1 c.in-Ok.ensures.reported.0;
+          (rw c.in-Ok-Some.field-0-is at c.in-Ok-Some.ensures.counted.0) c.in-Ok.ensures.same.procs c.in-Ok.ensures.same.retries c.in-Ok.ensures.kept.1 c.in-Ok.ensures.reported.0;
     }
 
 pub returns-in-Err-run_batch-clause-run : goal.returns-in-Err-run_batch-clause-run

@@ -4,11 +4,10 @@ use Rattle.lanes.specs.Seats.{SchedulerSeatOf}
 use Rattle.dispatcher.specs.Dispatched.{AreInLanes}
 use Rattle.dispatcher.specs.Listeners.{AreOthersCounted}
 use Rattle.dispatcher.proofs.InLanes.{was_idle_at, lent_lanes, lent_settled, lent_counts}
-use Rattle.dispatcher.proofs.Here.{lends_some, stays_by, stays_further}
+use Rattle.dispatcher.proofs.InPlace.{lends_some, stays_by, stays_further}
 use Rattle.dispatcher.proofs.Told.{same_counted}
 use Rattle.dispatcher.proofs.Onward.{hears_nothing}
 use Rattle.dispatcher.proofs.Further.{lent_further}
-use Rattle.dispatcher.proofs.dispatcher.Dispatcher.hand_out_next.Goals.{then-is_run, else-is_run}
 use Rattle.dispatcher.proofs.dispatcher.Dispatcher.hand_out_next.Goals as goal
 
 pub settle-requires : goal.settle-requires
@@ -28,8 +27,8 @@ tell-requires-clause-others g c =
     subst (λ (n : ℕ). AreOthersCounted c.settle.new.self n (g.L.Listener.account c.args.listener.now)) (sym c.no-no.ensures)
     (stay.told (g.L.Listener.account c.args.listener.now) c.requires.told)
 
-pub returns-then-is_brief-clause-runs : goal.returns-then-is_brief-clause-runs
-returns-then-is_brief-clause-runs g c =
+pub returns-then-is_run-clause-runs : goal.returns-then-is_run-clause-runs
+returns-then-is_run-clause-runs g c =
     let s = c.args.scheduler.now in
     let lends = lends_some s c.lend.new.self _ c.in-Some.job c.in-Some.is c.in_ok-job.ensures.lent c.in_ok-job.ensures.least in
     let seat = c.self.inside.seat in
@@ -38,27 +37,48 @@ returns-then-is_brief-clause-runs g c =
     c.settle.new.self c.run_job-done.result.outcome c.settle.ensures.settled c.settle.ensures.back in
     record { work = stay.work; settled = stay.settled; told = c.tell.ensures.told; onward = c.tell.ensures.onward }
 
-pub returns-then-is_brief-clause-lanes : goal.returns-then-is_brief-clause-lanes
-returns-then-is_brief-clause-lanes g c =
+pub returns-else-is_run-clause-runs : goal.returns-else-is_run-clause-runs
+returns-else-is_run-clause-runs g c =
     let s = c.args.scheduler.now in
     let lends = lends_some s c.lend.new.self _ c.in-Some.job c.in-Some.is c.in_ok-job.ensures.lent c.in_ok-job.ensures.least in
     let seat = c.self.inside.seat in
     let h = subst (AreInLanes s) (sym c.self.view_is) c.requires.lanes in
     let stay = stays_by s seat h c.in-Some.job c.lend.new.self lends.0 lends.1 c.run_job-done.result c.run_job-done.ensures
     c.settle.new.self c.run_job-done.result.outcome c.settle.ensures.settled c.settle.ensures.back in
-    (ap (λ (t : SchedulerSeatOf). t.lanes) c.self.view_is, stay.lanes)
+    record { work = stay.work; settled = stay.settled; told = c.tell.ensures.told; onward = c.tell.ensures.onward }
 
-pub returns-then-is_brief-clause-further : goal.returns-then-is_brief-clause-further
-returns-then-is_brief-clause-further g c =
+pub returns-then-is_run-clause-lanes : goal.returns-then-is_run-clause-lanes
+returns-then-is_run-clause-lanes g c =
     let s = c.args.scheduler.now in
     let lends = lends_some s c.lend.new.self _ c.in-Some.job c.in-Some.is c.in_ok-job.ensures.lent c.in_ok-job.ensures.least in
     let seat = c.self.inside.seat in
     let h = subst (AreInLanes s) (sym c.self.view_is) c.requires.lanes in
-    elim c.if-is_run.branch [
-      | then-is_run w ↦ rw w.result-is (λ _. stays_further s seat h c.in-Some.job c.lend.new.self lends.0 lends.1 c.run_job-done.result c.run_job-done.ensures
-          c.settle.new.self c.run_job-done.result.outcome (sym c.is_run-is_run.ensures ∙ w.if-is_run.true) c.settle.ensures.settled)
-      | else-is_run w ↦ rw w.result-is tt
-    ]
+    let stay = stays_by s seat h c.in-Some.job c.lend.new.self lends.0 lends.1 c.run_job-done.result c.run_job-done.ensures
+    c.settle.new.self c.run_job-done.result.outcome c.settle.ensures.settled c.settle.ensures.back in (
+      ap (λ (t : SchedulerSeatOf). t.lanes) c.note_run.ensures ∙ ap (λ (t : SchedulerSeatOf). t.lanes) c.self.view_is,
+      subst (AreInLanes c.settle.new.self) (sym c.note_run.ensures) stay.lanes,
+    )
+
+pub returns-else-is_run-clause-lanes : goal.returns-else-is_run-clause-lanes
+returns-else-is_run-clause-lanes g c =
+    let s = c.args.scheduler.now in
+    let lends = lends_some s c.lend.new.self _ c.in-Some.job c.in-Some.is c.in_ok-job.ensures.lent c.in_ok-job.ensures.least in
+    let seat = c.self.inside.seat in
+    let h = subst (AreInLanes s) (sym c.self.view_is) c.requires.lanes in
+    let stay = stays_by s seat h c.in-Some.job c.lend.new.self lends.0 lends.1 c.run_job-done.result c.run_job-done.ensures
+    c.settle.new.self c.run_job-done.result.outcome c.settle.ensures.settled c.settle.ensures.back in (
+      ap (λ (t : SchedulerSeatOf). t.lanes) c.note_run.ensures ∙ ap (λ (t : SchedulerSeatOf). t.lanes) c.self.view_is,
+      subst (AreInLanes c.settle.new.self) (sym c.note_run.ensures) stay.lanes,
+    )
+
+pub returns-then-is_run-clause-further : goal.returns-then-is_run-clause-further
+returns-then-is_run-clause-further g c =
+    let s = c.args.scheduler.now in
+    let lends = lends_some s c.lend.new.self _ c.in-Some.job c.in-Some.is c.in_ok-job.ensures.lent c.in_ok-job.ensures.least in
+    let seat = c.self.inside.seat in
+    let h = subst (AreInLanes s) (sym c.self.view_is) c.requires.lanes in
+    λ _. stays_further s seat h c.in-Some.job c.lend.new.self lends.0 lends.1 c.run_job-done.result c.run_job-done.ensures
+    c.settle.new.self c.run_job-done.result.outcome (sym c.is_run-is_run.ensures ∙ c.if-is_run.true) c.settle.ensures.settled
 
 pub returns-clause-runs : goal.returns-clause-runs
 returns-clause-runs g c =
