@@ -28,6 +28,8 @@ pub(crate) struct Dispatcher<'s, R, G> {
     pub(crate) waiting: usize,
     /// Whether it pays to hand calls over.
     pub(crate) overlap: Overlap,
+    /// Whether a worker was started.
+    pub(crate) has_workers: bool,
     /// How many processors there are, 1 where that is not known.
     pub(crate) processors: usize,
 }
@@ -59,6 +61,7 @@ impl<'s, R, G> Drop for Dispatcher<'s, R, G> {
             out: _,
             waiting: _,
             overlap: _,
+            has_workers: _,
             processors: _,
         } = self;
         place.parking.end();
@@ -102,6 +105,7 @@ impl<'s, R: Wait + Sync, G: Gate> Dispatcher<'s, R, G> {
         if !start(self.rt, scope, self.gate, worker) {
             return Err(Refusal::Thread);
         }
+        self.has_workers = true;
         Ok(true)
     }
 }

@@ -50,22 +50,23 @@ impl<'s, R: Wait, G: Gate> Dispatcher<'s, R, G> {
         if is_run { Ok(true) } else { Err(NoMemory) }
     }
 
-    /// Runs a job that waits: the only one that is out, or, where the gate is open, one that the workers can spare.
-    /// `false` where none was run.
+    /// Runs a job that waits: the only one that is out, any where there is no worker, or, where the gate is open, one
+    /// that the workers can spare. `false` where none was run.
     fn run_waiting_job(&mut self) -> bool
         ensures { self.new ≡ self.old }
     {
         let place = self.place;
+        let is_left_to_it = self.out == 1 || !self.has_workers;
         let can_spare = self.gate.is_open() && place.parking.has_spare_jobs();
-        if self.out != 1 && !can_spare {
+        if !is_left_to_it && !can_spare {
             return false;
         }
         run_one(&place.lanes, &mut self.own, &place.parking, self.gate)
     }
 
     /// Takes in what comes of jobs, until `most` at most are out and nothing more is found. Where one job alone is out
-    /// and waits, no worker could do anything beside it, so it is run here; so is one that the workers can spare. Else
-    /// this parks until something is delivered. An error says that a job came back without a run, since an allocation
+    /// and waits, no worker could do anything beside it, so it is run here; so is one that the workers can spare, and
+    /// each where there is no worker. Else this parks until something is delivered. An error says that a job came back without a run, since an allocation
     /// failed.
     fn take_in_until<L: Listener>(
         &mut self,

@@ -1,8 +1,8 @@
 //! Whether it pays to hand calls over: what the scheduler's thread gets done while jobs are out, as far as a pool of
-//! workers has seen.
+//! workers has seen. A long call is one that isn't brief.
 
-/// Jobs pay if at least as many brief calls are run beside them, or one more job is put. If fewer are, the thread waits
-/// for most of the time that a worker takes, and longer if the worker has to be woken.
+/// Jobs have paid if at least as many brief calls were run beside them, or one more job was put. Beside fewer the
+/// thread mostly waits as long as it would run the call itself, and longer if a worker has to be woken.
 const ENOUGH_CALLS: u32 = 4;
 
 /// The credit at the start, and the most that there can be. If jobs never pay, 65 are handed over before long calls are
@@ -20,7 +20,8 @@ const TRIED_OF: u32 = 16;
 /// How jobs have paid until now.
 #[derive(Clone, Copy, Debug)]
 pub(crate) struct Overlap {
-    /// How many brief calls were run beside the jobs that are out.
+    /// How many brief calls were run since the first of the jobs that are out was put; as many as pay where another job
+    /// was put beside it. It means nothing where no job is out.
     beside: u32,
     /// How many times jobs have paid, less how many times they haven't, between limits.
     credit: i32,
@@ -38,7 +39,8 @@ impl Overlap {
         }
     }
 
-    /// Whether the next long call is better handed over than run by the scheduler's thread while no job is out.
+    /// Whether the next long call is to be handed over where no job is out: jobs have mostly paid, or it is the one in
+    /// 16 that shows whether they do now.
     pub(crate) fn pays(&self) -> bool {
         self.credit >= 0 || self.turns % TRIED_OF == 0
     }

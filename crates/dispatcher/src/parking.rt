@@ -27,7 +27,7 @@ const PATIENT_SPINS: u32 = 4_096;
 /// times.
 const SCHEDULER_SPINS: u32 = 4_096;
 
-/// How often a thread looks again where others may need all processors.
+/// How often a thread looks again where others may need all processors, or enough others look.
 const FEW_SPINS: u32 = 64;
 
 /// While more workers than this look for a job, each looks again few times: mostly one of them finds the next job, and

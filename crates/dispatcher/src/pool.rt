@@ -62,6 +62,7 @@ impl<'s, E, R: Threads, G> WorkerPool<'s, E, R, G> {
             out: 0,
             waiting: 0,
             overlap: Overlap::new(),
+            has_workers: false,
             processors: available_parallelism(rt).map_or(1, NonZeroUsize::get),
         };
         WorkerPool {
@@ -92,8 +93,9 @@ impl<'s, E, R: Wait + Sync, G: Gate> WorkerPool<'s, E, R, G> {
         Ok(())
     }
 
-    /// How many workers a batch may want: one for each of its transactions, and none where none is started, the gate is
-    /// open and all calls are brief, since the thread that calls runs these.
+    /// How many workers a batch may want: one for each of its transactions, and none where none was started, the gate is
+    /// open and all calls are brief on the rows as they are. The thread that calls runs these, and any that becomes
+    /// longer by then.
     fn wanted_workers(&self, transactions: usize, scheduler: &Scheduler) -> usize {
         let dispatcher = &self.dispatcher;
         let rows = scheduler.rows();
@@ -107,9 +109,9 @@ impl<'s, E, R: Wait + Sync, G: Gate> WorkerPool<'s, E, R, G> {
     }
 
     /// Runs the transactions of a batch that are left. It starts no more workers than there are transactions in the
-    /// batch, and none for brief calls alone at an open gate; those that were started for an earlier batch work at this
-    /// one, too. If allocation fails, no job is out then, and where a thread is refused, nothing has run. The listener
-    /// hears of each transaction as it is settled.
+    /// batch, and none at an open gate until a batch has other than brief calls; those that were started for an earlier
+    /// batch work at this one, too. If allocation fails, no job is out then, and where a thread is refused, nothing has
+    /// run. The listener hears of each transaction as it is settled.
     pub fn run<L: Listener>(
         &mut self,
         transactions: usize,

@@ -19,7 +19,7 @@
 //! read, or a beginning of it.
 //!
 //! Tested only: the line of a failed write at each byte; that lines of progress come, the last one after the run; that
-//! `run_text` uses workers and each transaction passes its gate once. Not proved: which line 37 names within a batch;
+//! `run_text` uses workers and each job passes its gate once. Not proved: which line 37 names within a batch;
 //! that 37 comes only if allocation fails, and that a refused thread is told as 38; that a run executes batches by the
 //! call it is given.
 #![tactic(auto)]

@@ -9,7 +9,7 @@ pub enum Bodies {
     /// Few statements without a loop: where the gate is open, an engine runs such a call on the thread that called it.
     Brief,
     /// The same after a loop of one turn in which nothing is done, and whose last number is a sum: how many turns it
-    /// has is not known before, so an engine hands each call over as a job. The replies are the same.
+    /// has is not known before, so the call isn't brief. The replies are the same.
     Looping,
     /// `peek` has such a loop, and no other.
     LoopingPeek,

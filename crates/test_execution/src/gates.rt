@@ -183,12 +183,14 @@ fn each_payment_in_conflict_passes_the_gate_once(rt: HostRuntime) -> Result<(), 
 /// For how many turns at most a job is held.
 const TURNS: u32 = 1_000_000;
 
-/// An open gate that holds each job whose number is a multiple of four until the next one comes. It counts the jobs.
+/// An open gate that holds each job whose number is a multiple of four until the next one comes. It counts the jobs,
+/// and those that were held in vain.
 #[derive(Drop)]
 struct Pairs {
     count: CountingGate,
     /// The greatest number of a job that came.
     came: AtomicU64,
+    in_vain: AtomicU64,
 }
 
 impl Pairs {
@@ -196,6 +198,7 @@ impl Pairs {
         Pairs {
             count: CountingGate::new(true),
             came: AtomicU64::new(0),
+            in_vain: AtomicU64::new(0),
         }
     }
 
@@ -206,6 +209,7 @@ impl Pairs {
             }
             thread::yield_now();
         }
+        self.in_vain.fetch_add(1, Ordering::SeqCst);
     }
 }
 
@@ -249,6 +253,7 @@ fn jobs_that_are_out_together_are_handed_over(rt: HostRuntime) -> Result<(), Fai
         let found = execute(&rt, Bodies::LoopingPeek, settings, &calls, &gate)?;
         assert!(rt; found == outcomes, "{workers} {lanes}");
         assert_eq!(rt; gate.count.jobs(), 2 * PAIRS as u64, "{workers} {lanes}");
+        assert_eq!(rt; gate.in_vain.load(Ordering::SeqCst), 0, "{workers} {lanes}");
     }
     Ok(())
 }

@@ -33,7 +33,7 @@ const fn tally(settled: u64, committed: u64, aborted: u64, stale: u64) -> Tally 
     }
 }
 
-/// A new engine on the bank, which hands over each call.
+/// A new engine on the bank, no call of which is brief.
 fn new_engine(alloc: Global, workers: usize) -> Result<Engine, Fail> {
     let settings = Settings::new(workers, 8, 64, 65_536)?;
     engine(alloc, Bodies::Looping, settings)
