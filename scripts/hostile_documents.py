@@ -8,8 +8,8 @@
 Each pair is run on two workers, on three with the least of all other settings where each read and write moves one
 byte, and with `--alone`. All three must leave the same bytes; status, fault and report must fit each other and the
 lines of the log; and none may take a second of the processors. Every second setup without a fault has a loop of one
-turn before each body that has none, so that its calls are handed over to workers, at least the first 65. These must
-start threads where two calls of a batch commit; runs with `--alone` start none.
+turn before each body that has none, so that at least the first 65 of its calls are handed over to workers. Such a
+setup must start threads where two calls of a batch commit; runs with `--alone` start none.
 
 It ends with how many pairs come out right, and with status 1 where one doesn't, or no worker was started for a call.
 """

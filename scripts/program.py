@@ -92,7 +92,7 @@ def with_loops(setup):
     """
     document = json.loads(setup)
     for procedure in document[3][2]:
-        if count_steps(procedure[3]) <= 100:
+        if count_steps(procedure[3]) <= 1_000:
             taken = set(texts_in(procedure))
             name = next(name for name in map("turn{}".format, range(len(taken) + 1)) if name not in taken)
             procedure[3].insert(0, ["for", name, 0, ["+", 0, 0], []])
