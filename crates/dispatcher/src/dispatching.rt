@@ -66,8 +66,8 @@ impl<'s, R: Wait, G: Gate> Dispatcher<'s, R, G> {
 
     /// Takes in what comes of jobs, until `most` at most are out and nothing more is found. Where one job alone is out
     /// and waits, no worker could do anything beside it, so it is run here; so is one that the workers can spare, and
-    /// each where there is no worker. Else this parks until something is delivered. An error says that a job came back without a run, since an allocation
-    /// failed.
+    /// each where there is no worker. Else this parks until something is delivered. An error says that a job came back
+    /// without a run, since an allocation failed.
     fn take_in_until<L: Listener>(
         &mut self,
         scheduler: &mut Scheduler,

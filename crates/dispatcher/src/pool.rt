@@ -93,8 +93,8 @@ impl<'s, E, R: Wait + Sync, G: Gate> WorkerPool<'s, E, R, G> {
         Ok(())
     }
 
-    /// How many workers a batch may want: one for each of its transactions, and none where none was started, the gate is
-    /// open and all calls are brief on the rows as they are. The thread that calls runs these, and any that becomes
+    /// How many workers a batch may want: one for each of its transactions, and none where none was started, the gate
+    /// is open and all calls are brief on the rows as they are. The thread that calls runs these, and any that becomes
     /// longer by then.
     fn wanted_workers(&self, transactions: usize, scheduler: &Scheduler) -> usize {
         let dispatcher = &self.dispatcher;
