@@ -115,9 +115,10 @@ impl<'s, R: Wait, G: Gate> Dispatcher<'s, R, G> {
         requires lanes { AreInLanes scheduler.old self.old }
         requires told { AreCounted scheduler.old (L.account listener.old) }
         ensures runs { RunsOn scheduler.old (L.account listener.old) scheduler.new (L.account listener.new) }
-        ensures lanes { AreStillInLanes scheduler.new self.old self.new }
+        ensures kept { self.new ≡ self.old }
+        ensures lanes { AreInLanes scheduler.new self.old }
         ensures further { IfOk result (λ ran. ran ≡ true → GetsFurther scheduler.old scheduler.new) }
-        ensures none { IfOk result (λ ran. ran ≡ false → (scheduler.new ≡ scheduler.old) × (self.new ≡ self.old)) }
+        ensures none { IfOk result (λ ran. ran ≡ false → scheduler.new ≡ scheduler.old) }
     {
         let handling = match scheduler.next_entry() {
             Some(entry) => self.handling_of(entry, scheduler.rows()),
