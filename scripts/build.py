@@ -8,7 +8,8 @@ and runs the program with these words, whose exit status is then its own; with `
 is begun once those that it depends on are built. It is proved whole, and what is kept of it for the crates above are the
 statements of its proofs, as in the gate: they are loaded sooner. The longer the chain of code above a library is, the higher is
 the priority of its checks among those that run, so that what most wait for has the processors first, and the others take
-what it leaves. What is begun, how long it took and how many are left goes to standard error; what the toolchain says of a crate, to the
+what it leaves. A check gets one job, which takes the least of the processors; several only where too few others run beside
+it. What is begun, how long it took and how many are left goes to standard error; what the toolchain says of a crate, to the
 file `build.log` in its folder `out/`. A crate whose source is as it was is not built again. However the script ends, its
 checks end with it, and the next run goes on from the libraries that are built.
 
@@ -28,6 +29,13 @@ from concurrent.futures import FIRST_COMPLETED, ThreadPoolExecutor, wait
 
 MEMORY_OF_A_CHECK = 4 << 30  # bytes
 MOST_JOBS = 4
+MANY_PROCESSORS = 8  # from so many on each check gets several jobs: then the longest chain decides
+# The crates that get several jobs: they begin and end the longest chain, where few others run beside them. All others get one,
+# since several take a third more of the processors, or twice as much. By a simulation with the times of docs/verification.md
+# four processors then take seven eighths of the time that they take with several jobs for all crates.
+IN_A_HURRY = frozenset(
+    "catalogue proclang_types footprint scheduler lanes dispatcher engine rows_document running command_line calvin".split()
+)
 STEP = 10  # by how much the niceness of a check is above that of the one that more wait for
 MOST_NICE = 19  # the system's lowest priority
 
@@ -55,10 +63,22 @@ def span(seconds):
 
 
 def processors():
-    """How many checks may run at a time: one a processor, as memory allows."""
+    """How many processors the checks have."""
+    return len(os.sched_getaffinity(0))
+
+
+def most_checks():
+    """How many checks may run at a time, as memory allows: one more than there are processors, since a check doesn't keep
+    several jobs at work all the time."""
     with open("/proc/meminfo") as lines:
         free = next(int(it.split()[1]) << 10 for it in lines if it.startswith("MemAvailable"))
-    return max(1, min(len(os.sched_getaffinity(0)), free // MEMORY_OF_A_CHECK))
+    return max(1, min(processors() + 1, free // MEMORY_OF_A_CHECK))
+
+
+def jobs_of(library, checks):
+    """How many jobs the check of a library gets where n checks may run at a time."""
+    several = library.name in IN_A_HURRY or processors() >= MANY_PROCESSORS
+    return min(MOST_JOBS, processors(), checks) if several else 1
 
 
 def keep_statements(rtlib, library, jobs):
@@ -125,7 +145,7 @@ def ranked(running, length):
 
 def build_all(rtlib, libraries):
     """Builds the libraries, each after those below it, and gives the first that can't be built, if there is one."""
-    length, most = chains(libraries), processors()
+    length, most = chains(libraries), most_checks()
     left, niceness, builds, built = sorted(libraries, key=lambda it: -length[it]), {}, {}, set()
     while left or builds:
         ready = [it for it in left if built.issuperset(set(it.below()) & set(libraries))]
@@ -135,7 +155,7 @@ def build_all(rtlib, libraries):
                 say(f"proving {library.name}; {len(left)} of {len(libraries)} crates are left")
                 left.remove(library)
                 # (a thread of its own, since a thread's priority can't be raised again)
-                begun = ThreadPoolExecutor(1).submit(build, rtlib, library, min(MOST_JOBS, most), wanted)
+                begun = ThreadPoolExecutor(1).submit(build, rtlib, library, jobs_of(library, most), wanted)
                 builds[begun] = library
             elif niceness[library] < wanted:
                 lower(library, wanted)
