@@ -15,7 +15,8 @@ definition or a proof, any in the whole crate.
 What a function calls is known to its proof by contracts alone. So the copy that is checked assumes of each function
 that no edit changes that it meets its contract, in place of its proof, and the goals of those that are changed are all
 that is tried. `unedited` makes that check without the edits: no function has an open goal then. All checks are made on
-copies of the crate, from nothing; nothing in the checkout changes. What the crate depends on is built first where it
+copies of the crate; nothing in the checkout changes. A check takes over what the checks of the same crate before it have
+kept of what is still the same; the first one begins with nothing. What the crate depends on is built first where it
 isn't. The crates are tried side by side, the last first: they have the dearest proofs. It ends with how many were
 refused and how many not, and with status 1 where an edit isn't refused.
 """
@@ -45,6 +46,10 @@ NOT_READ = re.compile(
 )
 WAITING = re.compile(r"^fn (\S+): no proof: it calls ", re.MULTILINE)
 VERDICT = re.compile(r"logic=not-proved|only=\d+ proved=\d+$")
+
+
+# What checks keep for those of the same crate after them, in a folder for each crate.
+KEPT = tempfile.TemporaryDirectory(prefix="edits-")
 
 
 @cache
@@ -243,7 +248,8 @@ def checked(crate, texts, flags, left_out):
             Path(room, folder, "Proof.antt").write_text(proof)
         for path, text in texts.items():
             Path(room, path).write_text(text)
-        words = crate.words(["--jobs", "1", *flags], keeps=False)
+        kept = ["--incremental", str(Path(KEPT.name, crate.name))]
+        words = crate.words(["--jobs", "1", *kept, *flags], keeps=False)
         # (a static library is checked as any other, since what it links is as it was)
         kind = words.index("--crate-type") if "--crate-type" in words else len(words)
         words = [rt.rtlib.RATTLE, "check", *words[:kind], *words[kind + 2 :]]
@@ -339,6 +345,14 @@ def not_sound(crate, edits):
     return failed
 
 
+def keeping_nothing(attempt, crate, edits):
+    """Tries the edits of a crate in a way, and lets go of what its checks have kept."""
+    try:
+        return attempt(crate, edits)
+    finally:
+        shutil.rmtree(Path(KEPT.name, crate.name), ignore_errors=True)
+
+
 def crates_with(edits, names):
     """The crates that have such edits, each with what it depends on built, by their names."""
     crates = toolchain().rtlib.crates_below(os.getcwd())
@@ -372,7 +386,8 @@ def main(word, *names):
     crates = crates_with(tried, names)
     of_crate = {name: [edit for edit in tried if edit.crate.name == name] for name in crates}
     with ThreadPoolExecutor(len(os.sched_getaffinity(0))) as pool:
-        failed = sum(map(len, pool.map(lambda name: attempt(crates[name], of_crate[name]), reversed(crates))))
+        ended = pool.map(lambda name: keeping_nothing(attempt, crates[name], of_crate[name]), reversed(crates))
+        failed = sum(map(len, ended))
     done = sum(map(len, of_crate.values())) - failed
     print(f"{done} edits {'of functions that are proved' if is_unedited else 'refused'}, {failed} not")
     return 1 if failed else 0

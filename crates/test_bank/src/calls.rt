@@ -7,6 +7,7 @@ ghost use Rattle.sequencer.specs.Batches.{items_of, AreOver};
 use requests::{Procs, Request, RequestFault};
 use sequencer::{Batch, BatchFault};
 use std::alloc::{AllocError, AllocFailed, Global};
+use thiserror::Error;
 use values::Value;
 
 /// A call: the procedure's name, and its values.
@@ -16,13 +17,16 @@ pub type Call<'a> = (&'a str, &'a [i64]);
 pub const TWO_PAYS: [Call<'static>; 2] = [("pay", &[1, 2, 30]), ("pay", &[1, 2, 30])];
 
 /// Why calls are no batch of the bank.
-#[derive(Debug, Drop)]
+#[derive(Debug, Drop, Error)]
 pub enum CallsFault {
     /// A call is of no procedure, or its values are not the procedure's.
+    #[error("a call is of no procedure of the bank, or its values are not the procedure's")]
     Request(RequestFault),
     /// The calls are too many.
+    #[error("there are more calls than a batch may have")]
     Batch(BatchFault),
     /// The system refused memory.
+    #[error("out of memory")]
     NoMemory,
 }
 
