@@ -29,7 +29,7 @@ from concurrent.futures import FIRST_COMPLETED, ThreadPoolExecutor, wait
 
 MEMORY_OF_A_CHECK = 4 << 30  # bytes
 MOST_JOBS = 4
-MANY_PROCESSORS = 8  # from so many on each check gets several jobs: then the longest chain decides
+MANY_PROCESSORS = 8  # from here on each check gets several jobs, since the longest chain decides
 # The crates that get several jobs: they begin and end the longest chain, where few others run beside them. All others get one,
 # since several take a third more of the processors, or twice as much. By a simulation with the times of docs/verification.md
 # four processors then take seven eighths of the time that they take with several jobs for all crates.

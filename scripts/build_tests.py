@@ -73,6 +73,16 @@ class Order(unittest.TestCase):
         for place, library in enumerate(order):
             self.assertLessEqual(set(library.below()), set(order[:place]))
 
+    def test_what_others_wait_for_gets_several_jobs(self):
+        engine, text = Library("engine", 50), Library("text", 5)
+        for processors, checks, wanted in [(1, 2, (1, 1)), (2, 3, (2, 1)), (4, 5, (4, 1)), (4, 2, (2, 1)), (16, 17, (4, 4))]:
+            with self.subTest(processors=processors, checks=checks), patch.object(build, "processors", lambda: processors):
+                self.assertEqual(tuple(build.jobs_of(it, checks) for it in (engine, text)), wanted)
+
+    def test_there_are_crates_that_others_wait_for(self):
+        crates = {line.partition(":")[0].split()[0] for line in Path(TOP, "crates.txt").read_text().splitlines() if ":" in line}
+        self.assertLessEqual(build.IN_A_HURRY, crates)
+
     def test_the_first_that_fails_ends_the_build(self):
         with self.built_by(lambda library: library is not self.values):
             self.assertIs(build.build_all(None, self.all), self.values)
