@@ -30,11 +30,11 @@ from concurrent.futures import FIRST_COMPLETED, ThreadPoolExecutor, wait
 MEMORY_OF_A_CHECK = 4 << 30  # bytes
 MOST_JOBS = 4
 MANY_PROCESSORS = 8  # from here on each check gets several jobs, since the longest chain decides
-# The crates that get several jobs: they begin and end the longest chain, where few others run beside them. All others get one,
-# since several take a third more of the processors, or twice as much. By a simulation with the times of docs/verification.md
-# four processors then take seven eighths of the time that they take with several jobs for all crates.
+# The crates that get several jobs: the longest chain, and the checks that end last. All others get one: several take up to 1.4
+# times as much of the processors for a small crate, though hardly more for a large one.
 IN_A_HURRY = frozenset(
-    "catalogue proclang_types footprint scheduler lanes dispatcher engine rows_document running command_line calvin".split()
+    """catalogue proclang_types footprint meaning workspace shelves row_store interp scheduler lanes dispatcher engine
+    rows_document running command_line calvin""".split()
 )
 STEP = 10  # by how much the niceness of a check is above that of the one that more wait for
 MOST_NICE = 19  # the system's lowest priority
