@@ -4,14 +4,15 @@
     scripts/build.py PROGRAM [WORD ..]
     scripts/build.py --only PROGRAM
 
-and runs the program with these words, whose exit status is then its own; with `--only` it runs nothing that can be seen. A library
-is begun once those that it depends on are built. It is proved whole, and what is kept of it for the crates above are the
-statements of its proofs, as in the gate: they are loaded sooner. The longer the chain of code above a library is, the higher is
-the priority of its checks among those that run, so that what most wait for has the processors first, and the others take
-what it leaves. A check gets one job, which takes the least of the processors; several only where too few others run beside
-it. What is begun, how long it took and how many are left goes to standard error; what the toolchain says of a crate, to the
-file `build.log` in its folder `out/`. A crate whose source is as it was is not built again. However the script ends, its
-checks end with it, and the next run goes on from the libraries that are built.
+and runs the program with these words, whose exit status is then its own; with `--only` it runs nothing that can be
+seen. A library is begun once those that it depends on are built. It is proved whole, and what is kept of it for the
+crates above are the statements of its proofs, as in the gate: they are loaded sooner. The longer the chain of code
+above a library is, the higher is the priority of its checks among those that run, so that what most wait for has the
+processors first, and the others take what it leaves. The checks of the longest chain get several jobs, the others
+one, which takes the least of the processors. What is begun, how long it took and how many are left goes to standard
+error; what the toolchain says of a crate, to the file `build.log` in its folder `out/`. A crate whose source is as it
+was is not built again. However the script ends, its checks end with it, and the next run goes on from the libraries
+that are built.
 
 Several runs of the toolchain's command `rt` wait for each other at the libraries that they share, so this script calls the
 module that `rt` itself is made of.
@@ -30,8 +31,8 @@ from concurrent.futures import FIRST_COMPLETED, ThreadPoolExecutor, wait
 MEMORY_OF_A_CHECK = 4 << 30  # bytes
 MOST_JOBS = 4
 MANY_PROCESSORS = 8  # from here on each check gets several jobs, since the longest chain decides
-# The crates that get several jobs: the longest chain, and the checks that end last. All others get one: several take up to 1.4
-# times as much of the processors for a small crate, though hardly more for a large one.
+# The crates that get several jobs: the longest chain, and the checks that end last. All others get one: several take
+# up to 1.4 times as much of the processors for a small crate, though hardly more for a large one.
 IN_A_HURRY = frozenset(
     """catalogue proclang_types footprint meaning workspace shelves row_store interp scheduler lanes dispatcher engine
     rows_document running command_line calvin""".split()
