@@ -2,6 +2,7 @@ pub mod Tree
 pub mod Greatest
 pub mod Parents
 pub mod Requesting
+pub mod Drafting
 pub mod Entries
 pub mod Covered
 pub mod Counts

@@ -1,33 +1,39 @@
 //! The requests for a footprint, while they are put together.
 
-ghost use Rattle.std.specs.Prelude.{◌≡◌, IfOk, OnOk, max, if◌then◌else◌};
+ghost use Rattle.std.specs.Prelude.{◌≡◌, ◌≤◌, IfOk, OnOk, true, max, if◌then◌else◌};
 ghost use Rattle.footprint.specs.declared.resource.Resource.{Resource as AnyResource};
 ghost use Rattle.modes.specs.Rights.{rank_of};
 ghost use Rattle.modes.specs.Modes.{own, subtree};
 ghost use Rattle.coarsen.specs.Subtrees.{own_on, subtree_on, is_same, holds};
 ghost use Rattle.coarsen.specs.Plans.{IsPlanOf};
 
+use crate::subtree::holds;
 use footprint::{Footprint, Resource, Right, search};
 use modes::{Mode, join};
 use std::alloc::Global;
 use std::marker::Model;
 use values::NoMemory;
 
-/// The requests of a plan that is put together: one a resource, in tree order.
+/// The requests of a plan that is put together: one a resource, in tree order. What a request asks for in its subtree,
+/// the requests on its ancestors ask for in theirs.
 #[derive(Drop)]
 struct Draft {
     requests: Vec<(Resource, Mode)>,
 }
 
 impl Model for Draft {
+    ghost use Rattle.std.specs.Prelude.{◌≡◌, ◌≤◌, true};
+    ghost use Rattle.footprint.specs.declared.resource.Resource.{Resource as AnyResource};
     ghost use Rattle.footprint.specs.InTreeOrder.{IsInTreeOrder};
-    ghost use Rattle.coarsen.specs.Subtrees.{Requests};
+    ghost use Rattle.coarsen.specs.Subtrees.{Requests, holds, subtree_on};
 
     ghost Value = { Requests };
 
     ghost view = { λ d. d.requests.items };
 
-    ghost invariant = { λ d. IsInTreeOrder d.requests.items };
+    ghost invariant = { λ d. IsInTreeOrder d.requests.items
+        × ((above resource : AnyResource) → holds above resource ≡ true
+        → subtree_on d.requests.items resource ≤ subtree_on d.requests.items above) };
 }
 
 /// The mode of an entry of the footprint: its right on the resource itself, and so in the subtree.
@@ -52,9 +58,21 @@ fn intention(mode: Mode) -> Mode
     }
 }
 
+/// Whether a mode asks for at least the right of another in the subtree.
+fn asks_as_much(asked: Mode, mode: Mode) -> bool
+    ensures { result ≡ true → subtree mode ≤ subtree asked }
+{
+    match mode.subtree_right() {
+        Right::Read => true,
+        Right::Write => asked.subtree_right() == Right::Write,
+    }
+}
+
 impl Draft {
-    /// Joins a mode to the request on a resource.
+    /// Joins a mode to the request on a resource, whose ancestors' requests ask for the mode's right already.
     fn request(&mut self, resource: Resource, mode: Mode) -> Result<(), NoMemory>
+        requires { (above : AnyResource) → holds above resource ≡ true
+            → subtree mode ≤ max (subtree_on self.old above) (if is_same above resource then subtree mode else 0) }
         ensures own { OnOk result ((r : AnyResource) →
             own_on self.new r ≡ max (own_on self.old r) (if is_same r resource then own mode else 0)) }
         ensures subtree { OnOk result ((r : AnyResource) →
@@ -66,12 +84,32 @@ impl Draft {
                 self.requests[place] = (resource, joined);
                 Ok(())
             }
-            Err(place) => Ok(self.requests.insert(place, (resource, mode))?),
+            Err(place) => {
+                if place == self.requests.len() {
+                    self.requests.push((resource, mode))?;
+                } else {
+                    self.requests.insert(place, (resource, mode))?;
+                }
+                Ok(())
+            }
+        }
+    }
+
+    /// Whether it is seen at a glance that the requests on a resource and on its ancestors ask for at least a mode's
+    /// right in their subtrees: the last request is in the subtree of the resource, and asks for as much.
+    fn serves_below(&self, parent: &Resource, mode: Mode) -> bool
+        ensures { result ≡ true → (above : AnyResource) → holds above parent.now ≡ true
+            → subtree mode ≤ subtree_on self.now above }
+    {
+        match self.requests.last() {
+            Some((last, asked)) => holds(parent, last) && asks_as_much(*asked, mode),
+            None => false,
         }
     }
 
     /// Joins a mode's intention to the requests on the ancestors, from the top down, and the mode to the request on the
-    /// resource. So, for entries in tree order, what isn't requested yet comes at the end.
+    /// resource. So, for entries in tree order, what isn't requested yet comes at the end. The climb ends where the
+    /// ancestors' requests are seen to serve the mode.
     fn request_up(&mut self, resource: Resource, mode: Mode) -> Result<(), NoMemory>
         ensures own { OnOk result ((r : AnyResource) →
             own_on self.new r ≡ max (own_on self.old r) (if is_same r resource then own mode else 0)) }
@@ -80,6 +118,7 @@ impl Draft {
     {
         match resource.parent() {
             None => self.request(resource, mode),
+            Some(parent) if self.serves_below(&parent, mode) => self.request(resource, mode),
             Some(parent) => {
                 self.request_up(parent, intention(mode))?;
                 self.request(resource, mode)?;

@@ -72,6 +72,20 @@ more_made plans from made plan are is place other begun at = elim (same_number (
   | inr n ↦ are place other begun (sym (push_before made plan (place - from) n) ∙ at)
 ]
 
+-- the first plan is dropped, of one that is settled
+pub first_dropped : (plans : List Requests) (settled count from : ℕ) (made rest : List Requests) (plan : Requests) → from < settled → made ≡ plan ∷ rest
+    → AreMade plans settled count from made → AreMade plans settled count (from + 1) rest
+first_dropped plans settled count from made rest plan less is h =
+    let long : length made ≡ suc (length rest) = ap length is in
+    record {
+      are_plans = λ place other begun at.
+          let later : place - from ≡ suc (place - (from + 1)) = omega (arith, begun) in
+          h.are_plans place other (omega (arith, begun)) (ap (λ (xs : List Requests). slice_get xs (place - from)) is ∙ ap (slice_get (plan ∷ rest)) later ∙ at);
+      begun = omega (arith, less);
+      admitted = λ open_one. let reach = h.admitted open_one in omega (arith, reach, long);
+      next = λ open_one more. let reach = h.next open_one more in omega (arith, reach, long);
+    }
+
 -- the plan at a place is that of its entry
 pub planned_at : PlanIsOne → (k c : ℕ) (entries : List EntryParts) (place : ℕ) (entry : EntryParts) (plan : Requests) → slice_get entries place ≡ Some entry → IsPlanOfEntry k c (entry_shape entry) plan
     → slice_get (plans_for k c entries) place ≡ Some plan

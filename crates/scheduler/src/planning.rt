@@ -10,6 +10,7 @@ use coarsen::{Plan, plan_is_one};
 use footprint::Footprint;
 use interp::Entry;
 use std::alloc::Global;
+use std::collections::VecDeque;
 use values::NoMemory;
 
 /// The plan of an entry, coarsened above `threshold`, with at most `arena` requests. An entry whose declaration faults
@@ -30,12 +31,12 @@ pub fn plan_of(
 }
 
 /// The plans of neighbouring entries of a log. A plan is made when a transaction is admitted that must wait, or that
-/// others may wait for, and not before.
+/// others may wait for, and not before; it is dropped once that transaction and all before it are settled.
 #[derive(Drop)]
 pub(crate) struct Plans {
     // The place of the first.
     from: usize,
-    made: Vec<Plan>,
+    made: VecDeque<Plan>,
 }
 
 impl Plans {
@@ -46,7 +47,7 @@ impl Plans {
     {
         Plans {
             from: 0,
-            made: Vec::new(alloc),
+            made: VecDeque::new(alloc),
         }
     }
 
@@ -59,16 +60,21 @@ impl Plans {
         &self.made[place - self.from]
     }
 
-    /// Begins anew at the place of the next transaction to be admitted, if `settled` leading ones are all that are
-    /// admitted, unless its plan is made or the next to be made.
-    fn begin_at(&mut self, settled: usize, place: usize)
+    /// Drops the plans of the `settled` leading transactions, which nothing needs any more. If these are all that are
+    /// admitted, and no later plan is made, the next one to be made is that of the next transaction, at `place`.
+    fn drop_settled(&mut self, settled: usize, place: usize)
         requires begun { self.old.from ≤ settled }
         requires settled { settled ≤ place }
         ensures { (plans : List Requests) → AreMade plans settled place self.old.from self.old.made.items →
             AreMade plans settled place self.new.from self.new.made.items }
     {
-        if settled == place && place - self.from > self.made.len() {
-            self.made.clear();
+        while self.from < settled {
+            let Some(_plan) = self.made.pop_front() else {
+                break;
+            };
+            self.from += 1;
+        }
+        if settled == place && self.made.is_empty() {
             self.from = place;
         }
     }
@@ -94,12 +100,13 @@ impl Plans {
     {
         // proof: a footprint has one plan.
         plan_is_one();
-        self.begin_at(settled, place);
+        self.drop_settled(settled, place);
         while self.made.len() <= place + 1 - self.from {
             let Some(entry) = entries.get(self.from + self.made.len()) else {
                 return Ok(());
             };
-            self.made.push(plan_of(alloc, entry, threshold, arena)?)?;
+            self.made
+                .push_back(plan_of(alloc, entry, threshold, arena)?)?;
         }
         Ok(())
     }

@@ -6,6 +6,7 @@ use Rattle.modes.specs.Rights.{rank_of}
 use Rattle.modes.specs.Modes.{own, subtree}
 use Rattle.coarsen.specs.Subtrees.{Requests, greatest, is_same, holds, own_on, subtree_on}
 use Rattle.coarsen.proofs.Requesting.{taken}
+use Rattle.coarsen.proofs.Drafting.{AsksAbove, none_asks}
 use Rattle.footprint.proofs.Placing.{none_sorted}
 use Rattle.footprint.specs.InTreeOrder.{IsInTreeOrder}
 use Rattle.coarsen.proofs.Entries.{right_on-entries}
@@ -23,7 +24,7 @@ pub returns : goal.returns
 returns c =
     let none : c.loop-resource.resource-iterator ≡ [] = rest_all deref_pair c.loop-resource.resource-iterator c.next.new.self c.next.result c.in-None.is c.next.ensures.steps in
     record {
-      ordered = c.draft-2.invariant;
+      ordered = c.draft-2.invariant.0;
       owns = λ r.
           let e : greatest rank_of (is_same r) c.loop-resource.resource-iterator ≡ 0 = ap (greatest rank_of (is_same r)) none in
           let i = c.loop-resource.invariant.owns r in
@@ -38,4 +39,5 @@ returns c =
     }
 
 pub invariant_of-draft : goal.invariant_of-draft
-invariant_of-draft c = subst (λ (es : Requests). IsInTreeOrder es) (sym c.in_ok-with_capacity.ensures.items) (none_sorted Mode)
+invariant_of-draft c =
+    subst (λ (es : Requests). IsInTreeOrder es × AsksAbove es) (sym c.in_ok-with_capacity.ensures.items) (none_sorted Mode, none_asks)

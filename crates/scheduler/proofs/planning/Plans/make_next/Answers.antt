@@ -21,8 +21,8 @@ loop-self-preserved c =
     ap (slice_get entries) (sym count) ∙ slice_get_read entries (length entries) next c.in-Some.entry.now refl less c.in-Some.ensures.lookup.1 in
     let is : slice_get plans (from + length made) ≡ Some plan =
     planned_at c.plan_is_one.ensures c.args.threshold c.args.arena c.args.entries.now (from + length made) c.in-Some.entry.now plan at c.in_ok-plan_of.ensures in
-    let items : c.push.new.self.items ≡ made ++ plan ∷ [] = c.in_ok-push.ensures.items in
-    let more : length c.push.new.self.items ≡ length made + 1 = ap length items ∙ length_more made plan in
+    let items : c.push_back.new.self.items ≡ made ++ plan ∷ [] = c.in_ok-push_back.ensures.items in
+    let more : length c.push_back.new.self.items ≡ length made + 1 = ap length items ∙ length_more made plan in
     record {
       are_plans = subst (λ (xs : List Requests). ArePlansFrom plans from xs) (sym items) (more_made plans from made plan was.are_plans is);
       begun = was.begun;
